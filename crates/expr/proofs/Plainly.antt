@@ -1,0 +1,226 @@
+-- What plain nodes answer is plain, and how it follows from what their parts answer.
+use Rattle.std.proofs.Common.{◌≡◌, Bool, true, false, ◌&&◌, IsTrue, Option, Some, None, Result, Ok, Err, not, refl, sym, subst, rules, Global}
+use Rattle.std.specs.Ordering.{int_eq}
+use Rattle.std.specs.Prelude.{ℤ, pos, int_rem, cond}
+use Rattle.expr_tree.specs.Term.{Term, name, literal, list, range, call, unary, operation, postfix, choice}
+use Rattle.expr_tree.specs.declared.operator.Operator.{Operator}
+use Rattle.expr_tree.specs.declared.operator.Operator.TheVariants.{Add, Subtract, Multiply, Divide, Modulo, Pow, Equal, NotEqual, GreaterThan, GreaterThanOrEqual, LessThan, LessThanOrEqual, And, Or, In, NotIn, Contains, StartsWith, EndsWith, Matches}
+use Rattle.expr_tree.specs.declared.operator.UnaryOperator.{UnaryOperator}
+use Rattle.expr_tree.specs.declared.operator.UnaryOperator.TheVariants.{Not, Positive, Negative}
+use Rattle.expr_tree.specs.Written.{written}
+use Rattle.expr_tree.specs.declared.node.Node as node
+use Rattle.expr_tree.specs.declared.node.Node.{Node, the_lemmas as node_lemmas}
+use Rattle.expr_tree.specs.declared.node.Pattern.{Pattern}
+use Rattle.std.specs.declared.boxed.Box.{Box}
+use Rattle.expr_value.specs.Fault.{Fault, evaluation}
+use Rattle.expr_value.specs.declared.error.Error.{Error}
+use Rattle.expr_value.specs.declared.value.Value as value
+use Rattle.expr_value.specs.declared.value.Value.{Value, out-Value, the_lemmas}
+use Rattle.expr_value.specs.declared.value.Value.TheOpen.{Value-F}
+use Rattle.expr.specs.Allows.{Allows, AndThen, AndThenLayer, OrElse, OrElseLayer, Continued}
+use Rattle.expr.specs.Answers.{Answer, After, Goes}
+use Rattle.expr.specs.Context.{Context}
+use Rattle.expr.specs.Host.{Host}
+use Rattle.expr.specs.Operators.{added_layers, subtracted_layers, multiplied_layers, remainder_layers, judged, verdict, applied, truth, truth_layer, prefixed, prefixed_layer}
+use Rattle.expr.specs.Plain.{is_plain, is_plain_operator, is_plain_value, is_plain_layer, Surely}
+
+pub plain-Integer : (n : ℤ) → IsTrue (is_plain_value (value.Integer n))
+plain-Integer n = search (rules, the_lemmas)
+
+pub plain-Bool : (b : Bool) → IsTrue (is_plain_value (value.Bool b))
+plain-Bool b = search (rules, the_lemmas)
+
+pub written-Operation : (op : Operator) (l r : Box Node Global) (k : Option Pattern) → written (node.Operation op l r k) ≡ operation op (written l.value) (written r.value)
+written-Operation op l r k = search (rules, node_lemmas)
+
+-- a value of the answer is plain
+abbrev pub IsPlainAnswer : Answer → Type 0
+IsPlainAnswer (Ok v) = IsTrue (is_plain_value v)
+IsPlainAnswer (Err k) = Unit {0}
+
+pub left-true : (a b : Bool) → IsTrue (a && b) → IsTrue a
+left-true true b p = refl
+left-true false b p = p
+
+pub right-true : (a b : Bool) → IsTrue (a && b) → IsTrue b
+right-true true b p = p
+right-true false b p = cc
+
+added-plain : (a b : Value-F Value) → IsTrue (is_plain_layer a) → IsPlainAnswer (added_layers a b)
+added-plain (Value-F.Integer x) (Value-F.Integer y) p = plain-Integer _
+added-plain (Value-F.Duration x) b p = cc
+added-plain (Value-F.String x) b p = cc
+added-plain a b p = tt
+
+subtracted-plain : (a b : Value-F Value) → IsTrue (is_plain_layer a) → IsPlainAnswer (subtracted_layers a b)
+subtracted-plain (Value-F.Integer x) (Value-F.Integer y) p = plain-Integer _
+subtracted-plain (Value-F.Duration x) b p = cc
+subtracted-plain a b p = tt
+
+multiplied-plain : (a b : Value-F Value) → IsTrue (is_plain_layer a) → IsTrue (is_plain_layer b) → IsPlainAnswer (multiplied_layers a b)
+multiplied-plain (Value-F.Integer x) (Value-F.Integer y) p q = plain-Integer _
+multiplied-plain (Value-F.Integer x) (Value-F.Duration y) p q = cc
+multiplied-plain (Value-F.Duration x) b p q = cc
+multiplied-plain a b p q = tt
+
+rest-plain : (b : Bool) (n : ℤ) → IsPlainAnswer (cond b (Err evaluation) (Ok (value.Integer n)))
+rest-plain true n = tt
+rest-plain false n = plain-Integer n
+
+remainder-plain : (a b : Value-F Value) → IsPlainAnswer (remainder_layers a b)
+remainder-plain (Value-F.Integer x) (Value-F.Integer y) = rest-plain (int_eq y (pos 0)) (int_rem x y)
+remainder-plain a b = tt
+
+judged-plain : (o : Option Bool) → IsPlainAnswer (judged o)
+judged-plain (Some b) = plain-Bool b
+judged-plain None = tt
+
+applied-plain : (op : Operator) (a b : Value) → IsTrue (is_plain_operator op) → IsTrue (is_plain_value a) → IsTrue (is_plain_value b) → IsPlainAnswer (applied op a b)
+unfolding applied
+applied-plain Add a b o p q = added-plain (out-Value a) (out-Value b) p
+applied-plain Subtract a b o p q = subtracted-plain (out-Value a) (out-Value b) p
+applied-plain Multiply a b o p q = multiplied-plain (out-Value a) (out-Value b) p q
+applied-plain Modulo a b o p q = remainder-plain (out-Value a) (out-Value b)
+applied-plain Equal a b o p q = judged-plain (verdict Equal a b)
+applied-plain NotEqual a b o p q = judged-plain (verdict NotEqual a b)
+applied-plain GreaterThan a b o p q = judged-plain (verdict GreaterThan a b)
+applied-plain GreaterThanOrEqual a b o p q = judged-plain (verdict GreaterThanOrEqual a b)
+applied-plain LessThan a b o p q = judged-plain (verdict LessThan a b)
+applied-plain LessThanOrEqual a b o p q = judged-plain (verdict LessThanOrEqual a b)
+applied-plain And a b o p q = judged-plain (verdict And a b)
+applied-plain Or a b o p q = judged-plain (verdict Or a b)
+applied-plain Divide a b o p q = judged-plain (verdict Divide a b)
+applied-plain Pow a b o p q = judged-plain (verdict Pow a b)
+applied-plain In a b o p q = judged-plain (verdict In a b)
+applied-plain NotIn a b o p q = judged-plain (verdict NotIn a b)
+applied-plain Contains a b o p q = judged-plain (verdict Contains a b)
+applied-plain StartsWith a b o p q = judged-plain (verdict StartsWith a b)
+applied-plain EndsWith a b o p q = judged-plain (verdict EndsWith a b)
+applied-plain Matches a b o p q = judged-plain (verdict Matches a b)
+
+prefixed-plain : (op : UnaryOperator) (v : Value-F Value) → IsPlainAnswer (prefixed_layer op v)
+prefixed-plain Not (Value-F.Bool b) = plain-Bool (not b)
+prefixed-plain Positive (Value-F.Integer n) = plain-Integer n
+prefixed-plain Negative (Value-F.Integer n) = plain-Integer _
+prefixed-plain op v = tt
+
+bool-plain : (v : Value-F Value) → IsPlainAnswer (truth_layer v)
+bool-plain (Value-F.Bool b) = plain-Bool b
+bool-plain v = tt
+
+-- a value that an answer is, is plain where the answer is
+plain-at : (a : Answer) (v : Value) → Ok v ≡ a → IsPlainAnswer a → IsTrue (is_plain_value v)
+plain-at a v e p = subst IsPlainAnswer (sym e) p
+
+pub first_of-After : {A B : Type 0} (first : Result A Fault → Type 0) (next : A → Result B Fault → Type 0) (v : B) → After first next (Ok v) → (w : A) × first (Ok w) × next w (Ok v)
+first_of-After first next v (Ok w, p, q) = (w, p, q)
+first_of-After first next v (Err k, p, q) = cc
+
+AndThen-plain : (x : Value-F Value) (right : Answer → Type 0) (v : Value) → AndThenLayer x right (Ok v) → IsTrue (is_plain_value v)
+AndThen-plain (Value-F.Bool true) right v p =
+    let q = first_of-After right (λ y a. a ≡ truth y) v p in plain-at (truth q.0) v q.2 (bool-plain (out-Value q.0))
+AndThen-plain (Value-F.Bool false) right v p = plain-at (Ok (value.Bool false)) v p (plain-Bool false)
+AndThen-plain x right v p = cc
+
+OrElse-plain : (x : Value-F Value) (right : Answer → Type 0) (v : Value) → OrElseLayer x right (Ok v) → IsTrue (is_plain_value v)
+OrElse-plain (Value-F.Bool true) right v p = plain-at (Ok (value.Bool true)) v p (plain-Bool true)
+OrElse-plain (Value-F.Bool false) right v p =
+    let q = first_of-After right (λ y a. a ≡ truth y) v p in plain-at (truth q.0) v q.2 (bool-plain (out-Value q.0))
+OrElse-plain x right v p = cc
+
+-- an operator between plain parts
+module _ (right : Answer → Type 0) (of_right : (w : Value) → right (Ok w) → IsTrue (is_plain_value w)) where
+  both-plain : (op : Operator) (x v : Value) → IsTrue (is_plain_operator op) → IsTrue (is_plain_value x) → After right (λ y a. a ≡ applied op x y) (Ok v) → IsTrue (is_plain_value v)
+  both-plain op x v o p h =
+      let q = first_of-After right (λ y a. a ≡ applied op x y) v h in
+      plain-at (applied op x q.0) v q.2 (applied-plain op x q.0 o p (of_right q.0 q.1))
+
+  Continued-plain : (op : Operator) (x v : Value) → IsTrue (is_plain_operator op) → IsTrue (is_plain_value x) → Continued op x right (Ok v) → IsTrue (is_plain_value v)
+  Continued-plain And x v o p h = AndThen-plain (out-Value x) right v h
+  Continued-plain Or x v o p h = OrElse-plain (out-Value x) right v h
+  Continued-plain Add x v o p h = both-plain Add x v o p h
+  Continued-plain Subtract x v o p h = both-plain Subtract x v o p h
+  Continued-plain Multiply x v o p h = both-plain Multiply x v o p h
+  Continued-plain Modulo x v o p h = both-plain Modulo x v o p h
+  Continued-plain Equal x v o p h = both-plain Equal x v o p h
+  Continued-plain NotEqual x v o p h = both-plain NotEqual x v o p h
+  Continued-plain GreaterThan x v o p h = both-plain GreaterThan x v o p h
+  Continued-plain GreaterThanOrEqual x v o p h = both-plain GreaterThanOrEqual x v o p h
+  Continued-plain LessThan x v o p h = both-plain LessThan x v o p h
+  Continued-plain LessThanOrEqual x v o p h = both-plain LessThanOrEqual x v o p h
+  Continued-plain Divide x v o p h = cc
+  Continued-plain Pow x v o p h = cc
+  Continued-plain In x v o p h = cc
+  Continued-plain NotIn x v o p h = cc
+  Continued-plain Contains x v o p h = cc
+  Continued-plain StartsWith x v o p h = cc
+  Continued-plain EndsWith x v o p h = cc
+  Continued-plain Matches x v o p h = cc
+
+-- a plain node allows plain values alone
+pub Allows-plain : (host : Host) (ctx : Context) (t : Term) (v : Value) → IsTrue (is_plain t) → Allows host ctx t (Ok v) → IsTrue (is_plain_value v)
+Allows-plain host ctx (literal w) v p h = plain-at (Ok w) v h p
+Allows-plain host ctx (unary op t) v p h =
+    let q = first_of-After (Allows host ctx t) (λ w a. a ≡ prefixed op w) v h in plain-at (prefixed op q.0) v q.2 (prefixed-plain op (out-Value q.0))
+Allows-plain host ctx (operation op l r) v p h =
+    let o = left-true (is_plain_operator op) (is_plain l && is_plain r) p in
+    let both = right-true (is_plain_operator op) (is_plain l && is_plain r) p in
+    let q = first_of-After (Allows host ctx l) (λ x. Continued op x (Allows host ctx r)) v h in
+    Continued-plain (Allows host ctx r) (λ w k. Allows-plain host ctx r w (right-true (is_plain l) (is_plain r) both) k) op q.0 v o (
+    Allows-plain host ctx l q.0 (left-true (is_plain l) (is_plain r) both) q.1
+    ) q.2
+Allows-plain host ctx (name key) v p h = cc
+Allows-plain host ctx (list ts) v p h = cc
+Allows-plain host ctx (range a b) v p h = cc
+Allows-plain host ctx (call key ts q) v p h = cc
+Allows-plain host ctx (postfix q t) v p h = cc
+Allows-plain host ctx (choice c a b) v p h = cc
+
+-- an operator that is neither `and` nor `or` asks both sides
+pub Continued-both : (op : Operator) (x : Value) (right : Answer → Type 0) → (op ≡ And → ⊥) → (op ≡ Or → ⊥) → (a : Answer) → Continued op x right a → After right (λ y b. b ≡ applied op x y) a
+Continued-both And x right n m a h = absurd (n refl)
+Continued-both Or x right n m a h = absurd (m refl)
+Continued-both Add x right n m a h = h
+Continued-both Subtract x right n m a h = h
+Continued-both Multiply x right n m a h = h
+Continued-both Divide x right n m a h = h
+Continued-both Modulo x right n m a h = h
+Continued-both Pow x right n m a h = h
+Continued-both Equal x right n m a h = h
+Continued-both NotEqual x right n m a h = h
+Continued-both GreaterThan x right n m a h = h
+Continued-both GreaterThanOrEqual x right n m a h = h
+Continued-both LessThan x right n m a h = h
+Continued-both LessThanOrEqual x right n m a h = h
+Continued-both In x right n m a h = h
+Continued-both NotIn x right n m a h = h
+Continued-both Contains x right n m a h = h
+Continued-both StartsWith x right n m a h = h
+Continued-both EndsWith x right n m a h = h
+Continued-both Matches x right n m a h = h
+
+pub both-Continued : (op : Operator) (x : Value) (right : Answer → Type 0) → (op ≡ And → ⊥) → (op ≡ Or → ⊥) → (a : Answer) → After right (λ y b. b ≡ applied op x y) a → Continued op x right a
+both-Continued And x right n m a h = absurd (n refl)
+both-Continued Or x right n m a h = absurd (m refl)
+both-Continued Add x right n m a h = h
+both-Continued Subtract x right n m a h = h
+both-Continued Multiply x right n m a h = h
+both-Continued Divide x right n m a h = h
+both-Continued Modulo x right n m a h = h
+both-Continued Pow x right n m a h = h
+both-Continued Equal x right n m a h = h
+both-Continued NotEqual x right n m a h = h
+both-Continued GreaterThan x right n m a h = h
+both-Continued GreaterThanOrEqual x right n m a h = h
+both-Continued LessThan x right n m a h = h
+both-Continued LessThanOrEqual x right n m a h = h
+both-Continued In x right n m a h = h
+both-Continued NotIn x right n m a h = h
+both-Continued Contains x right n m a h = h
+both-Continued StartsWith x right n m a h = h
+both-Continued EndsWith x right n m a h = h
+both-Continued Matches x right n m a h = h
+
+pub Surely-at : (r : Result Value Error) (a : Answer) (v : Value) → Surely r a → a ≡ Ok v → r ≡ Ok v
+Surely-at r (Ok w) v p e = cc
+Surely-at r (Err k) v p e = cc

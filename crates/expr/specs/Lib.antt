@@ -1,0 +1,16 @@
+pub mod Allows
+pub mod Answers
+pub mod Context
+pub mod Host
+pub mod Independence
+pub mod Operators
+pub mod Plain
+pub mod Positions
+pub mod Scope
+pub mod Several
+pub mod Texts
+pub use Rattle.expr_tree.specs.Term
+pub use Rattle.expr_tree.specs.Written
+pub use Rattle.expr_value.specs.Fault
+pub use Rattle.expr_value.specs.Names
+pub use Rattle.expr_value.specs.Values

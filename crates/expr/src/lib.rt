@@ -1,0 +1,15 @@
+//! A small expression language: texts in, values or refusals out.
+#![tactic(auto)]
+
+mod environment;
+mod evaluation;
+mod laws;
+mod messages;
+mod operators;
+mod scope;
+
+pub use evaluation::{eval, eval_expr, run};
+pub use expr_syntax::compile;
+pub use expr_tree::node::Program;
+pub use expr_value::{Context, ContextProvider, Error, Result, Value};
+pub use laws::{outside_is_not_within, part_stands_between_front_and_back, unequal_is_not_equal};

@@ -1,0 +1,27 @@
+//! The program `expr`: evaluates its first word, under the names that the others bind.
+#![tactic(auto)]
+
+mod serve;
+#[cfg(test)]
+mod tests;
+
+use serve::{refuse_usage, serve};
+use std::alloc::AllocError;
+use std::process::ExitCode;
+use std::{env, io};
+
+fn main(rt: HostRuntime) -> ExitCode {
+    let mut err = rt.stderr();
+    let words: Result<Vec<String>, AllocError> = match env::args(&rt) {
+        Ok(args) => args.skip(1).collect(rt.alloc()),
+        Err(error) if error.kind() == io::ErrorKind::InvalidData => {
+            return ExitCode::from(refuse_usage(&mut err));
+        }
+        Err(_) => Err(AllocError),
+    };
+    let Ok(words) = words else {
+        return ExitCode::from(1);
+    };
+    let mut out = rt.stdout();
+    ExitCode::from(serve(rt.alloc(), words.as_slice(), &mut out, &mut err))
+}

@@ -1,0 +1,83 @@
+-- What the answers of the parser say of a text.
+use Rattle.std.proofs.Common.{◌≡◌, ℕ, ◌+◌, ◌<◌, ◌≤◌, List, [], ◌++◌, Option, Some, None, Result, Ok, Err, ◌⊎◌, inl, inr, length, take, drop, get_or, append-nil, le_refl, refl, sym, ap, ◌∙◌, subst, arith}
+use Rattle.std.proofs.lemmas.List.{drop_all}
+use Rattle.std.proofs.lemmas.Option.{slice_get_cases}
+use Rattle.std.specs.List.{All}
+use Rattle.std.specs.Prelude.{slice_get, unwrap_or}
+use Rattle.expr_token.proofs.Lexing.{one_reading}
+use Rattle.expr_token.specs.Reading.{AllFit, Begins, NoPiece, Reads, ReadsAt, text_of}
+use Rattle.expr_token.specs.declared.token.Token.{Token}
+use Rattle.expr_tree.specs.Written.{program_written}
+use Rattle.expr_tree.specs.declared.node.Program.{Program}
+use Rattle.expr_value.specs.declared.error.Error.{Error}
+use Rattle.expr_value.specs.declared.error.Error.TheVariants.{PestError, ParseError, ExprError, RegexError, MemoryError}
+use Rattle.expr_syntax.specs.Grammar.{TreeProgram, Spells, Fits, LiteralsFit}
+use Rattle.expr_syntax.specs.Kept.{program_of}
+use Rattle.expr_syntax.specs.Reading.{IsParse, IsTooLarge}
+use Rattle.expr_syntax.specs.Texts.{IsTreeOf, IsProgramOf, HasLargeLiteral, HasNoTree, IsCompiled, IsAnswerFor, IsLiteralRefusal, NoneBegins, FaultPlace, AtToken, AtEnd, AtUnreadable}
+
+-- a text that reads as the tokens
+module _ (text : List ℕ) (ts : List Token) (starts : List ℕ) (reads : ReadsAt text ts starts) where
+  pub spells : (t : TreeProgram) → IsTreeOf text t → Spells t ts
+  spells t h = subst (λ x. Spells t x) (one_reading text h.tokens ts h.reads (starts, reads)) h.spells
+
+  pub program_of_parse : (n : Program) → IsParse ts n → IsProgramOf text (program_written n)
+  program_of_parse n h = record {
+    tree = h.tree;
+    is_tree = record { tokens = ts; reads = (starts, reads); spells = h.spells; fits = h.fits };
+    literals = h.literals;
+    same = h.same;
+  }
+
+  pub large_of_parse : IsTooLarge ts → HasLargeLiteral text
+  large_of_parse h = record {
+    tree = h.tree;
+    is_tree = record { tokens = ts; reads = (starts, reads); spells = h.spells; fits = h.fits };
+    literals = h.literals;
+  }
+
+  pub begins_whole : Begins text (length text) ts starts
+  begins_whole =
+      let none : drop (length text) text ≡ [] = drop_all (length text) text (omega arith) in
+      record {
+        pieces = reads.pieces;
+        whole = ap (λ rest. text_of reads.pieces ++ rest) none ∙ append-nil (text_of reads.pieces) ∙ reads.whole;
+        long = ap length reads.whole;
+        fit = subst (AllFit reads.pieces) (sym none) reads.fit;
+        in_order = reads.in_order;
+        placed = reads.placed;
+      }
+
+-- the refusal of a literal says that there is one that is too large
+pub IsCompiled-literal : (text : List ℕ) (e : Error) → IsLiteralRefusal e → HasLargeLiteral text → IsCompiled text (Err e)
+IsCompiled-literal text (PestError place) r h = absurd r
+IsCompiled-literal text (ParseError message) r h = h
+IsCompiled-literal text (ExprError message) r h = absurd r
+IsCompiled-literal text (RegexError error) r h = absurd r
+IsCompiled-literal text MemoryError r h = tt
+
+pub IsAnswerFor-literal : (t : TreeProgram) (e : Error) → IsLiteralRefusal e → ¬ LiteralsFit t → IsAnswerFor t (Err e)
+IsAnswerFor-literal t (PestError place) r h = absurd r
+IsAnswerFor-literal t (ParseError message) r h = h
+IsAnswerFor-literal t (ExprError message) r h = absurd r
+IsAnswerFor-literal t (RegexError error) r h = absurd r
+IsAnswerFor-literal t MemoryError r h = tt
+
+-- where the first token stands with which no program goes on, or the end where there is none
+module _ (text : List ℕ) (ts : List Token) (starts : List ℕ) (upto : ℕ) (begins : Begins text upto ts starts)
+    (within : All (λ start. start < length text) starts) (paired : length starts ≡ length ts)
+    (index : ℕ) (none : (t : TreeProgram) (rest : List Token) → index < length ts → Spells t (take (index + 1) ts ++ rest) → Fits t → ⊥)
+    (end : ℕ) (at_end : length starts ≤ index → (end ≤ length text) × FaultPlace text end) where
+  found : ((x : ℕ) × (index < length starts) × (slice_get starts index ≡ Some x) × (get_or starts index x ≡ x)) ⊎ ((length starts ≤ index) × (slice_get starts index ≡ None))
+      → (place : ℕ) → place ≡ unwrap_or (slice_get starts index) end → (place ≤ length text) × FaultPlace text place
+  found (inl (x, inside, is, same)) place e =
+      let at : place ≡ x = e ∙ ap (λ o. unwrap_or o end) is in
+      let below : x < length text = subst (λ y. y < length text) same (within index x inside) in
+      let there : FaultPlace text x = AtToken upto ts starts index begins is (λ t rest s f. none t rest (subst (λ n. index < n) paired inside) s f) in
+      (subst (λ y. y ≤ length text) (sym at) (omega arith), subst (FaultPlace text) (sym at) there)
+  found (inr (outside, is)) place e =
+      let at : place ≡ end = e ∙ ap (λ o. unwrap_or o end) is in
+      subst (λ y. (y ≤ length text) × FaultPlace text y) (sym at) (at_end outside)
+
+  pub placed : (place : ℕ) → place ≡ unwrap_or (slice_get starts index) end → (place ≤ length text) × FaultPlace text place
+  placed place e = found (slice_get_cases starts index).1 place e

@@ -1,0 +1,79 @@
+-- What the state after some tokens says of their trees.
+use Rattle.std.proofs.Common.{◌≡◌, ℕ, ◌<◌, ◌≤◌, ◌+◌, List, [], ◌∷◌, ◌++◌, length, take, drop, Option, Some, None, arith, sym, ap, ◌∙◌, refl, subst, fold, append_assoc}
+use Rattle.std.proofs.lemmas.List.{length-append}
+use Rattle.std.proofs.Math.Seq.{take-append_seam}
+use Rattle.std.proofs.lemmas.List.Sums.{fold-append}
+use Rattle.expr_token.specs.declared.token.Token.{Token}
+use Rattle.expr_tree.specs.declared.node.Program.{Program}
+use Rattle.expr_tree.specs.Term.{Block}
+use Rattle.expr_tree.specs.Written.{program_written}
+use Rattle.expr_syntax.specs.Grammar.{TreeProgram, Spells, Fits, LiteralsFit, program_tokens, IntegerFits}
+use Rattle.std.specs.List.{AllByRecursion}
+use Rattle.expr_syntax.specs.Machine.{tree_of}
+use Rattle.expr_syntax.specs.Kept.{program_of, kept}
+use Rattle.expr_syntax.specs.Nodes.{State, begins, Fail, step, finish, block_of_tokens}
+use Rattle.expr_syntax.specs.Reading.{IsParse, IsTooLarge}
+use Rattle.expr_syntax.proofs.Complete.{complete}
+use Rattle.expr_syntax.proofs.Sound.{sound}
+use Rattle.expr_syntax.proofs.Erase.{erases}
+
+-- the state after some tokens
+abbrev pub after : List Token → State
+after ts = fold step begins ts
+
+pub program_is : (ts : List Token) (t : TreeProgram) → Spells t ts → Fits t → block_of_tokens ts ≡ Some (program_of t)
+program_is ts t s f = erases ts ∙ ap kept (complete t ts s f)
+
+-- a tree's literals are those of its tokens
+pub literals_of : (ts : List Token) (t : TreeProgram) → Spells t ts → AllByRecursion IntegerFits ts → LiteralsFit t
+literals_of ts t s h = subst (λ us. AllByRecursion IntegerFits us) (sym s) h
+
+pub literals_in : (ts : List Token) (t : TreeProgram) → Spells t ts → LiteralsFit t → AllByRecursion IntegerFits ts
+literals_in ts t s h = subst (λ us. AllByRecursion IntegerFits us) s h
+
+pub parsed : (ts : List Token) (n : Program) (b : Block) → AllByRecursion IntegerFits ts → program_written n ≡ b → block_of_tokens ts ≡ Some b → IsParse ts n
+parsed ts n b l w h = choose (tree_of ts) refl
+  where
+    choose : (o : Option TreeProgram) → tree_of ts ≡ o → IsParse ts n
+    choose None e = let c : None ≡ Some b = sym (erases ts ∙ ap kept e) ∙ h in let d : ⊥ = cc in absurd d
+    choose (Some t) e =
+        let s = sound t ts e in
+        let c : Some (program_of t) ≡ Some b = sym (erases ts ∙ ap kept e) ∙ h in
+        record { tree = t; spells = s.0; fits = s.1; literals = literals_of ts t s.0 l; same = cc }
+
+pub too_large : (ts : List Token) (b : Block) → ¬ AllByRecursion IntegerFits ts → block_of_tokens ts ≡ Some b → IsTooLarge ts
+too_large ts b l h = choose (tree_of ts) refl
+  where
+    choose : (o : Option TreeProgram) → tree_of ts ≡ o → IsTooLarge ts
+    choose None e = let c : None ≡ Some b = sym (erases ts ∙ ap kept e) ∙ h in let d : ⊥ = cc in absurd d
+    choose (Some t) e =
+        let s = sound t ts e in
+        record { tree = t; spells = s.0; fits = s.1; literals = λ f. l (literals_in ts t s.0 f) }
+
+pub only_program : (ts : List Token) (n : Program) (b : Block) → AllByRecursion IntegerFits ts → program_written n ≡ b → block_of_tokens ts ≡ Some b → (t : TreeProgram) → Spells t ts → Fits t → (program_written n ≡ program_of t) × LiteralsFit t
+only_program ts n b l w h t s f = let p = program_is ts t s f in (cc, literals_of ts t s l)
+
+pub no_tree : (ts : List Token) → block_of_tokens ts ≡ None → (t : TreeProgram) → Spells t ts → Fits t → ⊥
+no_tree ts h t s f = let p = program_is ts t s f in cc
+
+fails : (ts : List Token) → fold step Fail ts ≡ Fail
+fails [] = refl
+fails (t ∷ ts) = fails ts
+
+-- where the tokens lead to no state, nor do more of them
+pub no_more : (ts rest : List Token) → after ts ≡ Fail → (t : TreeProgram) → Spells t (ts ++ rest) → Fits t → ⊥
+no_more ts rest h = no_tree (ts ++ rest) (ap (λ s. finish s) (fold-append step begins ts rest ∙ ap (λ s. fold step s rest) h ∙ fails rest))
+
+-- at a token that leads to no state
+pub stuck : (seen : List Token) (t : Token) (s : State) → after seen ≡ s → step s t ≡ Fail → after (seen ++ t ∷ []) ≡ Fail
+stuck seen t s e f = fold-append step begins seen (t ∷ []) ∙ ap (λ s. step s t) e ∙ f
+
+pub stuck_only : (ts seen rest : List Token) → ts ≡ seen ++ rest → after seen ≡ Fail → (t : TreeProgram) → Spells t ts → Fits t → ⊥
+stuck_only ts seen rest e h t s f = no_more seen rest h t (s ∙ e) f
+
+pub stuck_place : (ts seen rest : List Token) (t : Token) (i : ℕ) → ts ≡ seen ++ t ∷ rest → i ≡ length seen → after (seen ++ t ∷ []) ≡ Fail → (i ≤ length ts) × ((p : TreeProgram) (more : List Token) → i < length ts → Spells p (take (i + 1) ts ++ more) → Fits p → ⊥)
+stuck_place ts seen rest t i e l h =
+    let n : length (seen ++ t ∷ []) ≡ i + 1 = length-append seen (t ∷ []) ∙ ap (λ m. m + 1) (sym l) in
+    let w : ts ≡ (seen ++ t ∷ []) ++ rest = e ∙ sym (append_assoc seen (t ∷ []) rest) in
+    let k : take (i + 1) ts ≡ seen ++ t ∷ [] = ap (λ m. take m ts) (sym n) ∙ ap (λ us. take (length (seen ++ t ∷ [])) us) w ∙ take-append_seam (seen ++ t ∷ []) rest in
+    (let m = ap length e ∙ length-append seen (t ∷ rest) in omega arith, λ p more lt s. no_more (seen ++ t ∷ []) more h p (s ∙ ap (λ us. us ++ more) k))

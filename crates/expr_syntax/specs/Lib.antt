@@ -1,0 +1,6 @@
+pub mod Grammar
+pub mod Machine
+pub mod Kept
+pub mod Nodes
+pub mod Reading
+pub mod Texts

@@ -1,0 +1,83 @@
+-- What the functions of the parser do, in the words of the machine.
+use Rattle.std.specs.Prelude.{◌≡◌, ℕ, ◌+◌, ◌<◌, ◌≤◌, Bool, true, List, [], ◌∷◌, ◌++◌, length, take, Option, Some, None, Result, Ok, Err, fold}
+use Rattle.expr_token.specs.declared.token.Token.{Token}
+use Rattle.expr_tree.specs.declared.node.Program.{Program}
+use Rattle.expr_tree.specs.Term.{Term, Block}
+use Rattle.expr_tree.specs.Written.{program_written}
+use Rattle.expr_tree.specs.Parts.{Given}
+use Rattle.expr_syntax.specs.declared.frame.Caller.{Caller}
+use Rattle.expr_syntax.specs.declared.frame.Frame.{Frame}
+use Rattle.expr_syntax.specs.declared.frame.Frame.TheVariants as frame
+use Rattle.expr_syntax.specs.declared.frame.Reaching.{Reaching}
+use Rattle.expr_syntax.specs.declared.frame.Place.{Place}
+use Rattle.expr_syntax.specs.declared.frame.Fault.{Fault}
+use Rattle.expr_syntax.specs.declared.frame.Fault.TheVariants as fault
+use Rattle.expr_syntax.specs.declared.parser.ParseError.{ParseError}
+use Rattle.expr_syntax.specs.declared.parser.ParseError.TheVariants as error
+use Rattle.expr_syntax.specs.Grammar.{TreeProgram, Spells, Fits, LiteralsFit}
+use Rattle.expr_syntax.specs.Kept.{program_of}
+use Rattle.expr_syntax.specs.Nodes.{plug, settle, argued, State, On, Fail}
+
+-- The frames, the last first.
+abbrev pub stack : List Frame → List Frame
+stack fs = fold (λ k f. f ∷ k) [] fs
+
+-- The state s is where the parser stands, and it fails only where s does.
+abbrev pub Stands : State → List Frame → Result Place Fault → Type 0
+Stands s fs (Ok p) = s ≡ On (stack fs) p
+Stands s fs (Err fault.Syntax) = s ≡ Fail
+Stands s fs (Err fault.Memory) = Unit {0}
+
+-- the answer o, and a fault only where there is none
+abbrev pub Gives : {A : Type 0} → Option A → Result A Fault → Type 0
+Gives o (Ok n) = o ≡ Some n
+Gives o (Err fault.Syntax) = o ≡ None
+Gives o (Err fault.Memory) = Unit {0}
+
+-- after the top frame is popped where arguments are open there
+abbrev pub IsCallOnTop : List Frame → List Frame → Option (Caller × Given) → Type 0
+IsCallOnTop old new (Some p) = old ≡ frame.Call p.0 p.1 ∷ new
+IsCallOnTop old new None = (t : Token) (b : Block) → argued t old b ≡ Fail
+
+-- after the top frame is popped where it reaches above the level
+abbrev pub PopsAbove : ℕ → List Frame → List Frame → Option Reaching → Type 0
+PopsAbove p old new None = (l : Term) → settle p (stack old) l ≡ record { stack = stack new; left = l }
+PopsAbove p old new (Some f) =
+    ((l : Term) → settle p (stack old) l ≡ settle p (stack new) (plug f l)) × (length new < length old)
+
+-- the program of a tree that spells these tokens and fits, as do its literals
+pub record IsParse (ts : List Token) (n : Program) : Type 0 where
+  pub tree : TreeProgram
+  pub spells : Spells tree ts
+  pub fits : Fits tree
+  pub literals : LiteralsFit tree
+  pub same : program_written n ≡ program_of tree
+
+-- a tree spells these tokens and fits, but a literal of it doesn't
+pub record IsTooLarge (ts : List Token) : Type 0 where
+  pub tree : TreeProgram
+  pub spells : Spells tree ts
+  pub fits : Fits tree
+  pub literals : ¬ LiteralsFit tree
+
+-- the answer for a token list that has the tree t
+abbrev pub IsAnswer : TreeProgram → Result Program ParseError → Type 0
+IsAnswer t (Ok n) = (program_written n ≡ program_of t) × LiteralsFit t
+IsAnswer t (Err (error.Syntax place)) = ⊥
+IsAnswer t (Err error.Literal) = ¬ LiteralsFit t
+IsAnswer t (Err error.Memory) = Unit {0}
+
+-- where a literal is refused, there is a tree
+abbrev pub IsLiteralFault : List Token → Result Program ParseError → Type 0
+IsLiteralFault ts (Ok n) = Unit {0}
+IsLiteralFault ts (Err (error.Syntax place)) = Unit {0}
+IsLiteralFault ts (Err error.Literal) = IsTooLarge ts
+IsLiteralFault ts (Err error.Memory) = Unit {0}
+
+-- A fault's place is at a token with which no text of a tree goes on, or the end.
+abbrev pub IsAtFault : List Token → Result Program ParseError → Type 0
+IsAtFault ts (Ok n) = Unit {0}
+IsAtFault ts (Err (error.Syntax place)) =
+    (place ≤ length ts) × ((t : TreeProgram) (rest : List Token) → place < length ts → Spells t (take (place + 1) ts ++ rest) → Fits t → ⊥)
+IsAtFault ts (Err error.Literal) = Unit {0}
+IsAtFault ts (Err error.Memory) = Unit {0}

@@ -1,0 +1,85 @@
+-- The trees of a text, its program, and the answers of `compile`.
+use Rattle.std.specs.Prelude.{◌≡◌, ℕ, ◌+◌, ◌<◌, ◌≤◌, List, ◌++◌, length, take, drop, slice_get, Some, Result, Ok, Err}
+use Rattle.expr_token.specs.Reading.{Begins, NoPiece, Reads}
+use Rattle.expr_token.specs.declared.token.Token.{Token}
+use Rattle.expr_tree.specs.Term.{Block}
+use Rattle.expr_tree.specs.Written.{program_written}
+use Rattle.expr_tree.specs.declared.node.Program.{Program}
+use Rattle.expr_value.specs.declared.error.Error.{Error}
+use Rattle.expr_value.specs.declared.error.Error.TheVariants.{PestError, ParseError, ExprError, RegexError, MemoryError}
+use Rattle.expr_syntax.specs.Grammar.{TreeProgram, Spells, Fits, LiteralsFit}
+use Rattle.expr_syntax.specs.Kept.{program_of}
+
+-- the tree spells what the text reads as, and fits
+pub record IsTreeOf (text : List ℕ) (t : TreeProgram) : Type 0 where
+  pub tokens : List Token
+  pub reads : Reads text tokens
+  pub spells : Spells t tokens
+  pub fits : Fits t
+
+-- the program of a tree of the text whose integer literals are below 2^63
+pub record IsProgramOf (text : List ℕ) (b : Block) : Type 0 where
+  pub tree : TreeProgram
+  pub is_tree : IsTreeOf text tree
+  pub literals : LiteralsFit tree
+  pub same : b ≡ program_of tree
+
+-- the text has a tree, and an integer literal of it is 2^63 or more
+pub record HasLargeLiteral (text : List ℕ) : Type 0 where
+  pub tree : TreeProgram
+  pub is_tree : IsTreeOf text tree
+  pub literals : ¬ LiteralsFit tree
+
+abbrev pub HasNoTree : List ℕ → Type 0
+HasNoTree text = (t : TreeProgram) → IsTreeOf text t → ⊥
+
+-- what each answer says of the text
+abbrev pub IsCompiled : List ℕ → Result Program Error → Type 0
+IsCompiled text (Ok p) = IsProgramOf text (program_written p)
+IsCompiled text (Err (PestError place)) = HasNoTree text
+IsCompiled text (Err (ParseError message)) = HasLargeLiteral text
+IsCompiled text (Err (ExprError message)) = ⊥
+IsCompiled text (Err (RegexError error)) = ⊥
+IsCompiled text (Err MemoryError) = Unit {0}
+
+-- the answers for a text that has the tree t
+abbrev pub IsAnswerFor : TreeProgram → Result Program Error → Type 0
+IsAnswerFor t (Ok p) = (program_written p ≡ program_of t) × LiteralsFit t
+IsAnswerFor t (Err (PestError place)) = ⊥
+IsAnswerFor t (Err (ParseError message)) = ¬ LiteralsFit t
+IsAnswerFor t (Err (ExprError message)) = ⊥
+IsAnswerFor t (Err (RegexError error)) = ⊥
+IsAnswerFor t (Err MemoryError) = Unit {0}
+
+-- no program begins with these tokens
+abbrev pub NoneBegins : List Token → Type 0
+NoneBegins ts = (t : TreeProgram) (rest : List Token) → Spells t (ts ++ rest) → Fits t → ⊥
+
+-- no program begins with these tokens up to the one at this index, if there is one there
+abbrev pub StopsAt : List Token → ℕ → Type 0
+StopsAt ts index = (t : TreeProgram) (rest : List Token) → index < length ts → Spells t (take (index + 1) ts ++ rest) → Fits t → ⊥
+
+-- the place where a reader would look for the fault of a text
+pub data FaultPlace (text : List ℕ) (place : ℕ) : Type 0 where
+  -- the first byte of a token with which no program goes on
+  AtToken : (upto : ℕ) (tokens : List Token) (starts : List ℕ) (k : ℕ) → Begins text upto tokens starts → slice_get starts k ≡ Some place → NoneBegins (take (k + 1) tokens) → FaultPlace text place
+  -- the end of the text, which is not the end of a program
+  AtEnd : place ≡ length text → FaultPlace text place
+  -- what is no token and no gap
+  AtUnreadable : (tokens : List Token) (starts : List ℕ) → Begins text place tokens starts → NoPiece (drop place text) → FaultPlace text place
+
+abbrev pub IsPlaced : List ℕ → Result Program Error → Type 0
+IsPlaced text (Ok p) = Unit {0}
+IsPlaced text (Err (PestError place)) = (place ≤ length text) × FaultPlace text place
+IsPlaced text (Err (ParseError message)) = Unit {0}
+IsPlaced text (Err (ExprError message)) = Unit {0}
+IsPlaced text (Err (RegexError error)) = Unit {0}
+IsPlaced text (Err MemoryError) = Unit {0}
+
+-- a literal is refused, or memory for saying so
+abbrev pub IsLiteralRefusal : Error → Type 0
+IsLiteralRefusal (PestError place) = ⊥
+IsLiteralRefusal (ParseError message) = Unit {0}
+IsLiteralRefusal (ExprError message) = ⊥
+IsLiteralRefusal (RegexError error) = ⊥
+IsLiteralRefusal MemoryError = Unit {0}

@@ -1,0 +1,117 @@
+//! From a text to its program.
+ghost use Rattle.std.specs.Prelude.{◌≡◌, ◌≤◌, List, length, drop, slice_get, unwrap_or, IfOk, IfErr, IfSome};
+ghost use Rattle.expr_syntax.specs.Grammar.{TreeProgram};
+ghost use Rattle.expr_syntax.specs.Texts.{IsAnswerFor, IsCompiled, IsLiteralRefusal, IsPlaced, IsTreeOf, StopsAt};
+ghost use Rattle.expr_token.specs.Reading.{Begins, NoPiece, Reads, ReadsAt};
+ghost use Rattle.expr_token.specs.declared.token.Token.{Token};
+ghost use Rattle.std.specs.List.{All};
+ghost use Rattle.std.specs.Prelude.{◌<◌};
+
+use crate::parser::{ParseError, parse};
+use expr_token::{Reading, Token, read};
+use expr_tree::node::Program;
+use expr_value::{Error, Result};
+use std::alloc::Global;
+
+/// The program of a text.
+///
+/// # Errors
+///
+/// `PestError` where the text has no tree in the grammar, with the place in bytes where a reader would look: the first
+/// byte of a token with which no program can go on, of what is no token, or the text's end. `ParseError` where it has a
+/// tree, but an integer literal is 2^63 or more. `MemoryError` where a growth is refused.
+pub fn compile(alloc: Global, code: &str) -> Result<Program>
+    // Each answer says of the text what it means: a program that of a tree, a syntax fault that there is none.
+    ensures answer { IsCompiled code.now result }
+    // Where the text has a tree, no other answer is given but that tree's.
+    ensures only { (t : TreeProgram) → IsTreeOf code.now t → IsAnswerFor t result }
+    ensures place { IsPlaced code.now result }
+{
+    let Reading {
+        tokens,
+        starts,
+        fault,
+    } = read(alloc, code)?;
+    match fault {
+        Some(place) => unreadable(alloc, code, tokens, &starts, place),
+        None => readable(alloc, code, tokens, &starts),
+    }
+}
+
+/// The program of a text that reads as the tokens.
+fn readable(alloc: Global, code: &str, tokens: Vec<Token>, starts: &[usize]) -> Result<Program>
+    requires reads { ReadsAt code.now tokens.items starts.now }
+    requires within { All (λ start. start < length code.now) starts.now }
+    requires paired { length starts.now ≡ length tokens.items }
+    ensures answer { IsCompiled code.now result }
+    ensures only { (t : TreeProgram) → IsTreeOf code.now t → IsAnswerFor t result }
+    ensures place { IsPlaced code.now result }
+{
+    match parse(alloc, tokens) {
+        Ok(program) => Ok(program),
+        Err(ParseError::Syntax(index)) => {
+            let place = place_of(starts, index, code.len());
+            Err(Error::PestError(place))
+        }
+        Err(ParseError::Literal) => Err(too_large(alloc)),
+        Err(ParseError::Memory) => Err(Error::MemoryError),
+    }
+}
+
+/// The refusal of a text that can't be read on from a place, before which these tokens stand.
+fn unreadable(
+    alloc: Global,
+    code: &str,
+    tokens: Vec<Token>,
+    starts: &[usize],
+    place: usize,
+) -> Result<Program>
+    requires begins { Begins code.now place tokens.items starts.now }
+    requires stuck { NoPiece (drop place code.now) }
+    requires refused { (ts : List Token) → Reads code.now ts → ⊥ }
+    requires within { All (λ start. start < length code.now) starts.now }
+    requires paired { length starts.now ≡ length tokens.items }
+    requires place { place ≤ length code.now }
+    ensures answer { IsCompiled code.now result }
+    ensures only { (t : TreeProgram) → IsTreeOf code.now t → IsAnswerFor t result }
+    ensures place { IsPlaced code.now result }
+{
+    prove!(place <= code.len());
+    match first_fault(alloc, tokens)? {
+        Some(index) => {
+            let place = place_of(starts, index, place);
+            Err(Error::PestError(place))
+        }
+        None => Err(Error::PestError(place)),
+    }
+}
+
+/// The first token with which no program goes on, if these tokens have one.
+fn first_fault(alloc: Global, tokens: Vec<Token>) -> Result<Option<usize>>
+    ensures stuck { IfOk result (λ found. IfSome found (StopsAt tokens.items)) }
+    ensures refusal { IfErr result (λ e. e ≡ Error.MemoryError) }
+{
+    match parse(alloc, tokens) {
+        Err(ParseError::Syntax(index)) => Ok(Some(index)),
+        Err(ParseError::Memory) => Err(Error::MemoryError),
+        Err(ParseError::Literal) => Ok(None),
+        Ok(_) => Ok(None),
+    }
+}
+
+/// Where a token begins, or the end where there is none.
+fn place_of(starts: &[usize], index: usize, end: usize) -> usize
+    ensures { result ≡ unwrap_or (slice_get starts.now index) end }
+{
+    starts.get(index).copied().unwrap_or(end)
+}
+
+/// The refusal of an integer literal of 2^63 or more.
+fn too_large(alloc: Global) -> Error
+    ensures { IsLiteralRefusal result }
+{
+    match String::from_str(alloc, "an integer literal is 2^63 or more") {
+        Ok(text) => Error::ParseError(text),
+        Err(_) => Error::MemoryError,
+    }
+}

@@ -1,0 +1,16 @@
+pub mod Blocks
+pub mod Bodies
+pub mod Cuts
+pub mod Digits
+pub mod Found
+pub mod Hashes
+pub mod Integers
+pub mod Lexing
+pub mod Pieces
+pub mod Quotes
+pub mod Readings
+pub mod Returns
+pub mod Signs
+pub mod Tokens
+pub mod Unescaping
+pub mod Words

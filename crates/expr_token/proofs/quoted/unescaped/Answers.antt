@@ -1,0 +1,34 @@
+use Rattle.std.proofs.Common.{◌≡◌, ◌+◌, ◌<◌, ◌++◌, suc, drop, take, get_or, length, string_bytes, sym, ap, ◌∙◌, subst, arith, length-drop}
+use Rattle.std.specs.Str.{IsCharBoundary}
+use Rattle.std.proofs.lemmas.List.{drop-drop}
+use Rattle.std.proofs.lemmas.Str.{IsCharBoundary-start}
+use Rattle.expr_token.specs.Lexer.{unescaped}
+use Rattle.expr_token.proofs.Cuts.{rest_at, front_at, cut_after}
+use Rattle.expr_token.proofs.Unescaping.{joined}
+use Rattle.expr_token.proofs.quoted.unescaped.Goals as goal
+
+pub loop-len-init : goal.loop-len-init
+loop-len-init c = (omega arith, IsCharBoundary-start c.args.text.now c.utf8.text, ap (λ l. l ++ unescaped c.args.text.now) c.new-content.ensures.bytes)
+
+pub loop-len-preserved : goal.loop-len-preserved
+loop-len-preserved c =
+    let text = c.args.text.now in
+    let from = c.loop-len.from in
+    let len = c.in-Some.len in
+    let s = drop from text in
+    let rest = rest_at text c.as_bytes-bytes.result.now from c.as_bytes-bytes.ensures.value in
+    let ascii : get_or s (len + 1) 0 < 128 = subst (λ l. get_or l (len + 1) 0 < 128) rest c.in-Some.ensures.ascii.1 in
+    let within : from + (len + 1) < length text = omega (arith, c.in-Some.ensures.within, ap length rest, length-drop from text) in
+    let place : from + suc (len + 1) ≡ from + (len + 2) = omega arith in
+    let cut : IsCharBoundary text (from + (len + 2)) = subst (IsCharBoundary text) place (cut_after text from (len + 1) c.utf8.text within ascii) in
+    let found : unescaped s ≡ take len s ++ (c.in-Some.value.now ++ unescaped (drop (len + 2) s)) = subst (λ l. unescaped l ≡ take len l ++ (c.in-Some.value.now ++ unescaped (drop (len + 2) l))) rest c.in-Some.ensures.value in
+    let u = unescaped (drop (from + (len + 2)) text) in
+    let content = string_bytes c.loop-len.content in (
+      omega arith,
+      cut,
+      ap (λ l. l ++ u) (c.in_ok-push_str-2.ensures.bytes ∙ ap (λ l. l ++ c.in-Some.value.now) (c.in_ok-push_str.ensures.bytes ∙ ap (λ l. content ++ l) (c.range.ensures.value ∙ front_at text from len)))
+          ∙ joined content (take len s) c.in-Some.value.now u
+          ∙ ap (λ l. content ++ (take len s ++ (c.in-Some.value.now ++ unescaped l))) (sym (drop-drop (len + 2) from text))
+          ∙ ap (λ l. content ++ l) (sym found)
+          ∙ c.loop-len.invariant.2,
+    )

@@ -1,0 +1,5 @@
+pub mod Kinds
+pub mod Lexer
+pub mod Reading
+pub mod Spellings
+pub mod Tokens

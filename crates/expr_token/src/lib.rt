@@ -1,0 +1,21 @@
+//! From the text of a program to its tokens.
+#![tactic(auto)]
+
+mod gap;
+mod integer;
+mod laws;
+mod literal;
+mod quoted;
+mod reading;
+mod reserved;
+mod sign;
+#[cfg(test)]
+mod tests;
+mod token;
+mod word;
+
+pub use laws::{lexer_gives_the_reading, one_reading};
+pub use reading::{Reading, read};
+pub use reserved::Reserved;
+pub use sign::Sign;
+pub use token::Token;

@@ -1,0 +1,7 @@
+//! The tree of a program: what a text stands for, apart from brackets and layout.
+#![tactic(auto)]
+
+mod names;
+pub mod node;
+pub mod operator;
+pub mod part;

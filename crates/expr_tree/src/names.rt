@@ -1,0 +1,302 @@
+//! The names of a program.
+ghost use Rattle.std.specs.Prelude.{◌≡◌, ◌↔◌, [], IsTrue, IfOk, IfErr, OnOk, map, string_bytes};
+ghost use Rattle.std.specs.List.{Contains};
+ghost use Rattle.std.specs.List.Sorted.{IsStrictlySortedBy};
+ghost use Rattle.std.specs.Cmp.Lexicographic.{slice_cmp};
+ghost use Rattle.std.specs.Ordering.{nat_cmp};
+ghost use Rattle.expr_tree.specs.Names.{operands, postfix_operands, bound_operands, all_operands, predicate_operands, block_operands, lines_operands, env, has_env, AreNamesOf, with_name, with_names};
+ghost use Rattle.expr_tree.specs.Written.{written, postfix_written, bound_written, predicate_written, program_written, line_written, terms_of};
+
+use crate::node::{Node, PostfixOperator, Program};
+use expr_value::{Error, Result};
+use std::alloc::{AllocError, Global};
+use std::collections::BTreeSet;
+use std::marker::Model;
+
+impl Program {
+    /// Each name and hash name that stands as an operand anywhere in the program, once, in byte order. `$env` is left out.
+    ///
+    /// # Errors
+    ///
+    /// `MemoryError`, if a growth is refused.
+    pub fn names(&self, alloc: Global) -> Result<Vec<String>>
+        ensures ok { IfOk result (λ ns. AreNamesOf (map string_bytes ns.items) (program_written self.now)) }
+        ensures err { IfErr result (λ e. e ≡ Error.MemoryError) }
+    {
+        let mut names = Names::new(alloc);
+        add_program(self, &mut names)?;
+        Ok(names.into_vec()?)
+    }
+
+    /// Whether `$env` stands as an operand anywhere in the program.
+    pub fn uses_env(&self) -> bool
+        ensures { IsTrue result ↔ Contains (block_operands (program_written self.now)) env }
+    {
+        program_uses_env(self)
+    }
+}
+
+// Names in byte order, each once.
+#[derive(Drop)]
+struct Names {
+    alloc: Global,
+    set: BTreeSet<String>,
+}
+
+impl Model for Names {
+    ghost use Rattle.std.specs.Prelude.{◌≡◌, List, ℕ, map, string_bytes};
+    ghost use Rattle.std.specs.BTreeSet.{IsOrdered};
+    ghost use Rattle.std.specs.String.{string_cmp};
+
+    ghost Value = { List (List ℕ) };
+
+    ghost view = { λ n. map string_bytes n.set.keys };
+
+    ghost invariant = { λ n. IsOrdered string_cmp n.set };
+}
+
+impl Names {
+    fn new(alloc: Global) -> Names
+        ensures { result ≡ [] }
+    {
+        Names {
+            alloc,
+            set: BTreeSet::new(alloc),
+        }
+    }
+
+    fn add(&mut self, name: &str) -> std::result::Result<(), AllocError>
+        ensures { OnOk result (self.new ≡ with_name self.old name.now) }
+    {
+        if name == "$env" || self.set.contains(name) {
+            return Ok(());
+        }
+        let name = String::from_str(self.alloc, name)?;
+        self.set.insert(name)?;
+        Ok(())
+    }
+
+    fn into_vec(self) -> std::result::Result<Vec<String>, AllocError>
+        ensures names { IfOk result (λ ns. map string_bytes ns.items ≡ self) }
+        ensures ascending { IfOk result (λ ns. IsStrictlySortedBy (slice_cmp nat_cmp) (map string_bytes ns.items)) }
+    {
+        let Names { alloc, set } = self;
+        set.into_iter().collect(alloc)
+    }
+}
+
+#[cycle(names)]
+fn add_node(node: &Node, names: &mut Names) -> std::result::Result<(), AllocError>
+    ensures { OnOk result (names.new ≡ with_names names.old (operands (written node.now))) }
+{
+    match node {
+        Node::Ident(name) => names.add(name.as_str()),
+        Node::Array(items) => add_nodes(items, names),
+        Node::Range(first, last) => {
+            add_node(first, names)?;
+            add_node(last, names)
+        }
+        Node::Value(_) => Ok(()),
+        Node::Func {
+            ident: _,
+            args,
+            predicate,
+        } => {
+            add_nodes(args, names)?;
+            add_predicate(predicate, names)
+        }
+        Node::Unary { operator: _, node } => add_node(node, names),
+        Node::Operation {
+            operator: _,
+            left,
+            right,
+            compiled_regex: _,
+        } => {
+            add_node(left, names)?;
+            add_node(right, names)
+        }
+        Node::Postfix { operator, node } => {
+            add_node(node, names)?;
+            add_postfix(operator, names)
+        }
+        Node::Conditional {
+            condition,
+            consequent,
+            alternative,
+        } => {
+            add_node(condition, names)?;
+            add_program(consequent, names)?;
+            add_program(alternative, names)
+        }
+    }
+}
+
+#[cycle(names)]
+fn add_postfix(operator: &PostfixOperator, names: &mut Names) -> std::result::Result<(), AllocError>
+    ensures { OnOk result (names.new ≡ with_names names.old (postfix_operands (postfix_written operator.now))) }
+{
+    match operator {
+        PostfixOperator::Index { idx, optional: _ } => add_node(idx, names),
+        PostfixOperator::Range { start, end } => {
+            add_bound(start, names)?;
+            add_bound(end, names)
+        }
+        PostfixOperator::Default(node) => add_node(node, names),
+        PostfixOperator::Pipe(node) => add_node(node, names),
+        PostfixOperator::Ternary { left, right } => {
+            add_node(left, names)?;
+            add_node(right, names)
+        }
+        PostfixOperator::Method { ident: _, args } => add_nodes(args, names),
+    }
+}
+
+#[cycle(names)]
+fn add_bound(bound: &Option<Box<Node>>, names: &mut Names) -> std::result::Result<(), AllocError>
+    ensures { OnOk result (names.new ≡ with_names names.old (bound_operands (bound_written bound.now))) }
+{
+    match bound {
+        None => Ok(()),
+        Some(node) => add_node(node, names),
+    }
+}
+
+#[cycle(names)]
+fn add_predicate(
+    predicate: &Option<Box<Program>>,
+    names: &mut Names,
+) -> std::result::Result<(), AllocError>
+    ensures { OnOk result (names.new ≡ with_names names.old (predicate_operands (predicate_written predicate.now))) }
+{
+    match predicate {
+        None => Ok(()),
+        Some(program) => add_program(program, names),
+    }
+}
+
+#[cycle(names)]
+fn add_nodes(nodes: &[Node], names: &mut Names) -> std::result::Result<(), AllocError>
+    ensures { OnOk result (names.new ≡ with_names names.old (all_operands (terms_of (map written nodes.now)))) }
+{
+    for node in nodes {
+        add_node(node, names)?;
+    }
+    Ok(())
+}
+
+#[cycle(names)]
+fn add_program(program: &Program, names: &mut Names) -> std::result::Result<(), AllocError>
+    ensures { OnOk result (names.new ≡ with_names names.old (block_operands (program_written program.now))) }
+{
+    add_lines(&program.lines, names)?;
+    add_node(&program.expr, names)
+}
+
+#[cycle(names)]
+fn add_lines(lines: &[(String, Node)], names: &mut Names) -> std::result::Result<(), AllocError>
+    ensures { OnOk result (names.new ≡ with_names names.old (lines_operands (map line_written lines.now))) }
+{
+    for (_name, value) in lines {
+        add_node(value, names)?;
+    }
+    Ok(())
+}
+
+#[cycle(uses)]
+fn node_uses_env(node: &Node) -> bool
+    ensures { result ≡ has_env (operands (written node.now)) }
+{
+    match node {
+        Node::Ident(name) => name.as_str() == "$env",
+        Node::Array(items) => any_uses_env(items),
+        Node::Range(first, last) => node_uses_env(first) || node_uses_env(last),
+        Node::Value(_) => false,
+        Node::Func {
+            ident: _,
+            args,
+            predicate,
+        } => any_uses_env(args) || predicate_uses_env(predicate),
+        Node::Unary { operator: _, node } => node_uses_env(node),
+        Node::Operation {
+            operator: _,
+            left,
+            right,
+            compiled_regex: _,
+        } => node_uses_env(left) || node_uses_env(right),
+        Node::Postfix { operator, node } => node_uses_env(node) || postfix_uses_env(operator),
+        Node::Conditional {
+            condition,
+            consequent,
+            alternative,
+        } => {
+            node_uses_env(condition)
+                || program_uses_env(consequent)
+                || program_uses_env(alternative)
+        }
+    }
+}
+
+#[cycle(uses)]
+fn postfix_uses_env(operator: &PostfixOperator) -> bool
+    ensures { result ≡ has_env (postfix_operands (postfix_written operator.now)) }
+{
+    match operator {
+        PostfixOperator::Index { idx, optional: _ } => node_uses_env(idx),
+        PostfixOperator::Range { start, end } => bound_uses_env(start) || bound_uses_env(end),
+        PostfixOperator::Default(node) => node_uses_env(node),
+        PostfixOperator::Pipe(node) => node_uses_env(node),
+        PostfixOperator::Ternary { left, right } => node_uses_env(left) || node_uses_env(right),
+        PostfixOperator::Method { ident: _, args } => any_uses_env(args),
+    }
+}
+
+#[cycle(uses)]
+fn bound_uses_env(bound: &Option<Box<Node>>) -> bool
+    ensures { result ≡ has_env (bound_operands (bound_written bound.now)) }
+{
+    match bound {
+        None => false,
+        Some(node) => node_uses_env(node),
+    }
+}
+
+#[cycle(uses)]
+fn predicate_uses_env(predicate: &Option<Box<Program>>) -> bool
+    ensures { result ≡ has_env (predicate_operands (predicate_written predicate.now)) }
+{
+    match predicate {
+        None => false,
+        Some(program) => program_uses_env(program),
+    }
+}
+
+#[cycle(uses)]
+fn any_uses_env(nodes: &[Node]) -> bool
+    ensures { result ≡ has_env (all_operands (terms_of (map written nodes.now))) }
+{
+    for node in nodes {
+        if node_uses_env(node) {
+            return true;
+        }
+    }
+    false
+}
+
+#[cycle(uses)]
+fn program_uses_env(program: &Program) -> bool
+    ensures { result ≡ has_env (block_operands (program_written program.now)) }
+{
+    lines_use_env(&program.lines) || node_uses_env(&program.expr)
+}
+
+#[cycle(uses)]
+fn lines_use_env(lines: &[(String, Node)]) -> bool
+    ensures { result ≡ has_env (lines_operands (map line_written lines.now)) }
+{
+    for (_name, value) in lines {
+        if node_uses_env(value) {
+            return true;
+        }
+    }
+    false
+}

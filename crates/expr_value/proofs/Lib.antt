@@ -1,0 +1,7 @@
+pub mod Agreement
+pub mod Joined
+pub mod Pairs
+pub mod ScalarPairs
+pub mod SortedLemmas
+pub mod StringTexts
+pub mod Texts

@@ -1,0 +1,18 @@
+use Rattle.std.proofs.Common.{slice_get, ap, ◌∙◌, sym}
+use Rattle.std.specs.Map.{lookup}
+use Rattle.std.specs.Option.{option_copied}
+use Rattle.expr_value.specs.Keys.{key_eq}
+use Rattle.expr_value.proofs.Pairs.{find_beside, find_none_beside}
+use Rattle.expr_value.proofs.keyed.KeyedPairs.find.Goals as goal
+
+pub returns-in_err-index : goal.returns-in_err-index
+returns-in_err-index g c =
+    ap option_copied c.from_residual.ensures
+    ∙ sym (find_none_beside key_eq c.self.inside.keys.keys c.self.inside.values.items c.self.invariant c.args.key.now c.in_err-index.ensures.index)
+    ∙ ap (lookup (key_eq c.args.key.now)) c.self.view_is
+
+pub returns : goal.returns
+returns g c =
+    c.item_at.ensures ∙ ap (λ l. slice_get l c.in_ok-index.index) c.deref.ensures.value
+    ∙ sym (find_beside key_eq c.self.inside.keys.keys c.self.inside.values.items c.self.invariant c.args.key.now c.in_ok-index.index c.in_ok-index.ensures.index)
+    ∙ ap (lookup (key_eq c.args.key.now)) c.self.view_is

@@ -1,0 +1,10 @@
+pub mod formers
+pub mod Entries
+pub mod Fault
+pub mod Keys
+pub mod Laws
+pub mod Names
+pub mod Patterns
+pub mod Sorted
+pub mod Strings
+pub mod Values
