@@ -4,7 +4,7 @@ use crate::operator::{Operator, UnaryOperator};
 use expr_value::Value;
 
 /// A built pattern. There are none yet.
-#[derive(Clone, Copy, Debug)]
+#[derive(Clone, Copy)]
 pub enum Pattern {}
 
 /// An expression.
