@@ -4,3 +4,4 @@ pub mod Parts
 pub mod Places
 pub mod Rising
 pub mod Shapes
+pub mod Weights

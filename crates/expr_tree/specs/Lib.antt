@@ -6,4 +6,5 @@ pub mod Places
 pub mod Promotion
 pub mod Shown
 pub mod Term
+pub mod Weight
 pub mod Written

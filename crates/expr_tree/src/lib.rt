@@ -1,6 +1,7 @@
 //! The tree of a program: what a text stands for, apart from brackets and layout.
 #![tactic(auto)]
 
+mod chain;
 mod names;
 pub mod node;
 pub mod operator;

@@ -1,7 +1,14 @@
 //! The nodes of a program.
+ghost use Rattle.std.specs.Prelude.{◌+◌, ◌<◌, ◌≤◌, ◌≡◌, IfOk, IfErr, IfSome};
+ghost use Rattle.expr_tree.specs.Weight.{weight};
+ghost use Rattle.expr_tree.specs.Written.{written};
 
+use crate::chain::{
+    hung_items, hung_lines, hung_postfix, hung_program, linked_items, shortened_items,
+};
 use crate::operator::{Operator, UnaryOperator};
 use expr_value::Value;
+use std::mem;
 
 /// A built pattern. There are none yet.
 #[derive(Clone, Copy)]
@@ -9,7 +16,6 @@ pub enum Pattern {}
 
 /// An expression.
 #[cycle(tree)]
-#[derive(Drop)]
 pub enum Node {
     /// A name or hash name, as it is written.
     Ident(String),
@@ -48,6 +54,137 @@ pub enum Node {
         consequent: Box<Program>,
         alternative: Box<Program>,
     },
+}
+
+// A tree is let go by a loop that takes neither stack nor memory: see `chain`.
+impl Drop for Node {
+    fn drop(self) {
+        let mut chain = self;
+        while let Some(rest) = chain.shortened() {
+            chain = rest;
+        }
+    }
+}
+
+impl Node {
+    // The chain without its head, whose parts stay; none, if the head has no parts.
+    pub(crate) fn shortened(self) -> Option<Node>
+        ensures { IfSome result (λ n. weight (written n) < weight (written self)) }
+    {
+        match self {
+            Node::Ident(_) | Node::Value(_) => None,
+            Node::Array(items) => shortened_items(items),
+            Node::Range(first, last) => Some(Box::into_inner(last).hung(Box::into_inner(first))),
+            Node::Func {
+                ident: _,
+                args,
+                predicate,
+            } => match predicate {
+                None => shortened_items(args),
+                Some(program) => {
+                    let Program { lines, expr } = Box::into_inner(program);
+                    Some(hung_items(args, hung_lines(lines, expr)))
+                }
+            },
+            Node::Unary { operator: _, node } => Some(Box::into_inner(node)),
+            Node::Operation {
+                operator: _,
+                left,
+                right,
+                compiled_regex: _,
+            } => Some(Box::into_inner(right).hung(Box::into_inner(left))),
+            Node::Postfix { operator, node } => Some(hung_postfix(operator, Box::into_inner(node))),
+            Node::Conditional {
+                condition,
+                consequent,
+                alternative,
+            } => {
+                let chain = hung_program(Box::into_inner(consequent), Box::into_inner(condition));
+                Some(hung_program(Box::into_inner(alternative), chain))
+            }
+        }
+    }
+
+    // The tree in front of a chain. It is gone down by first parts to one that has none, and each on the way then leads on to the one above it.
+    pub(crate) fn hung(self, chain: Node) -> Node
+        ensures { weight (written result) < weight (written self) + weight (written chain) }
+    {
+        let mut node = self;
+        let mut chain = chain;
+        loop {
+            match node.linked(chain) {
+                Ok((first, linked)) => {
+                    node = first;
+                    chain = linked;
+                }
+                Err(chain) => return chain,
+            }
+        }
+    }
+
+    // The first part, and the node with a chain in its place. A node without parts is let go, and the chain comes back.
+    fn linked(self, chain: Node) -> Result<(Node, Node), Node>
+        ensures parts { IfOk result (λ r. weight (written r.0) + weight (written r.1) ≤ weight (written self) + weight (written chain)) }
+        ensures first { IfOk result (λ r. weight (written r.0) < weight (written self)) }
+        ensures chain { IfErr result (λ n. n ≡ chain) }
+    {
+        match self {
+            Node::Ident(_) | Node::Value(_) => Err(chain),
+            Node::Array(items) => linked_items(items, chain),
+            Node::Range(mut first, last) => {
+                let node = mem::replace(first.as_mut(), chain);
+                Ok((node, Node::Range(first, last)))
+            }
+            Node::Func {
+                ident,
+                args,
+                predicate,
+            } => match predicate {
+                None => linked_items(args, chain),
+                Some(mut program) => {
+                    let node = mem::replace(&mut program.expr, chain);
+                    let predicate = Some(program);
+                    Ok((
+                        node,
+                        Node::Func {
+                            ident,
+                            args,
+                            predicate,
+                        },
+                    ))
+                }
+            },
+            Node::Unary { operator: _, node } => Ok((Box::into_inner(node), chain)),
+            Node::Operation {
+                operator: _,
+                mut left,
+                right,
+                compiled_regex: _,
+            } => {
+                let node = mem::replace(left.as_mut(), chain);
+                Ok((node, Node::Range(left, right)))
+            }
+            Node::Postfix { operator, mut node } => {
+                let first = mem::replace(node.as_mut(), chain);
+                Ok((first, Node::Postfix { operator, node }))
+            }
+            Node::Conditional {
+                mut condition,
+                consequent,
+                alternative,
+            } => {
+                let node = mem::replace(condition.as_mut(), chain);
+                Ok((
+                    node,
+                    Node::Conditional {
+                        condition,
+                        consequent,
+                        alternative,
+                    },
+                ))
+            }
+        }
+    }
 }
 
 /// What stands behind an operand.

@@ -1,0 +1,60 @@
+-- How the weight of a tree is made up of its parts'.
+use Rattle.std.proofs.Common.{◌≡◌, ◌+◌, ℕ, List, [], ◌∷◌, ◌++◌, map, Option, Vec, Box, Global, String, arith, ap, ◌∙◌}
+use Rattle.expr_tree.specs.Parts.{Lines, block_with}
+use Rattle.expr_tree.specs.Term.{Term}
+use Rattle.expr_tree.specs.Weight.{weight, terms_weight, predicate_weight, postfix_weight, block_weight, lines_weight}
+use Rattle.expr_tree.specs.Written.{written, postfix_written, predicate_written, program_written, line_written, terms_of}
+use Rattle.expr_tree.specs.declared.node.Node.{Node}
+use Rattle.expr_tree.specs.declared.node.Node.TheVariants as node
+use Rattle.expr_tree.specs.declared.node.Pattern.{Pattern}
+use Rattle.expr_tree.specs.declared.node.PostfixOperator.{PostfixOperator}
+use Rattle.expr_tree.specs.declared.node.Program.{Program}
+use Rattle.expr_tree.specs.declared.operator.Operator.{Operator}
+use Rattle.expr_tree.specs.declared.node.Node.TheViews.{roll-Program}
+use Rattle.expr_tree.proofs.Parts.{written-parts, written-program}
+use Rattle.expr_tree.proofs.Shapes.{written-Array, written-Range, written-Func, written-Operation, written-Postfix, written-Conditional}
+
+abbrev pub node_weight : Node → ℕ
+node_weight n = weight (written n)
+
+abbrev pub items_weight : List Node → ℕ
+items_weight ns = terms_weight (terms_of (map written ns))
+
+abbrev pub named_weight : List (String Global × Node) → ℕ
+named_weight ls = lines_weight (map line_written ls)
+
+pub items-push : (ns : List Node) (n : Node) → items_weight (ns ++ n ∷ []) ≡ items_weight ns + weight (written n)
+items-push [] n = omega arith
+items-push (m ∷ ns) n = omega (arith, items-push ns n)
+
+pub lines-push : (ls : List (String Global × Node)) (l : String Global × Node) → named_weight (ls ++ l ∷ []) ≡ named_weight ls + weight (written l.1)
+lines-push [] l = omega arith
+lines-push (m ∷ ls) l = omega (arith, lines-push ls l)
+
+block-with : (ls : Lines) (last : Term) → block_weight (block_with ls last) ≡ lines_weight ls + weight last
+block-with [] last = omega arith
+block-with (l ∷ ls) last = omega (arith, block-with ls last)
+
+pub program-parts : (p : Program) → block_weight (program_written p) ≡ named_weight p.lines.items + weight (written p.expr)
+program-parts p = ap block_weight (written-parts p) ∙ block-with (map line_written p.lines.items) (written p.expr)
+
+pub rolled-parts : (lines : Vec (String Global × Node) Global) (expr : Node) → block_weight (program_written (roll-Program (record { lines = lines; expr = expr }))) ≡ named_weight lines.items + weight (written expr)
+rolled-parts lines expr = ap block_weight (written-program lines expr) ∙ block-with (map line_written lines.items) (written expr)
+
+pub weight-Array : (ns : Vec Node Global) → weight (written (node.Array ns)) ≡ 1 + items_weight ns.items
+weight-Array ns = ap weight (written-Array ns)
+
+pub weight-Range : (a b : Box Node Global) → weight (written (node.Range a b)) ≡ 1 + (weight (written a.value) + weight (written b.value))
+weight-Range a b = ap weight (written-Range a b)
+
+pub weight-Func : (s : String Global) (ns : Vec Node Global) (p : Option (Box Program Global)) → weight (written (node.Func s ns p)) ≡ 1 + (items_weight ns.items + predicate_weight (predicate_written p))
+weight-Func s ns p = ap weight (written-Func s ns p)
+
+pub weight-Operation : (o : Operator) (l r : Box Node Global) (kept : Option Pattern) → weight (written (node.Operation o l r kept)) ≡ 1 + (weight (written l.value) + weight (written r.value))
+weight-Operation o l r kept = ap weight (written-Operation o l r kept)
+
+pub weight-Postfix : (p : PostfixOperator) (n : Box Node Global) → weight (written (node.Postfix p n)) ≡ 1 + (weight (written n.value) + postfix_weight (postfix_written p))
+weight-Postfix p n = ap weight (written-Postfix p n)
+
+pub weight-Conditional : (c : Box Node Global) (a b : Box Program Global) → weight (written (node.Conditional c a b)) ≡ 1 + (weight (written c.value) + (block_weight (program_written a.value) + block_weight (program_written b.value)))
+weight-Conditional c a b = ap weight (written-Conditional c a b)

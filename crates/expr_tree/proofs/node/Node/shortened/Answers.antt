@@ -1,0 +1,19 @@
+use Rattle.std.proofs.Common.{arith, ap, ◌∙◌}
+use Rattle.expr_tree.specs.Weight.{predicate_weight}
+use Rattle.expr_tree.specs.Written.{predicate_written}
+use Rattle.expr_tree.specs.declared.node.Program.{Program}
+use Rattle.expr_tree.proofs.Weights.{node_weight, named_weight, program-parts, weight-Func}
+use Rattle.expr_tree.proofs.node.Node.shortened.Goals as goal
+
+pub returns-in-Some : goal.returns-in-Some
+returns-in-Some c =
+    omega (
+      arith,
+      ap node_weight c.in-Func.is ∙ weight-Func c.in-Func.ident c.in-Func.args c.in-Func.predicate,
+      ap (λ p. predicate_weight (predicate_written p)) c.in-Some.is,
+      program-parts c.in-Some.program.value,
+      ap (λ (p : Program). named_weight p.lines.items) c.into_inner-lines.ensures,
+      ap (λ (p : Program). node_weight p.expr) c.into_inner-lines.ensures,
+      c.hung_lines.ensures,
+      c.hung_items.ensures,
+    )
