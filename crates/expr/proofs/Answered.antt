@@ -55,7 +55,7 @@ AllowsAll-first host ctx t ts v p (Err e) q = (Ok v, p, (Err e, q, refl))
 
 -- a line, and then the rest of the program under it
 pub AllowsBlock-line : (host : Host) (base : Context) (scope scope' : List Binding) (b : Binding) (key : String Global) (t : Term) (rest : Block) (answer : Answer)
-    → scope' ≡ scope ++ b ∷ [] → string_bytes b.name ≡ string_bytes key → Allows host (overridden scope base) t (Ok b.value)
+    → scope' ≡ scope ++ b ∷ [] → b.name.now ≡ string_bytes key → Allows host (overridden scope base) t (Ok b.value)
     → AllowsBlock host (overridden scope' base) rest answer → AllowsBlock host (overridden scope base) (line (string_bytes key) t rest) answer
 AllowsBlock-line host base scope scope' b key t rest answer pushed named allowed p = (
   Ok b.value,
@@ -64,11 +64,6 @@ AllowsBlock-line host base scope scope' b key t rest answer pushed named allowed
       ap (λ bs. overridden bs base) pushed ∙ overridden-last scope b base ∙ ap (λ n. override (overridden scope base) n b.value) named
       ) p,
 )
-
-pub take-prefix : {X : Type 0} (xs ys zs : List X) → take (length xs) ys ≡ xs → take (length xs) (ys ++ zs) ≡ xs
-take-prefix xs ys zs e =
-    let n : length xs ≤ length ys = omega (arith, length-take (length xs) ys, ap length e) in
-    rw take-append-le e
 
 pub looked_up-env : (bs : List Binding) (base : Context) (key : List ℕ) → bytes_eq key (codes "$env") ≡ true → looked_up (overridden bs base) key ≡ Ok (value.Map base.map)
 looked_up-env bs base key same = rw (same, map_overridden bs base) refl

@@ -3,6 +3,7 @@
 
 mod environment;
 mod evaluation;
+mod held;
 mod laws;
 mod messages;
 mod operators;
