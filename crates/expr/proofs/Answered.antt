@@ -1,7 +1,7 @@
 -- How the answers of parts make the answer of the whole.
-use Rattle.std.proofs.Common.{◌≡◌, ◌≢◌, ℕ, ◌+◌, ◌<◌, ◌≤◌, List, [], ◌∷◌, ◌++◌, length, get_or, drop, String, Global, string_bytes, Result, Ok, Err, false, refl, ap, sym, ◌∙◌, subst, arith, take, length-take, true, bytes_eq, codes, append_assoc, append-nil}
+use Rattle.std.proofs.Common.{◌≡◌, ◌≢◌, ℕ, ◌+◌, ◌<◌, ◌≤◌, List, [], ◌∷◌, ◌++◌, length, get_or, drop, String, Global, string_bytes, Result, Ok, Err, false, refl, ap, sym, ◌∙◌, subst, true, bytes_eq, codes, append_assoc, append-nil}
 use Rattle.std.specs.Result.{IsErrAnd}
-use Rattle.std.proofs.lemmas.List.{drop_more, drop_all, take-append-le}
+use Rattle.std.proofs.lemmas.List.{drop_more, drop_all}
 use Rattle.expr_tree.specs.Term.{Term, Terms, term, Block, line}
 use Rattle.expr_value.specs.Fault.{Fault, fault_of, memory}
 use Rattle.expr_value.specs.declared.error.Error.{Error}
@@ -9,7 +9,7 @@ use Rattle.expr_value.specs.declared.value.Value as value
 use Rattle.expr_value.specs.declared.value.Value.{Value, out-Value}
 use Rattle.expr_value.specs.declared.value.Value.TheOpen.{Value-F}
 use Rattle.expr.specs.Allows.{Allows, AllowsAll, AllowsBlock, Chosen, ChosenLayer}
-use Rattle.expr.specs.Answers.{After, Answer, Gives, Is}
+use Rattle.expr.specs.Answers.{Answer, Gives, Is}
 use Rattle.expr.specs.Context.{Context, override, looked_up}
 use Rattle.expr.specs.Host.{Host}
 use Rattle.expr.specs.Operators.{truth, truth_layer}

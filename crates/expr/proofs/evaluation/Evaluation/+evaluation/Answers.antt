@@ -1,4 +1,4 @@
-use Rattle.std.proofs.Common.{◌≡◌, ◌&&◌, IsTrue, ◌+◌, ◌≤◌, List, [], ◌∷◌, ◌++◌, length, map, drop, rules, sym, ap, ◌∙◌, subst, refl, Ok, Err, String, Global, string_bytes}
+use Rattle.std.proofs.Common.{◌≡◌, ◌&&◌, IsTrue, ◌+◌, ◌≤◌, List, ◌∷◌, length, map, drop, rules, sym, ap, ◌∙◌, subst, refl, Ok, Err, String, Global, string_bytes}
 use Rattle.std.proofs.lemmas.List.{drop_all}
 use Rattle.expr_tree.proofs.Shapes.{written-Slice}
 use Rattle.expr_tree.specs.Term.{operation, slice}
@@ -6,7 +6,7 @@ use Rattle.expr_tree.specs.Written.{written, bound_written, postfix_written, pro
 use Rattle.expr_tree.specs.declared.node.Node.{Node}
 use Rattle.expr_value.specs.Fault.{fault_of}
 use Rattle.expr_value.specs.declared.value.Value.{Value}
-use Rattle.expr.specs.Allows.{Allows, AllowsAll, AllowsBlock, AllowsBound, AllowsPostfix, Continued}
+use Rattle.expr.specs.Allows.{Allows, AllowsAll, AllowsBlock, AllowsPostfix, Continued}
 use Rattle.expr.specs.Answers.{Answer, Gives}
 use Rattle.expr.specs.Context.{Context}
 use Rattle.expr.specs.Host.{Host, hosted}

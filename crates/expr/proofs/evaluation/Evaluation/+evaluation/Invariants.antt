@@ -1,4 +1,4 @@
-use Rattle.std.proofs.Common.{◌≡◌, List, Result, drop, map}
+use Rattle.std.proofs.Common.{List, Result, drop, map}
 use Rattle.expr_tree.specs.Written.{block_of, written, program_written}
 use Rattle.expr_value.specs.Fault.{Fault}
 use Rattle.expr_value.specs.declared.value.Value.{Value}
