@@ -1,7 +1,7 @@
 -- How the answers of parts make the answer of the whole.
-use Rattle.std.proofs.Common.{◌≡◌, ◌≢◌, ℕ, ◌+◌, ◌<◌, ◌≤◌, List, [], ◌∷◌, ◌++◌, length, get_or, drop, String, Global, string_bytes, Result, Ok, Err, false, refl, ap, sym, ◌∙◌, subst, arith, take, length-take, true, bytes_eq, codes, append_assoc, append-nil}
+use Rattle.std.proofs.Common.{◌≡◌, ◌≢◌, ℕ, ◌+◌, ◌<◌, ◌≤◌, List, [], ◌∷◌, ◌++◌, length, get_or, drop, String, Global, string_bytes, Result, Ok, Err, false, refl, ap, sym, ◌∙◌, subst, true, bytes_eq, codes, append_assoc, append-nil}
 use Rattle.std.specs.Result.{IsErrAnd}
-use Rattle.std.proofs.lemmas.List.{drop_more, drop_all, take-append-le}
+use Rattle.std.proofs.lemmas.List.{drop_more, drop_all}
 use Rattle.expr_tree.specs.Term.{Term, Terms, term, Block, line}
 use Rattle.expr_value.specs.Fault.{Fault, fault_of, memory}
 use Rattle.expr_value.specs.declared.error.Error.{Error}
@@ -9,7 +9,7 @@ use Rattle.expr_value.specs.declared.value.Value as value
 use Rattle.expr_value.specs.declared.value.Value.{Value, out-Value}
 use Rattle.expr_value.specs.declared.value.Value.TheOpen.{Value-F}
 use Rattle.expr.specs.Allows.{Allows, AllowsAll, AllowsBlock, Chosen, ChosenLayer}
-use Rattle.expr.specs.Answers.{After, Answer, Gives, Is}
+use Rattle.expr.specs.Answers.{Answer, Gives, Is}
 use Rattle.expr.specs.Context.{Context, override, looked_up}
 use Rattle.expr.specs.Host.{Host}
 use Rattle.expr.specs.Operators.{truth, truth_layer}
@@ -55,7 +55,7 @@ AllowsAll-first host ctx t ts v p (Err e) q = (Ok v, p, (Err e, q, refl))
 
 -- a line, and then the rest of the program under it
 pub AllowsBlock-line : (host : Host) (base : Context) (scope scope' : List Binding) (b : Binding) (key : String Global) (t : Term) (rest : Block) (answer : Answer)
-    → scope' ≡ scope ++ b ∷ [] → string_bytes b.name ≡ string_bytes key → Allows host (overridden scope base) t (Ok b.value)
+    → scope' ≡ scope ++ b ∷ [] → b.name.now ≡ string_bytes key → Allows host (overridden scope base) t (Ok b.value)
     → AllowsBlock host (overridden scope' base) rest answer → AllowsBlock host (overridden scope base) (line (string_bytes key) t rest) answer
 AllowsBlock-line host base scope scope' b key t rest answer pushed named allowed p = (
   Ok b.value,
@@ -64,11 +64,6 @@ AllowsBlock-line host base scope scope' b key t rest answer pushed named allowed
       ap (λ bs. overridden bs base) pushed ∙ overridden-last scope b base ∙ ap (λ n. override (overridden scope base) n b.value) named
       ) p,
 )
-
-pub take-prefix : {X : Type 0} (xs ys zs : List X) → take (length xs) ys ≡ xs → take (length xs) (ys ++ zs) ≡ xs
-take-prefix xs ys zs e =
-    let n : length xs ≤ length ys = omega (arith, length-take (length xs) ys, ap length e) in
-    rw take-append-le e
 
 pub looked_up-env : (bs : List Binding) (base : Context) (key : List ℕ) → bytes_eq key (codes "$env") ≡ true → looked_up (overridden bs base) key ≡ Ok (value.Map base.map)
 looked_up-env bs base key same = rw (same, map_overridden bs base) refl

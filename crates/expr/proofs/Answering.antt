@@ -1,14 +1,10 @@
 -- What a text may answer, from what its program may.
-use Rattle.std.proofs.Common.{◌≡◌, ◌≢◌, ℕ, List, Ok, Err, inl, inr, ◌⊎◌, refl}
-use Rattle.std.specs.List.{Contains}
-use Rattle.std.specs.declared.result.Result.{Result}
-use Rattle.expr_syntax.specs.Texts.{HasLargeLiteral, HasNoTree, IsCompiled, IsProgramOf}
+use Rattle.std.proofs.Common.{◌≢◌, ℕ, List, Err, inl, inr, refl}
+use Rattle.expr_syntax.specs.Texts.{IsCompiled, IsProgramOf}
 use Rattle.expr_tree.proofs.Agreement.{AgreeFor-from_names}
 use Rattle.expr_tree.specs.Context.{AgreeFor}
 use Rattle.expr_tree.specs.Names.{AreNamesOf}
 use Rattle.expr_tree.specs.Term.{Block}
-use Rattle.expr_tree.specs.Written.{program_written}
-use Rattle.expr_tree.specs.declared.node.Program.{Program}
 use Rattle.expr_value.specs.Fault.{fault_of, memory}
 use Rattle.expr_value.specs.declared.error.Error.{Error}
 use Rattle.expr_value.specs.declared.error.Error.TheVariants.{PestError, ParseError, ExprError, RegexError, MemoryError}

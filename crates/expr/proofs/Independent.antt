@@ -1,5 +1,5 @@
 -- An answer that one context allows is allowed in each context that agrees with it at the program's operands.
-use Rattle.std.proofs.Common.{◌≡◌, ◌≢◌, ℕ, ◌+◌, ◌<◌, List, [], ◌∷◌, ◌++◌, ◌||◌, Bool, true, false, Option, Some, None, Result, Ok, Err, bytes_eq, codes, cond, refl, sym, ap, ◌∙◌, subst, arith}
+use Rattle.std.proofs.Common.{◌≡◌, ◌≢◌, ℕ, List, [], ◌∷◌, ◌++◌, ◌||◌, Bool, true, false, Option, Some, Result, Ok, Err, bytes_eq, cond, refl, sym, ap, ◌∙◌}
 use Rattle.std.proofs.lemmas.Slice.Eq.{bytes_eq-Decides}
 use Rattle.std.specs.List.{Contains}
 use Rattle.std.specs.Prelude.{ℤ}
@@ -7,18 +7,17 @@ use Rattle.expr_tree.proofs.Agreement.{Agree-left, Agree-right}
 use Rattle.expr_tree.proofs.Rising.{Contains-from_has}
 use Rattle.expr_tree.specs.Context.{Agree}
 use Rattle.expr_tree.specs.Names.{env, operands, postfix_operands, bound_operands, all_operands, predicate_operands, block_operands}
-use Rattle.expr_tree.specs.Term.{Term, name, literal, list, range, call, unary, operation, postfix, choice, Postfix, index, slice, coalesce, pipe, ternary, method, Bound, unbounded, bound, Terms, no_terms, term, Predicate, Block, answers, line}
+use Rattle.expr_tree.specs.Term.{Term, name, literal, list, range, call, unary, operation, postfix, choice, Postfix, index, slice, coalesce, pipe, ternary, method, Bound, unbounded, bound, Terms, no_terms, term, Block, answers, line}
 use Rattle.expr_tree.specs.declared.operator.Operator.{Operator}
 use Rattle.expr_tree.specs.declared.operator.Operator.TheVariants.{Add, Subtract, Multiply, Divide, Modulo, Pow, Equal, NotEqual, GreaterThan, GreaterThanOrEqual, LessThan, LessThanOrEqual, And, Or, In, NotIn, Contains as ContainsOperator, StartsWith, EndsWith, Matches}
-use Rattle.expr_value.specs.Fault.{Fault, evaluation}
+use Rattle.expr_value.specs.Fault.{Fault}
 use Rattle.expr_value.specs.declared.value.Value as value
 use Rattle.expr_value.specs.declared.value.Value.{Value, out-Value}
 use Rattle.expr_value.specs.declared.value.Value.TheOpen.{Value-F}
-use Rattle.expr.specs.Allows.{Allows, AllowsAll, AllowsBlock, AllowsBound, AllowsCall, AllowsPiped, AllowsPostfix, AndThenLayer, OrElseLayer, Continued, Chosen, ChosenLayer, Defaults, DefaultsLayer, given_bound}
+use Rattle.expr.specs.Allows.{Allows, AllowsAll, AllowsBlock, AllowsBound, AllowsPiped, AllowsPostfix, AndThenLayer, OrElseLayer, Continued, ChosenLayer, DefaultsLayer}
 use Rattle.expr.specs.Answers.{Answer, After, Goes}
 use Rattle.expr.specs.Context.{Context, override, hash, field_of, first_of_two, looked_up}
 use Rattle.expr.specs.Host.{Host}
-use Rattle.expr.specs.Operators.{applied, truth}
 
 -- each part of the relation keeps what it allows, where its own parts do
 Goes-keeps : {A B : Type 0} (next next' : A → Result B Fault → Type 0) → ((v : A) (r : Result B Fault) → next v r → next' v r)

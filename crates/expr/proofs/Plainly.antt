@@ -17,8 +17,8 @@ use Rattle.expr_value.specs.declared.error.Error.{Error}
 use Rattle.expr_value.specs.declared.value.Value as value
 use Rattle.expr_value.specs.declared.value.Value.{Value, out-Value, the_lemmas}
 use Rattle.expr_value.specs.declared.value.Value.TheOpen.{Value-F}
-use Rattle.expr.specs.Allows.{Allows, AndThen, AndThenLayer, OrElse, OrElseLayer, Continued}
-use Rattle.expr.specs.Answers.{Answer, After, Goes}
+use Rattle.expr.specs.Allows.{Allows, AndThenLayer, OrElseLayer, Continued}
+use Rattle.expr.specs.Answers.{Answer, After}
 use Rattle.expr.specs.Context.{Context}
 use Rattle.expr.specs.Host.{Host}
 use Rattle.expr.specs.Operators.{added_layers, subtracted_layers, multiplied_layers, remainder_layers, judged, verdict, applied, truth, truth_layer, prefixed, prefixed_layer}

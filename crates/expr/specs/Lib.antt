@@ -1,6 +1,7 @@
 pub mod Allows
 pub mod Answers
 pub mod Context
+pub mod Holdings
 pub mod Host
 pub mod Independence
 pub mod Operators

@@ -1,6 +1,6 @@
 -- Nodes whose evaluation takes no memory: nil, boolean and integer literals under prefixes, `+ - * %`, comparisons, equality, `and` and `or`.
 use Rattle.std.specs.Prelude.{◌≡◌, Bool, true, false, ◌&&◌, Result, Ok, Err}
-use Rattle.expr_tree.specs.Term.{Term, name, literal, list, range, call, unary, operation, postfix, choice}
+use Rattle.expr_tree.specs.Term.{Term, literal, unary, operation}
 use Rattle.expr_tree.specs.declared.operator.Operator.{Operator}
 use Rattle.expr_tree.specs.declared.operator.Operator.TheVariants.{Add, Subtract, Multiply, Modulo, Equal, NotEqual, GreaterThan, GreaterThanOrEqual, LessThan, LessThanOrEqual, And, Or}
 use Rattle.expr_value.specs.declared.error.Error.{Error}

@@ -1,8 +1,8 @@
 -- What a text may answer in a context.
-use Rattle.std.specs.Prelude.{ℕ, List, Ok, Err, ◌⊎◌}
+use Rattle.std.specs.Prelude.{ℕ, List, Err, ◌⊎◌}
 use Rattle.expr_syntax.specs.Texts.{HasLargeLiteral, HasNoTree, IsProgramOf}
 use Rattle.expr_tree.specs.Term.{Block}
-use Rattle.expr_value.specs.Fault.{syntax, literal, evaluation, pattern, memory}
+use Rattle.expr_value.specs.Fault.{syntax, literal}
 use Rattle.expr.specs.Allows.{AllowsBlock}
 use Rattle.expr.specs.Answers.{Answer}
 use Rattle.expr.specs.Context.{Context}

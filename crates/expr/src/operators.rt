@@ -77,23 +77,23 @@ pub fn prefix(alloc: Global, operator: UnaryOperator, value: &Value) -> Result<V
 }
 
 /// A boolean as it is; any other value is refused.
-pub fn as_truth(alloc: Global, value: Value) -> Result<Value>
-    ensures answer { Is result (truth value) }
-    ensures plain { Surely result (truth value) }
+pub fn as_truth(alloc: Global, value: &Value) -> Result<Value>
+    ensures answer { Is result (truth value.now) }
+    ensures plain { Surely result (truth value.now) }
 {
     match value {
-        Value::Bool(b) => Ok(Value::Bool(b)),
-        other => Err(unexpected(alloc, "a Bool", &other)),
+        Value::Bool(b) => Ok(Value::Bool(*b)),
+        other => Err(unexpected(alloc, "a Bool", other)),
     }
 }
 
 /// Whether a condition holds; what is no boolean is refused.
-pub fn as_condition(alloc: Global, value: Value) -> Result<bool>
-    ensures holds { IfOk result (λ b. truth value ≡ truth_answer b) }
-    ensures refusal { IfErr result (λ e. fault_of e ≢ memory → truth value ≡ Err (fault_of e)) }
+pub fn as_condition(alloc: Global, value: &Value) -> Result<bool>
+    ensures holds { IfOk result (λ b. truth value.now ≡ truth_answer b) }
+    ensures refusal { IfErr result (λ e. fault_of e ≢ memory → truth value.now ≡ Err (fault_of e)) }
 {
     match value {
-        Value::Bool(b) => Ok(b),
-        other => Err(unexpected(alloc, "a Bool", &other)),
+        Value::Bool(b) => Ok(*b),
+        other => Err(unexpected(alloc, "a Bool", other)),
     }
 }

@@ -1,9 +1,10 @@
 //! Ranges, indices and slices.
-ghost use Rattle.std.specs.Prelude.{◌≡◌, ◌≤◌, IfOk, IfErr, string_bytes};
+ghost use Rattle.std.specs.Prelude.{◌≡◌, ◌≤◌, Ok, IfOk, IfErr, string_bytes};
 ghost use Rattle.std.specs.Option.{option_copied};
 ghost use Rattle.expr.specs.Answers.{Is};
 ghost use Rattle.expr.specs.Positions.{bound_at, bound_checked, indexed, integers_between, item_from, or_nil, part, ranged, repaired, sliced, start_at, stop_at};
 
+use crate::held::Held;
 use crate::messages::{mismatch, not_indexed, unexpected};
 use bstr::ByteSlice;
 use expr_value::{Error, Items, Result, Text, Value};
@@ -42,29 +43,31 @@ fn count_up(alloc: Global, first: i64, last: i64) -> Result<Vec<Value>>
 }
 
 /// What a value has at a key: nil where it has nothing, and, if the index is optional, where it has no such keys.
-pub fn index(alloc: Global, value: &Value, key: &Value, optional: bool) -> Result<Value>
+pub fn index<'v>(alloc: Global, value: &'v Value, key: &Value, optional: bool) -> Result<Held<'v>>
     ensures { Is result (indexed value.now key.now optional) }
 {
     match (value, key) {
-        (Value::Array(items), Value::Integer(place)) => copied(item(items.as_slice(), *place)),
+        (Value::Array(items), Value::Integer(place)) => {
+            Ok(lent_or_nil(item(items.as_slice(), *place)))
+        }
         (Value::Bytes(bytes), Value::Integer(place)) => match item(bytes.as_slice(), *place) {
-            Some(byte) => Ok(Value::Integer(i64::from(*byte))),
-            None => Ok(Value::Nil),
+            Some(byte) => Ok(Held::own(Value::Integer(i64::from(*byte)))),
+            None => Ok(Held::own(Value::Nil)),
         },
-        (Value::Map(map), Value::String(name)) => copied(map.get(name.as_str())),
-        (Value::KeyedMap(map), _) => copied(map.get(key)),
-        _ if optional => Ok(Value::Nil),
+        (Value::Map(map), Value::String(name)) => Ok(lent_or_nil(map.get(name.as_str()))),
+        (Value::KeyedMap(map), _) => Ok(lent_or_nil(map.get(key))),
+        _ if optional => Ok(Held::own(Value::Nil)),
         _ => Err(not_indexed(alloc, value, key)),
     }
 }
 
-/// A copy of what was found, or nil.
-fn copied(found: Option<&Value>) -> Result<Value>
-    ensures { Is result (or_nil (option_copied found.entry)) }
+/// What was found, or nil.
+fn lent_or_nil<'v>(found: Option<&'v Value>) -> Held<'v>
+    ensures { Ok result ≡ or_nil (option_copied found.entry) }
 {
     match found {
-        Some(value) => Ok(value.clone()?),
-        None => Ok(Value::Nil),
+        Some(value) => Held::lent(value),
+        None => Held::own(Value::Nil),
     }
 }
 
@@ -80,12 +83,12 @@ fn item<T>(items: &[T], place: i64) -> Option<&T>
 }
 
 /// A bound of a slice, which is an integer.
-pub fn slice_bound(alloc: Global, value: Value) -> Result<i64>
-    ensures { Is result (bound_checked value) }
+pub fn slice_bound(alloc: Global, value: &Value) -> Result<i64>
+    ensures { Is result (bound_checked value.now) }
 {
     match value {
-        Value::Integer(n) => Ok(n),
-        other => Err(unexpected(alloc, "an Integer as a bound", &other)),
+        Value::Integer(n) => Ok(*n),
+        other => Err(unexpected(alloc, "an Integer as a bound", other)),
     }
 }
 

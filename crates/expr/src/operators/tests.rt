@@ -45,7 +45,8 @@ fn on(
 }
 
 fn at(alloc: Global, value: Result<Value>, key: Result<Value>, optional: bool) -> Result<Value> {
-    index(alloc, &value?, &key?, optional)
+    let (value, key) = (value?, key?);
+    index(alloc, &value, &key, optional)?.into_value()
 }
 
 fn ranged(alloc: Global, first: i64, last: i64) -> Result<Value> {
@@ -201,9 +202,9 @@ fn asks_one_value(rt: HostRuntime) -> Tested {
     let negated = prefix(alloc, UnaryOperator::Negative, &Value::Integer(i64::MIN));
     assert!(rt; gives(alloc, negated, "-9223372036854775808")?);
     assert!(rt; is_refused(prefix(alloc, UnaryOperator::Not, &Value::Nil)));
-    assert!(rt; as_condition(alloc, Value::Bool(true))?);
-    assert!(rt; is_refused(as_truth(alloc, Value::Integer(1))));
-    assert_eq!(rt; slice_bound(alloc, Value::Integer(-1))?, -1);
-    assert!(rt; is_refused(slice_bound(alloc, Value::Nil)));
+    assert!(rt; as_condition(alloc, &Value::Bool(true))?);
+    assert!(rt; is_refused(as_truth(alloc, &Value::Integer(1))));
+    assert_eq!(rt; slice_bound(alloc, &Value::Integer(-1))?, -1);
+    assert!(rt; is_refused(slice_bound(alloc, &Value::Nil)));
     Ok(())
 }

@@ -1,4 +1,4 @@
-use Rattle.std.proofs.Common.{◌≡◌, ◌&&◌, IsTrue, ◌+◌, ◌≤◌, List, [], ◌∷◌, ◌++◌, length, map, drop, rules, sym, ap, ◌∙◌, subst, refl, Ok, Err, String, Global, string_bytes}
+use Rattle.std.proofs.Common.{◌≡◌, ◌&&◌, IsTrue, ◌+◌, ◌≤◌, List, ◌∷◌, length, map, drop, rules, sym, ap, ◌∙◌, subst, refl, Ok, Err, String, Global, string_bytes}
 use Rattle.std.proofs.lemmas.List.{drop_all}
 use Rattle.expr_tree.proofs.Shapes.{written-Slice}
 use Rattle.expr_tree.specs.Term.{operation, slice}
@@ -6,7 +6,7 @@ use Rattle.expr_tree.specs.Written.{written, bound_written, postfix_written, pro
 use Rattle.expr_tree.specs.declared.node.Node.{Node}
 use Rattle.expr_value.specs.Fault.{fault_of}
 use Rattle.expr_value.specs.declared.value.Value.{Value}
-use Rattle.expr.specs.Allows.{Allows, AllowsAll, AllowsBlock, AllowsBound, AllowsPostfix, Continued}
+use Rattle.expr.specs.Allows.{Allows, AllowsAll, AllowsBlock, AllowsPostfix, Continued}
 use Rattle.expr.specs.Answers.{Answer, Gives}
 use Rattle.expr.specs.Context.{Context}
 use Rattle.expr.specs.Host.{Host, hosted}
@@ -16,7 +16,7 @@ use Rattle.expr.specs.Plain.{is_plain, is_plain_operator, is_plain_value}
 use Rattle.expr.specs.Scope.{given_by, overridden}
 use Rattle.expr.specs.Several.{terms_written}
 use Rattle.expr.specs.declared.scope.Binding.{Binding}
-use Rattle.expr.proofs.Answered.{prepended, drop-at, loop-step, loop-failed, loop-done, AllowsAll-first, AllowsBlock-line, Gives-of-Is, Gives-passed, Gives-under, take-prefix}
+use Rattle.expr.proofs.Answered.{prepended, drop-at, loop-step, loop-failed, loop-done, AllowsAll-first, AllowsBlock-line, Gives-of-Is, Gives-passed, Gives-under}
 use Rattle.expr.proofs.Plainly.{Allows-plain, Continued-both, Surely-at, both-Continued, first_of-After, left-true, right-true, written-Operation}
 use Rattle.expr.proofs.evaluation.Evaluation.+evaluation.Goals as goal
 
@@ -24,7 +24,7 @@ pub evaluate-returns-in_err-first-in-Operation-clause-plain : goal.evaluate-retu
 evaluate-returns-in_err-first-in-Operation-clause-plain g t c =
     let host : Host = hosted (g.H.Functions.adds c.args.self.now.host.now) (g.H.Functions.calls c.args.self.now.host.now) in
     let base : Context = given_by (g.P.ContextProvider.value_of c.args.self.now.provider) (g.P.ContextProvider.map_of c.args.self.now.provider) in
-    let ctx : Context = overridden c.args.scope.now.items base in
+    let ctx : Context = overridden c.args.scope.now base in
     let l = c.in-Operation.left.value in
     let r = c.in-Operation.right.value in
     let op = c.in-Operation.operator in
@@ -44,7 +44,7 @@ pub evaluate-returns-in_ok-first-in-Operation-clause-plain : goal.evaluate-retur
 evaluate-returns-in_ok-first-in-Operation-clause-plain g t c =
     let host : Host = hosted (g.H.Functions.adds c.args.self.now.host.now) (g.H.Functions.calls c.args.self.now.host.now) in
     let base : Context = given_by (g.P.ContextProvider.value_of c.args.self.now.provider) (g.P.ContextProvider.map_of c.args.self.now.provider) in
-    let ctx : Context = overridden c.args.scope.now.items base in
+    let ctx : Context = overridden c.args.scope.now base in
     let l = c.in-Operation.left.value in
     let r = c.in-Operation.right.value in
     let op = c.in-Operation.operator in
@@ -61,31 +61,30 @@ evaluate-returns-in_ok-first-in-Operation-clause-plain g t c =
     (subst (λ m. Allows host ctx (written m) (Ok q.0)) (sym c.deref-in-Operation.ensures) q.1)) in
     let first_plain = subst (λ w. IsTrue (is_plain_value w)) (sym same) (Allows-plain host ctx (written l) q.0 l_plain q.1) in
     let next = subst (λ w. Continued op w (Allows host ctx (written r)) (Ok v)) (sym same) q.2 in
-    let there = subst (λ s. Continued op first (Allows host (overridden s base) (written r)) (Ok v)) (sym c.in_ok-first-in-Operation.ensures.scope) next in
     c.join.ensures.plain v o first_plain
     (subst (λ m. IsTrue (is_plain (written m))) (sym c.deref-in-Operation-2.ensures) (right-true (is_plain (written l)) (is_plain (written r)) both))
-    (subst (λ m. Continued op first (Allows host (overridden c.evaluate-in-Operation.new.scope.items base) (written m)) (Ok v)) (sym c.deref-in-Operation-2.ensures) there)
+    (subst (λ m. Continued op first (Allows host ctx (written m)) (Ok v)) (sym c.deref-in-Operation-2.ensures) next)
     )
 
 pub join-returns-in-And-clause-plain : goal.join-returns-in-And-clause-plain
 join-returns-in-And-clause-plain g t c =
     let host : Host = hosted (g.H.Functions.adds c.args.self.now.host.now) (g.H.Functions.calls c.args.self.now.host.now) in
     let base : Context = given_by (g.P.ContextProvider.value_of c.args.self.now.provider) (g.P.ContextProvider.map_of c.args.self.now.provider) in
-    let right = Allows host (overridden c.args.scope.now.items base) (written c.args.right.now) in
+    let right = Allows host (overridden c.args.scope.now base) (written c.args.right.now) in
     λ v o p q h. c.and_then.ensures.plain v q (subst (λ op. Continued op c.args.first right (Ok v)) c.in-And.is h)
 
 pub join-returns-in-Or-clause-plain : goal.join-returns-in-Or-clause-plain
 join-returns-in-Or-clause-plain g t c =
     let host : Host = hosted (g.H.Functions.adds c.args.self.now.host.now) (g.H.Functions.calls c.args.self.now.host.now) in
     let base : Context = given_by (g.P.ContextProvider.value_of c.args.self.now.provider) (g.P.ContextProvider.map_of c.args.self.now.provider) in
-    let right = Allows host (overridden c.args.scope.now.items base) (written c.args.right.now) in
+    let right = Allows host (overridden c.args.scope.now base) (written c.args.right.now) in
     λ v o p q h. c.or_else.ensures.plain v q (subst (λ op. Continued op c.args.first right (Ok v)) c.in-Or.is h)
 
 pub join-returns-in_ok-second-in_default : goal.join-returns-in_ok-second-in_default
 join-returns-in_ok-second-in_default g t c =
     let host : Host = hosted (g.H.Functions.adds c.args.self.now.host.now) (g.H.Functions.calls c.args.self.now.host.now) in
     let base : Context = given_by (g.P.ContextProvider.value_of c.args.self.now.provider) (g.P.ContextProvider.map_of c.args.self.now.provider) in
-    let ctx : Context = overridden c.args.scope.now.items base in
+    let ctx : Context = overridden c.args.scope.now base in
     let op = c.args.operator in
     let first = c.args.first in
     let second = c.in_ok-second-in_default.second in
@@ -99,14 +98,13 @@ join-returns-in_ok-second-in_default g t c =
           let same : second ≡ found.0 = cc (c.in_ok-second-in_default.ensures.plain found.0 q found.1) in
           let second_plain = subst (λ w. IsTrue (is_plain_value w)) (sym same) (Allows-plain host ctx (written c.args.right.now) found.0 q found.1) in
           Surely-at c.applied.result (applied op first second) v (c.applied.ensures.plain o p second_plain) (ap (applied op first) same ∙ sym found.2);
-      scope = c.in_ok-second-in_default.ensures.scope;
     }
 
-pub follow-returns-in_err-start-in-Range-clause-answer : goal.follow-returns-in_err-start-in-Range-clause-answer
-follow-returns-in_err-start-in-Range-clause-answer g t c =
+pub follow-returns-in_err-start-in-Range : goal.follow-returns-in_err-start-in-Range
+follow-returns-in_err-start-in-Range g t c =
     let host : Host = hosted (g.H.Functions.adds c.args.self.now.host.now) (g.H.Functions.calls c.args.self.now.host.now) in
     let base : Context = given_by (g.P.ContextProvider.value_of c.args.self.now.provider) (g.P.ContextProvider.map_of c.args.self.now.provider) in
-    let ctx : Context = overridden c.args.scope.now.items base in
+    let ctx : Context = overridden c.args.scope.now base in
     let a = bound_written c.in-Range.start in
     let b = bound_written c.in-Range.end in
     let v = c.args.value in
@@ -115,15 +113,15 @@ follow-returns-in_err-start-in-Range-clause-answer g t c =
     let e = c.in_err-start-in-Range.field-0.0 in
     subst (λ p. Gives r (AllowsPostfix host ctx p v)) (sym is) (
     Gives-passed r e (AllowsPostfix host ctx (slice a b) v) c.from_residual-in_err-start-in-Range.ensures.1 (
-    λ m. (Err (fault_of e), c.in_err-start-in-Range.ensures.answer m, refl)
+    λ m. (Err (fault_of e), c.in_err-start-in-Range.ensures m, refl)
     )
     )
 
-pub follow-returns-in_err-stop-in-Range-clause-answer : goal.follow-returns-in_err-stop-in-Range-clause-answer
-follow-returns-in_err-stop-in-Range-clause-answer g t c =
+pub follow-returns-in_err-stop-in-Range : goal.follow-returns-in_err-stop-in-Range
+follow-returns-in_err-stop-in-Range g t c =
     let host : Host = hosted (g.H.Functions.adds c.args.self.now.host.now) (g.H.Functions.calls c.args.self.now.host.now) in
     let base : Context = given_by (g.P.ContextProvider.value_of c.args.self.now.provider) (g.P.ContextProvider.map_of c.args.self.now.provider) in
-    let ctx : Context = overridden c.args.scope.now.items base in
+    let ctx : Context = overridden c.args.scope.now base in
     let a = bound_written c.in-Range.start in
     let b = bound_written c.in-Range.end in
     let v = c.args.value in
@@ -134,34 +132,34 @@ follow-returns-in_err-stop-in-Range-clause-answer g t c =
     Gives-passed r e (AllowsPostfix host ctx (slice a b) v) c.from_residual-in_err-stop-in-Range.ensures.1 (
     λ m. (
       Ok c.in_ok-start-in-Range.start,
-      c.in_ok-start-in-Range.ensures.answer,
+      c.in_ok-start-in-Range.ensures,
       (
         Err (fault_of e),
-        subst (λ s. AllowsBound host (overridden s base) b (Err (fault_of e))) c.in_ok-start-in-Range.ensures.scope (c.in_err-stop-in-Range.ensures.answer m),
+        c.in_err-stop-in-Range.ensures m,
         refl,
       ),
     )
     )
     )
 
-pub follow-returns-in_ok-stop-in-Range-clause-answer : goal.follow-returns-in_ok-stop-in-Range-clause-answer
-follow-returns-in_ok-stop-in-Range-clause-answer g t c =
+pub follow-returns-in-Range : goal.follow-returns-in-Range
+follow-returns-in-Range g t c =
     let host : Host = hosted (g.H.Functions.adds c.args.self.now.host.now) (g.H.Functions.calls c.args.self.now.host.now) in
     let base : Context = given_by (g.P.ContextProvider.value_of c.args.self.now.provider) (g.P.ContextProvider.map_of c.args.self.now.provider) in
-    let ctx : Context = overridden c.args.scope.now.items base in
+    let ctx : Context = overridden c.args.scope.now base in
     let a = bound_written c.in-Range.start in
     let b = bound_written c.in-Range.end in
     let v = c.args.value in
     let is : postfix_written c.args.operator.now ≡ slice a b = ap postfix_written c.in-Range.is ∙ written-Slice c.in-Range.start c.in-Range.end in
     let from = c.in_ok-start-in-Range.start in
     let to = c.in_ok-stop-in-Range.stop in
-    subst (λ p. Gives c.slice.result (AllowsPostfix host ctx p v)) (sym is) (
-    Gives-of-Is c.slice.result (sliced v from to) (AllowsPostfix host ctx (slice a b) v) c.slice.ensures (
+    subst (λ p. Gives c.slice_of.result (AllowsPostfix host ctx p v)) (sym is) (
+    Gives-of-Is c.slice_of.result (sliced v from to) (AllowsPostfix host ctx (slice a b) v) c.slice_of.ensures (
       Ok from,
-      c.in_ok-start-in-Range.ensures.answer,
+      c.in_ok-start-in-Range.ensures,
       (
         Ok to,
-        subst (λ s. AllowsBound host (overridden s base) b (Ok to)) c.in_ok-start-in-Range.ensures.scope c.in_ok-stop-in-Range.ensures.answer,
+        c.in_ok-stop-in-Range.ensures,
         refl,
       ),
     )
@@ -171,39 +169,34 @@ pub evaluate_all-loop-node-preserved : goal.evaluate_all-loop-node-preserved
 evaluate_all-loop-node-preserved g t c =
     let host : Host = hosted (g.H.Functions.adds c.args.self.now.host.now) (g.H.Functions.calls c.args.self.now.host.now) in
     let base : Context = given_by (g.P.ContextProvider.value_of c.args.self.now.provider) (g.P.ContextProvider.map_of c.args.self.now.provider) in
-    let ctx : Context = overridden c.args.scope.now.items base in
-    let v = c.in_ok-evaluate.field-0 in
+    let ctx : Context = overridden c.args.scope.now base in
+    let v = c.in_ok-keep.field-0 in
     let node = c.node-item.result in
-    let allowed : Allows host ctx (written node) (Ok v) =
-    subst (λ s. Allows host (overridden s base) (written node) (Ok v)) c.loop-node.invariant.scope c.in_ok-evaluate.ensures.answer in
-    record {
-      scope = c.in_ok-evaluate.ensures.scope ∙ c.loop-node.invariant.scope;
-      goes_on = λ rest p. subst (λ vs. AllowsAll host ctx (terms_written c.args.nodes.now) (prepended vs rest)) (sym c.in_ok-push.ensures.items) (
-          loop-step (λ ns. AllowsAll host ctx (terms_written ns)) c.args.nodes.now c.loop-node.node-index c.loop-node.values.items c.loop-node.invariant.goes_on node v c.node-item.is c.loop-node-test.true (AllowsAll-first host ctx (written node) (terms_written (drop (c.loop-node.node-index + 1) c.args.nodes.now)) v allowed) rest p
-          );
-    }
+    λ rest p. subst (λ vs. AllowsAll host ctx (terms_written c.args.nodes.now) (prepended vs rest)) (sym c.in_ok-push.ensures.items) (
+    loop-step (λ ns. AllowsAll host ctx (terms_written ns)) c.args.nodes.now c.loop-node.node-index c.loop-node.values.items c.loop-node.invariant node v c.node-item.is c.loop-node-test.true (AllowsAll-first host ctx (written node) (terms_written (drop (c.loop-node.node-index + 1) c.args.nodes.now)) v c.in_ok-keep.ensures) rest p
+    )
 
-pub evaluate_all-returns-in_err-evaluate-clause-answer : goal.evaluate_all-returns-in_err-evaluate-clause-answer
-evaluate_all-returns-in_err-evaluate-clause-answer g t c =
+pub evaluate_all-returns-in_err-keep : goal.evaluate_all-returns-in_err-keep
+evaluate_all-returns-in_err-keep g t c =
     let host : Host = hosted (g.H.Functions.adds c.args.self.now.host.now) (g.H.Functions.calls c.args.self.now.host.now) in
     let base : Context = given_by (g.P.ContextProvider.value_of c.args.self.now.provider) (g.P.ContextProvider.map_of c.args.self.now.provider) in
-    let ctx : Context = overridden c.args.scope.now.items base in
-    let k = fault_of c.in_err-evaluate.field-0.0 in
-    Gives-passed _ c.in_err-evaluate.field-0.0 (AllowsAll host ctx (terms_written c.args.nodes.now)) c.from_residual-in_err-evaluate.ensures.1 (
-    λ m. loop-failed (λ ns. AllowsAll host ctx (terms_written ns)) c.args.nodes.now c.loop-node.node-index c.loop-node.values.items c.loop-node.invariant.goes_on c.node-item.result k c.node-item.is c.loop-node-test.true (
+    let ctx : Context = overridden c.args.scope.now base in
+    let k = fault_of c.in_err-keep.field-0.0 in
+    Gives-passed _ c.in_err-keep.field-0.0 (AllowsAll host ctx (terms_written c.args.nodes.now)) c.from_residual-in_err-keep.ensures.1 (
+    λ m. loop-failed (λ ns. AllowsAll host ctx (terms_written ns)) c.args.nodes.now c.loop-node.node-index c.loop-node.values.items c.loop-node.invariant c.node-item.result k c.node-item.is c.loop-node-test.true (
       Err k,
-      subst (λ s. Allows host (overridden s base) (written c.node-item.result) (Err k)) c.loop-node.invariant.scope (c.in_err-evaluate.ensures.answer m),
+      c.in_err-keep.ensures m,
       refl,
     )
     )
 
-pub evaluate_all-returns-clause-answer : goal.evaluate_all-returns-clause-answer
-evaluate_all-returns-clause-answer g t c =
+pub evaluate_all-returns : goal.evaluate_all-returns
+evaluate_all-returns g t c =
     let host : Host = hosted (g.H.Functions.adds c.args.self.now.host.now) (g.H.Functions.calls c.args.self.now.host.now) in
     let base : Context = given_by (g.P.ContextProvider.value_of c.args.self.now.provider) (g.P.ContextProvider.map_of c.args.self.now.provider) in
-    let ctx : Context = overridden c.args.scope.now.items base in
+    let ctx : Context = overridden c.args.scope.now base in
     subst (λ vs. AllowsAll host ctx (terms_written c.args.nodes.now) (Ok vs)) (sym c.from_vec.ensures) (
-    loop-done (λ ns. AllowsAll host ctx (terms_written ns)) c.args.nodes.now c.loop-node.node-index c.loop-node.values.items c.loop-node.invariant.goes_on c.loop-node-test.false refl
+    loop-done (λ ns. AllowsAll host ctx (terms_written ns)) c.args.nodes.now c.loop-node.node-index c.loop-node.values.items c.loop-node.invariant c.loop-node-test.false refl
     )
 
 pub run_lines-loop-name-preserved : goal.run_lines-loop-name-preserved
@@ -213,53 +206,60 @@ run_lines-loop-name-preserved g t c =
     let lines_of = λ (ls : List (String Global × Node)). block_of (map (λ p. (p.0, written p.1)) ls) (written c.args.program.now.expr) in
     let lines = c.args.program.now.lines.items in
     let i = c.loop-name.name-index in
-    let scope = c.loop-name.scope.items in
+    let inner = c.loop-name.inner.items in
     let same : c.deref-name-items.result.now ≡ lines = c.deref-name-items.ensures.value in
     let l = c.loop-name-item.result in
     let at : drop i lines ≡ l ∷ drop (i + 1) lines =
     subst (λ xs. drop i xs ≡ l ∷ drop (i + 1) xs) same (drop-at c.deref-name-items.result.now i l c.loop-name-item.is c.loop-name-test.true) in
-    let b : Binding = record { name = c.in_ok-name.name; value = c.in_ok-value.value } in
-    let named : string_bytes b.name ≡ string_bytes l.0 = search rules in
-    let pushed : c.push.new.self.items ≡ scope ++ b ∷ [] =
-    c.in_ok-push.ensures.items ∙ ap (λ s. s ++ b ∷ []) c.in_ok-value.ensures.scope in
-    record {
-      scope = rw pushed (take-prefix c.args.scope.now.items scope (b ∷ []) c.loop-name.invariant.scope);
-      goes_on = λ answer p. c.loop-name.invariant.goes_on answer (
-          subst (λ ls. AllowsBlock host (overridden scope base) (lines_of ls) answer) (sym at) (
-          AllowsBlock-line host base scope c.push.new.self.items b l.0 (written l.1) (lines_of (drop (i + 1) lines)) answer pushed named c.in_ok-value.ensures.answer p
-          )
-          );
-    }
+    let b : Binding = record { name = c.deref-in-loop-name.result; value = c.own.result } in
+    let named : b.name.now ≡ string_bytes l.0 = search rules in
+    let allowed : Allows host (overridden inner base) (written l.1) (Ok b.value) =
+    subst (λ v. Allows host (overridden inner base) (written l.1) (Ok v)) (sym c.own.ensures) (
+    subst (λ s. Allows host (overridden s base) (written l.1) (Ok c.in_ok-value.value)) c.deref.ensures.value c.in_ok-value.ensures
+    ) in
+    λ answer p. c.loop-name.invariant answer (
+    subst (λ ls. AllowsBlock host (overridden inner base) (lines_of ls) answer) (sym at) (
+    AllowsBlock-line host base inner c.push.new.self.items b l.0 (written l.1) (lines_of (drop (i + 1) lines)) answer c.in_ok-push.ensures.items named allowed p
+    )
+    )
 
-pub run_lines-returns-in_err-value-clause-answer : goal.run_lines-returns-in_err-value-clause-answer
-run_lines-returns-in_err-value-clause-answer g t c =
+pub run_lines-returns-in_err-value : goal.run_lines-returns-in_err-value
+run_lines-returns-in_err-value g t c =
     let host : Host = hosted (g.H.Functions.adds c.args.self.now.host.now) (g.H.Functions.calls c.args.self.now.host.now) in
     let base : Context = given_by (g.P.ContextProvider.value_of c.args.self.now.provider) (g.P.ContextProvider.map_of c.args.self.now.provider) in
     let lines_of = λ (ls : List (String Global × Node)). block_of (map (λ p. (p.0, written p.1)) ls) (written c.args.program.now.expr) in
     let lines = c.args.program.now.lines.items in
     let i = c.loop-name.name-index in
-    let scope = c.loop-name.scope.items in
+    let inner = c.loop-name.inner.items in
     let same : c.deref-name-items.result.now ≡ lines = c.deref-name-items.ensures.value in
     let l = c.loop-name-item.result in
     let at : drop i lines ≡ l ∷ drop (i + 1) lines =
     subst (λ xs. drop i xs ≡ l ∷ drop (i + 1) xs) same (drop-at c.deref-name-items.result.now i l c.loop-name-item.is c.loop-name-test.true) in
     let k = fault_of c.in_err-value.field-0.0 in
-    Gives-passed _ c.in_err-value.field-0.0 (AllowsBlock host (overridden c.args.scope.now.items base) (program_written c.args.program.now)) c.from_residual.ensures.1 (
-    λ m. c.loop-name.invariant.goes_on (Err k) (
-    subst (λ ls. AllowsBlock host (overridden scope base) (lines_of ls) (Err k)) (sym at) (Err k, c.in_err-value.ensures.answer m, refl)
+    Gives-passed _ c.in_err-value.field-0.0 (AllowsBlock host (overridden c.args.scope.now base) (program_written c.args.program.now)) c.from_residual-in_err-value.ensures.1 (
+    λ m. c.loop-name.invariant (Err k) (
+    subst (λ ls. AllowsBlock host (overridden inner base) (lines_of ls) (Err k)) (sym at) (
+      Err k,
+      subst (λ s. Allows host (overridden s base) (written l.1) (Err k)) c.deref.ensures.value (c.in_err-value.ensures m),
+      refl,
+    )
     )
     )
 
-pub run_lines-returns-clause-answer : goal.run_lines-returns-clause-answer
-run_lines-returns-clause-answer g t c =
+pub run_lines-returns : goal.run_lines-returns
+run_lines-returns g t c =
     let host : Host = hosted (g.H.Functions.adds c.args.self.now.host.now) (g.H.Functions.calls c.args.self.now.host.now) in
     let base : Context = given_by (g.P.ContextProvider.value_of c.args.self.now.provider) (g.P.ContextProvider.map_of c.args.self.now.provider) in
     let lines_of = λ (ls : List (String Global × Node)). block_of (map (λ p. (p.0, written p.1)) ls) (written c.args.program.now.expr) in
     let lines = c.args.program.now.lines.items in
     let i = c.loop-name.name-index in
-    let scope = c.loop-name.scope.items in
+    let inner = c.loop-name.inner.items in
     let same : c.deref-name-items.result.now ≡ lines = c.deref-name-items.ensures.value in
     let over : length lines ≤ i = subst (λ xs. length xs ≤ i) same c.loop-name-test.false in
-    let on : (a : Answer) → Allows host (overridden scope base) (written c.args.program.now.expr) a → AllowsBlock host (overridden c.args.scope.now.items base) (program_written c.args.program.now) a =
-    λ a p. c.loop-name.invariant.goes_on a (subst (λ ls. AllowsBlock host (overridden scope base) (lines_of ls) a) (sym (drop_all i lines over)) p) in
-    Gives-under c.evaluate-2.result (Allows host (overridden scope base) (written c.args.program.now.expr)) (AllowsBlock host (overridden c.args.scope.now.items base) (program_written c.args.program.now)) on c.evaluate-2.ensures.answer
+    let last = Allows host (overridden inner base) (written c.args.program.now.expr) in
+    let whole = AllowsBlock host (overridden c.args.scope.now base) (program_written c.args.program.now) in
+    let on : (a : Answer) → last a → whole a =
+    λ a p. c.loop-name.invariant a (subst (λ ls. AllowsBlock host (overridden inner base) (lines_of ls) a) (sym (drop_all i lines over)) p) in
+    Gives-under c.keep-2.result last whole on (
+    subst (λ s. Gives c.keep-2.result (Allows host (overridden s base) (written c.args.program.now.expr))) c.deref-2.ensures.value c.keep-2.ensures
+    )

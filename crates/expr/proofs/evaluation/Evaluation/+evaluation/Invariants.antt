@@ -1,4 +1,4 @@
-use Rattle.std.proofs.Common.{◌≡◌, List, Result, drop, length, map, take}
+use Rattle.std.proofs.Common.{List, Result, drop, map}
 use Rattle.expr_tree.specs.Written.{block_of, written, program_written}
 use Rattle.expr_value.specs.Fault.{Fault}
 use Rattle.expr_value.specs.declared.value.Value.{Value}
@@ -14,19 +14,13 @@ use Rattle.expr.proofs.evaluation.Evaluation.+evaluation.Given as goal
 abbrev pub invariant-evaluate_all-loop-node : goal.invariant-evaluate_all-loop-node
 invariant-evaluate_all-loop-node g l =
     let host : Host = hosted (g.H.Functions.adds l.self.host.now) (g.H.Functions.calls l.self.host.now) in
-    let ctx : Context = overridden l.fn.scope.items (given_by (g.P.ContextProvider.value_of l.self.provider) (g.P.ContextProvider.map_of l.self.provider)) in
-    record {
-      scope : l.scope.items ≡ l.fn.scope.items;
-      goes_on : (rest : Result (List Value) Fault) → AllowsAll host ctx (terms_written (drop l.node-index l.nodes)) rest
-          → AllowsAll host ctx (terms_written l.nodes) (prepended l.values.items rest);
-    }
+    let ctx : Context = overridden l.scope (given_by (g.P.ContextProvider.value_of l.self.provider) (g.P.ContextProvider.map_of l.self.provider)) in
+    (rest : Result (List Value) Fault) → AllowsAll host ctx (terms_written (drop l.node-index l.nodes)) rest
+    → AllowsAll host ctx (terms_written l.nodes) (prepended l.values.items rest)
 
 abbrev pub invariant-run_lines-loop-name : goal.invariant-run_lines-loop-name
 invariant-run_lines-loop-name g l =
     let host : Host = hosted (g.H.Functions.adds l.self.host.now) (g.H.Functions.calls l.self.host.now) in
     let base : Context = given_by (g.P.ContextProvider.value_of l.self.provider) (g.P.ContextProvider.map_of l.self.provider) in
-    record {
-      scope : take (length l.fn.scope.items) l.scope.items ≡ l.fn.scope.items;
-      goes_on : (answer : Answer) → AllowsBlock host (overridden l.scope.items base) (block_of (map (λ p. (p.0, written p.1)) (drop l.name-index l.program.lines.items)) (written l.program.expr)) answer
-          → AllowsBlock host (overridden l.fn.scope.items base) (program_written l.program) answer;
-    }
+    (answer : Answer) → AllowsBlock host (overridden l.inner.items base) (block_of (map (λ p. (p.0, written p.1)) (drop l.name-index l.program.lines.items)) (written l.program.expr)) answer
+    → AllowsBlock host (overridden l.scope base) (program_written l.program) answer
