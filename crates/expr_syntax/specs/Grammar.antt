@@ -381,6 +381,10 @@ IntegerFits t = ⊤
 abbrev pub LiteralsFit : TreeProgram → Type 0
 LiteralsFit p = AllByRecursion IntegerFits (program_tokens p)
 
+-- Brackets may stand round the expression of a program.
+abbrev pub BracketsFit : Type 0
+BracketsFit = (ls : Lines) (t : Tree) → Fits (Program ls t) → Fits (Program ls (Paren t))
+
 -- Two trees of one token list are one.
 abbrev pub OneTree : Type 0
 OneTree = (p q : TreeProgram) (ts : List Token) → Spells p ts → Fits p → Spells q ts → Fits q → p ≡ q

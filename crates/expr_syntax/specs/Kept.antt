@@ -1,5 +1,5 @@
 -- The program of a tree: brackets, commas and spellings are dropped.
-use Rattle.std.specs.Prelude.{ℕ, ℤ, pos, Bool, true, false, List, [], ◌∷◌, ◌++◌, Option, Some, None, codes}
+use Rattle.std.specs.Prelude.{◌≡◌, ℕ, ℤ, pos, Bool, true, false, List, [], ◌∷◌, ◌++◌, Option, Some, None, codes}
 use Rattle.expr_value.specs.declared.value.Value.{Value}
 use Rattle.expr_value.specs.declared.value.Value.TheVariants as value
 use Rattle.expr_value.specs.Names.{put}
@@ -179,6 +179,13 @@ abbrev mutual
   pub line_terms : Lines → LineTerms
   line_terms NoLines = []
   line_terms (MoreLines ls w t) = line_terms ls ++ (w, term_of t) ∷ []
+
+-- Brackets round an expression leave it as it is, and its program.
+abbrev pub BracketsLeaveExpression : Type 0
+BracketsLeaveExpression = (t : Tree) → term_of (Paren t) ≡ term_of t
+
+abbrev pub BracketsLeaveProgram : Type 0
+BracketsLeaveProgram = (ls : Lines) (t : Tree) → program_of (Program ls (Paren t)) ≡ program_of (Program ls t)
 
 -- the program of a tree, if there is one
 abbrev pub kept : Option TreeProgram → Option Block

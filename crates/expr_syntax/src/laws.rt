@@ -2,14 +2,21 @@
 
 ghost use Rattle.std.specs.Prelude.{◌≡◌, List, Some};
 ghost use Rattle.expr_token.specs.declared.token.Token.{Token};
-ghost use Rattle.expr_syntax.specs.Grammar.{TreeProgram, Spells, Fits, OneTree};
+ghost use Rattle.expr_syntax.specs.Grammar.{TreeProgram, Spells, Fits, OneTree, BracketsFit};
 ghost use Rattle.expr_syntax.specs.Machine.{tree_of};
-ghost use Rattle.expr_syntax.specs.Kept.{kept};
+ghost use Rattle.expr_syntax.specs.Kept.{kept, BracketsLeaveExpression, BracketsLeaveProgram};
 ghost use Rattle.expr_syntax.specs.Nodes.{block_of_tokens};
 
 /// Two trees that spell the same tokens and fit are one.
 pub fn one_tree()
     ensures { OneTree }
+{}
+
+/// Brackets round an expression leave its program.
+pub fn brackets_leave_program()
+    ensures fits { BracketsFit }
+    ensures expression { BracketsLeaveExpression }
+    ensures program { BracketsLeaveProgram }
 {}
 
 // The machine answers only a tree that spells the tokens and fits.
