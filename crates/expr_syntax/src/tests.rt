@@ -271,3 +271,12 @@ fn deep_brackets(rt: HostRuntime) -> Result<(), Fail> {
     assert_eq!(rt; shown(rt.alloc(), &text)?.as_str(), "1");
     Ok(())
 }
+
+#[test]
+fn deep_prefixes(rt: HostRuntime) -> Result<(), Fail> {
+    let mut text = "not ".repeat(rt.alloc(), 200_000)?;
+    text.push_str("true")?;
+    let program = compile(rt.alloc(), &text)?;
+    assert!(rt; program.lines.is_empty());
+    Ok(())
+}
