@@ -1,10 +1,9 @@
 -- The program of a tree: brackets, commas and spellings are dropped.
-use Rattle.std.specs.Prelude.{◌≡◌, ℕ, ℤ, pos, Bool, true, false, List, [], ◌∷◌, ◌++◌, Option, Some, None, codes}
+use Rattle.std.specs.Prelude.{◌≡◌, ℕ, ℤ, pos, Bool, true, false, List, [], ◌∷◌, ◌++◌, Option, Some, None}
 use Rattle.expr_value.specs.declared.value.Value.{Value}
 use Rattle.expr_value.specs.declared.value.Value.TheVariants as value
 use Rattle.expr_value.specs.Names.{put}
-use Rattle.expr_token.specs.declared.reserved.Reserved.{Reserved}
-use Rattle.expr_token.specs.declared.reserved.Reserved.TheVariants as reserved
+use Rattle.expr_token.specs.Spellings.{reserved_text}
 use Rattle.expr_tree.specs.declared.operator.UnaryOperator.{UnaryOperator}
 use Rattle.expr_tree.specs.declared.operator.UnaryOperator.TheVariants as prefixed
 use Rattle.expr_tree.specs.declared.operator.Operator.TheVariants as operator
@@ -19,23 +18,6 @@ use Rattle.expr_syntax.specs.declared.sign.InfixSign.TheVariants as infixed
 use Rattle.expr_syntax.specs.declared.sign.Meaning.{Meaning}
 use Rattle.expr_syntax.specs.declared.sign.Meaning.TheVariants as meaning
 use Rattle.expr_syntax.specs.Grammar.{Word, Usual, Kept, Constant, True, False, Nil, Integer, Quoted, Raw, Bytes, Key, WordKey, QuotedKey, EntryRow, OneEntry, MoreEntries, Entries, NoEntries, SomeEntries, Tree, Literal, Name, HashName, Paren, Array, Map, Call, If, Prefix, Infix, Member, Method, Index, Slice, Pipe, Ternary, Items, NoItems, SomeItems, Row, One, More, Arguments, NoArguments, SomeArguments, ArgumentRow, OneArgument, MoreArguments, Argument, Expression, MemberAlone, Braces, Bound, LeftOut, At, ElsePart, Else, ElseIf, TreeProgram, Program, Lines, NoLines, MoreLines}
-
--- how a reserved word is written
-abbrev pub reserved_text : Reserved → List ℕ
-reserved_text reserved.True = codes "true"
-reserved_text reserved.False = codes "false"
-reserved_text reserved.Nil = codes "nil"
-reserved_text reserved.Let = codes "let"
-reserved_text reserved.If = codes "if"
-reserved_text reserved.Else = codes "else"
-reserved_text reserved.Not = codes "not"
-reserved_text reserved.And = codes "and"
-reserved_text reserved.Or = codes "or"
-reserved_text reserved.In = codes "in"
-reserved_text reserved.Contains = codes "contains"
-reserved_text reserved.StartsWith = codes "startsWith"
-reserved_text reserved.EndsWith = codes "endsWith"
-reserved_text reserved.Matches = codes "matches"
 
 abbrev pub word_text : Word → List ℕ
 word_text (Usual w) = w

@@ -9,6 +9,7 @@ use Rattle.expr_token.specs.declared.sign.Sign.{Sign}
 use Rattle.expr_token.specs.declared.sign.Sign.TheVariants as sign
 use Rattle.expr_token.specs.declared.reserved.Reserved.{Reserved}
 use Rattle.expr_token.specs.declared.reserved.Reserved.TheVariants as reserved
+use Rattle.expr_token.specs.Spellings.{reserved_text}
 use Rattle.expr_tree.specs.Term.{Term, name, literal, list, unary, postfix, choice, index, slice, pipe, ternary, method, bound, unbounded, Block, answers}
 use Rattle.expr_tree.specs.Written.{terms_of}
 use Rattle.expr_tree.specs.Parts.{Given, Lines, block_with, bound_with}
@@ -34,7 +35,7 @@ use Rattle.expr_syntax.specs.declared.frame.Place.{Place}
 use Rattle.expr_syntax.specs.declared.frame.Place.TheVariants as place
 use Rattle.expr_syntax.specs.Grammar.{prefix_level}
 use Rattle.expr_syntax.specs.Machine.{infix_reach, role, role_level}
-use Rattle.expr_syntax.specs.Kept.{reserved_text, integer_value, prefix_operator, infix_meaning, joined, member_term, none_given, given_more, given_program, call_given}
+use Rattle.expr_syntax.specs.Kept.{integer_value, prefix_operator, infix_meaning, joined, member_term, none_given, given_more, given_program, call_given}
 
 -- what a token is where an operand is wanted
 abbrev pub sign_start : Sign → Start

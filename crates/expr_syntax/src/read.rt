@@ -4,7 +4,7 @@ ghost use Rattle.std.specs.Prelude.{◌≡◌, ◌∷◌, [], ◌↔◌, IfOk, I
 ghost use Rattle.std.specs.List.{AllByRecursion};
 ghost use Rattle.expr_syntax.specs.Grammar.{IntegerFits};
 ghost use Rattle.expr_syntax.specs.Machine as places;
-ghost use Rattle.expr_syntax.specs.Kept.{reserved_text, integer_value};
+ghost use Rattle.expr_syntax.specs.Kept.{integer_value};
 ghost use Rattle.expr_syntax.specs.Nodes as machine;
 ghost use Rattle.expr_syntax.specs.Reading.{Gives};
 
@@ -143,7 +143,7 @@ pub(crate) fn word(alloc: Global, token: Token) -> Result<Text, Fault>
 {
     match token {
         Token::Word(name) => Ok(name),
-        Token::Reserved(word) => Ok(Text::copy(alloc, spelling(word))?),
+        Token::Reserved(word) => Ok(Text::copy(alloc, word.spelling())?),
         _ => Err(Fault::Syntax),
     }
 }
@@ -154,31 +154,9 @@ pub(crate) fn key(alloc: Global, token: Token) -> Result<Text, Fault>
 {
     match token {
         Token::Word(name) => Ok(name),
-        Token::Reserved(word) => Ok(Text::copy(alloc, spelling(word))?),
+        Token::Reserved(word) => Ok(Text::copy(alloc, word.spelling())?),
         Token::Quoted(text) => Ok(text),
         _ => Err(Fault::Syntax),
-    }
-}
-
-// How a reserved word is written.
-fn spelling(word: Reserved) -> &'static str
-    ensures { result.now ≡ reserved_text word }
-{
-    match word {
-        Reserved::True => "true",
-        Reserved::False => "false",
-        Reserved::Nil => "nil",
-        Reserved::Let => "let",
-        Reserved::If => "if",
-        Reserved::Else => "else",
-        Reserved::Not => "not",
-        Reserved::And => "and",
-        Reserved::Or => "or",
-        Reserved::In => "in",
-        Reserved::Contains => "contains",
-        Reserved::StartsWith => "startsWith",
-        Reserved::EndsWith => "endsWith",
-        Reserved::Matches => "matches",
     }
 }
 
