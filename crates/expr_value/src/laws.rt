@@ -13,8 +13,9 @@ pub fn equality_is_an_equivalence()
     ensures kinds { (v w : Value) → equals v w ≡ true → kind_of v ≡ kind_of w }
 {}
 
-/// The equality of keys is an equivalence, and the value of a key is a scalar with that key.
+/// The equality of keys is an equivalence, and that of their values. The value of a key is a scalar with that key.
 pub fn keys_are_scalars()
     ensures equivalence { IsEquivalence key_eq }
+    ensures equal { (k l : Key) → key_eq k l ≡ equals (of_key k) (of_key l) }
     ensures back { (k : Key) → key_of (of_key k) ≡ Some k }
 {}
