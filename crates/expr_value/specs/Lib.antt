@@ -4,6 +4,7 @@ pub mod Fault
 pub mod Keys
 pub mod Laws
 pub mod Names
+pub mod Order
 pub mod Patterns
 pub mod Sorted
 pub mod Strings

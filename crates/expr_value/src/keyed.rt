@@ -49,7 +49,7 @@ impl<V> KeyedPairs<V> {
     }
 
     /// The allocator that the map was made with.
-    pub fn allocator(&self) -> Global {
+    pub(crate) fn allocator(&self) -> Global {
         *self.values.allocator()
     }
 

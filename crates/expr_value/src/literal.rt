@@ -1,5 +1,5 @@
 //! What `value!` is made of. Each step takes and answers a `Result`, so that a literal is one expression.
-ghost use Rattle.std.specs.Prelude.{◌≡◌, ◌++◌, ◌∷◌, [], List, ℕ, IfOk, IfErr, IsOk, string_bytes};
+ghost use Rattle.std.specs.Prelude.{◌≡◌, ◌++◌, ◌∷◌, ◌↔◌, [], List, ℕ, IfOk, IfErr, IsOk, string_bytes};
 ghost use Rattle.expr_value.specs.Names.{put};
 
 use crate::error::{Error, Result};
@@ -22,7 +22,11 @@ pub trait IntoValue {
 impl<T: Into<Value>> IntoValue for T {
     ghost gives = { λ x v. T.Into.converts x v };
 
-    fn into_value(self, _alloc: Global) -> Result<Value> {
+    fn into_value(self, _alloc: Global) -> Result<Value>
+        ensures ok { IfOk result (λ v. T.Into.converts self v) }
+        ensures err { IfErr result (λ e. e ≡ Error.MemoryError) }
+        ensures taken { IsOk result }
+    {
         Ok(self.into())
     }
 }
@@ -67,7 +71,11 @@ impl IntoName for &str {
 impl IntoName for String {
     ghost name = { string_bytes };
 
-    fn into_name(self, _alloc: Global) -> Result<String> {
+    fn into_name(self, _alloc: Global) -> Result<String>
+        ensures ok { IfOk result (λ s. string_bytes s ≡ string_bytes self) }
+        ensures err { IfErr result (λ e. e ≡ Error.MemoryError) }
+        ensures taken { IsOk result }
+    {
         Ok(self)
     }
 }
@@ -93,6 +101,8 @@ pub fn pushed(items: Result<Vec<Value>>, item: Result<Value>) -> Result<Vec<Valu
     ensures ok { IfOk result (λ ys. IfOk items (λ xs. IfOk item (λ x. ys.items ≡ xs.items ++ x ∷ []))) }
     ensures items { IsOk result → IsOk items }
     ensures item { IsOk result → IsOk item }
+    ensures refusal { IfErr items (λ e. e ≡ Error.MemoryError) → IfErr item (λ e. e ≡ Error.MemoryError)
+        → IfErr result (λ e. e ≡ Error.MemoryError) }
 {
     let mut items = items?;
     items.push(item?)?;
@@ -102,7 +112,8 @@ pub fn pushed(items: Result<Vec<Value>>, item: Result<Value>) -> Result<Vec<Valu
 /// An array of some items.
 pub fn array(items: Result<Vec<Value>>) -> Result<Value>
     ensures ok { IfOk result (λ v. IfOk items (λ xs. v ≡ Value.Array xs.items)) }
-    ensures items { IsOk result → IsOk items }
+    ensures items { IsOk result ↔ IsOk items }
+    ensures refusal { IfErr result (λ e. IfErr items (λ f. e ≡ f)) }
 {
     Ok(Value::from(items?))
 }
@@ -126,6 +137,8 @@ pub fn placed(
     ensures pairs { IsOk result → IsOk pairs }
     ensures name { IsOk result → IsOk name }
     ensures value { IsOk result → IsOk value }
+    ensures refusal { IfErr pairs (λ e. e ≡ Error.MemoryError) → IfErr name (λ e. e ≡ Error.MemoryError)
+        → IfErr value (λ e. e ≡ Error.MemoryError) → IfErr result (λ e. e ≡ Error.MemoryError) }
 {
     let mut pairs = pairs?;
     let name = name?;
@@ -136,7 +149,8 @@ pub fn placed(
 /// A map of some pairs.
 pub fn map(pairs: Result<ValueMap>) -> Result<Value>
     ensures ok { IfOk result (λ v. IfOk pairs (λ m. v ≡ Value.Map m)) }
-    ensures pairs { IsOk result → IsOk pairs }
+    ensures pairs { IsOk result ↔ IsOk pairs }
+    ensures refusal { IfErr result (λ e. IfErr pairs (λ f. e ≡ f)) }
 {
     Ok(Value::Map(pairs?))
 }

@@ -55,6 +55,24 @@ fn one_pair(alloc: Global, key: Result<Value>) -> Result<Value> {
     keyed(alloc, with(Ok(Vec::new(alloc)), key, int(1)))
 }
 
+fn in_array(alloc: Global, value: Result<Value>) -> Result<Value> {
+    let value = value?;
+    crate::value!(alloc; [&value])
+}
+
+fn string(alloc: Global, text: &str) -> Result<String> {
+    Ok(String::from_str(alloc, text)?)
+}
+
+// ("b", 1), ("a", 2), ("b", 3)
+fn named(alloc: Global) -> Result<Vec<(String, Value)>> {
+    let mut pairs = Vec::new(alloc);
+    for (name, number) in [("b", 1_i64), ("a", 2), ("b", 3)] {
+        pairs.push((string(alloc, name)?, Value::from(number)))?;
+    }
+    Ok(pairs)
+}
+
 fn is_refused<T: Drop>(answer: Result<T>) -> bool {
     matches!(answer, Err(Error::ExprError(_)))
 }
@@ -81,7 +99,15 @@ fn prints_texts_and_maps(rt: HostRuntime) -> Tested {
             "\"\\\\\\r\\t\\\"\u{e9}\""
         )?
     );
+    assert!(rt; prints(alloc, Ok(Value::from(string(alloc, "x")?)), "\"x\"")?);
     assert!(rt; prints(alloc, repeated(alloc), "{2: \"b\", \"x\": 1}")?);
+    assert!(rt;
+        prints(
+            alloc,
+            Value::from_pairs(alloc, named(alloc)?),
+            "{b: 3, a: 2}"
+        )?
+    );
     Ok(())
 }
 
@@ -96,8 +122,8 @@ fn compares_maps(rt: HostRuntime) -> Tested {
     );
     assert!(rt;
         !equal(
-            one_pair(alloc, Value::text(alloc, "a")),
-            crate::value!(alloc; {"a": 1})
+            in_array(alloc, one_pair(alloc, Value::text(alloc, "a"))),
+            in_array(alloc, crate::value!(alloc; {"a": 1}))
         )?
     );
     Ok(())
@@ -118,6 +144,9 @@ fn writes_literals(rt: HostRuntime) -> Tested {
     let key = "key";
     let literal = crate::value!(alloc; {key: 6_i64 * 7, ("d"): {}, "e": [[],],});
     assert!(rt; prints(alloc, literal, "{key: 42, d: {}, e: [[]]}")?);
+    let name = string(alloc, "name")?;
+    let literal = crate::value!(alloc; {name: true, format!(in alloc; "{key}s")?: "x"});
+    assert!(rt; prints(alloc, literal, "{name: true, keys: \"x\"}")?);
     Ok(())
 }
 
@@ -161,7 +190,11 @@ fn has(map: Result<Value>, key: Result<Value>) -> Result<bool> {
     let map = map?;
     let key = key?;
     Ok(match map.as_keyed_map() {
-        Some(map) => map.get(&key).is_some() && map.get_index(map.len()).is_none(),
+        Some(map) => {
+            map.get(&key).is_some()
+                && map.get_index(0).is_some()
+                && map.get_index(map.len()).is_none()
+        }
         None => false,
     })
 }
@@ -169,7 +202,11 @@ fn has(map: Result<Value>, key: Result<Value>) -> Result<bool> {
 fn has_name(map: Result<Value>, name: &str) -> Result<bool> {
     let map = map?;
     Ok(match map.as_map() {
-        Some(map) => map.get(name).is_some() && map.get_index(map.len()).is_none(),
+        Some(map) => {
+            map.get(name).is_some()
+                && map.get_index(0).is_some()
+                && map.get_index(map.len()).is_none()
+        }
         None => false,
     })
 }
@@ -194,6 +231,28 @@ fn answers_what_a_value_holds(rt: HostRuntime) {
     assert!(rt; Value::Month(7).as_string().is_none() && Value::Month(7).as_array().is_none());
 }
 
+fn items_of(value: Result<Value>) -> Result<usize> {
+    Ok(match value?.as_array() {
+        Some(items) => items.len(),
+        None => 0,
+    })
+}
+
+fn bytes_of(value: Result<Value>) -> Result<usize> {
+    Ok(match value?.as_bytes() {
+        Some(bytes) => bytes.len(),
+        None => 0,
+    })
+}
+
+#[test]
+fn lends_items_and_bytes(rt: HostRuntime) -> Tested {
+    let alloc = rt.alloc();
+    assert_eq!(rt; items_of(crate::value!(alloc; [nil, nil, nil]))?, 3);
+    assert_eq!(rt; bytes_of(bytes(alloc))?, 2);
+    Ok(())
+}
+
 fn quotient(alloc: Global, a: i64, b: i64) -> Result<i64> {
     if b == 0 {
         crate::bail!(alloc; "{a} divided by zero");
@@ -213,6 +272,7 @@ fn refuses_by_kind(rt: HostRuntime) -> Tested {
     let alloc = rt.alloc();
     assert!(rt; message(alloc, quotient(alloc, 7, 0), "7 divided by zero")?);
     assert!(rt; is_refused::<()>(Err(crate::refusal(alloc, "no"))));
+    assert!(rt; is_refused::<()>(Err(Error::from(string(alloc, "no")?))));
     assert!(rt; matches!(Error::from(regex::Error::OutOfMemory), Error::MemoryError));
     assert!(rt;
         matches!(
@@ -244,6 +304,14 @@ fn shows(alloc: Global, context: Result<Context>, name: &str, expected: &str) ->
     Ok(prints(alloc, shown(&context, alloc), expected)? && is_there)
 }
 
+// What a provider of any kind gives: the value of a name, and the whole map, by both its calls.
+fn gives<P: ContextProvider>(provider: &P, alloc: Global, name: &str) -> Result<bool> {
+    let is_there = provider.get(name).is_some();
+    let map = Value::from(provider.to_context(alloc)?.into_map());
+    let shown = Value::from(provider.environment(alloc)?.into_map());
+    Ok(map == shown && is_there)
+}
+
 #[test]
 fn contexts_are_maps(rt: HostRuntime) -> Tested {
     let alloc = rt.alloc();
@@ -251,9 +319,26 @@ fn contexts_are_maps(rt: HostRuntime) -> Tested {
     assert!(rt; is_refused(context_of(alloc, repeated(alloc))));
     let context = context_of(alloc, crate::value!(alloc; {"b": 1, "a": 2}));
     assert!(rt; shows(alloc, inserted(context, alloc, "b"), "a", "{b: nil, a: 2}")?);
-    let context = Context::from_pairs(alloc, Vec::new(alloc));
-    assert!(rt; shows(alloc, inserted(context, alloc, "c"), "c", "{c: nil}")?);
+    let context = Context::from_pairs(alloc, named(alloc)?);
+    assert!(rt;
+        shows(
+            alloc,
+            inserted(context, alloc, "c"),
+            "c",
+            "{b: 3, a: 2, c: nil}"
+        )?
+    );
     assert!(rt; Context::new(alloc).get("one").is_none());
+    Ok(())
+}
+
+#[test]
+fn providers_are_lent(rt: HostRuntime) -> Tested {
+    let alloc = rt.alloc();
+    let context = Context::from_pairs(alloc, named(alloc)?)?;
+    let lent: &dyn ContextProvider = &context;
+    assert!(rt; gives(&context, alloc, "a")?);
+    assert!(rt; gives(&lent, alloc, "a")?);
     Ok(())
 }
 
@@ -282,6 +367,15 @@ fn back(alloc: Global, text: &str) -> Result<bool> {
     Ok(value.as_string() == Some(text) && value.into_key() == Some(key))
 }
 
+fn text_back(alloc: Global, text: &str) -> Result<bool> {
+    Ok(Text::copy(alloc, text)?.into_string().as_str() == text)
+}
+
+fn items_back(alloc: Global) -> Result<bool> {
+    let items = Items::from_vec(vec![in alloc; 1_u8, 2]?);
+    Ok(items.len() == 2 && items.as_slice() == items.clone()?.into_vec().as_slice())
+}
+
 fn held(alloc: Global, number: i64) -> Result<bool> {
     let held = Boxed::new(alloc, number)?;
     Ok(*held.get() == number && held.into_inner() == number)
@@ -293,12 +387,26 @@ fn put(alloc: Global, key: Key) -> Result<bool> {
     Ok(map.find(&Key::Nil).is_none() && map.keys().len() == map.values().len())
 }
 
+fn named_put(alloc: Global, name: &str) -> Result<bool> {
+    let mut map = ValueMap::new(alloc);
+    map.insert(string(alloc, name)?, Value::Nil)?;
+    Ok(map.names().len() == map.values().len() && map.clone()?.len() == 1)
+}
+
 #[test]
 fn wraps(rt: HostRuntime) -> Tested {
     let alloc = rt.alloc();
     assert!(rt; back(alloc, "x")?);
     assert!(rt; held(alloc, 7)?);
+    assert!(rt; text_back(alloc, "x")?);
+    assert!(rt; items_back(alloc)?);
     assert!(rt; put(alloc, Key::Integer(1))?);
-    assert!(rt; ValueMap::new(alloc).names().is_empty());
+    assert!(rt; named_put(alloc, "x")?);
     Ok(())
+}
+
+#[test]
+fn keys_are_in_order(rt: HostRuntime) {
+    assert!(rt; Key::Nil < Key::Bool(false) && Key::Bool(false) < Key::Bool(true));
+    assert!(rt; Key::Integer(10) > Key::Integer(-10) && Key::Integer(10) < Key::Duration(-10));
 }

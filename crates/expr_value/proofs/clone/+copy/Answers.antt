@@ -1,11 +1,9 @@
-use Rattle.std.proofs.Common.{◌≡◌, ◌<◌, ◌+◌, suc, Some, length, take, slice_get, string_bytes, bytes_eq, zip, ap, ◌∙◌, sym, subst, refl, arith}
+use Rattle.std.proofs.Common.{◌≡◌, ◌<◌, ◌+◌, suc, Some, length, take, slice_get, string_bytes, bytes_eq, ap, ◌∙◌, sym, refl, arith}
 use Rattle.std.specs.Cmp.Lexicographic.{nat_list_eq_equiv}
 use Rattle.std.specs.Map.{keys_of, values_of}
 use Rattle.std.specs.Option.{option_map}
-use Rattle.std.specs.Result.{IfOk}
-use Rattle.std.proofs.lemmas.List.{take_all, length-map}
+use Rattle.std.proofs.lemmas.List.{length-map}
 use Rattle.std.proofs.lemmas.Option.{slice_get_read, slice_get-map}
-use Rattle.indexmap.proofs.ReorderLemmas.{zip_of_parts}
 use Rattle.expr_value.specs.Keys.{key_eq, key_eq_equiv, key_put}
 use Rattle.expr_value.specs.Names.{put}
 use Rattle.expr_value.proofs.Pairs.{pair_at, put_next}

@@ -1,4 +1,4 @@
-use Rattle.std.proofs.Common.{◌≡◌, ◌<◌, Some, length, slice_get, ap, ◌∙◌, sym, refl, arith}
+use Rattle.std.proofs.Common.{◌≡◌, Some, length, slice_get, ap, ◌∙◌, sym, refl, arith}
 use Rattle.std.proofs.lemmas.Option.{slice_get_read, get_or_from_slice_get}
 use Rattle.expr_value.specs.Keys.{key_eq}
 use Rattle.expr_value.specs.declared.key.Key.{Key}
