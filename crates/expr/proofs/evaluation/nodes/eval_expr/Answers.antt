@@ -12,7 +12,7 @@ returns-clause-plain g c =
     let asked = goal.ContextProvider-dyn g c.args.ctx.now in
     let base : Context = given_by (asked.value_of c.args.ctx.now.1) (asked.map_of c.args.ctx.now.1) in
     λ v p h.
-    let same : c.in_ok-answer.answer ≡ v = cc (c.in_ok-answer.ensures.plain v p h) in
-    let plain : IsTrue (is_plain_value c.in_ok-answer.answer) =
+    let same : c.in_ok-held.held ≡ v = cc (c.in_ok-held.ensures.plain v p h) in
+    let plain : IsTrue (is_plain_value c.in_ok-held.held) =
     subst (λ w. IsTrue (is_plain_value w)) (sym same) (Allows-plain no_host base (written c.args.node.now) v p h) in
     c.into_value.ensures.plain plain ∙ ap Ok same
