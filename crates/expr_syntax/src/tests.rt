@@ -167,7 +167,7 @@ fn shown(alloc: Global, text: &str) -> Result<String, Fail> {
     match compile(alloc, text) {
         Ok(program) => show_program(&program, &mut out)?,
         Err(Error::PestError(place)) => write!(out, "syntax fault at {place}")?,
-        Err(Error::ParseError(_)) => out.push_str("literal out of range")?,
+        Err(Error::ParseError(_message)) => out.push_str("literal out of range")?,
         Err(other) => return Err(Fail::from(other)),
     }
     Ok(out)
