@@ -18,4 +18,7 @@ pub use expr_syntax::compile;
 pub use expr_tree::node::{Node, Pattern, PostfixOperator, Program};
 pub use expr_tree::operator::{Operator, UnaryOperator};
 pub use expr_value::{Context, ContextProvider, Error, Result, Value};
-pub use laws::{outside_is_not_within, part_stands_between_front_and_back, unequal_is_not_equal};
+pub use laws::{
+    left_side_decides, outside_is_not_within, part_stands_between_front_and_back,
+    unequal_is_not_equal,
+};
