@@ -2,9 +2,9 @@
 ghost use Rattle.std.specs.Prelude.{◌≡◌, Ok, IsTrue};
 ghost use Rattle.expr.specs.Answers.{Is};
 ghost use Rattle.expr.specs.Plain.{is_plain_value};
-ghost use Rattle.expr.specs.Positions.{indexed};
+ghost use Rattle.expr.specs.Positions.{indexed, sliced};
 
-use crate::operators::index;
+use crate::operators::{index, slice, slice_lent};
 use expr_value::{Result, Value};
 use std::alloc::Global;
 use std::marker::Model;
@@ -92,6 +92,17 @@ impl<'a> Held<'a> {
                 Ok(Held::own(part.into_value()?))
             }
             Holding::Lent(value) => index(alloc, value, key, optional),
+        }
+    }
+
+    /// What stands between two bounds of the value: one of its own is cut, and of a lent one that part alone is copied.
+    pub fn slice(self, alloc: Global, start: Option<i64>, stop: Option<i64>) -> Result<Value>
+        ensures { Is result (sliced self.entry start stop) }
+    {
+        let Held { holding } = self;
+        match holding {
+            Holding::Own(value) => slice(alloc, value, start, stop),
+            Holding::Lent(value) => slice_lent(alloc, value, start, stop),
         }
     }
 }

@@ -18,7 +18,7 @@ use comparison::{are_equal, compare};
 use expr_tree::operator::{Operator, UnaryOperator};
 use expr_value::{Result, Value};
 use membership::{begins_with, contains, ends_in, is_within};
-pub use positions::{index, range, slice, slice_bound};
+pub use positions::{index, range, slice, slice_bound, slice_lent};
 use std::alloc::Global;
 
 /// What an operator that asks both sides gives on their values.

@@ -92,18 +92,40 @@ pub fn slice_bound(alloc: Global, value: &Value) -> Result<i64>
     }
 }
 
-/// The items, bytes or text between two bounds.
+/// The items, bytes or text between two bounds of a value that is given, which is cut.
 pub fn slice(alloc: Global, value: Value, start: Option<i64>, stop: Option<i64>) -> Result<Value>
     ensures { Is result (sliced value start stop) }
 {
     match value {
         Value::Array(items) => Ok(Value::Array(cut(items, start, stop))),
         Value::Bytes(bytes) => Ok(Value::Bytes(cut(bytes, start, stop))),
+        other => slice_lent(alloc, &other, start, stop),
+    }
+}
+
+/// The items, bytes or text between two bounds of a value that is lent, of which that part alone is copied.
+pub fn slice_lent(
+    alloc: Global,
+    value: &Value,
+    start: Option<i64>,
+    stop: Option<i64>,
+) -> Result<Value>
+    ensures { Is result (sliced value.now start stop) }
+{
+    match value {
+        Value::Array(items) => {
+            let part = between(items.as_slice(), start, stop).to_vec(alloc)?;
+            Ok(Value::Array(Items::from_vec(part)))
+        }
+        Value::Bytes(bytes) => {
+            let part = between(bytes.as_slice(), start, stop).to_vec(alloc)?;
+            Ok(Value::Bytes(Items::from_vec(part)))
+        }
         Value::String(text) => {
             let text = cut_text(alloc, text.as_str(), start, stop)?;
             Ok(Value::String(Text::from_string(text)))
         }
-        other => Err(unexpected(alloc, "an Array, Bytes or a String to slice", &other)),
+        other => Err(unexpected(alloc, "an Array, Bytes or a String to slice", other)),
     }
 }
 
@@ -125,10 +147,16 @@ fn cut_text(
 ) -> std::result::Result<String, AllocError>
     ensures { IfOk result (λ s. string_bytes s ≡ repaired (part start stop text.now)) }
 {
-    let bytes = text.as_bytes();
-    let (start, stop) = bounds(bytes.len(), start, stop);
-    let part = &bytes[start..stop];
+    let part = between(text.as_bytes(), start, stop);
     part.to_str_lossy(alloc)?.into_owned(alloc)
+}
+
+/// What stands between two bounds.
+fn between<T>(items: &[T], start: Option<i64>, stop: Option<i64>) -> &[T]
+    ensures { result.now ≡ part start stop items.now }
+{
+    let (start, stop) = bounds(items.len(), start, stop);
+    &items[start..stop]
 }
 
 /// Where a slice of so many items starts and ends.
