@@ -11,7 +11,7 @@ use Rattle.std.proofs.lemmas.List.{length-map, map_push}
 use Rattle.std.proofs.lemmas.Map.Made.{keys_of-zip}
 use Rattle.std.proofs.lemmas.Option.{slice_get_past, slice_get_cases, slice_get_read, slice_get-map, none-some, same_Some}
 use Rattle.std.proofs.lemmas.Slice.Zip.{seconds-zip, length-zip}
-use Rattle.indexmap.proofs.MapLemmas.{Found-position, Missing-position, insert_entry-first, insert_entry-absent}
+use Rattle.indexmap.proofs.MapLemmas.{Found, Found-position, Missing, Missing-position, insert_entry-first, insert_entry-absent}
 use Rattle.indexmap.proofs.ReorderLemmas.{zip_push, slice_get-zip_some}
 use Rattle.indexmap.specs.Layout.{set_value_at}
 use Rattle.expr_value.specs.Names.{find, put}
@@ -136,26 +136,6 @@ module _ {K V : Type 0} (ks : List K) (vs : List V) (even : length vs ≡ length
   pub pair_beside : (i : ℕ) (k : K) (v : V) → slice_get ks i ≡ Some k → slice_get vs i ≡ Some v → slice_get (zip ks vs) i ≡ Some (k, v)
   pair_beside i k v a b = slice_get-zip_some ks vs i k v a b
 
-module _ {K V : Type 0} (t : K → Bool) where
-  first_pair : (es : List (K × V)) (i : ℕ) → i < length (keys_of es) → ((d : K) → t (get_or (keys_of es) i d) ≡ true) → ((k : ℕ) (d : K) → k < i → t (get_or (keys_of es) k d) ≡ false)
-      → lookup t es ≡ slice_get (values_of es) i
-  first_pair [] i w p b = absurd (omega arith)
-  first_pair (e ∷ es) zero w p b = ap (λ r. cond r (Some e.1) (lookup t es)) (p e.0)
-  first_pair (e ∷ es) (suc i) w p b =
-      ap (λ r. cond r (Some e.1) (lookup t es)) (b 0 e.0 (omega arith)) ∙ first_pair es i (omega arith) p (λ n d h. b (suc n) d (omega arith))
-
-  no_pair : (es : List (K × V)) → ((k : ℕ) (d : K) → k < length (keys_of es) → t (get_or (keys_of es) k d) ≡ false) → lookup t es ≡ None
-  no_pair [] b = refl
-  no_pair (e ∷ es) b = ap (λ r. cond r (Some e.1) (lookup t es)) (b 0 e.0 (omega arith)) ∙ no_pair es (λ n d h. b (suc n) d (omega arith))
-
-  -- the first key that passes is at i
-  pub first_passes : (ks : List K) (es : List (K × V)) (i : ℕ) → ks ≡ keys_of es → i < length ks → ((d : K) → t (get_or ks i d) ≡ true) → ((k : ℕ) (d : K) → k < i → t (get_or ks k d) ≡ false)
-      → lookup t es ≡ slice_get (values_of es) i
-  first_passes ks es i e = subst (λ l. i < length l → ((d : K) → t (get_or l i d) ≡ true) → ((k : ℕ) (d : K) → k < i → t (get_or l k d) ≡ false) → lookup t es ≡ slice_get (values_of es) i) (sym e) (first_pair es i)
-
-  pub none_passes : (ks : List K) (es : List (K × V)) → ks ≡ keys_of es → ((k : ℕ) (d : K) → k < length ks → t (get_or ks k d) ≡ false) → lookup t es ≡ None
-  none_passes ks es e = subst (λ l. ((k : ℕ) (d : K) → k < length l → t (get_or l k d) ≡ false) → lookup t es ≡ None) (sym e) (no_pair es)
-
 -- the pair at an index, from the name and the value there
 pub named_at : {V : Type 0} (ns : Names) (vs : List V) (es : List (List ℕ × V)) (i : ℕ) (s : String Global) (v : V) → map string_bytes ns ≡ keys_of es → vs ≡ values_of es → i < length es
     → s ≡ get_or ns i s → v ≡ get_or vs i v → slice_get es i ≡ Some (string_bytes s, v)
@@ -174,22 +154,30 @@ keyed_at ks vs es i k v e f within a b =
     pair_at es i k v
     (ap (λ l. slice_get l i) (sym e) ∙ slice_get_read ks (length ks) i k refl keys a) (ap (λ l. slice_get l i) (sym f) ∙ slice_get_read vs (length vs) i v refl values b)
 
--- what a set of keys beside a list of values does at a key
+-- what a set of keys beside a list of values has where a key passes
+module _ {K V : Type 0} (passes : K → Bool) (ks : List K) (vs : List V) (even : length vs ≡ length ks) where
+  placed_beside : position passes (keys_of (zip ks vs)) ≡ position passes ks
+  placed_beside = ap (position passes) (keys_beside ks vs even)
+
+  pub found_beside : (i : ℕ) → Some i ≡ position passes ks → Found passes (zip ks vs) i
+  found_beside i e = Found-position passes (zip ks vs) i (placed_beside ∙ sym e)
+
+  pub missing_beside : None ≡ position passes ks → Missing passes (zip ks vs)
+  missing_beside e = Missing-position passes (zip ks vs) (placed_beside ∙ sym e)
+
+  pub find_beside : (i : ℕ) → Some i ≡ position passes ks → lookup passes (zip ks vs) ≡ slice_get vs i
+  find_beside i e = (found_beside i e).value ∙ ap (λ l. slice_get l i) (values_beside ks vs even)
+
+  pub find_none_beside : None ≡ position passes ks → lookup passes (zip ks vs) ≡ None
+  find_none_beside e = (missing_beside e).value
+
+-- what it does where a value is put under a key
 module _ {K V : Type 0} (eq : K → K → Bool) (ks : List K) (vs : List V) (even : length vs ≡ length ks) (k : K) where
-  placed_beside : position (eq k) (keys_of (zip ks vs)) ≡ position (eq k) ks
-  placed_beside = ap (position (eq k)) (keys_beside ks vs even)
-
-  pub find_beside : (i : ℕ) → Some i ≡ position (eq k) ks → lookup (eq k) (zip ks vs) ≡ slice_get vs i
-  find_beside i e = (Found-position (eq k) (zip ks vs) i (placed_beside ∙ sym e)).value ∙ ap (λ l. slice_get l i) (values_beside ks vs even)
-
-  pub find_none_beside : None ≡ position (eq k) ks → lookup (eq k) (zip ks vs) ≡ None
-  find_none_beside e = (Missing-position (eq k) (zip ks vs) (placed_beside ∙ sym e)).value
-
   pub put_beside : (i : ℕ) (v : V) → Some i ≡ position (eq k) ks → zip ks (set vs i v) ≡ insert_entry eq (zip ks vs) k v
-  put_beside i v e = zip-set ks vs i v ∙ sym (insert_entry-first eq k v (zip ks vs) i (Found-position (eq k) (zip ks vs) i (placed_beside ∙ sym e)).first)
+  put_beside i v e = zip-set ks vs i v ∙ sym (insert_entry-first eq k v (zip ks vs) i (found_beside (eq k) ks vs even i e).first)
 
   pub put_last_beside : (v : V) → None ≡ position (eq k) ks → zip (ks ++ k ∷ []) (vs ++ v ∷ []) ≡ insert_entry eq (zip ks vs) k v
-  put_last_beside v e = zip_push ks vs k v even ∙ sym (insert_entry-absent eq k v (zip ks vs) (Missing-position (eq k) (zip ks vs) (placed_beside ∙ sym e)).absent)
+  put_last_beside v e = zip_push ks vs k v even ∙ sym (insert_entry-absent eq k v (zip ks vs) (missing_beside (eq k) ks vs even e).absent)
 
 pub new_key : {K : Type 0} (eq : K → K → Bool) (ks : List K) (k : K) → false ≡ list_any (eq k) ks → (if list_any (eq k) ks then ks else (ks ++ k ∷ [])) ≡ ks ++ k ∷ []
 new_key eq ks k absent = ap (λ b. if b then ks else (ks ++ k ∷ [])) (sym absent)

@@ -7,5 +7,6 @@ pub mod Names
 pub mod Order
 pub mod Patterns
 pub mod Sorted
+pub mod Sought
 pub mod Strings
 pub mod Values

@@ -90,10 +90,8 @@ impl Context {
         ensures ok { IfOk result (λ c. c ≡ put_all [] (map (λ p. (string_bytes p.0, p.1)) pairs.items)) }
         ensures err { IfErr result (λ e. e ≡ Error.MemoryError) }
     {
-        match Value::from_pairs(alloc, pairs)? {
-            Value::Map(pairs) => Ok(Context { pairs }),
-            _ => Ok(Context::new(alloc)),
-        }
+        let pairs = ValueMap::from_pairs(alloc, pairs)?;
+        Ok(Context { pairs })
     }
 
     /// A map as a context. Any other value is refused with [`Error::ExprError`].

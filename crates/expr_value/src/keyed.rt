@@ -6,7 +6,7 @@ ghost use Rattle.std.specs.Option.{option_copied};
 
 use crate::items::item_at;
 use crate::key::Key;
-use indexmap::IndexSet;
+use indexmap::{Equivalent, IndexSet};
 use std::alloc::{AllocError, Global};
 use std::marker::Model;
 
@@ -79,6 +79,13 @@ impl<V> KeyedPairs<V> {
     /// The value under a key, found by hashing.
     pub fn find(&self, key: &Key) -> Option<&V>
         ensures { option_copied result ≡ lookup (key_eq key.now) self.now }
+    {
+        self.find_by(key)
+    }
+
+    /// The value under the key for which a query stands, found by hashing.
+    pub(crate) fn find_by<Q: Equivalent<Key>>(&self, key: Q) -> Option<&V>
+        ensures { option_copied result ≡ lookup (Q.equivalent key) self.now }
     {
         let index = self.keys.get_index_of(key)?;
         item_at(&self.values, index)

@@ -19,6 +19,7 @@ mod named;
 mod order;
 mod plain;
 mod scalars;
+mod sought;
 #[cfg(test)]
 mod tests;
 mod text;

@@ -2,14 +2,13 @@
 ghost use Rattle.std.specs.Prelude.{◌≡◌, ◌≢◌, [], None, Some, option_map, IfOk, IfErr};
 ghost use Rattle.std.specs.Option.{option_copied};
 ghost use Rattle.expr_value.specs.Fault.{fault_of, memory, evaluation};
-ghost use Rattle.expr_value.specs.Keys.{key_eq, key_put_all};
+ghost use Rattle.expr_value.specs.Keys.{key_put_all};
 ghost use Rattle.expr_value.specs.Values.{at_key, key_of, of_key, scalar_pairs};
-ghost use Rattle.std.specs.Map.{lookup};
 
 use crate::error::{Error, Result, refusal};
-use crate::items::item_at;
 use crate::key::Key;
 use crate::keyed::KeyedPairs;
+use crate::sought::SoughtKey;
 use crate::text::Text;
 use crate::value::{KeyedMap, Value};
 use std::alloc::Global;
@@ -70,43 +69,11 @@ impl KeyedPairs<Value> {
 }
 
 impl<V> KeyedPairs<V> {
-    /// The value under the key that a scalar is. A text is sought key by key and any other scalar by hashing; no
-    /// memory is taken.
+    /// The value under the key that a scalar is, found by hashing. No memory is taken.
     pub fn get(&self, key: &Value) -> Option<&V>
         ensures { option_copied result ≡ at_key key.now self.now }
     {
-        match key {
-            Value::Nil => self.find(&Key::Nil),
-            Value::Bool(truth) => self.find(&Key::Bool(*truth)),
-            Value::Integer(number) => self.find(&Key::Integer(*number)),
-            Value::String(text) => self.find_text(text),
-            Value::Duration(nanoseconds) => self.find(&Key::Duration(*nanoseconds)),
-            Value::Month(number) => self.find(&Key::Month(*number)),
-            Value::Weekday(number) => self.find(&Key::Weekday(*number)),
-            _ => None,
-        }
-    }
-
-    // The value under a text. A key that owns its text is not made, since that takes memory.
-    fn find_text(&self, text: &Text) -> Option<&V>
-        ensures { option_copied result ≡ lookup (key_eq (Key.String text.now)) self.now }
-    {
-        let keys = self.keys();
-        let values = self.values();
-        for i in 0..keys.len() {
-            if is_text(&keys[i], text) {
-                return item_at(values, i);
-            }
-        }
-        None
-    }
-}
-
-fn is_text(key: &Key, text: &Text) -> bool
-    ensures { result ≡ key_eq (Key.String text.now) key.now }
-{
-    match key {
-        Key::String(own) => text == own,
-        _ => false,
+        let key = SoughtKey::of(key)?;
+        self.find_by(&key)
     }
 }

@@ -58,11 +58,7 @@ impl Value {
         ensures ok { IfOk result (λ v. v ≡ Value.Map (put_all [] (map (λ p. (string_bytes p.0, p.1)) pairs.items))) }
         ensures err { IfErr result (λ e. e ≡ Error.MemoryError) }
     {
-        let mut map = ValueMap::new(alloc);
-        for (name, value) in pairs {
-            map.insert(name, value)?;
-        }
-        Ok(Value::Map(map))
+        Ok(Value::Map(ValueMap::from_pairs(alloc, pairs)?))
     }
 
     /// The number of an integer.
