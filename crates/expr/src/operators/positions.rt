@@ -156,7 +156,7 @@ fn between<T>(items: &[T], start: Option<i64>, stop: Option<i64>) -> &[T]
     ensures { result.now ≡ part start stop items.now }
 {
     let (start, stop) = bounds(items.len(), start, stop);
-    &items[start..stop]
+    &items[..stop][start..]
 }
 
 /// Where a slice of so many items starts and ends.
