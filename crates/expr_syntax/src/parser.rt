@@ -701,7 +701,7 @@ fn map_literal(map: ValueMap) -> Place
 ///
 /// # Errors
 ///
-/// `Syntax` if there is none, at the index of a token with which none goes on, or the number of tokens;
+/// `Syntax` if there is none, at the index of the first token with which none goes on, or the number of tokens;
 /// `Literal` if there is one and an integer literal of it is 2^63 or more; `Memory` if memory was refused.
 pub fn parse(alloc: Global, tokens: Vec<Token>) -> Result<Program, ParseError>
     // The answer is the program of a tree that spells the tokens and fits, as do its literals.
