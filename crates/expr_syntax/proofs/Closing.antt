@@ -1,6 +1,5 @@
 -- From each state that is reached some tokens lead on to a program.
-use Rattle.std.proofs.Common.{◌≡◌, ℕ, ◌<◌, ◌≤◌, List, [], ◌∷◌, ◌++◌, Bool, true, false, cond, nat_lt, take, length, map, Option, Some, None, arith, sym, ap, ◌∙◌, refl, subst, fold, append-nil}
-use Rattle.std.proofs.lemmas.Bool.{ltb-true}
+use Rattle.std.proofs.Common.{◌≡◌, ℕ, ◌<◌, ◌≤◌, List, [], ◌∷◌, ◌++◌, Bool, true, false, take, length, map, Option, Some, None, arith, sym, ap, ◌∙◌, refl, subst, fold, append-nil}
 use Rattle.std.proofs.lemmas.List.{map-id}
 use Rattle.std.proofs.Math.Seq.{take-append_seam}
 use Rattle.expr_token.specs.declared.token.Token.{Token}
@@ -14,13 +13,13 @@ use Rattle.expr_tree.specs.declared.node.Program.{Program as NodeProgram}
 use Rattle.expr_syntax.specs.declared.frame.Frame.{Frame as NodeFrame}
 use Rattle.expr_syntax.specs.declared.frame.Place.{Place}
 use Rattle.expr_syntax.specs.Grammar.{Word, Usual, Constant, Nil, Key, EntryRow, Tree, Literal, Name, Member, Argument, Expression, MemberAlone, Braces, Else, TreeProgram, Program, Lines, NoLines, MoreLines, key_token, Spells, Fits}
-use Rattle.expr_syntax.specs.Machine.{Start, Bracing, Letting, Other, start_at, constant_at, role, role_level, level_at, word_at, key_at, Shape, InArray, InMethod, Chain, Part, Top, ThenPart, LastPart, Predicate, Frame, Under, After, Otherwise, Inside, Middle, Listed, Calling, Indexed, Cut, Condition, Body, Value, reach, plug, settle, State, Want, Have, Dotted, Questioned, Negated, Barred, Piped, Chosen, Alternate, NamesLine, Named, Argued, NamesMember, Braced, BracedKey, Keys, Colons, Values, Entered, Fail, at_close, at_square, at_colon, at_comma, at_semicolon, at_brace, at_end_brace, at_dot, at_end, argued, after_part, bind, shut, apply, act, lack, begin_line, begin_brace, begin, want, word_after_dot, at_square_open, in_after_not, word_after_bar, open_after_word, else_after, at_if, word_after_let, equals_after, member_alone, braced, key_in, value_in, step_on, step, parse, start}
+use Rattle.expr_syntax.specs.Machine.{Start, Bracing, Letting, Other, start_at, constant_at, role, role_level, level_at, word_at, key_at, Shape, InArray, InMethod, Chain, Part, Top, ThenPart, LastPart, Predicate, Frame, Under, After, Otherwise, Inside, Middle, Listed, Calling, Indexed, Cut, Condition, Body, Value, reach, plug, State, Want, Have, Dotted, Questioned, Negated, Barred, Piped, Chosen, Alternate, NamesLine, Named, Argued, NamesMember, Braced, BracedKey, Keys, Colons, Values, Entered, Fail, at_close, at_square, at_colon, at_comma, at_semicolon, at_brace, at_end_brace, at_dot, at_end, argued, after_part, bind, shut, apply, act, lack, begin_line, begin_brace, begin, want, word_after_dot, at_square_open, in_after_not, word_after_bar, open_after_word, else_after, at_if, word_after_let, equals_after, member_alone, braced, key_in, value_in, step_on, step, parse, start}
 use Rattle.expr_syntax.specs.Nodes as node
 use Rattle.expr_syntax.specs.Prefixes.{SomeBegins, StopsAt}
 use Rattle.expr_syntax.specs.Reading.{IsParse, IsTooLarge}
 use Rattle.expr_syntax.proofs.Measures.{prefix_above, reach_above}
 use Rattle.expr_syntax.proofs.Complete.{closes}
-use Rattle.expr_syntax.proofs.Sound.{sound}
+use Rattle.expr_syntax.proofs.Sound.{settled, sound}
 use Rattle.expr_syntax.proofs.Erase.{state, steps as kept_steps}
 use Rattle.expr_syntax.proofs.Whole.{after, stuck_place}
 
@@ -163,14 +162,6 @@ under (After l o) k e h = h
 under (Otherwise c a) k e h = h
 under f k e h = absurd (omega arith)
 
-settled : (p : ℕ) (next : List Frame → Tree → State) → ((k : List Frame) (l : Tree) → IsOpen k → IsOn (next k l)) → (k : List Frame) (l : Tree) → IsOpen k → IsOn (settle p next k l)
-settled p next go [] l h = absurd h
-settled p next go (f ∷ k) l h = choose (nat_lt p (reach f)) (λ e. settled p next go k (plug f l) (under f k (let b = ltb-true p (reach f) e in omega arith) h)) refl
-  where
-    choose : (b : Bool) → (nat_lt p (reach f) ≡ true → IsOn (settle p next k (plug f l))) → nat_lt p (reach f) ≡ b → IsOn (cond b (settle p next k (plug f l)) (next (f ∷ k) l))
-    choose true below e = below e
-    choose false below e = go (f ∷ k) l h
-
 lacks : (t : Token) (k : List Frame) → IsOpen k → IsOn (lack t k)
 lacks t (Listed s r ∷ k) h = end_at s t _ h
 lacks t (Calling c r ∷ k) h = dot_at t _ _ (tt, h) (close_at t _ h)
@@ -238,7 +229,7 @@ constants k r key None h = tt
 
 steps_on : (s : State) (t : Token) → IsOn s → IsOn (step_on s t)
 steps_on (Want k) t h = begins (start_at t) t k h
-steps_on (Have k l) t h = settled (role_level (role t)) (act (role t) t) (λ k l h. acts (role t) t k l h) k l h
+steps_on (Have k l) t h = settled (λ k l. IsOpen k) IsOn (role_level (role t)) (act (role t) t) (λ f k l below. under f k (omega arith)) (λ k l h r. acts (role t) t k l h) k l h
 steps_on (Dotted k l) t h = dots k l false (word_at t) h
 steps_on (Questioned k l) t h = square_open_at t _ _ h (dots k l true (word_at t) h)
 steps_on (Negated k l) t h = nots k l t h
