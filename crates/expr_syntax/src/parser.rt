@@ -709,6 +709,7 @@ pub fn parse(alloc: Global, tokens: Vec<Token>) -> Result<Program, ParseError>
     // Each tree that does is that one; there is none where the answer is a syntax fault.
     ensures only { (t : TreeProgram) → Spells t tokens.items → Fits t → IsAnswer t result }
     ensures literal { IsLiteralFault tokens.items result }
+    // Some program begins with the tokens before the index of a syntax fault, and none with the one at it too.
     ensures place { IsAtFault tokens.items result }
 {
     let literals_fit = read::literals_fit(&tokens);

@@ -27,6 +27,7 @@ pub fn compile(alloc: Global, code: &str) -> Result<Program>
     ensures answer { IsCompiled code.now result }
     // Where the text has a tree, no other answer is given but that tree's.
     ensures only { (t : TreeProgram) → IsTreeOf code.now t → IsAnswerFor t result }
+    // A syntax fault's place is that of the first: some program begins with the tokens before it, and none goes on there.
     ensures place { IsPlaced code.now result }
 {
     let Reading {
