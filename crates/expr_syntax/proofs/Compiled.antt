@@ -1,6 +1,6 @@
 -- What the answers of the parser say of a text.
 use Rattle.std.proofs.Common.{◌≡◌, ℕ, ◌+◌, ◌<◌, ◌≤◌, List, [], ◌++◌, Option, Some, None, Result, Ok, Err, ◌⊎◌, inl, inr, length, take, drop, get_or, append-nil, le_refl, refl, sym, ap, ◌∙◌, subst, arith}
-use Rattle.std.proofs.lemmas.List.{drop_all}
+use Rattle.std.proofs.lemmas.List.{drop_all, take_all}
 use Rattle.std.proofs.lemmas.Option.{slice_get_cases}
 use Rattle.std.specs.List.{All}
 use Rattle.std.specs.Prelude.{slice_get, unwrap_or}
@@ -11,10 +11,11 @@ use Rattle.expr_tree.specs.Written.{program_written}
 use Rattle.expr_tree.specs.declared.node.Program.{Program}
 use Rattle.expr_value.specs.declared.error.Error.{Error}
 use Rattle.expr_value.specs.declared.error.Error.TheVariants.{PestError, ParseError, ExprError, RegexError, MemoryError}
-use Rattle.expr_syntax.specs.Grammar.{TreeProgram, Spells, Fits, LiteralsFit}
+use Rattle.expr_syntax.specs.Grammar.{TreeProgram, Spells, LiteralsFit}
 use Rattle.expr_syntax.specs.Kept.{program_of}
+use Rattle.expr_syntax.specs.Prefixes.{SomeBegins, StopsAt}
 use Rattle.expr_syntax.specs.Reading.{IsParse, IsTooLarge}
-use Rattle.expr_syntax.specs.Texts.{IsTreeOf, IsProgramOf, HasLargeLiteral, HasNoTree, IsCompiled, IsAnswerFor, IsLiteralRefusal, NoneBegins, FaultPlace, AtToken, AtEnd, AtUnreadable}
+use Rattle.expr_syntax.specs.Texts.{IsTreeOf, IsProgramOf, HasLargeLiteral, HasNoTree, IsCompiled, IsAnswerFor, IsLiteralRefusal, FaultPlace, AtToken, AtEnd, AtUnreadable}
 
 -- a text that reads as the tokens
 module _ (text : List ℕ) (ts : List Token) (starts : List ℕ) (reads : ReadsAt text ts starts) where
@@ -66,18 +67,19 @@ IsAnswerFor-literal t MemoryError r h = tt
 -- where the first token stands with which no program goes on, or the end where there is none
 module _ (text : List ℕ) (ts : List Token) (starts : List ℕ) (upto : ℕ) (begins : Begins text upto ts starts)
     (within : All (λ start. start < length text) starts) (paired : length starts ≡ length ts)
-    (index : ℕ) (none : (t : TreeProgram) (rest : List Token) → index < length ts → Spells t (take (index + 1) ts ++ rest) → Fits t → ⊥)
-    (end : ℕ) (at_end : length starts ≤ index → (end ≤ length text) × FaultPlace text end) where
+    (index : ℕ) (stops : StopsAt ts index)
+    (end : ℕ) (at_end : SomeBegins ts → (end ≤ length text) × FaultPlace text end) where
   found : ((x : ℕ) × (index < length starts) × (slice_get starts index ≡ Some x) × (get_or starts index x ≡ x)) ⊎ ((length starts ≤ index) × (slice_get starts index ≡ None))
       → (place : ℕ) → place ≡ unwrap_or (slice_get starts index) end → (place ≤ length text) × FaultPlace text place
   found (inl (x, inside, is, same)) place e =
       let at : place ≡ x = e ∙ ap (λ o. unwrap_or o end) is in
       let below : x < length text = subst (λ y. y < length text) same (within index x inside) in
-      let there : FaultPlace text x = AtToken upto ts starts index begins is (λ t rest s f. none t rest (subst (λ n. index < n) paired inside) s f) in
+      let there : FaultPlace text x = AtToken upto ts starts index begins is stops.0 (stops.1 (subst (λ n. index < n) paired inside)) in
       (subst (λ y. y ≤ length text) (sym at) (omega arith), subst (FaultPlace text) (sym at) there)
   found (inr (outside, is)) place e =
       let at : place ≡ end = e ∙ ap (λ o. unwrap_or o end) is in
-      subst (λ y. (y ≤ length text) × FaultPlace text y) (sym at) (at_end outside)
+      let all : take index ts ≡ ts = take_all index ts (omega arith) in
+      subst (λ y. (y ≤ length text) × FaultPlace text y) (sym at) (at_end (subst SomeBegins all stops.0))
 
   pub placed : (place : ℕ) → place ≡ unwrap_or (slice_get starts index) end → (place ≤ length text) × FaultPlace text place
   placed place e = found (slice_get_cases starts index).1 place e

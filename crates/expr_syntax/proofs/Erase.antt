@@ -99,7 +99,7 @@ argument_program (Expression t) = answers (term_of t)
 argument_program (MemberAlone w) = answers (Rattle.expr_tree.specs.Term.name (word_text w))
 argument_program (Braces p) = program_of p
 
-abbrev state : tree.State → node.State
+abbrev pub state : tree.State → node.State
 state (tree.Want k) = node.On (frames k) place.Want
 state (tree.Have k l) = node.On (frames k) (place.Have (head l))
 state (tree.Dotted k l) = node.On (frames k) (place.Dotted (term_of l))
@@ -454,7 +454,7 @@ steps_key k key t =
     ∙ ap (λ q. node.at_colon t (node.On (frames k) (place.Values [] (key_text key))) q) (steps_on (tree.want (key_token key) (tree.Body Predicate NoLines ∷ k)) t)
     ∙ colons t (tree.Values k None key) (tree.step_on (tree.want (key_token key) (tree.Body Predicate NoLines ∷ k)) t)
 
-steps : (s : tree.State) (t : Token) → node.step (state s) t ≡ state (tree.step s t)
+pub steps : (s : tree.State) (t : Token) → node.step (state s) t ≡ state (tree.step s t)
 steps (tree.BracedKey k key) t = steps_key k key t
 steps (tree.Argued k (Expression l)) t = refl
 steps (tree.Argued k (MemberAlone w)) t = member_argues t k w

@@ -5,4 +5,5 @@ mod Sound
 mod Erase
 mod Whole
 mod Turns
+mod Closing
 mod Compiled

@@ -155,10 +155,10 @@ plugs p (Otherwise c t) k b seen h a =
     }
 plugs p f k l seen h a = absurd (omega arith)
 
--- what holds of what comes after settling
-settled : {R : Type 0} (Q : R → Type 0) (p : ℕ) (next : List Frame → Tree → R) (seen : List Token) → ((k : List Frame) (l : Tree) → Holds p k l seen → reach_of k ≤ p → Q (next k l)) → (k : List Frame) (l : Tree) → Holds p k l seen → Q (settle p next k l)
-settled Q p next seen go [] l a = go [] l a (omega arith)
-settled Q p next seen go (f ∷ k) l a = choose (nat_lt p (reach f)) refl (λ e. settled Q p next seen go k (plug f l) (plugs p f k l seen (ltb-true p (reach f) e) a))
+-- what holds of what comes after settling, where P goes from a frame to the tree that it makes
+pub settled : {R : Type 0} (P : List Frame → Tree → Type 0) (Q : R → Type 0) (p : ℕ) (next : List Frame → Tree → R) → ((f : Frame) (k : List Frame) (l : Tree) → p < reach f → P (f ∷ k) l → P k (plug f l)) → ((k : List Frame) (l : Tree) → P k l → reach_of k ≤ p → Q (next k l)) → (k : List Frame) (l : Tree) → P k l → Q (settle p next k l)
+settled P Q p next makes go [] l a = go [] l a (omega arith)
+settled P Q p next makes go (f ∷ k) l a = choose (nat_lt p (reach f)) refl (λ e. settled P Q p next makes go k (plug f l) (makes f k l (ltb-true p (reach f) e) a))
   where
     choose : (b : Bool) → nat_lt p (reach f) ≡ b → (nat_lt p (reach f) ≡ true → Q (settle p next k (plug f l))) → Q (cond b (settle p next k (plug f l)) (next (f ∷ k) l))
     choose true e below = below e
@@ -525,7 +525,7 @@ entereds k r t seen a =
 
 steps_on : (s : State) (t : Token) (seen : List Token) → IsState s seen → IsState (step_on s t) (seen ++ t ∷ [])
 steps_on (Want k) t seen a = wants t k seen a.0 a.1
-steps_on (Have k l) t seen a = settled (λ s. IsState s (seen ++ t ∷ [])) (role_level (role t)) (act (role t) t) seen (λ k l h r. acts_as t k l seen h r) k l (a (role_level (role t)))
+steps_on (Have k l) t seen a = let p = role_level (role t) in settled (λ k l. Holds p k l seen) (λ s. IsState s (seen ++ t ∷ [])) p (act (role t) t) (λ f k l. plugs p f k l seen) (λ k l h r. acts_as t k l seen h r) k l (a p)
 steps_on (Dotted k l) t seen a = dots k l false t seen (word_at t) refl a.0 a.1 a.2
 steps_on (Questioned k l) t seen a =
     square_open_at _ _ seen ((a.1, a.0), ap (λ x. x ++ token.Sign sign.SquareOpen ∷ []) a.2 ∙ simp append_assoc) t
@@ -570,7 +570,7 @@ ends_whole (Body Top ls ∷ []) l seen a = (sym a.spelled, (a.stack.0.1, a.left.
 ends_whole k l seen a = tt
 
 ends : (s : State) (seen : List Token) → IsState s seen → IsAnswer (finish s) seen
-ends (Have k l) seen a = settled (λ o. IsAnswer o seen) 0 whole seen (λ k l h r. ends_whole k l seen h) k l (a 0)
+ends (Have k l) seen a = settled (λ k l. Holds 0 k l seen) (λ o. IsAnswer o seen) 0 whole (λ f k l. plugs 0 f k l seen) (λ k l h r. ends_whole k l seen h) k l (a 0)
 ends s seen a = tt
 
 answers : (s : State) (ts seen : List Token) → IsState s seen → IsAnswer (parse s ts) (seen ++ ts)

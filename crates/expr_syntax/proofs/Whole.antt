@@ -12,6 +12,7 @@ use Rattle.std.specs.List.{AllByRecursion}
 use Rattle.expr_syntax.specs.Machine.{tree_of}
 use Rattle.expr_syntax.specs.Kept.{program_of, kept}
 use Rattle.expr_syntax.specs.Nodes.{State, begins, Fail, step, finish, block_of_tokens}
+use Rattle.expr_syntax.specs.Prefixes.{NoneBegins}
 use Rattle.expr_syntax.specs.Reading.{IsParse, IsTooLarge}
 use Rattle.expr_syntax.proofs.Complete.{complete}
 use Rattle.expr_syntax.proofs.Sound.{sound}
@@ -71,9 +72,9 @@ stuck seen t s e f = fold-append step begins seen (t ∷ []) ∙ ap (λ s. step 
 pub stuck_only : (ts seen rest : List Token) → ts ≡ seen ++ rest → after seen ≡ Fail → (t : TreeProgram) → Spells t ts → Fits t → ⊥
 stuck_only ts seen rest e h t s f = no_more seen rest h t (s ∙ e) f
 
-pub stuck_place : (ts seen rest : List Token) (t : Token) (i : ℕ) → ts ≡ seen ++ t ∷ rest → i ≡ length seen → after (seen ++ t ∷ []) ≡ Fail → (i ≤ length ts) × ((p : TreeProgram) (more : List Token) → i < length ts → Spells p (take (i + 1) ts ++ more) → Fits p → ⊥)
+pub stuck_place : (ts seen rest : List Token) (t : Token) (i : ℕ) → ts ≡ seen ++ t ∷ rest → i ≡ length seen → after (seen ++ t ∷ []) ≡ Fail → (i ≤ length ts) × (i < length ts → NoneBegins (take (i + 1) ts))
 stuck_place ts seen rest t i e l h =
     let n : length (seen ++ t ∷ []) ≡ i + 1 = length-append seen (t ∷ []) ∙ ap (λ m. m + 1) (sym l) in
     let w : ts ≡ (seen ++ t ∷ []) ++ rest = e ∙ sym (append_assoc seen (t ∷ []) rest) in
     let k : take (i + 1) ts ≡ seen ++ t ∷ [] = ap (λ m. take m ts) (sym n) ∙ ap (λ us. take (length (seen ++ t ∷ [])) us) w ∙ take-append_seam (seen ++ t ∷ []) rest in
-    (let m = ap length e ∙ length-append seen (t ∷ rest) in omega arith, λ p more lt s. no_more (seen ++ t ∷ []) more h p (s ∙ ap (λ us. us ++ more) k))
+    (let m = ap length e ∙ length-append seen (t ∷ rest) in omega arith, λ less p more s. no_more (seen ++ t ∷ []) more h p (s ∙ ap (λ us. us ++ more) k))

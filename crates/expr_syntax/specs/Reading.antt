@@ -1,5 +1,5 @@
 -- What the functions of the parser do, in the words of the machine.
-use Rattle.std.specs.Prelude.{◌≡◌, ℕ, ◌+◌, ◌<◌, ◌≤◌, Bool, true, List, [], ◌∷◌, ◌++◌, length, take, Option, Some, None, Result, Ok, Err, fold}
+use Rattle.std.specs.Prelude.{◌≡◌, ℕ, ◌<◌, ◌≤◌, List, [], ◌∷◌, length, Option, Some, None, Result, Ok, Err, fold}
 use Rattle.expr_token.specs.declared.token.Token.{Token}
 use Rattle.expr_tree.specs.declared.node.Program.{Program}
 use Rattle.expr_tree.specs.Term.{Term, Block}
@@ -17,6 +17,7 @@ use Rattle.expr_syntax.specs.declared.parser.ParseError.TheVariants as error
 use Rattle.expr_syntax.specs.Grammar.{TreeProgram, Spells, Fits, LiteralsFit}
 use Rattle.expr_syntax.specs.Kept.{program_of}
 use Rattle.expr_syntax.specs.Nodes.{plug, settle, argued, State, On, Fail}
+use Rattle.expr_syntax.specs.Prefixes.{StopsAt}
 
 -- The frames, the last first.
 abbrev pub stack : List Frame → List Frame
@@ -74,10 +75,9 @@ IsLiteralFault ts (Err (error.Syntax place)) = Unit {0}
 IsLiteralFault ts (Err error.Literal) = IsTooLarge ts
 IsLiteralFault ts (Err error.Memory) = Unit {0}
 
--- A fault's place is at a token with which no text of a tree goes on, or the end.
+-- A fault's place is at the first token with which no program goes on, or the end.
 abbrev pub IsAtFault : List Token → Result Program ParseError → Type 0
 IsAtFault ts (Ok n) = Unit {0}
-IsAtFault ts (Err (error.Syntax place)) =
-    (place ≤ length ts) × ((t : TreeProgram) (rest : List Token) → place < length ts → Spells t (take (place + 1) ts ++ rest) → Fits t → ⊥)
+IsAtFault ts (Err (error.Syntax place)) = (place ≤ length ts) × StopsAt ts place
 IsAtFault ts (Err error.Literal) = Unit {0}
 IsAtFault ts (Err error.Memory) = Unit {0}

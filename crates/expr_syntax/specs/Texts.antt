@@ -1,5 +1,5 @@
 -- The trees of a text, its program, and the answers of `compile`.
-use Rattle.std.specs.Prelude.{◌≡◌, ℕ, ◌+◌, ◌<◌, ◌≤◌, List, ◌++◌, length, take, drop, slice_get, Some, Result, Ok, Err}
+use Rattle.std.specs.Prelude.{◌≡◌, ℕ, ◌+◌, ◌≤◌, List, length, take, drop, slice_get, Some, Result, Ok, Err}
 use Rattle.expr_token.specs.Reading.{Begins, NoPiece, Reads}
 use Rattle.expr_token.specs.declared.token.Token.{Token}
 use Rattle.expr_tree.specs.Term.{Block}
@@ -9,6 +9,7 @@ use Rattle.expr_value.specs.declared.error.Error.{Error}
 use Rattle.expr_value.specs.declared.error.Error.TheVariants.{PestError, ParseError, ExprError, RegexError, MemoryError}
 use Rattle.expr_syntax.specs.Grammar.{TreeProgram, Spells, Fits, LiteralsFit}
 use Rattle.expr_syntax.specs.Kept.{program_of}
+use Rattle.expr_syntax.specs.Prefixes.{SomeBegins, NoneBegins}
 
 -- the tree spells what the text reads as, and fits
 pub record IsTreeOf (text : List ℕ) (t : TreeProgram) : Type 0 where
@@ -51,22 +52,14 @@ IsAnswerFor t (Err (ExprError message)) = ⊥
 IsAnswerFor t (Err (RegexError error)) = ⊥
 IsAnswerFor t (Err MemoryError) = Unit {0}
 
--- no program begins with these tokens
-abbrev pub NoneBegins : List Token → Type 0
-NoneBegins ts = (t : TreeProgram) (rest : List Token) → Spells t (ts ++ rest) → Fits t → ⊥
-
--- no program begins with these tokens up to the one at this index, if there is one there
-abbrev pub StopsAt : List Token → ℕ → Type 0
-StopsAt ts index = (t : TreeProgram) (rest : List Token) → index < length ts → Spells t (take (index + 1) ts ++ rest) → Fits t → ⊥
-
--- the place where a reader would look for the fault of a text
+-- the place of the first fault of a text
 pub data FaultPlace (text : List ℕ) (place : ℕ) : Type 0 where
-  -- the first byte of a token with which no program goes on
-  AtToken : (upto : ℕ) (tokens : List Token) (starts : List ℕ) (k : ℕ) → Begins text upto tokens starts → slice_get starts k ≡ Some place → NoneBegins (take (k + 1) tokens) → FaultPlace text place
-  -- the end of the text, which is not the end of a program
-  AtEnd : place ≡ length text → FaultPlace text place
-  -- what is no token and no gap
-  AtUnreadable : (tokens : List Token) (starts : List ℕ) → Begins text place tokens starts → NoPiece (drop place text) → FaultPlace text place
+  -- the first byte of a token: a program begins with the tokens before it, and none goes on with it
+  AtToken : (upto : ℕ) (tokens : List Token) (starts : List ℕ) (k : ℕ) → Begins text upto tokens starts → slice_get starts k ≡ Some place → SomeBegins (take k tokens) → NoneBegins (take (k + 1) tokens) → FaultPlace text place
+  -- the end of the text, whose tokens a program begins with
+  AtEnd : (tokens : List Token) → Reads text tokens → SomeBegins tokens → place ≡ length text → FaultPlace text place
+  -- what is no token and no gap, after tokens that a program begins with
+  AtUnreadable : (tokens : List Token) (starts : List ℕ) → Begins text place tokens starts → SomeBegins tokens → NoPiece (drop place text) → FaultPlace text place
 
 abbrev pub IsPlaced : List ℕ → Result Program Error → Type 0
 IsPlaced text (Ok p) = Unit {0}

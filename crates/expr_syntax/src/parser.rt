@@ -701,7 +701,7 @@ fn map_literal(map: ValueMap) -> Place
 ///
 /// # Errors
 ///
-/// `Syntax` if there is none, at the index of a token with which none goes on, or the number of tokens;
+/// `Syntax` if there is none, at the index of the first token with which none goes on, or the number of tokens;
 /// `Literal` if there is one and an integer literal of it is 2^63 or more; `Memory` if memory was refused.
 pub fn parse(alloc: Global, tokens: Vec<Token>) -> Result<Program, ParseError>
     // The answer is the program of a tree that spells the tokens and fits, as do its literals.
@@ -709,6 +709,7 @@ pub fn parse(alloc: Global, tokens: Vec<Token>) -> Result<Program, ParseError>
     // Each tree that does is that one; there is none where the answer is a syntax fault.
     ensures only { (t : TreeProgram) → Spells t tokens.items → Fits t → IsAnswer t result }
     ensures literal { IsLiteralFault tokens.items result }
+    // Some program begins with the tokens before the index of a syntax fault, and none with the one at it too.
     ensures place { IsAtFault tokens.items result }
 {
     let literals_fit = read::literals_fit(&tokens);

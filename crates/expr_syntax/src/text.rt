@@ -1,7 +1,8 @@
 //! From a text to its program.
-ghost use Rattle.std.specs.Prelude.{◌≡◌, ◌≤◌, List, length, drop, slice_get, unwrap_or, IfOk, IfErr, IfSome};
+ghost use Rattle.std.specs.Prelude.{◌≡◌, ◌≤◌, List, length, drop, slice_get, unwrap_or, IfOk, IfErr, MatchOption};
 ghost use Rattle.expr_syntax.specs.Grammar.{TreeProgram};
-ghost use Rattle.expr_syntax.specs.Texts.{IsAnswerFor, IsCompiled, IsLiteralRefusal, IsPlaced, IsTreeOf, StopsAt};
+ghost use Rattle.expr_syntax.specs.Prefixes.{SomeBegins, StopsAt};
+ghost use Rattle.expr_syntax.specs.Texts.{IsAnswerFor, IsCompiled, IsLiteralRefusal, IsPlaced, IsTreeOf};
 ghost use Rattle.expr_token.specs.Reading.{Begins, NoPiece, Reads, ReadsAt};
 ghost use Rattle.expr_token.specs.declared.token.Token.{Token};
 ghost use Rattle.std.specs.List.{All};
@@ -17,14 +18,16 @@ use std::alloc::Global;
 ///
 /// # Errors
 ///
-/// `PestError` where the text has no tree in the grammar, with the place in bytes where a reader would look: the first
-/// byte of a token with which no program can go on, of what is no token, or the text's end. `ParseError` where it has a
-/// tree, but an integer literal is 2^63 or more. `MemoryError` where a growth is refused.
+/// `PestError` where the text has no tree in the grammar, with the place in bytes of its first fault: the first byte of
+/// the first token with which no program can go on, or, where a program can go on with each token, of what is no token,
+/// or else the text's end. `ParseError` where it has a tree, but an integer literal is 2^63 or more. `MemoryError` where
+/// a growth is refused.
 pub fn compile(alloc: Global, code: &str) -> Result<Program>
     // Each answer says of the text what it means: a program that of a tree, a syntax fault that there is none.
     ensures answer { IsCompiled code.now result }
     // Where the text has a tree, no other answer is given but that tree's.
     ensures only { (t : TreeProgram) → IsTreeOf code.now t → IsAnswerFor t result }
+    // A syntax fault's place is that of the first: some program begins with the tokens before it, and none goes on there.
     ensures place { IsPlaced code.now result }
 {
     let Reading {
@@ -88,7 +91,7 @@ fn unreadable(
 
 /// The first token with which no program goes on, if these tokens have one.
 fn first_fault(alloc: Global, tokens: Vec<Token>) -> Result<Option<usize>>
-    ensures stuck { IfOk result (λ found. IfSome found (StopsAt tokens.items)) }
+    ensures stuck { IfOk result (λ found. MatchOption found (SomeBegins tokens.items) (StopsAt tokens.items)) }
     ensures refusal { IfErr result (λ e. e ≡ Error.MemoryError) }
 {
     match parse(alloc, tokens) {

@@ -5,8 +5,9 @@ use Rattle.std.specs.List.{AllByRecursion}
 use Rattle.expr_syntax.specs.Grammar.{IntegerFits}
 use Rattle.expr_syntax.specs.Nodes.{On, step_in, finish_in}
 use Rattle.expr_syntax.specs.Reading.{stack, Stands, Gives}
+use Rattle.expr_syntax.proofs.Closing.{stops, stops_at_end}
 use Rattle.expr_syntax.proofs.Turns.{split_at, ended}
-use Rattle.expr_syntax.proofs.Whole.{parsed, too_large, only_program, no_tree, stuck, stuck_only, stuck_place}
+use Rattle.expr_syntax.proofs.Whole.{parsed, too_large, only_program, no_tree, stuck, stuck_only}
 use Rattle.expr_syntax.proofs.parser.parse.Goals as goal
 
 pub returns-in-Err-Syntax-clause-only : goal.returns-in-Err-Syntax-clause-only
@@ -25,8 +26,9 @@ returns-in-Err-Syntax-clause-place c =
     let e = YieldsList-from_vec {s = c.into_iter-token-iterator.result} c.args.tokens.items (search rules) (search rules) in
     let turn = YieldsList-turn e c.loop-token.yielded c.loop-token.token-iterator c.loop-token.yielded_by c.next.result c.next.new.self c.in-Some.token c.in-Some.is c.next.ensures.steps in
     let far = YieldsList-so_far e c.loop-token.yielded c.loop-token.token-iterator c.loop-token.yielded_by in
-    stuck_place c.args.tokens.items c.loop-token.yielded (drop (length c.loop-token.yielded + 1) c.args.tokens.items) c.in-Some.token c.loop-token.index
-    (split_at c.args.tokens.items c.loop-token.yielded c.in-Some.token far turn.0 turn.1) c.loop-token.invariant.counted
+    stops c.args.tokens.items c.loop-token.yielded c.loop-token.index (stack c.loop-token.parser.frames.items) c.loop-token.place c.loop-token.invariant.counted c.loop-token.invariant.stands
+    (drop (length c.loop-token.yielded + 1) c.args.tokens.items) c.in-Some.token
+    (split_at c.args.tokens.items c.loop-token.yielded c.in-Some.token far turn.0 turn.1)
     (stuck c.loop-token.yielded c.in-Some.token (On (stack c.loop-token.parser.frames.items) c.loop-token.place) c.loop-token.invariant.stands (subst (λ f. Stands (step_in (stack c.loop-token.parser.frames.items) c.loop-token.place c.in-Some.token) c.step.new.self.frames.items (Err f)) c.in-Err-Syntax.field-0-is c.in-Err-Syntax.ensures))
 
 pub returns-in-Ok-finish-clause-found : goal.returns-in-Ok-finish-clause-found
@@ -59,3 +61,9 @@ returns-in-Err-Syntax-finish-clause-only c =
     let all = YieldsList-end e c.loop-token.yielded c.loop-token.token-iterator c.loop-token.yielded_by c.next.result c.next.new.self c.in-None.is c.next.ensures.steps in
     let at = ended c.args.tokens.items c.loop-token.yielded (On (stack c.loop-token.parser.frames.items) c.loop-token.place) all.0 c.loop-token.invariant.stands in
     no_tree c.args.tokens.items (at ∙ subst (λ f. Gives (finish_in (stack c.loop-token.parser.frames.items) c.loop-token.place) (Err f)) c.in-Err-Syntax-finish.field-0-is c.in-Err-Syntax-finish.ensures)
+
+pub returns-in-Err-Syntax-finish-clause-place : goal.returns-in-Err-Syntax-finish-clause-place
+returns-in-Err-Syntax-finish-clause-place c =
+    let e = YieldsList-from_vec {s = c.into_iter-token-iterator.result} c.args.tokens.items (search rules) (search rules) in
+    let all = YieldsList-end e c.loop-token.yielded c.loop-token.token-iterator c.loop-token.yielded_by c.next.result c.next.new.self c.in-None.is c.next.ensures.steps in
+    stops_at_end c.args.tokens.items c.loop-token.yielded c.loop-token.index (stack c.loop-token.parser.frames.items) c.loop-token.place c.loop-token.invariant.counted c.loop-token.invariant.stands all.0

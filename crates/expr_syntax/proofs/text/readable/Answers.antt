@@ -19,7 +19,7 @@ returns-in-Err-Syntax-clause-place c =
     let text = c.args.code.now in
     let at = rw c.in-Err-Syntax.field-0-is at c.in-Err-Syntax.ensures.place in
     placed text c.args.tokens.items c.args.starts.now (length text) (begins_whole text c.args.tokens.items c.args.starts.now c.requires.reads)
-    c.requires.within c.requires.paired _ at.1 (length text) (λ _. (le_refl _, AtEnd refl)) c.place_of-place.result c.place_of-place.ensures
+    c.requires.within c.requires.paired _ at.1 (length text) (λ b. (le_refl _, AtEnd c.args.tokens.items (c.args.starts.now, c.requires.reads) b refl)) c.place_of-place.result c.place_of-place.ensures
 
 pub returns-in-Err-Literal-clause-only : goal.returns-in-Err-Literal-clause-only
 returns-in-Err-Literal-clause-only c = λ t h.

@@ -1,4 +1,5 @@
-use Rattle.expr_syntax.specs.Texts.{AtUnreadable, StopsAt}
+use Rattle.expr_syntax.specs.Prefixes.{SomeBegins, StopsAt}
+use Rattle.expr_syntax.specs.Texts.{AtUnreadable}
 use Rattle.expr_syntax.proofs.Compiled.{placed}
 use Rattle.expr_syntax.proofs.text.unreadable.Goals as goal
 
@@ -13,7 +14,7 @@ returns-in-Some-clause-place c =
     let text = c.args.code.now in
     let stuck : StopsAt c.args.tokens.items c.in-Some.index = rw c.in-Some.is at c.in_ok-index.ensures.stuck in
     placed text c.args.tokens.items c.args.starts.now c.args.place c.requires.begins c.requires.within c.requires.paired
-    c.in-Some.index stuck c.args.place (λ _. (c.requires.place, AtUnreadable c.args.tokens.items c.args.starts.now c.requires.begins c.requires.stuck))
+    c.in-Some.index stuck c.args.place (λ b. (c.requires.place, AtUnreadable c.args.tokens.items c.args.starts.now c.requires.begins b c.requires.stuck))
     c.place_of-place.result c.place_of-place.ensures
 
 pub returns-in-None-clause-answer : goal.returns-in-None-clause-answer
@@ -23,4 +24,6 @@ pub returns-in-None-clause-only : goal.returns-in-None-clause-only
 returns-in-None-clause-only c = λ t h. c.requires.refused h.tokens h.reads
 
 pub returns-in-None-clause-place : goal.returns-in-None-clause-place
-returns-in-None-clause-place c = (c.requires.place, AtUnreadable c.args.tokens.items c.args.starts.now c.requires.begins c.requires.stuck)
+returns-in-None-clause-place c =
+    let begun : SomeBegins c.args.tokens.items = rw c.in-None.is at c.in_ok-index.ensures.stuck in
+    (c.requires.place, AtUnreadable c.args.tokens.items c.args.starts.now c.requires.begins begun c.requires.stuck)
