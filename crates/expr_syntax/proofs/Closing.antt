@@ -12,7 +12,7 @@ use Rattle.expr_syntax.specs.declared.frame.Role.TheVariants.{Applying, Plain}
 use Rattle.expr_tree.specs.declared.node.Program.{Program as NodeProgram}
 use Rattle.expr_syntax.specs.declared.frame.Frame.{Frame as NodeFrame}
 use Rattle.expr_syntax.specs.declared.frame.Place.{Place}
-use Rattle.expr_syntax.specs.Grammar.{Word, Usual, Constant, Nil, Key, EntryRow, Tree, Literal, Name, Member, Argument, Expression, MemberAlone, Braces, Else, TreeProgram, Program, Lines, NoLines, MoreLines, key_token, Spells, Fits}
+use Rattle.expr_syntax.specs.Grammar.{Word, Usual, Constant, Nil, Key, EntryRow, Tree, Literal, Name, Member, Argument, Expression, MemberAlone, Braces, TreeProgram, Program, Lines, NoLines, MoreLines, key_token, Spells, Fits}
 use Rattle.expr_syntax.specs.Machine.{Start, Bracing, Letting, Other, start_at, constant_at, role, role_level, level_at, word_at, key_at, Shape, InArray, InMethod, Chain, Part, Top, ThenPart, LastPart, Predicate, Frame, Under, After, Otherwise, Inside, Middle, Listed, Calling, Indexed, Cut, Condition, Body, Value, reach, plug, State, Want, Have, Dotted, Questioned, Negated, Barred, Piped, Chosen, Alternate, NamesLine, Named, Argued, NamesMember, Braced, BracedKey, Keys, Colons, Values, Entered, Fail, at_close, at_square, at_colon, at_comma, at_semicolon, at_brace, at_end_brace, at_dot, at_end, argued, after_part, bind, shut, apply, act, lack, begin_line, begin_brace, begin, want, word_after_dot, at_square_open, in_after_not, word_after_bar, open_after_word, else_after, at_if, word_after_let, equals_after, member_alone, braced, key_in, value_in, step_on, step, parse, start}
 use Rattle.expr_syntax.specs.Nodes as node
 use Rattle.expr_syntax.specs.Prefixes.{SomeBegins, StopsAt}

@@ -1,21 +1,20 @@
 -- What the answers of the parser say of a text.
-use Rattle.std.proofs.Common.{◌≡◌, ℕ, ◌+◌, ◌<◌, ◌≤◌, List, [], ◌++◌, Option, Some, None, Result, Ok, Err, ◌⊎◌, inl, inr, length, take, drop, get_or, append-nil, le_refl, refl, sym, ap, ◌∙◌, subst, arith}
+use Rattle.std.proofs.Common.{◌≡◌, ℕ, ◌<◌, ◌≤◌, List, [], ◌++◌, Some, None, Err, ◌⊎◌, inl, inr, length, take, drop, get_or, append-nil, sym, ap, ◌∙◌, subst, arith}
 use Rattle.std.proofs.lemmas.List.{drop_all, take_all}
 use Rattle.std.proofs.lemmas.Option.{slice_get_cases}
 use Rattle.std.specs.List.{All}
 use Rattle.std.specs.Prelude.{slice_get, unwrap_or}
 use Rattle.expr_token.proofs.Lexing.{one_reading}
-use Rattle.expr_token.specs.Reading.{AllFit, Begins, NoPiece, Reads, ReadsAt, text_of}
+use Rattle.expr_token.specs.Reading.{AllFit, Begins, ReadsAt, text_of}
 use Rattle.expr_token.specs.declared.token.Token.{Token}
 use Rattle.expr_tree.specs.Written.{program_written}
 use Rattle.expr_tree.specs.declared.node.Program.{Program}
 use Rattle.expr_value.specs.declared.error.Error.{Error}
 use Rattle.expr_value.specs.declared.error.Error.TheVariants.{PestError, ParseError, ExprError, RegexError, MemoryError}
 use Rattle.expr_syntax.specs.Grammar.{TreeProgram, Spells, LiteralsFit}
-use Rattle.expr_syntax.specs.Kept.{program_of}
 use Rattle.expr_syntax.specs.Prefixes.{SomeBegins, StopsAt}
 use Rattle.expr_syntax.specs.Reading.{IsParse, IsTooLarge}
-use Rattle.expr_syntax.specs.Texts.{IsTreeOf, IsProgramOf, HasLargeLiteral, HasNoTree, IsCompiled, IsAnswerFor, IsLiteralRefusal, FaultPlace, AtToken, AtEnd, AtUnreadable}
+use Rattle.expr_syntax.specs.Texts.{IsTreeOf, IsProgramOf, HasLargeLiteral, IsCompiled, IsAnswerFor, IsLiteralRefusal, FaultPlace, AtToken}
 
 -- a text that reads as the tokens
 module _ (text : List ℕ) (ts : List Token) (starts : List ℕ) (reads : ReadsAt text ts starts) where

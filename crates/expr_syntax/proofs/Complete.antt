@@ -9,8 +9,8 @@ use Rattle.expr_syntax.specs.declared.sign.PrefixSign.{PrefixSign}
 use Rattle.expr_syntax.specs.declared.sign.PrefixSign.TheVariants as prefix
 use Rattle.expr_syntax.specs.declared.sign.InfixSign.{InfixSign}
 use Rattle.expr_syntax.specs.declared.sign.InfixSign.TheVariants as infixed
-use Rattle.expr_syntax.specs.Grammar.{Word, Usual, Kept, Constant, True, False, Nil, Integer, Quoted, Raw, Bytes, Key, WordKey, QuotedKey, EntryRow, OneEntry, MoreEntries, Entries, NoEntries, SomeEntries, Tree, Literal, Name, HashName, Paren, Array, Map, Call, If, Prefix, Infix, Member, Method, Index, Slice, Pipe, Ternary, Items, NoItems, SomeItems, Row, One, More, Arguments, NoArguments, SomeArguments, ArgumentRow, OneArgument, MoreArguments, Argument, Expression, MemberAlone, Braces, Bound, LeftOut, At, ElsePart, Else, ElseIf, TreeProgram, Program, Lines, NoLines, MoreLines, word_token, constant_token, key_token, prefix_token, infix_tokens, comma_tokens, member_token, index_tokens, entry_row_tokens, entries_tokens, tokens_of, items_tokens, row_tokens, arguments_tokens, argument_row_tokens, argument_tokens, bound_tokens, else_tokens, program_tokens, lines_tokens, Spells, infix_level, TreeFits, ItemsFit, RowFits, ArgumentsFit, ArgumentRowFits, ArgumentFits, BoundFits, ElseFits, Fits, LinesFit, OneTree}
-use Rattle.expr_syntax.specs.Machine.{role, role_level, level_at, word_at, key_at, constant_at, push, push_argument, push_entry, items_end, Shape, InArray, InMethod, shape_tree, shape_end, Caller, InCall, InPipe, caller_tree, Chain, NoBranch, Branch, chosen, Part, Top, ThenPart, LastPart, Predicate, Frame, Under, After, Otherwise, Inside, Middle, Listed, Calling, Indexed, Cut, Condition, Body, Value, reach, reach_of, plug, settle, State, Want, Have, Dotted, Questioned, Argued, Braced, BracedKey, Keys, Colons, Values, Entered, Chosen, Alternate, Fail, at_end_brace, argued, after_part, begin_brace, act, want, braced, step, step_on, whole, finish, parse, start, tree_of}
+use Rattle.expr_syntax.specs.Grammar.{Word, Usual, Kept, Constant, True, Key, WordKey, QuotedKey, EntryRow, OneEntry, MoreEntries, Entries, NoEntries, SomeEntries, Tree, Literal, Name, HashName, Paren, Array, Map, Call, If, Prefix, Infix, Member, Method, Index, Slice, Pipe, Ternary, Items, NoItems, SomeItems, Row, One, More, Arguments, NoArguments, SomeArguments, ArgumentRow, OneArgument, MoreArguments, Argument, Expression, MemberAlone, Braces, Bound, LeftOut, At, ElsePart, Else, ElseIf, TreeProgram, Program, Lines, NoLines, MoreLines, word_token, constant_token, key_token, prefix_token, infix_tokens, comma_tokens, entry_row_tokens, entries_tokens, tokens_of, items_tokens, row_tokens, arguments_tokens, argument_row_tokens, argument_tokens, bound_tokens, else_tokens, program_tokens, lines_tokens, Spells, infix_level, TreeFits, ItemsFit, RowFits, ArgumentsFit, ArgumentRowFits, ArgumentFits, BoundFits, ElseFits, Fits, LinesFit, OneTree}
+use Rattle.expr_syntax.specs.Machine.{role, role_level, level_at, word_at, key_at, constant_at, push, push_argument, push_entry, items_end, Shape, InArray, InMethod, shape_tree, shape_end, Caller, InCall, InPipe, caller_tree, Chain, NoBranch, Branch, chosen, Part, Top, ThenPart, LastPart, Predicate, Frame, Under, After, Otherwise, Inside, Middle, Listed, Calling, Indexed, Cut, Condition, Body, Value, reach, reach_of, plug, settle, State, Want, Have, Dotted, Questioned, Argued, Braced, BracedKey, Values, Entered, Chosen, Fail, at_end_brace, after_part, begin_brace, act, want, braced, step, step_on, whole, parse, start, tree_of}
 use Rattle.expr_syntax.proofs.Measures.{StartsAbove, EndsAbove, tight, captured_if, starts_loose, ends_closed, ends_of_none, captures_reach, level_of_sign}
 
 -- a frame that doesn't capture p is closed

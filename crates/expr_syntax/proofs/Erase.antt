@@ -8,7 +8,7 @@ use Rattle.expr_token.specs.declared.sign.Sign.TheVariants as sign
 use Rattle.expr_token.specs.declared.reserved.Reserved.TheVariants as reserved
 use Rattle.expr_tree.specs.Term.{Term, literal, list, postfix, choice, index, slice, method, pipe, Block, answers}
 use Rattle.expr_tree.specs.Written.{terms_of}
-use Rattle.expr_tree.specs.Parts.{Given, block_with, bound_with}
+use Rattle.expr_tree.specs.Parts.{Given, bound_with}
 use Rattle.expr_syntax.specs.declared.frame.Role.{Role}
 use Rattle.expr_syntax.specs.declared.frame.Role.TheVariants.{Binary, Negating, Asking, Piping, Dotting, Questioning, Applying, Picking, Plain}
 use Rattle.expr_syntax.specs.declared.frame.Holder.{Holder}
@@ -19,20 +19,18 @@ use Rattle.expr_syntax.specs.declared.frame.Section.{Section}
 use Rattle.expr_syntax.specs.declared.frame.Section.TheVariants as section
 use Rattle.expr_syntax.specs.declared.frame.Frame.{Frame}
 use Rattle.expr_syntax.specs.declared.frame.Frame.TheVariants as frame
-use Rattle.expr_syntax.specs.declared.frame.Reaching.{Reaching}
 use Rattle.expr_syntax.specs.declared.frame.Reaching.TheVariants as reaching
 use Rattle.expr_syntax.specs.declared.frame.Operand.{Operand}
 use Rattle.expr_syntax.specs.declared.frame.Operand.TheVariants as operand
-use Rattle.expr_syntax.specs.declared.frame.Place.{Place}
 use Rattle.expr_syntax.specs.declared.frame.Place.TheVariants as place
 use Rattle.expr_syntax.specs.Grammar.{Word, Usual, Kept, Constant, Key, WordKey, QuotedKey, EntryRow, Tree, Name, Paren, Map, Member, Index, Slice, Row, NoEntries, SomeEntries, SomeItems, SomeArguments, ArgumentRow, Argument, Expression, MemberAlone, Braces, Bound, LeftOut, At, Else, ElseIf, TreeProgram, Program, NoLines, key_token}
 use Rattle.expr_syntax.specs.Machine as tree
 use Rattle.expr_syntax.specs.Machine.{role, role_level, word_at, key_at, constant_at, push, push_argument, push_entry, items_end, arguments_end, entries_end, Shape, InArray, InMethod, shape_tree, InCall, InPipe, caller_tree, Chain, NoBranch, Branch, chosen, Part, Top, ThenPart, LastPart, Predicate, tree_of}
-use Rattle.expr_syntax.specs.Kept.{word_text, key_text, constant_value, entry_row_pairs, entries_pairs, none_given, given_more, given_program, call_given, term_of, items_terms, row_terms, arguments_given, argument_row_given, with_argument, bound_term, else_block, program_of, line_terms, kept}
+use Rattle.expr_syntax.specs.Kept.{word_text, key_text, constant_value, entry_row_pairs, entries_pairs, none_given, given_more, call_given, term_of, items_terms, row_terms, arguments_given, argument_row_given, with_argument, bound_term, else_block, program_of, line_terms, kept}
 use Rattle.expr_syntax.specs.Nodes as node
 use Rattle.expr_syntax.specs.Nodes.{nest}
 use Rattle.expr_syntax.proofs.Chains.{nest_more}
-use Rattle.expr_syntax.proofs.Complete.{stays, key_there}
+use Rattle.expr_syntax.proofs.Complete.{stays}
 use Rattle.expr_syntax.proofs.Measures.{tight}
 
 -- what the frames kept

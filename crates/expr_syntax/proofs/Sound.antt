@@ -3,16 +3,12 @@ use Rattle.std.proofs.Common.{◌≡◌, ℕ, ◌<◌, ◌≤◌, List, [], ◌�
 use Rattle.std.proofs.lemmas.Bool.{ltb-true, ltb-false}
 use Rattle.expr_token.specs.declared.token.Token.{Token}
 use Rattle.expr_token.specs.declared.token.Token.TheVariants as token
-use Rattle.expr_token.specs.declared.sign.Sign.{Sign}
 use Rattle.expr_token.specs.declared.sign.Sign.TheVariants as sign
-use Rattle.expr_token.specs.declared.reserved.Reserved.{Reserved}
 use Rattle.expr_token.specs.declared.reserved.Reserved.TheVariants as reserved
-use Rattle.expr_syntax.specs.declared.sign.PrefixSign.{PrefixSign}
-use Rattle.expr_syntax.specs.declared.sign.PrefixSign.TheVariants as prefix
 use Rattle.expr_syntax.specs.declared.sign.InfixSign.{InfixSign}
 use Rattle.expr_syntax.specs.declared.sign.InfixSign.TheVariants as infixed
-use Rattle.expr_syntax.specs.Grammar.{Word, Usual, Kept, Constant, True, False, Nil, Integer, Quoted, Raw, Bytes, Key, WordKey, QuotedKey, EntryRow, OneEntry, MoreEntries, Entries, NoEntries, SomeEntries, Tree, Literal, Name, HashName, Paren, Array, Map, Call, If, Prefix, Infix, Member, Method, Index, Slice, Pipe, Ternary, Items, NoItems, SomeItems, Row, One, More, Arguments, NoArguments, SomeArguments, ArgumentRow, OneArgument, MoreArguments, Argument, Expression, MemberAlone, Braces, Bound, LeftOut, At, ElsePart, Else, ElseIf, TreeProgram, Program, Lines, NoLines, MoreLines, word_token, constant_token, key_token, prefix_token, infix_tokens, comma_tokens, member_token, index_tokens, entry_row_tokens, entries_tokens, tokens_of, items_tokens, row_tokens, arguments_tokens, argument_row_tokens, argument_tokens, bound_tokens, else_tokens, program_tokens, lines_tokens, Spells, infix_level, TreeFits, ItemsFit, RowFits, ArgumentsFit, ArgumentRowFits, ArgumentFits, BoundFits, ElseFits, Fits, LinesFit, OneTree}
-use Rattle.expr_syntax.specs.Machine.{Start, Constantly, Naming, HashNaming, Signing, Grouping, Listing, Bracing, Choosing, Letting, Other, start_at, constant_at, role, role_level, word_at, key_at, push, push_argument, push_entry, items_end, arguments_end, entries_end, Shape, InArray, InMethod, shape_tree, shape_end, Caller, InCall, InPipe, caller_tree, Chain, NoBranch, Branch, chosen, Part, Top, ThenPart, LastPart, Predicate, Frame, Under, After, Otherwise, Inside, Middle, Listed, Calling, Indexed, Cut, Condition, Body, Value, reach, reach_of, plug, settle, State, Want, Have, Dotted, Questioned, Negated, Barred, Piped, Chosen, Alternate, NamesLine, Named, Argued, NamesMember, Braced, BracedKey, Keys, Colons, Values, Entered, Fail, at_close, at_square, at_colon, at_comma, at_semicolon, at_brace, at_end_brace, at_dot, at_end, argued, after_part, bind, shut, apply, act, lack, begin_line, begin_brace, want, word_after_dot, at_square_open, in_after_not, word_after_bar, open_after_word, else_after, at_if, word_after_let, equals_after, member_alone, braced, key_in, value_in, step_on, step, whole, finish, parse, start, tree_of}
+use Rattle.expr_syntax.specs.Grammar.{Word, Constant, True, False, Nil, Integer, Quoted, Raw, Bytes, Key, EntryRow, Entries, NoEntries, SomeEntries, Tree, Literal, Name, HashName, Paren, Array, Map, Call, Member, Method, Index, Slice, Pipe, Items, SomeItems, Row, Arguments, SomeArguments, ArgumentRow, Argument, Expression, LeftOut, At, ElsePart, Else, ElseIf, TreeProgram, Program, NoLines, word_token, constant_token, key_token, prefix_token, infix_tokens, member_token, index_tokens, entry_row_tokens, entries_tokens, tokens_of, items_tokens, row_tokens, arguments_tokens, argument_row_tokens, argument_tokens, bound_tokens, else_tokens, program_tokens, lines_tokens, Spells, infix_level, TreeFits, ItemsFit, RowFits, ArgumentsFit, ArgumentRowFits, ArgumentFits, BoundFits, ElseFits, Fits, LinesFit}
+use Rattle.expr_syntax.specs.Machine.{constant_at, role, role_level, word_at, key_at, push, push_argument, push_entry, items_end, arguments_end, entries_end, Shape, InArray, InMethod, shape_tree, shape_end, Caller, InCall, InPipe, caller_tree, Chain, NoBranch, Branch, chosen, Part, Top, ThenPart, LastPart, Predicate, Frame, Under, After, Otherwise, Inside, Middle, Listed, Calling, Indexed, Cut, Condition, Body, Value, reach, reach_of, plug, settle, State, Want, Have, Dotted, Questioned, Negated, Barred, Piped, Chosen, Alternate, NamesLine, Named, Argued, NamesMember, Braced, BracedKey, Keys, Colons, Values, Entered, Fail, at_close, at_square, at_colon, at_comma, at_semicolon, at_brace, at_end_brace, at_dot, at_end, argued, after_part, bind, shut, apply, act, lack, begin_line, begin_brace, want, word_after_dot, at_square_open, in_after_not, word_after_bar, open_after_word, else_after, at_if, word_after_let, equals_after, member_alone, braced, key_in, value_in, step_on, step, whole, finish, parse, start, tree_of}
 use Rattle.expr_syntax.proofs.Measures.{StartsAbove, EndsAbove, infix_above, tight, captured_if, ends_of_none, none_of_ends, reach_captures}
 use Rattle.expr_syntax.proofs.Complete.{key_back}
 

@@ -1,5 +1,5 @@
 -- What the state after some tokens says of their trees.
-use Rattle.std.proofs.Common.{◌≡◌, ℕ, ◌<◌, ◌≤◌, ◌+◌, List, [], ◌∷◌, ◌++◌, length, take, drop, Option, Some, None, arith, sym, ap, ◌∙◌, refl, subst, fold, append_assoc}
+use Rattle.std.proofs.Common.{◌≡◌, ℕ, ◌<◌, ◌≤◌, ◌+◌, List, [], ◌∷◌, ◌++◌, length, take, Option, Some, None, arith, sym, ap, ◌∙◌, refl, subst, fold, append_assoc}
 use Rattle.std.proofs.lemmas.List.{length-append}
 use Rattle.std.proofs.Math.Seq.{take-append_seam}
 use Rattle.std.proofs.lemmas.List.Sums.{fold-append}
@@ -7,7 +7,7 @@ use Rattle.expr_token.specs.declared.token.Token.{Token}
 use Rattle.expr_tree.specs.declared.node.Program.{Program}
 use Rattle.expr_tree.specs.Term.{Block}
 use Rattle.expr_tree.specs.Written.{program_written}
-use Rattle.expr_syntax.specs.Grammar.{TreeProgram, Spells, Fits, LiteralsFit, program_tokens, IntegerFits}
+use Rattle.expr_syntax.specs.Grammar.{TreeProgram, Spells, Fits, LiteralsFit, IntegerFits}
 use Rattle.std.specs.List.{AllByRecursion}
 use Rattle.expr_syntax.specs.Machine.{tree_of}
 use Rattle.expr_syntax.specs.Kept.{program_of, kept}

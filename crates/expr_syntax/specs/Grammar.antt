@@ -1,5 +1,5 @@
 -- The grammar: which tokens a tree spells, and which trees fit. Nothing here knows how tokens are read.
-use Rattle.std.specs.Prelude.{◌≡◌, ℕ, ℤ, ◌<◌, ◌≤◌, Bool, true, false, List, [], ◌∷◌, ◌++◌, Option, Some, None, ⊤}
+use Rattle.std.specs.Prelude.{◌≡◌, ℕ, ℤ, ◌<◌, ◌≤◌, Bool, true, false, List, [], ◌∷◌, ◌++◌, Option, None, ⊤}
 use Rattle.std.specs.List.{AllByRecursion}
 use Rattle.expr_token.specs.declared.token.Token.{Token}
 use Rattle.expr_token.specs.declared.token.Token.TheVariants as token

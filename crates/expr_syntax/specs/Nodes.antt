@@ -1,5 +1,5 @@
 -- The machine over what a program keeps: a state and the next token give the next state.
-use Rattle.std.specs.Prelude.{ℕ, Bool, true, false, List, [], ◌∷◌, ◌++◌, Option, Some, None, nat_lt, if◌then◌else◌, fold}
+use Rattle.std.specs.Prelude.{ℕ, true, false, List, [], ◌∷◌, ◌++◌, Option, Some, None, nat_lt, if◌then◌else◌, fold}
 use Rattle.expr_value.specs.declared.value.Value.{Value}
 use Rattle.expr_value.specs.declared.value.Value.TheVariants as value
 use Rattle.expr_value.specs.Names.{put}
@@ -12,7 +12,7 @@ use Rattle.expr_token.specs.declared.reserved.Reserved.TheVariants as reserved
 use Rattle.expr_token.specs.Spellings.{reserved_text}
 use Rattle.expr_tree.specs.Term.{Term, name, literal, list, unary, postfix, choice, index, slice, pipe, ternary, method, bound, unbounded, Block, answers}
 use Rattle.expr_tree.specs.Written.{terms_of}
-use Rattle.expr_tree.specs.Parts.{Given, Lines, block_with, bound_with}
+use Rattle.expr_tree.specs.Parts.{Given, block_with, bound_with}
 use Rattle.expr_syntax.specs.declared.sign.PrefixSign.TheVariants as prefix
 use Rattle.expr_syntax.specs.declared.sign.InfixSign.TheVariants as infixed
 use Rattle.expr_syntax.specs.declared.frame.Role.{Role}

@@ -1,5 +1,5 @@
-use Rattle.std.proofs.Common.{◌≡◌, ap, ◌∙◌, sym}
-use Rattle.expr_tree.specs.Term.{choice, answers}
+use Rattle.std.proofs.Common.{ap, ◌∙◌, sym}
+use Rattle.expr_tree.specs.Term.{choice}
 use Rattle.expr_syntax.specs.Nodes.{nest}
 use Rattle.expr_syntax.proofs.Chains.{nest_more}
 use Rattle.expr_syntax.proofs.build.nested.Goals as goal

@@ -1,4 +1,4 @@
-use Rattle.std.proofs.Common.{rules, Err, ◌≡◌, [], ◌∷◌, ◌++◌, ◌+◌, length, drop, append_assoc, sym, ap, subst, ◌∙◌}
+use Rattle.std.proofs.Common.{rules, Err, [], ◌∷◌, ◌++◌, ◌+◌, length, drop, append_assoc, sym, subst, ◌∙◌}
 use Rattle.std.proofs.lemmas.Iterator.Adapters.{YieldsList-from_vec}
 use Rattle.std.proofs.lemmas.Iterator.Consumers.{YieldsList-turn, YieldsList-so_far, YieldsList-end}
 use Rattle.std.specs.List.{AllByRecursion}

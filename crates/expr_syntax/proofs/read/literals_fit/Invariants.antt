@@ -1,4 +1,4 @@
-use Rattle.std.proofs.Common.{◌≡◌, take}
+use Rattle.std.proofs.Common.{take}
 use Rattle.std.specs.List.{AllByRecursion}
 use Rattle.expr_syntax.specs.Grammar.{IntegerFits}
 use Rattle.expr_syntax.proofs.read.literals_fit.Given as goal
