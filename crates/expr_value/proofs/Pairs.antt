@@ -1,5 +1,5 @@
 -- Names beside values, as one list of pairs.
-use Rattle.std.proofs.Common.{◌≡◌, ℕ, zero, suc, ◌+◌, ◌<◌, Bool, true, false, not, cond, nat_lt, List, [], ◌∷◌, ◌++◌, map, length, set, take, slice_get, get_or, position, Some, None, String, string_bytes, bytes_eq, refl, sym, ap, ◌∙◌, subst, arith, zip, inl, inr, if◌then◌else◌}
+use Rattle.std.proofs.Common.{◌≡◌, ℕ, zero, suc, ◌+◌, ◌<◌, Bool, false, not, cond, nat_lt, List, [], ◌∷◌, ◌++◌, map, length, set, take, slice_get, get_or, position, Some, None, String, string_bytes, bytes_eq, refl, sym, ap, ◌∙◌, arith, zip, inl, inr, if◌then◌else◌}
 use Rattle.std.specs.List.{prefix_len, list_any, AllByRecursion, IsDistinct}
 use Rattle.std.specs.Cmp.{IsEquivalence}
 use Rattle.std.specs.Option.{option_map}
