@@ -7,11 +7,11 @@ use Rattle.expr_value.specs.Fault.{Fault, evaluation}
 use Rattle.expr_value.specs.declared.value.Value as value
 use Rattle.expr_value.specs.declared.value.Value.{Value, out-Value}
 use Rattle.expr_value.specs.declared.value.Value.TheOpen.{Value-F}
-use Rattle.expr.specs.Answers.{Answer, After}
+use Rattle.expr_operators.specs.Answers.{Answer, After}
 use Rattle.expr.specs.Context.{Context, override, looked_up}
 use Rattle.expr.specs.Host.{Host}
-use Rattle.expr.specs.Operators.{applied, prefixed, truth}
-use Rattle.expr.specs.Positions.{bound_checked, indexed, ranged, sliced}
+use Rattle.expr_operators.specs.Operators.{applied, prefixed, truth}
+use Rattle.expr_operators.specs.Positions.{bound_checked, indexed, ranged, sliced}
 
 -- `and` with this value on the left: false ends there
 abbrev pub AndThenLayer : Value-F Value → (Answer → Type 0) → Answer → Type 0

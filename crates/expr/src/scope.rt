@@ -3,7 +3,7 @@ ghost use Rattle.std.specs.Prelude.{◌≡◌, IfOk};
 ghost use Rattle.std.specs.Option.{option_copied};
 ghost use Rattle.expr.specs.Scope.{given_by, overridden};
 
-use crate::held::Held;
+use expr_operators::Held;
 use expr_value::{ContextProvider, Value};
 use std::alloc::{AllocError, Global};
 

@@ -7,17 +7,19 @@ use Rattle.expr_tree.specs.declared.node.Node.{Node}
 use Rattle.expr_value.specs.Fault.{fault_of}
 use Rattle.expr_value.specs.declared.value.Value.{Value}
 use Rattle.expr.specs.Allows.{Allows, AllowsAll, AllowsBlock, AllowsPostfix, Continued}
-use Rattle.expr.specs.Answers.{Answer, Gives}
+use Rattle.expr_operators.specs.Answers.{Answer, Gives}
 use Rattle.expr.specs.Context.{Context}
 use Rattle.expr.specs.Host.{Host, hosted}
-use Rattle.expr.specs.Operators.{applied}
-use Rattle.expr.specs.Positions.{sliced}
-use Rattle.expr.specs.Plain.{is_plain, is_plain_operator, is_plain_value}
+use Rattle.expr_operators.specs.Operators.{applied}
+use Rattle.expr_operators.specs.Positions.{sliced}
+use Rattle.expr.specs.Plain.{is_plain}
+use Rattle.expr_operators.specs.Plain.{is_plain_operator, is_plain_value}
 use Rattle.expr.specs.Scope.{given_by, overridden}
 use Rattle.expr.specs.Several.{terms_written}
 use Rattle.expr.specs.declared.scope.Binding.{Binding}
 use Rattle.expr.proofs.Answered.{prepended, drop-at, loop-step, loop-failed, loop-done, AllowsAll-first, AllowsBlock-line, Gives-of-Is, Gives-passed, Gives-under}
-use Rattle.expr.proofs.Plainly.{Allows-plain, Continued-both, Surely-at, both-Continued, first_of-After, left-true, right-true, written-Operation}
+use Rattle.expr_operators.proofs.Plainly.{Surely-at}
+use Rattle.expr.proofs.Plainly.{Allows-plain, Continued-both, both-Continued, first_of-After, left-true, right-true, written-Operation}
 use Rattle.expr.proofs.evaluation.Evaluation.+evaluation.Goals as goal
 
 pub evaluate-returns-in_err-first-in-Operation-clause-plain : goal.evaluate-returns-in_err-first-in-Operation-clause-plain

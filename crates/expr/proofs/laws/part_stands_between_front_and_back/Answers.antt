@@ -1,5 +1,0 @@
-use Rattle.expr.proofs.Parts.{occurs_decides}
-use Rattle.expr.proofs.laws.part_stands_between_front_and_back.Goals as goal
-
-pub returns : goal.returns
-returns c = λ text part. occurs_decides part text

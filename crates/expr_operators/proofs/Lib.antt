@@ -1,0 +1,4 @@
+pub mod Counting
+pub mod Opposites
+pub mod Parts
+pub mod Plainly

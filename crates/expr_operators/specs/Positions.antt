@@ -1,0 +1,88 @@
+-- What a range, an index and a slice give on values. Kinds that no line names are refused.
+use Rattle.std.specs.Prelude.{ℕ, ◌+◌, ◌-◌, min, ℤ, pos, negsuc, ◌+ℤ◌, ◌-ℤ◌, int_le, unsigned_abs, Bool, List, length, map, take, drop, reverse, slice_get, Option, option_map, unwrap_or, Result, Ok, Err, encode_utf8_all, if◌then◌else◌}
+use Rattle.std.specs.List.{range_with_len}
+use Rattle.std.specs.Option.{option_map_or}
+use Rattle.bstr.specs.Utf8.{lossy_chars}
+use Rattle.expr_value.specs.Fault.{Fault, evaluation}
+use Rattle.expr_value.specs.Names.{find}
+use Rattle.expr_value.specs.Values.{at_key}
+use Rattle.expr_value.specs.declared.value.Value as value
+use Rattle.expr_value.specs.declared.value.Value.{Value, out-Value}
+use Rattle.expr_value.specs.declared.value.Value.TheOpen.{Value-F}
+use Rattle.expr_operators.specs.Answers.{Answer}
+
+-- how many integers there are from the first to the last, both counted: none if the first is greater
+unfoldable pub how_many : ℤ → ℤ → ℕ
+how_many first last = if int_le first last then unsigned_abs (last -ℤ first) + 1 else 0
+
+-- so many integers in a row, from the first on
+unfoldable pub in_a_row : ℤ → ℕ → List Value
+in_a_row first count = map (λ k. value.Integer (first +ℤ pos k)) (range_with_len 0 count)
+
+-- the integers from the first to the last, both of them too
+abbrev pub integers_between : ℤ → ℤ → List Value
+integers_between first last = in_a_row first (how_many first last)
+
+abbrev pub ranged_layers : Value-F Value → Value-F Value → Answer
+ranged_layers (Value-F.Integer first) (Value-F.Integer last) = Ok (value.Array (integers_between first last))
+ranged_layers a b = Err evaluation
+
+abbrev pub ranged : Value → Value → Answer
+ranged a b = ranged_layers (out-Value a) (out-Value b)
+
+-- the item at a place: from the front, or from the end if the place is negative, so that -1 is the last
+abbrev pub item_from : {X : Type 0} → List X → ℤ → Option X
+item_from xs (pos n) = slice_get xs n
+item_from xs (negsuc n) = slice_get (reverse xs) n
+
+abbrev pub or_nil : Option Value → Answer
+or_nil found = Ok (unwrap_or found value.Nil)
+
+-- An integer is a place in an array or in bytes, a text is a name of a map, and any value may be sought as a key. What isn't there is nil.
+abbrev pub indexed_layers : Value-F Value → Value → Value-F Value → Bool → Answer
+indexed_layers (Value-F.Array items) k (Value-F.Integer n) optional = or_nil (item_from items n)
+indexed_layers (Value-F.Bytes bytes) k (Value-F.Integer n) optional = or_nil (option_map (λ b. value.Integer (pos b)) (item_from bytes n))
+indexed_layers (Value-F.Map m) k (Value-F.String name) optional = or_nil (find name m)
+indexed_layers (Value-F.KeyedMap m) k key optional = or_nil (at_key k m)
+indexed_layers v k key optional = if optional then Ok value.Nil else Err evaluation
+
+abbrev pub indexed : Value → Value → Bool → Answer
+indexed v key optional = indexed_layers (out-Value v) key (out-Value key) optional
+
+-- a bound of a slice is an integer
+abbrev pub bound_checked_layer : Value-F Value → Result ℤ Fault
+bound_checked_layer (Value-F.Integer n) = Ok n
+bound_checked_layer v = Err evaluation
+
+abbrev pub bound_checked : Value → Result ℤ Fault
+bound_checked v = bound_checked_layer (out-Value v)
+
+-- Where a bound stands among so many items. A negative one counts from the end, and none stands outside.
+abbrev pub bound_at : ℕ → ℤ → ℕ
+bound_at count (pos n) = min n count
+bound_at count (negsuc n) = count - (n + 1)
+
+-- where a slice of so many items ends: without a bound at their end
+abbrev pub stop_at : ℕ → Option ℤ → ℕ
+stop_at count stop = option_map_or (bound_at count) stop count
+
+-- where it starts: without a bound at the front, and never above its end
+abbrev pub start_at : ℕ → Option ℤ → Option ℤ → ℕ
+start_at count start stop = min (option_map_or (bound_at count) start 0) (stop_at count stop)
+
+-- the items between two bounds
+abbrev pub part : {X : Type 0} → Option ℤ → Option ℤ → List X → List X
+part start stop xs = drop (start_at (length xs) start stop) (take (stop_at (length xs) stop) xs)
+
+-- the text of some bytes, with U+FFFD for each piece that is no character
+abbrev pub repaired : List ℕ → List ℕ
+repaired bytes = encode_utf8_all (lossy_chars bytes)
+
+abbrev pub sliced_layer : Value-F Value → Option ℤ → Option ℤ → Answer
+sliced_layer (Value-F.Array items) start stop = Ok (value.Array (part start stop items))
+sliced_layer (Value-F.Bytes bytes) start stop = Ok (value.Bytes (part start stop bytes))
+sliced_layer (Value-F.String text) start stop = Ok (value.String (repaired (part start stop text)))
+sliced_layer v start stop = Err evaluation
+
+abbrev pub sliced : Value → Option ℤ → Option ℤ → Answer
+sliced v start stop = sliced_layer (out-Value v) start stop

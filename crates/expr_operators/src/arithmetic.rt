@@ -1,0 +1,76 @@
+//! Sums, differences, products and remainders.
+ghost use Rattle.std.specs.Prelude.{◌≡◌, ◌++◌, IfOk, string_bytes, IsTrue};
+ghost use Rattle.expr_operators.specs.Answers.{Is};
+ghost use Rattle.expr_operators.specs.Operators.{added, subtracted, multiplied, remainder};
+ghost use Rattle.expr_operators.specs.Plain.{is_plain_value, Surely};
+
+use crate::messages::mismatch;
+use expr_value::{Result, Text, Value, refusal};
+use std::alloc::{AllocError, Global};
+
+/// The sum of two integers or two durations, or two texts as one.
+pub fn add(alloc: Global, left: &Value, right: &Value) -> Result<Value>
+    ensures answer { Is result (added left.now right.now) }
+    ensures plain { IsTrue (is_plain_value left.now) → IsTrue (is_plain_value right.now) → Surely result (added left.now right.now) }
+{
+    match (left, right) {
+        (Value::Integer(a), Value::Integer(b)) => Ok(Value::Integer(a.wrapping_add(*b))),
+        (Value::Duration(a), Value::Duration(b)) => Ok(Value::Duration(a.wrapping_add(*b))),
+        (Value::String(a), Value::String(b)) => {
+            let joined = join(alloc, a.as_str(), b.as_str())?;
+            Ok(Value::String(Text::from_string(joined)))
+        }
+        _ => Err(mismatch(alloc, "+", left, right)),
+    }
+}
+
+/// The difference of two integers or two durations.
+pub fn subtract(alloc: Global, left: &Value, right: &Value) -> Result<Value>
+    ensures answer { Is result (subtracted left.now right.now) }
+    ensures plain { IsTrue (is_plain_value left.now) → IsTrue (is_plain_value right.now) → Surely result (subtracted left.now right.now) }
+{
+    match (left, right) {
+        (Value::Integer(a), Value::Integer(b)) => Ok(Value::Integer(a.wrapping_sub(*b))),
+        (Value::Duration(a), Value::Duration(b)) => Ok(Value::Duration(a.wrapping_sub(*b))),
+        _ => Err(mismatch(alloc, "-", left, right)),
+    }
+}
+
+/// The product of two integers, or of a duration and an integer either way round.
+pub fn multiply(alloc: Global, left: &Value, right: &Value) -> Result<Value>
+    ensures answer { Is result (multiplied left.now right.now) }
+    ensures plain { IsTrue (is_plain_value left.now) → IsTrue (is_plain_value right.now) → Surely result (multiplied left.now right.now) }
+{
+    match (left, right) {
+        (Value::Integer(a), Value::Integer(b)) => Ok(Value::Integer(a.wrapping_mul(*b))),
+        (Value::Duration(a), Value::Integer(b)) | (Value::Integer(a), Value::Duration(b)) => {
+            Ok(Value::Duration(a.wrapping_mul(*b)))
+        }
+        _ => Err(mismatch(alloc, "*", left, right)),
+    }
+}
+
+/// What is left of an integer after whole times another, with the sign of the left one.
+pub fn modulo(alloc: Global, left: &Value, right: &Value) -> Result<Value>
+    ensures answer { Is result (remainder left.now right.now) }
+    ensures plain { IsTrue (is_plain_value left.now) → IsTrue (is_plain_value right.now) → Surely result (remainder left.now right.now) }
+{
+    match (left, right) {
+        (Value::Integer(a), Value::Integer(b)) => {
+            if *b == 0 {
+                return Err(refusal(alloc, "operator % does not take 0 on its right"));
+            }
+            Ok(Value::Integer(a.wrapping_rem(*b)))
+        }
+        _ => Err(mismatch(alloc, "%", left, right)),
+    }
+}
+
+fn join(alloc: Global, front: &str, back: &str) -> std::result::Result<String, AllocError>
+    ensures { IfOk result (λ s. string_bytes s ≡ front.now ++ back.now) }
+{
+    let mut joined = String::with_capacity(alloc, front.len() + back.len())?;
+    joined.push_str(front)?;
+    joined.push_str(back)?;
+    Ok(joined)
+}

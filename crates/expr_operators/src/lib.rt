@@ -1,0 +1,19 @@
+//! What operators, indices, slices and ranges give on values, and the values that an evaluation holds.
+#![tactic(auto)]
+
+mod arithmetic;
+mod comparison;
+mod held;
+mod laws;
+mod membership;
+mod messages;
+mod operators;
+mod positions;
+#[cfg(test)]
+mod tests;
+
+pub use held::Held;
+pub use laws::{outside_is_not_within, part_stands_between_front_and_back, unequal_is_not_equal};
+pub use messages::{refused, unexpected};
+pub use operators::{apply, as_condition, as_truth, prefix};
+pub use positions::{index, range, slice, slice_bound, slice_lent};

@@ -1,0 +1,94 @@
+//! The texts of refusals: what was met, for people.
+ghost use Rattle.std.specs.Prelude.{◌≡◌, ◌≢◌};
+ghost use Rattle.expr_value.specs.Fault.{fault_of, evaluation, memory};
+
+use expr_tree::operator::Operator;
+use expr_value::{Error, Value};
+use std::alloc::{AllocError, Global};
+
+/// A refusal to evaluate, of this text, or for want of memory where there is none for it.
+pub fn refused(text: Result<String, AllocError>) -> Error
+    ensures { fault_of result ≢ memory → fault_of result ≡ evaluation }
+{
+    match text {
+        Ok(text) => Error::ExprError(text),
+        Err(_) => Error::MemoryError,
+    }
+}
+
+/// The sign or word of an operator.
+pub fn sign_of(operator: Operator) -> &'static str {
+    match operator {
+        Operator::Add => "+",
+        Operator::Subtract => "-",
+        Operator::Multiply => "*",
+        Operator::Divide => "/",
+        Operator::Modulo => "%",
+        Operator::Pow => "^",
+        Operator::Equal => "==",
+        Operator::NotEqual => "!=",
+        Operator::GreaterThan => ">",
+        Operator::GreaterThanOrEqual => ">=",
+        Operator::LessThan => "<",
+        Operator::LessThanOrEqual => "<=",
+        Operator::And => "and",
+        Operator::Or => "or",
+        Operator::In => "in",
+        Operator::NotIn => "not in",
+        Operator::Contains => "contains",
+        Operator::StartsWith => "startsWith",
+        Operator::EndsWith => "endsWith",
+        Operator::Matches => "matches",
+    }
+}
+
+/// A refusal of two operands.
+pub fn mismatch(alloc: Global, operator: &str, left: &Value, right: &Value) -> Error
+    ensures { fault_of result ≢ memory → fault_of result ≡ evaluation }
+{
+    let left = kind_of(left);
+    let right = kind_of(right);
+    refused(format!(in alloc; "operator {operator} does not take {left} and {right}"))
+}
+
+/// A refusal of a key that the value has no places for.
+pub fn not_indexed(alloc: Global, value: &Value, key: &Value) -> Error
+    ensures { fault_of result ≢ memory → fault_of result ≡ evaluation }
+{
+    let value = kind_of(value);
+    let key = kind_of(key);
+    refused(format!(in alloc; "no index of {value} by {key}"))
+}
+
+/// A refusal of a value where another kind is expected.
+pub fn unexpected(alloc: Global, expected: &str, met: &Value) -> Error
+    ensures { fault_of result ≢ memory → fault_of result ≡ evaluation }
+{
+    let met = kind_of(met);
+    refused(format!(in alloc; "expected {expected}, met {met}"))
+}
+
+/// A refusal of an operand where an operator before it takes another kind.
+pub fn unexpected_after(alloc: Global, operator: &str, expected: &str, met: &Value) -> Error
+    ensures { fault_of result ≢ memory → fault_of result ≡ evaluation }
+{
+    let met = kind_of(met);
+    refused(format!(in alloc; "expected {expected} after {operator}, met {met}"))
+}
+
+/// A value's kind, for messages.
+fn kind_of(value: &Value) -> &'static str {
+    match value {
+        Value::Integer(_) => "an Integer",
+        Value::Bool(_) => "a Bool",
+        Value::Nil => "nil",
+        Value::String(_) => "a String",
+        Value::Duration(_) => "a Duration",
+        Value::Month(_) => "a Month",
+        Value::Weekday(_) => "a Weekday",
+        Value::Array(_) => "an Array",
+        Value::Bytes(_) => "Bytes",
+        Value::Map(_) => "a Map",
+        Value::KeyedMap(_) => "a KeyedMap",
+    }
+}
