@@ -97,46 +97,25 @@ Allows-plain host ctx (postfix q t) v p h = cc
 Allows-plain host ctx (choice c a b) v p h = cc
 
 -- an operator that is neither `and` nor `or` asks both sides
-pub Continued-both : (op : Operator) (x : Value) (right : Answer → Type 0) → (op ≡ And → ⊥) → (op ≡ Or → ⊥) → (a : Answer) → Continued op x right a → After right (λ y b. b ≡ applied op x y) a
-Continued-both And x right n m a h = absurd (n refl)
-Continued-both Or x right n m a h = absurd (m refl)
-Continued-both Add x right n m a h = h
-Continued-both Subtract x right n m a h = h
-Continued-both Multiply x right n m a h = h
-Continued-both Divide x right n m a h = h
-Continued-both Modulo x right n m a h = h
-Continued-both Pow x right n m a h = h
-Continued-both Equal x right n m a h = h
-Continued-both NotEqual x right n m a h = h
-Continued-both GreaterThan x right n m a h = h
-Continued-both GreaterThanOrEqual x right n m a h = h
-Continued-both LessThan x right n m a h = h
-Continued-both LessThanOrEqual x right n m a h = h
-Continued-both In x right n m a h = h
-Continued-both NotIn x right n m a h = h
-Continued-both Contains x right n m a h = h
-Continued-both StartsWith x right n m a h = h
-Continued-both EndsWith x right n m a h = h
-Continued-both Matches x right n m a h = h
-
-pub both-Continued : (op : Operator) (x : Value) (right : Answer → Type 0) → (op ≡ And → ⊥) → (op ≡ Or → ⊥) → (a : Answer) → After right (λ y b. b ≡ applied op x y) a → Continued op x right a
-both-Continued And x right n m a h = absurd (n refl)
-both-Continued Or x right n m a h = absurd (m refl)
-both-Continued Add x right n m a h = h
-both-Continued Subtract x right n m a h = h
-both-Continued Multiply x right n m a h = h
-both-Continued Divide x right n m a h = h
-both-Continued Modulo x right n m a h = h
-both-Continued Pow x right n m a h = h
-both-Continued Equal x right n m a h = h
-both-Continued NotEqual x right n m a h = h
-both-Continued GreaterThan x right n m a h = h
-both-Continued GreaterThanOrEqual x right n m a h = h
-both-Continued LessThan x right n m a h = h
-both-Continued LessThanOrEqual x right n m a h = h
-both-Continued In x right n m a h = h
-both-Continued NotIn x right n m a h = h
-both-Continued Contains x right n m a h = h
-both-Continued StartsWith x right n m a h = h
-both-Continued EndsWith x right n m a h = h
-both-Continued Matches x right n m a h = h
+pub Continued-both : (op : Operator) (x : Value) (right : Answer → Type 0) (a : Answer) → (op ≡ And → ⊥) → (op ≡ Or → ⊥)
+    → Continued op x right a ≡ After right (λ y b. b ≡ applied op x y) a
+Continued-both And x right a n m = absurd (n refl)
+Continued-both Or x right a n m = absurd (m refl)
+Continued-both Add x right a n m = refl
+Continued-both Subtract x right a n m = refl
+Continued-both Multiply x right a n m = refl
+Continued-both Divide x right a n m = refl
+Continued-both Modulo x right a n m = refl
+Continued-both Pow x right a n m = refl
+Continued-both Equal x right a n m = refl
+Continued-both NotEqual x right a n m = refl
+Continued-both GreaterThan x right a n m = refl
+Continued-both GreaterThanOrEqual x right a n m = refl
+Continued-both LessThan x right a n m = refl
+Continued-both LessThanOrEqual x right a n m = refl
+Continued-both In x right a n m = refl
+Continued-both NotIn x right a n m = refl
+Continued-both Contains x right a n m = refl
+Continued-both StartsWith x right a n m = refl
+Continued-both EndsWith x right a n m = refl
+Continued-both Matches x right a n m = refl

@@ -19,7 +19,7 @@ use Rattle.expr.specs.Several.{terms_written}
 use Rattle.expr.specs.declared.scope.Binding.{Binding}
 use Rattle.expr.proofs.Answered.{prepended, drop-at, loop-step, loop-failed, loop-done, AllowsAll-first, AllowsBlock-line, Gives-of-Is, Gives-passed, Gives-under}
 use Rattle.expr_operators.proofs.Plainly.{Surely-at}
-use Rattle.expr.proofs.Plainly.{Allows-plain, Continued-both, both-Continued, first_of-After, left-true, right-true, written-Operation}
+use Rattle.expr.proofs.Plainly.{Allows-plain, Continued-both, first_of-After, left-true, right-true, written-Operation}
 use Rattle.expr.proofs.evaluation.Evaluation.+evaluation.Goals as goal
 
 pub evaluate-returns-in_err-first-in-Operation-clause-plain : goal.evaluate-returns-in_err-first-in-Operation-clause-plain
@@ -93,10 +93,11 @@ join-returns-in_ok-second-in_default g t c =
     let right = Allows host ctx (written c.args.right.now) in
     record {
       answer = Gives-of-Is c.applied.result (applied op first second) (Continued op first right) c.applied.ensures.answer (
-          both-Continued op first right c.in_default.not-And c.in_default.not-Or (applied op first second) (Ok second, c.in_ok-second-in_default.ensures.answer, refl)
+          subst (λ T. T) (sym (Continued-both op first right (applied op first second) c.in_default.not-And c.in_default.not-Or))
+          (Ok second, c.in_ok-second-in_default.ensures.answer, refl)
           );
       plain = λ v o p q h.
-          let found = first_of-After right (λ y b. b ≡ applied op first y) v (Continued-both op first right c.in_default.not-And c.in_default.not-Or (Ok v) h) in
+          let found = first_of-After right (λ y b. b ≡ applied op first y) v (subst (λ T. T) (Continued-both op first right (Ok v) c.in_default.not-And c.in_default.not-Or) h) in
           let same : second ≡ found.0 = cc (c.in_ok-second-in_default.ensures.plain found.0 q found.1) in
           let second_plain = subst (λ w. IsTrue (is_plain_value w)) (sym same) (Allows-plain host ctx (written c.args.right.now) found.0 q found.1) in
           Surely-at c.applied.result (applied op first second) v (c.applied.ensures.plain o p second_plain) (ap (applied op first) same ∙ sym found.2);
