@@ -5,6 +5,7 @@ ghost use Rattle.expr_operators.specs.Operators.{added, subtracted, multiplied, 
 ghost use Rattle.expr_operators.specs.Plain.{is_plain_value, Surely};
 
 use crate::messages::mismatch;
+use expr_tree::operator::Operator;
 use expr_value::{Result, Text, Value, refusal};
 use std::alloc::{AllocError, Global};
 
@@ -20,7 +21,7 @@ pub fn add(alloc: Global, left: &Value, right: &Value) -> Result<Value>
             let joined = join(alloc, a.as_str(), b.as_str())?;
             Ok(Value::String(Text::from_string(joined)))
         }
-        _ => Err(mismatch(alloc, "+", left, right)),
+        _ => Err(mismatch(alloc, &Operator::Add, left, right)),
     }
 }
 
@@ -32,7 +33,7 @@ pub fn subtract(alloc: Global, left: &Value, right: &Value) -> Result<Value>
     match (left, right) {
         (Value::Integer(a), Value::Integer(b)) => Ok(Value::Integer(a.wrapping_sub(*b))),
         (Value::Duration(a), Value::Duration(b)) => Ok(Value::Duration(a.wrapping_sub(*b))),
-        _ => Err(mismatch(alloc, "-", left, right)),
+        _ => Err(mismatch(alloc, &Operator::Subtract, left, right)),
     }
 }
 
@@ -46,7 +47,7 @@ pub fn multiply(alloc: Global, left: &Value, right: &Value) -> Result<Value>
         (Value::Duration(a), Value::Integer(b)) | (Value::Integer(a), Value::Duration(b)) => {
             Ok(Value::Duration(a.wrapping_mul(*b)))
         }
-        _ => Err(mismatch(alloc, "*", left, right)),
+        _ => Err(mismatch(alloc, &Operator::Multiply, left, right)),
     }
 }
 
@@ -62,7 +63,7 @@ pub fn modulo(alloc: Global, left: &Value, right: &Value) -> Result<Value>
             }
             Ok(Value::Integer(a.wrapping_rem(*b)))
         }
-        _ => Err(mismatch(alloc, "%", left, right)),
+        _ => Err(mismatch(alloc, &Operator::Modulo, left, right)),
     }
 }
 

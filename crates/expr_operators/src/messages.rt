@@ -2,9 +2,9 @@
 ghost use Rattle.std.specs.Prelude.{◌≡◌, ◌≢◌};
 ghost use Rattle.expr_value.specs.Fault.{fault_of, evaluation, memory};
 
-use expr_tree::operator::Operator;
 use expr_value::{Error, Value};
 use std::alloc::{AllocError, Global};
+use std::fmt::Display;
 
 /// A refusal to evaluate, of this text, or for want of memory where there is none for it.
 pub fn refused(text: Result<String, AllocError>) -> Error
@@ -16,34 +16,8 @@ pub fn refused(text: Result<String, AllocError>) -> Error
     }
 }
 
-/// The sign or word of an operator.
-pub fn sign_of(operator: Operator) -> &'static str {
-    match operator {
-        Operator::Add => "+",
-        Operator::Subtract => "-",
-        Operator::Multiply => "*",
-        Operator::Divide => "/",
-        Operator::Modulo => "%",
-        Operator::Pow => "^",
-        Operator::Equal => "==",
-        Operator::NotEqual => "!=",
-        Operator::GreaterThan => ">",
-        Operator::GreaterThanOrEqual => ">=",
-        Operator::LessThan => "<",
-        Operator::LessThanOrEqual => "<=",
-        Operator::And => "and",
-        Operator::Or => "or",
-        Operator::In => "in",
-        Operator::NotIn => "not in",
-        Operator::Contains => "contains",
-        Operator::StartsWith => "startsWith",
-        Operator::EndsWith => "endsWith",
-        Operator::Matches => "matches",
-    }
-}
-
 /// A refusal of two operands.
-pub fn mismatch(alloc: Global, operator: &str, left: &Value, right: &Value) -> Error
+pub fn mismatch<D: Display>(alloc: Global, operator: &D, left: &Value, right: &Value) -> Error
     ensures { fault_of result ≢ memory → fault_of result ≡ evaluation }
 {
     let left = kind_of(left);

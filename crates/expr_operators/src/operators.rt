@@ -8,7 +8,7 @@ ghost use Rattle.expr_value.specs.Fault.{fault_of, memory};
 use crate::arithmetic::{add, modulo, multiply, subtract};
 use crate::comparison::{are_equal, compare};
 use crate::membership::{begins_with, contains, ends_in, is_within};
-use crate::messages::{mismatch, sign_of, unexpected, unexpected_after};
+use crate::messages::{mismatch, unexpected, unexpected_after};
 use expr_tree::operator::{Operator, UnaryOperator};
 use expr_value::{Result, Value};
 use std::alloc::Global;
@@ -27,7 +27,7 @@ pub fn apply(alloc: Global, operator: Operator, left: &Value, right: &Value) -> 
         Operator::Modulo => modulo(alloc, left, right),
         _ => match judge(operator, left, right) {
             Some(truth) => Ok(Value::Bool(truth)),
-            None => Err(mismatch(alloc, sign_of(operator), left, right)),
+            None => Err(mismatch(alloc, &operator, left, right)),
         },
     }
 }

@@ -19,7 +19,7 @@ pub fn range(alloc: Global, first: &Value, last: &Value) -> Result<Value>
             let integers = count_up(alloc, *first, *last)?;
             Ok(Value::Array(Items::from_vec(integers)))
         }
-        _ => Err(mismatch(alloc, "..", first, last)),
+        _ => Err(mismatch(alloc, &"..", first, last)),
     }
 }
 
