@@ -1,68 +1,84 @@
 //! What the program does with its words and its streams.
+ghost use Rattle.std.specs.Prelude.{◌≡◌, ◌≤◌, ◌↔◌, [], ◌∷◌, ◌++◌, false, map, string_bytes};
+ghost use Rattle.std.specs.Io.KnownBytes.{Appends};
+ghost use Rattle.std.specs.List.{list_all};
+ghost use Rattle.expr.specs.Answers.{Gives};
+ghost use Rattle.expr_program.specs.Served.{MayBind, MayGive, MayPrint, MayServe};
+ghost use Rattle.expr_program.specs.Words.{code_of, is_binding, is_call, name_of, word_for};
+ghost use Rattle.expr_value.specs.Fault.{fault_of};
+ghost use Rattle.expr_value.specs.Values.{text_of};
+ghost use Rattle.expr_value.specs.declared.value.Value.{Value};
 
-use expr::{Context, Error, Value, eval};
-use std::alloc::{AllocError, AllocFailed, Global};
+use expr::{Context, Error, Result, Value, eval};
+use std::alloc::Global;
 use std::io::Write;
 
-/// Why there is no value to print.
-#[derive(Drop)]
-enum Failure {
-    /// The words aren't those of a call of the program.
-    Usage,
-    /// A text was refused.
-    Refused(Error),
-}
-
-impl From<Error> for Failure {
-    fn from(error: Error) -> Failure {
-        Failure::Refused(error)
+/// The NAME and the CODE of a word NAME=CODE, which is cut at its first `=`.
+fn parts(word: &str) -> (&str, &str)
+    ensures name { result.0.now ≡ name_of word.now }
+    ensures code { result.1.now ≡ code_of word.now }
+{
+    match word.split_once('=') {
+        Some((name, code)) => (name, code),
+        None => (word, ""),
     }
 }
 
-impl From<AllocError> for Failure {
-    fn from(_error: AllocError) -> Failure {
-        Failure::Refused(Error::MemoryError)
+/// Whether a word is a binding NAME=CODE: it has an `=`, and a NAME before it.
+fn is_binding(word: &str) -> bool
+    ensures { result ≡ is_binding word.now }
+{
+    match word.split_once('=') {
+        Some((name, _code)) => !name.is_empty(),
+        None => false,
     }
 }
 
-/// A word `NAME=CODE`, cut at its first `=`, unless it has none or its name is empty.
-fn binding(word: &str) -> Option<(&str, &str)> {
-    let (name, code) = word.split_once('=')?;
-    if name.is_empty() {
-        None
-    } else {
-        Some((name, code))
+/// Whether each of some words is a binding.
+fn are_bindings(words: &[String]) -> bool
+    ensures { result ≡ list_all is_binding (map string_bytes words.now) }
+{
+    for word in words {
+        if !is_binding(word.as_str()) {
+            return false;
+        }
     }
+    true
 }
 
-/// The names that words bind, each to the value of its code in an empty context, from left to right.
-fn bound(alloc: Global, words: &[String]) -> Result<Context, Failure> {
+/// The value of a code under some names.
+fn value_under(alloc: Global, code: &str, names: &Context) -> Result<Value>
+    ensures { Gives result (MayGive names.now code.now) }
+{
+    eval(alloc, code, names)
+}
+
+/// The names that bindings give values to, from left to right, each by its code in an empty context.
+fn bound(alloc: Global, bindings: &[String]) -> Result<Context>
+    ensures { Gives result (MayBind (map string_bytes bindings.now) []) }
+{
     let empty = Context::new(alloc);
     let mut context = Context::new(alloc);
-    for word in words {
-        let Some((name, code)) = binding(word.as_str()) else {
-            return Err(Failure::Usage);
-        };
-        let value = eval(alloc, code, &empty)?;
+    for word in bindings {
+        let (name, code) = parts(word.as_str());
+        let value = value_under(alloc, code, &empty)?;
         context.insert(String::from_str(alloc, name)?, value)?;
     }
     Ok(context)
 }
 
-/// The value of the first word, under the names that the others bind.
-fn answer(alloc: Global, words: &[String]) -> Result<Value, Failure> {
-    let Some((code, bindings)) = words.split_first() else {
-        return Err(Failure::Usage);
-    };
-    if bindings.iter().any(|word| binding(word.as_str()).is_none()) {
-        return Err(Failure::Usage);
-    }
+/// The value of a code, under the names that bindings give values to.
+fn answer(alloc: Global, code: &str, bindings: &[String]) -> Result<Value>
+    ensures { Gives result (MayServe code.now (map string_bytes bindings.now)) }
+{
     let context = bound(alloc, bindings)?;
-    Ok(eval(alloc, code.as_str(), &context)?)
+    value_under(alloc, code, &context)
 }
 
 /// The word for a kind of refusal.
-fn word_of(error: &Error) -> &'static str {
+fn word_of(error: &Error) -> &'static str
+    ensures { result.now ≡ word_for (fault_of error.now) }
+{
     match error {
         Error::PestError(_) => "syntax",
         Error::ParseError(_) => "literal",
@@ -73,9 +89,32 @@ fn word_of(error: &Error) -> &'static str {
 }
 
 /// Says how the program is called, and answers the status 2. A failing `err` changes nothing.
-pub fn refuse_usage<E: Write>(err: &mut E) -> u8 {
+pub fn refuse_usage<E: Write>(err: &mut E) -> u8
+    ensures { result ≡ 2 }
+{
     let _ = writeln!(err, "usage");
     2
+}
+
+/// Says the word for a refusal, and answers the status 1. A failing `err` changes nothing.
+fn refuse<E: Write>(err: &mut E, error: &Error) -> u8
+    ensures { result ≡ 1 }
+{
+    let word = word_of(error);
+    let _ = writeln!(err, "{word}");
+    1
+}
+
+/// Prints a value on a line of its own, and answers 0, or 1 if that fails.
+fn print<O: Write>(out: &mut O, value: &Value) -> u8
+    ensures status { result ≤ 1 }
+    ensures printed { result ≡ 0 → Appends (O.contents out.old) (O.contents out.new) (text_of value.now ++ 10 ∷ []) }
+{
+    if writeln!(out, "{value}").is_ok() && out.flush().is_ok() {
+        0
+    } else {
+        1
+    }
 }
 
 /// Serves the words `CODE [NAME=CODE]...` and answers the program's status.
@@ -85,17 +124,20 @@ pub fn refuse_usage<E: Write>(err: &mut E) -> u8 {
 /// then CODE in the context of the bindings. Its value's `Display` goes to `out`, status 0. The first refusal is one word
 /// on `err`, status 1: `syntax`, `literal`, `evaluation`, `pattern` or `memory`. If `out` fails, the status is 1; a failing
 /// `err` changes no status.
-pub fn serve<O: Write, E: Write>(alloc: Global, words: &[String], out: &mut O, err: &mut E) -> u8 {
-    match answer(alloc, words) {
-        Ok(value) => {
-            let written = writeln!(out, "{value}").is_ok() && out.flush().is_ok();
-            if written { 0 } else { 1 }
-        }
-        Err(Failure::Usage) => refuse_usage(err),
-        Err(Failure::Refused(error)) => {
-            let word = word_of(&error);
-            let _ = writeln!(err, "{word}");
-            1
-        }
+pub fn serve<O: Write, E: Write>(alloc: Global, words: &[String], out: &mut O, err: &mut E) -> u8
+    ensures status { result ≤ 2 }
+    ensures usage { result ≡ 2 ↔ is_call (map string_bytes words.now) ≡ false }
+    ensures printed { result ≡ 0 → (v : Value) × MayPrint (map string_bytes words.now) v
+        × Appends (O.contents out.old) (O.contents out.new) (text_of v ++ 10 ∷ []) }
+{
+    let Some((code, bindings)) = words.split_first() else {
+        return refuse_usage(err);
+    };
+    if !are_bindings(bindings) {
+        return refuse_usage(err);
+    }
+    match answer(alloc, code.as_str(), bindings) {
+        Ok(value) => print(out, &value),
+        Err(error) => refuse(err, &error),
     }
 }

@@ -1,0 +1,31 @@
+-- What the program may answer to its words.
+use Rattle.std.specs.Prelude.{◌≡◌, ℕ, List, [], ◌∷◌, Result, Ok}
+use Rattle.expr.specs.Answers.{Answer, After}
+use Rattle.expr.specs.Host.{no_host}
+use Rattle.expr.specs.Scope.{given_by}
+use Rattle.expr.specs.Texts.{MayAnswer}
+use Rattle.expr_value.specs.Fault.{Fault}
+use Rattle.expr_value.specs.Names.{find, put}
+use Rattle.expr_value.specs.declared.value.Value.{Value}
+use Rattle.expr_program.specs.Words.{name_of, code_of}
+
+abbrev pub Pairs : Type 0
+Pairs = List (List ℕ × Value)
+
+-- what a text may answer where these names have these values
+abbrev pub MayGive : Pairs → List ℕ → Answer → Type 0
+MayGive pairs code answer = MayAnswer code no_host (given_by (λ name. find name pairs) pairs) answer
+
+-- the names that bindings give values to, from left to right, each by itself, after those that have one; or the first refusal
+abbrev pub MayBind : List (List ℕ) → Pairs → Result Pairs Fault → Type 0
+MayBind [] pairs bound = bound ≡ Ok pairs
+MayBind (word ∷ words) pairs bound = After (MayGive [] (code_of word)) (λ v. MayBind words (put (name_of word) v pairs)) bound
+
+-- what a code may answer under the names that bindings give values to
+abbrev pub MayServe : List ℕ → List (List ℕ) → Answer → Type 0
+MayServe code bindings answer = After (MayBind bindings []) (λ pairs. MayGive pairs code) answer
+
+-- a value that the words CODE [NAME=CODE].. may print
+abbrev pub MayPrint : List (List ℕ) → Value → Type 0
+MayPrint [] v = ⊥
+MayPrint (code ∷ bindings) v = MayServe code bindings (Ok v)
