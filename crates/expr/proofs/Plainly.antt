@@ -1,9 +1,12 @@
 -- What plain nodes answer is plain, and how it follows from what their parts answer.
-use Rattle.std.proofs.Common.{◌≡◌, Bool, true, ◌&&◌, IsTrue, Option, Result, Ok, Err, refl, sym, subst, rules, Global, false}
+use Rattle.std.proofs.Common.{◌≡◌, Bool, true, ◌&&◌, IsTrue, Option, Result, Ok, Err, refl, sym, subst, rules, Global, false, ap, ◌∙◌, String, string_bytes, map, Vec}
+use Rattle.expr_tree.proofs.Shapes.{written-Ident, written-Array, written-Range, written-Func, written-Postfix, written-Conditional}
+use Rattle.expr_tree.specs.declared.node.PostfixOperator.{PostfixOperator}
+use Rattle.expr_tree.specs.declared.node.Program.{Program}
 use Rattle.expr_tree.specs.Term.{Term, name, literal, list, range, call, unary, operation, postfix, choice}
 use Rattle.expr_tree.specs.declared.operator.Operator.{Operator}
 use Rattle.expr_tree.specs.declared.operator.Operator.TheVariants.{Add, Subtract, Multiply, Divide, Modulo, Pow, Equal, NotEqual, GreaterThan, GreaterThanOrEqual, LessThan, LessThanOrEqual, And, Or, In, NotIn, Contains, StartsWith, EndsWith, Matches}
-use Rattle.expr_tree.specs.Written.{written}
+use Rattle.expr_tree.specs.Written.{written, postfix_written, program_written, predicate_written, terms_of}
 use Rattle.expr_tree.specs.declared.node.Node as node
 use Rattle.expr_tree.specs.declared.node.Node.{Node, the_lemmas as node_lemmas}
 use Rattle.expr_tree.specs.declared.node.Pattern.{Pattern}
@@ -119,3 +122,26 @@ Continued-both Contains x right a n m = refl
 Continued-both StartsWith x right a n m = refl
 Continued-both EndsWith x right a n m = refl
 Continued-both Matches x right a n m = refl
+
+-- a node whose tree isn't plain
+not-plain : {A : Type 0} (t u : Term) → t ≡ u → is_plain u ≡ false → IsTrue (is_plain t) → A
+not-plain t u e f p =
+    let q : is_plain u ≡ true = subst (λ x. is_plain x ≡ true) e p in absurd (cc (q, f))
+
+pub Ident-plain : {A : Type 0} {s : String Global} (n : Node) → n ≡ node.Ident s → IsTrue (is_plain (written n)) → A
+Ident-plain {s = s} n e p = not-plain (written n) (name (string_bytes s)) (ap written e ∙ written-Ident s) refl p
+
+pub Array-plain : {A : Type 0} (ns : Vec Node Global) (n : Node) → n ≡ node.Array ns → IsTrue (is_plain (written n)) → A
+Array-plain ns n e p = not-plain (written n) (list (terms_of (map written ns.items))) (ap written e ∙ written-Array ns) refl p
+
+pub Range-plain : {A : Type 0} {a b : Box Node Global} (n : Node) → n ≡ node.Range a b → IsTrue (is_plain (written n)) → A
+Range-plain {a = a} {b = b} n e p = not-plain (written n) (range (written a.value) (written b.value)) (ap written e ∙ written-Range a b) refl p
+
+pub Func-plain : {A : Type 0} (s : String Global) (ns : Vec Node Global) (q : Option (Box Program Global)) (n : Node) → n ≡ node.Func s ns q → IsTrue (is_plain (written n)) → A
+Func-plain s ns q n e p = not-plain (written n) (call (string_bytes s) (terms_of (map written ns.items)) (predicate_written q)) (ap written e ∙ written-Func s ns q) refl p
+
+pub Postfix-plain : {A : Type 0} {o : PostfixOperator} {m : Box Node Global} (n : Node) → n ≡ node.Postfix o m → IsTrue (is_plain (written n)) → A
+Postfix-plain {o = o} {m = m} n e p = not-plain (written n) (postfix (postfix_written o) (written m.value)) (ap written e ∙ written-Postfix o m) refl p
+
+pub Conditional-plain : {A : Type 0} (q : Box Node Global) (a b : Box Program Global) (n : Node) → n ≡ node.Conditional q a b → IsTrue (is_plain (written n)) → A
+Conditional-plain q a b n e p = not-plain (written n) (choice (written q.value) (program_written a.value) (program_written b.value)) (ap written e ∙ written-Conditional q a b) refl p

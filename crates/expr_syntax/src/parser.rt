@@ -580,7 +580,7 @@ impl Parser {
     {
         match read::constant(token) {
             Some(value) => {
-                map.insert(key.into_string(), value)?;
+                map.insert(key, value)?;
                 Ok(Place::Entered(map))
             }
             None => Err(Fault::Syntax),

@@ -19,7 +19,7 @@ use Rattle.expr.specs.Several.{terms_written}
 use Rattle.expr.specs.declared.scope.Binding.{Binding}
 use Rattle.expr.proofs.Answered.{prepended, drop-at, loop-step, loop-failed, loop-done, AllowsAll-first, AllowsBlock-line, Gives-of-Is, Gives-passed, Gives-under}
 use Rattle.expr_operators.proofs.Plainly.{Surely-at}
-use Rattle.expr.proofs.Plainly.{Allows-plain, Continued-both, first_of-After, left-true, right-true, written-Operation}
+use Rattle.expr.proofs.Plainly.{Ident-plain, Array-plain, Range-plain, Func-plain, Postfix-plain, Conditional-plain, Allows-plain, Continued-both, first_of-After, left-true, right-true, written-Operation}
 use Rattle.expr.proofs.evaluation.Evaluation.+evaluation.Goals as goal
 
 pub evaluate-returns-in_err-first-in-Operation-clause-plain : goal.evaluate-returns-in_err-first-in-Operation-clause-plain
@@ -266,3 +266,42 @@ run_lines-returns g t c =
     Gives-under c.keep-2.result last whole on (
     subst (λ s. Gives c.keep-2.result (Allows host (overridden s base) (written c.args.program.now.expr))) c.deref-2.ensures.value c.keep-2.ensures
     )
+
+pub evaluate-returns-in_err-evaluate_all-in-Array-clause-plain : goal.evaluate-returns-in_err-evaluate_all-in-Array-clause-plain
+evaluate-returns-in_err-evaluate_all-in-Array-clause-plain g t c = λ v p h. Array-plain _ c.args.node.now c.in-Array.is p
+
+pub evaluate-returns-in_err-first-in-Range-clause-plain : goal.evaluate-returns-in_err-first-in-Range-clause-plain
+evaluate-returns-in_err-first-in-Range-clause-plain g t c = λ v p h. Range-plain c.args.node.now c.in-Range.is p
+
+pub evaluate-returns-in_err-args-in-Func-clause-plain : goal.evaluate-returns-in_err-args-in-Func-clause-plain
+evaluate-returns-in_err-args-in-Func-clause-plain g t c = λ v p h. Func-plain _ _ _ c.args.node.now c.in-Func.is p
+
+pub evaluate-returns-in_err-value-in-Postfix-clause-plain : goal.evaluate-returns-in_err-value-in-Postfix-clause-plain
+evaluate-returns-in_err-value-in-Postfix-clause-plain g t c = λ v p h. Postfix-plain c.args.node.now c.in-Postfix.is p
+
+pub evaluate-returns-in_err-condition-in-Conditional-clause-plain : goal.evaluate-returns-in_err-condition-in-Conditional-clause-plain
+evaluate-returns-in_err-condition-in-Conditional-clause-plain g t c = λ v p h. Conditional-plain _ _ _ c.args.node.now c.in-Conditional.is p
+
+pub evaluate-returns-in_err-holds-in-Conditional-clause-plain : goal.evaluate-returns-in_err-holds-in-Conditional-clause-plain
+evaluate-returns-in_err-holds-in-Conditional-clause-plain g t c = λ v p h. Conditional-plain _ _ _ c.args.node.now c.in-Conditional.is p
+
+pub evaluate-returns-in-Ident-clause-plain : goal.evaluate-returns-in-Ident-clause-plain
+evaluate-returns-in-Ident-clause-plain g t c = λ v p h. Ident-plain c.args.node.now c.in-Ident.is p
+
+pub evaluate-returns-in_ok-evaluate_all-in-Array-clause-plain : goal.evaluate-returns-in_ok-evaluate_all-in-Array-clause-plain
+evaluate-returns-in_ok-evaluate_all-in-Array-clause-plain g t c = λ v p h. Array-plain _ c.args.node.now c.in-Array.is p
+
+pub evaluate-returns-in_ok-first-in-Range-clause-plain : goal.evaluate-returns-in_ok-first-in-Range-clause-plain
+evaluate-returns-in_ok-first-in-Range-clause-plain g t c = λ v p h. Range-plain c.args.node.now c.in-Range.is p
+
+pub evaluate-returns-in_ok-args-in-Func-clause-plain : goal.evaluate-returns-in_ok-args-in-Func-clause-plain
+evaluate-returns-in_ok-args-in-Func-clause-plain g t c = λ v p h. Func-plain _ _ _ c.args.node.now c.in-Func.is p
+
+pub evaluate-returns-in_ok-value-in-Postfix-clause-plain : goal.evaluate-returns-in_ok-value-in-Postfix-clause-plain
+evaluate-returns-in_ok-value-in-Postfix-clause-plain g t c = λ v p h. Postfix-plain c.args.node.now c.in-Postfix.is p
+
+pub evaluate-returns-then-branch-clause-plain : goal.evaluate-returns-then-branch-clause-plain
+evaluate-returns-then-branch-clause-plain g t c = λ v p h. Conditional-plain _ _ _ c.args.node.now c.in-Conditional.is p
+
+pub evaluate-returns-else-branch-clause-plain : goal.evaluate-returns-else-branch-clause-plain
+evaluate-returns-else-branch-clause-plain g t c = λ v p h. Conditional-plain _ _ _ c.args.node.now c.in-Conditional.is p
