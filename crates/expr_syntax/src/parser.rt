@@ -579,10 +579,10 @@ impl Parser {
         ensures { Stands (machine.value_in (stack self.now.frames.items) map key (machine.value_at token)) self.now.frames.items result }
     {
         match read::constant(token) {
-            Some(value) => {
-                map.insert(key, value)?;
-                Ok(Place::Entered(map))
-            }
+            Some(value) => match map.insert(key, value) {
+                Ok(()) => Ok(Place::Entered(map)),
+                Err(_) => Err(Fault::Memory),
+            },
             None => Err(Fault::Syntax),
         }
     }
