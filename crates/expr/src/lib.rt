@@ -6,8 +6,6 @@ mod evaluation;
 mod laws;
 mod messages;
 mod scope;
-#[cfg(test)]
-mod tests;
 
 pub use evaluation::{
     eval, eval_expr, eval_func, eval_operator, eval_postfix_operator, eval_unary_operator, run,

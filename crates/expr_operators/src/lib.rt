@@ -9,8 +9,6 @@ mod membership;
 mod messages;
 mod operators;
 mod positions;
-#[cfg(test)]
-mod tests;
 
 pub use held::Held;
 pub use laws::{outside_is_not_within, part_stands_between_front_and_back, unequal_is_not_equal};
