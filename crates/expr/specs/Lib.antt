@@ -6,7 +6,7 @@ pub mod Plain
 pub mod Scope
 pub mod Several
 pub mod Texts
-pub use Rattle.expr_operators.specs.Answers
+pub use Rattle.expr_value.specs.Answers
 pub use Rattle.expr_operators.specs.Operators
 pub use Rattle.expr_operators.specs.Positions
 pub use Rattle.expr_tree.specs.Term

@@ -15,7 +15,7 @@ use Rattle.expr_value.specs.declared.value.Value as value
 use Rattle.expr_value.specs.declared.value.Value.{Value, out-Value}
 use Rattle.expr_value.specs.declared.value.Value.TheOpen.{Value-F}
 use Rattle.expr.specs.Allows.{Allows, AllowsAll, AllowsBlock, AllowsBound, AllowsPiped, AllowsPostfix, AndThenLayer, OrElseLayer, Continued, ChosenLayer, DefaultsLayer}
-use Rattle.expr_operators.specs.Answers.{Answer, After, Goes}
+use Rattle.expr_value.specs.Answers.{Answer, After, Goes}
 use Rattle.expr.specs.Context.{Context, override, hash, field_of, first_of_two, looked_up}
 use Rattle.expr.specs.Host.{Host}
 

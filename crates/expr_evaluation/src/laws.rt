@@ -1,7 +1,7 @@
 //! Laws of the evaluation, each on a function without a body.
 ghost use Rattle.std.specs.Prelude.{◌≡◌, ◌↔◌, Ok, false, true};
 ghost use Rattle.expr.specs.Allows.{Allows};
-ghost use Rattle.expr_operators.specs.Answers.{Answer};
+ghost use Rattle.expr_value.specs.Answers.{Answer};
 ghost use Rattle.expr.specs.Context.{Context};
 ghost use Rattle.expr.specs.Host.{no_host};
 ghost use Rattle.expr_tree.specs.Term.{Term, literal, operation};

@@ -7,7 +7,7 @@ use Rattle.expr_value.specs.Fault.{Fault, evaluation}
 use Rattle.expr_value.specs.declared.value.Value as value
 use Rattle.expr_value.specs.declared.value.Value.{Value, out-Value}
 use Rattle.expr_value.specs.declared.value.Value.TheOpen.{Value-F}
-use Rattle.expr_operators.specs.Answers.{Answer, After}
+use Rattle.expr_value.specs.Answers.{Answer, After}
 use Rattle.expr.specs.Context.{Context, override, looked_up}
 use Rattle.expr.specs.Host.{Host}
 use Rattle.expr_operators.specs.Operators.{applied, prefixed, truth}

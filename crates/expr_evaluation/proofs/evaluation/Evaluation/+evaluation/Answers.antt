@@ -7,7 +7,7 @@ use Rattle.expr_tree.specs.declared.node.Node.{Node}
 use Rattle.expr_value.specs.Fault.{fault_of}
 use Rattle.expr_value.specs.declared.value.Value.{Value}
 use Rattle.expr.specs.Allows.{Allows, AllowsAll, AllowsBlock, AllowsPostfix, Continued}
-use Rattle.expr_operators.specs.Answers.{Answer, Gives}
+use Rattle.expr_value.specs.Answers.{Answer, Gives}
 use Rattle.expr.specs.Context.{Context}
 use Rattle.expr.specs.Host.{Host, hosted}
 use Rattle.expr_operators.specs.Operators.{applied}

@@ -3,7 +3,7 @@ use Rattle.expr_tree.specs.Written.{block_of, written, program_written}
 use Rattle.expr_value.specs.Fault.{Fault}
 use Rattle.expr_value.specs.declared.value.Value.{Value}
 use Rattle.expr.specs.Allows.{AllowsAll, AllowsBlock}
-use Rattle.expr_operators.specs.Answers.{Answer}
+use Rattle.expr_value.specs.Answers.{Answer}
 use Rattle.expr.specs.Context.{Context}
 use Rattle.expr.specs.Host.{Host, hosted}
 use Rattle.expr.specs.Scope.{given_by, overridden}

@@ -17,7 +17,7 @@ use Rattle.expr_value.specs.declared.value.Value.{Value, out-Value}
 use Rattle.expr_value.specs.declared.value.Value.TheOpen.{Value-F}
 use Rattle.expr.specs.Allows.{Allows, AndThenLayer, OrElseLayer, Continued}
 use Rattle.expr_operators.proofs.Plainly.{plain-Bool, plain-at, applied-plain, prefixed-plain, bool-plain}
-use Rattle.expr_operators.specs.Answers.{Answer, After}
+use Rattle.expr_value.specs.Answers.{Answer, After}
 use Rattle.expr.specs.Context.{Context}
 use Rattle.expr.specs.Host.{Host}
 use Rattle.expr_operators.specs.Operators.{applied, truth, prefixed}

@@ -6,7 +6,7 @@ use Rattle.expr_value.specs.Values.{map_of}
 use Rattle.expr_value.specs.declared.value.Value as value
 use Rattle.expr_value.specs.declared.value.Value.{Value}
 pub use Rattle.expr_tree.specs.Context.{Context, override, hash}
-use Rattle.expr_operators.specs.Answers.{Answer}
+use Rattle.expr_value.specs.Answers.{Answer}
 
 -- the field of this name in a map
 abbrev pub field_in : Option (List (List ℕ × Value)) → List ℕ → Option Value
