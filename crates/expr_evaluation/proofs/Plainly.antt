@@ -5,26 +5,29 @@ use Rattle.expr_tree.specs.declared.node.PostfixOperator.{PostfixOperator}
 use Rattle.expr_tree.specs.declared.node.Program.{Program}
 use Rattle.expr_tree.specs.Term.{Term, name, literal, list, range, call, unary, operation, postfix, choice}
 use Rattle.expr_tree.specs.declared.operator.Operator.{Operator}
-use Rattle.expr_tree.specs.declared.operator.Operator.TheVariants.{Add, Subtract, Multiply, Divide, Modulo, Pow, Equal, NotEqual, GreaterThan, GreaterThanOrEqual, LessThan, LessThanOrEqual, And, Or, In, NotIn, Contains, StartsWith, EndsWith, Matches}
 use Rattle.expr_tree.specs.Written.{written, postfix_written, program_written, predicate_written, terms_of}
 use Rattle.expr_tree.specs.declared.node.Node as node
 use Rattle.expr_tree.specs.declared.node.Node.{Node, the_lemmas as node_lemmas}
-use Rattle.expr_tree.specs.declared.node.Pattern.{Pattern}
+use Rattle.expr_tree.specs.declared.node.Pattern.{Pattern as Kept}
 use Rattle.std.specs.declared.boxed.Box.{Box}
 use Rattle.expr_value.specs.Fault.{Fault}
 use Rattle.expr_value.specs.declared.value.Value as value
 use Rattle.expr_value.specs.declared.value.Value.{Value, out-Value}
 use Rattle.expr_value.specs.declared.value.Value.TheOpen.{Value-F}
-use Rattle.expr.specs.Allows.{Allows, AndThenLayer, OrElseLayer, Continued}
+use Rattle.expr_evaluation.specs.Allows.{Allows, AndThenLayer, ContinuedAs, OrElseLayer, Continued}
 use Rattle.expr_operators.proofs.Plainly.{plain-Bool, plain-at, applied-plain, prefixed-plain, bool-plain}
 use Rattle.expr_value.specs.Answers.{Answer, After}
-use Rattle.expr.specs.Context.{Context}
-use Rattle.expr.specs.Host.{Host}
-use Rattle.expr_operators.specs.Operators.{applied, truth, prefixed}
-use Rattle.expr.specs.Plain.{is_plain}
+use Rattle.expr_evaluation.specs.Context.{Context}
+use Rattle.expr_evaluation.specs.Host.{Host}
+use Rattle.expr_operators.specs.Asking.{asking_of}
+use Rattle.expr_operators.specs.Operators.{Matched, applied, truth, prefixed}
+use Rattle.expr_operators.specs.declared.asking.Asking.{Asking}
+use Rattle.expr_operators.specs.declared.asking.Asking.TheVariants.{Both, EndsAtFalse, EndsAtTrue, Pattern}
+use Rattle.expr_value.proofs.Answered.{first_of-After}
+use Rattle.expr_evaluation.specs.Plain.{is_plain}
 use Rattle.expr_operators.specs.Plain.{is_plain_operator, is_plain_value}
 
-pub written-Operation : (op : Operator) (l r : Box Node Global) (k : Option Pattern) → written (node.Operation op l r k) ≡ operation op (written l.value) (written r.value)
+pub written-Operation : (op : Operator) (l r : Box Node Global) (k : Option Kept) → written (node.Operation op l r k) ≡ operation op (written l.value) (written r.value)
 written-Operation op l r k = search (rules, node_lemmas)
 
 pub left-true : (a b : Bool) → IsTrue (a && b) → IsTrue a
@@ -34,10 +37,6 @@ left-true false b p = p
 pub right-true : (a b : Bool) → IsTrue (a && b) → IsTrue b
 right-true true b p = p
 right-true false b p = cc
-
-pub first_of-After : {A B : Type 0} (first : Result A Fault → Type 0) (next : A → Result B Fault → Type 0) (v : B) → After first next (Ok v) → (w : A) × first (Ok w) × next w (Ok v)
-first_of-After first next v (Ok w, p, q) = (w, p, q)
-first_of-After first next v (Err k, p, q) = cc
 
 AndThen-plain : (x : Value-F Value) (right : Answer → Type 0) (v : Value) → AndThenLayer x right (Ok v) → IsTrue (is_plain_value v)
 AndThen-plain (Value-F.Bool true) right v p =
@@ -58,27 +57,13 @@ module _ (right : Answer → Type 0) (of_right : (w : Value) → right (Ok w) �
       let q = first_of-After right (λ y a. a ≡ applied op x y) v h in
       plain-at (applied op x q.0) v q.2 (applied-plain op x q.0 o p (of_right q.0 q.1))
 
-  Continued-plain : (op : Operator) (x v : Value) → IsTrue (is_plain_operator op) → IsTrue (is_plain_value x) → Continued op x right (Ok v) → IsTrue (is_plain_value v)
-  Continued-plain And x v o p h = AndThen-plain (out-Value x) right v h
-  Continued-plain Or x v o p h = OrElse-plain (out-Value x) right v h
-  Continued-plain Add x v o p h = both-plain Add x v o p h
-  Continued-plain Subtract x v o p h = both-plain Subtract x v o p h
-  Continued-plain Multiply x v o p h = both-plain Multiply x v o p h
-  Continued-plain Modulo x v o p h = both-plain Modulo x v o p h
-  Continued-plain Equal x v o p h = both-plain Equal x v o p h
-  Continued-plain NotEqual x v o p h = both-plain NotEqual x v o p h
-  Continued-plain GreaterThan x v o p h = both-plain GreaterThan x v o p h
-  Continued-plain GreaterThanOrEqual x v o p h = both-plain GreaterThanOrEqual x v o p h
-  Continued-plain LessThan x v o p h = both-plain LessThan x v o p h
-  Continued-plain LessThanOrEqual x v o p h = both-plain LessThanOrEqual x v o p h
-  Continued-plain Divide x v o p h = cc
-  Continued-plain Pow x v o p h = cc
-  Continued-plain In x v o p h = cc
-  Continued-plain NotIn x v o p h = cc
-  Continued-plain Contains x v o p h = cc
-  Continued-plain StartsWith x v o p h = cc
-  Continued-plain EndsWith x v o p h = cc
-  Continued-plain Matches x v o p h = cc
+  ContinuedAs-plain : (c : Asking) (op : Operator) (x v : Value) → IsTrue (is_plain_operator op) → IsTrue (is_plain_value x) → ContinuedAs c op x right (Ok v) → IsTrue (is_plain_value v)
+  ContinuedAs-plain Both op x v o p h = both-plain op x v o p h
+  ContinuedAs-plain EndsAtFalse op x v o p h = AndThen-plain (out-Value x) right v h
+  ContinuedAs-plain EndsAtTrue op x v o p h = OrElse-plain (out-Value x) right v h
+  ContinuedAs-plain Pattern op x v o p h =
+      let q = first_of-After right (λ y. Matched x y) v h in
+      absurd (cc q.2)
 
 -- a plain node allows plain values alone
 pub Allows-plain : (host : Host) (ctx : Context) (t : Term) (v : Value) → IsTrue (is_plain t) → Allows host ctx t (Ok v) → IsTrue (is_plain_value v)
@@ -89,7 +74,7 @@ Allows-plain host ctx (operation op l r) v p h =
     let o = left-true (is_plain_operator op) (is_plain l && is_plain r) p in
     let both = right-true (is_plain_operator op) (is_plain l && is_plain r) p in
     let q = first_of-After (Allows host ctx l) (λ x. Continued op x (Allows host ctx r)) v h in
-    Continued-plain (Allows host ctx r) (λ w k. Allows-plain host ctx r w (right-true (is_plain l) (is_plain r) both) k) op q.0 v o (
+    ContinuedAs-plain (Allows host ctx r) (λ w k. Allows-plain host ctx r w (right-true (is_plain l) (is_plain r) both) k) (asking_of op) op q.0 v o (
     Allows-plain host ctx l q.0 (left-true (is_plain l) (is_plain r) both) q.1
     ) q.2
 Allows-plain host ctx (name key) v p h = cc
@@ -98,30 +83,6 @@ Allows-plain host ctx (range a b) v p h = cc
 Allows-plain host ctx (call key ts q) v p h = cc
 Allows-plain host ctx (postfix q t) v p h = cc
 Allows-plain host ctx (choice c a b) v p h = cc
-
--- an operator that is neither `and` nor `or` asks both sides
-pub Continued-both : (op : Operator) (x : Value) (right : Answer → Type 0) (a : Answer) → (op ≡ And → ⊥) → (op ≡ Or → ⊥)
-    → Continued op x right a ≡ After right (λ y b. b ≡ applied op x y) a
-Continued-both And x right a n m = absurd (n refl)
-Continued-both Or x right a n m = absurd (m refl)
-Continued-both Add x right a n m = refl
-Continued-both Subtract x right a n m = refl
-Continued-both Multiply x right a n m = refl
-Continued-both Divide x right a n m = refl
-Continued-both Modulo x right a n m = refl
-Continued-both Pow x right a n m = refl
-Continued-both Equal x right a n m = refl
-Continued-both NotEqual x right a n m = refl
-Continued-both GreaterThan x right a n m = refl
-Continued-both GreaterThanOrEqual x right a n m = refl
-Continued-both LessThan x right a n m = refl
-Continued-both LessThanOrEqual x right a n m = refl
-Continued-both In x right a n m = refl
-Continued-both NotIn x right a n m = refl
-Continued-both Contains x right a n m = refl
-Continued-both StartsWith x right a n m = refl
-Continued-both EndsWith x right a n m = refl
-Continued-both Matches x right a n m = refl
 
 -- a node whose tree isn't plain
 not-plain : {A : Type 0} (t u : Term) → t ≡ u → is_plain u ≡ false → IsTrue (is_plain t) → A

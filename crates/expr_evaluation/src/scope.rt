@@ -1,7 +1,7 @@
 //! Inner bindings, beside the context that a host lends.
 ghost use Rattle.std.specs.Prelude.{◌≡◌, IfOk};
 ghost use Rattle.std.specs.Option.{option_copied};
-ghost use Rattle.expr.specs.Scope.{given_by, overridden};
+ghost use Rattle.expr_evaluation.specs.Scope.{overridden};
 
 use expr_operators::Held;
 use expr_value::{ContextProvider, Value};
@@ -21,7 +21,7 @@ pub fn look_up<'s, P: ContextProvider>(
     key: &str,
 ) -> Option<&'s Value>
     ensures { option_copied result
-        ≡ (overridden scope.now (given_by (P.value_of provider.now) (P.map_of provider.now))).value_of key.now }
+        ≡ (overridden scope.now (P.context provider.now)).value_of key.now }
 {
     let mut count = scope.len();
     while count > 0 {

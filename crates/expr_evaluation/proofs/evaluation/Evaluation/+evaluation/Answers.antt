@@ -6,26 +6,29 @@ use Rattle.expr_tree.specs.Written.{written, bound_written, postfix_written, pro
 use Rattle.expr_tree.specs.declared.node.Node.{Node}
 use Rattle.expr_value.specs.Fault.{fault_of}
 use Rattle.expr_value.specs.declared.value.Value.{Value}
-use Rattle.expr.specs.Allows.{Allows, AllowsAll, AllowsBlock, AllowsPostfix, Continued}
+use Rattle.expr_evaluation.specs.Allows.{Allows, AllowsAll, AllowsBlock, AllowsMore, AllowsPostfix, Continued, ContinuedAs, listed}
 use Rattle.expr_value.specs.Answers.{Answer, Gives}
-use Rattle.expr.specs.Context.{Context}
-use Rattle.expr.specs.Host.{Host, hosted}
+use Rattle.expr_evaluation.specs.Context.{Context}
+use Rattle.expr_evaluation.specs.Host.{Host}
+use Rattle.expr_operators.specs.Asking.{asking_of}
 use Rattle.expr_operators.specs.Operators.{applied}
+use Rattle.expr_operators.specs.declared.asking.Asking.TheVariants.{Both, EndsAtFalse, EndsAtTrue}
 use Rattle.expr_operators.specs.Positions.{sliced}
-use Rattle.expr.specs.Plain.{is_plain}
+use Rattle.expr_evaluation.specs.Plain.{is_plain}
 use Rattle.expr_operators.specs.Plain.{is_plain_operator, is_plain_value}
-use Rattle.expr.specs.Scope.{given_by, overridden}
-use Rattle.expr.specs.Several.{terms_written}
-use Rattle.expr.specs.declared.scope.Binding.{Binding}
-use Rattle.expr.proofs.Answered.{prepended, drop-at, loop-step, loop-failed, loop-done, AllowsAll-first, AllowsBlock-line, Gives-of-Is, Gives-passed, Gives-under}
+use Rattle.expr_evaluation.specs.Scope.{overridden}
+use Rattle.expr_evaluation.specs.Several.{terms_written}
+use Rattle.expr_evaluation.specs.declared.scope.Binding.{Binding}
+use Rattle.expr_evaluation.proofs.Allowed.{prepended, drop-at, loop-step, loop-failed, loop-done, AllowsAll-first, AllowsBlock-line, AllowsMore-all}
+use Rattle.expr_value.proofs.Answered.{Gives-of-Is, Gives-passed, Gives-under, first_of-After}
 use Rattle.expr_operators.proofs.Plainly.{Surely-at}
-use Rattle.expr.proofs.Plainly.{Ident-plain, Array-plain, Range-plain, Func-plain, Postfix-plain, Conditional-plain, Allows-plain, Continued-both, first_of-After, left-true, right-true, written-Operation}
-use Rattle.expr.proofs.evaluation.Evaluation.+evaluation.Goals as goal
+use Rattle.expr_evaluation.proofs.Plainly.{Ident-plain, Array-plain, Range-plain, Func-plain, Postfix-plain, Conditional-plain, Allows-plain, left-true, right-true, written-Operation}
+use Rattle.expr_evaluation.proofs.evaluation.Evaluation.+evaluation.Goals as goal
 
 pub evaluate-returns-in_err-first-in-Operation-clause-plain : goal.evaluate-returns-in_err-first-in-Operation-clause-plain
 evaluate-returns-in_err-first-in-Operation-clause-plain g t c =
-    let host : Host = hosted (g.H.Functions.adds c.args.self.now.host.now) (g.H.Functions.calls c.args.self.now.host.now) in
-    let base : Context = given_by (g.P.ContextProvider.value_of c.args.self.now.provider) (g.P.ContextProvider.map_of c.args.self.now.provider) in
+    let host : Host = g.H.Functions.host c.args.self.now.host.now in
+    let base : Context = g.P.ContextProvider.context c.args.self.now.provider in
     let ctx : Context = overridden c.args.scope.now base in
     let l = c.in-Operation.left.value in
     let r = c.in-Operation.right.value in
@@ -42,17 +45,34 @@ evaluate-returns-in_err-first-in-Operation-clause-plain g t c =
     absurd (cc wrong)
     )
 
-pub evaluate-returns-in_ok-first-in-Operation-clause-plain : goal.evaluate-returns-in_ok-first-in-Operation-clause-plain
-evaluate-returns-in_ok-first-in-Operation-clause-plain g t c =
-    let host : Host = hosted (g.H.Functions.adds c.args.self.now.host.now) (g.H.Functions.calls c.args.self.now.host.now) in
-    let base : Context = given_by (g.P.ContextProvider.value_of c.args.self.now.provider) (g.P.ContextProvider.map_of c.args.self.now.provider) in
+pub evaluate-returns-in-Operation-clause-answer : goal.evaluate-returns-in-Operation-clause-answer
+evaluate-returns-in-Operation-clause-answer g t c =
+    let host : Host = g.H.Functions.host c.args.self.now.host.now in
+    let ctx : Context = overridden c.args.scope.now (g.P.ContextProvider.context c.args.self.now.provider) in
+    let l = c.in-Operation.left.value in
+    let r = c.in-Operation.right.value in
+    let op = c.in-Operation.operator in
+    let is : written c.args.node.now ≡ operation op (written l) (written r) = ap written c.in-Operation.is ∙ written-Operation op c.in-Operation.left c.in-Operation.right c.in-Operation.compiled_regex in
+    let first = c.in_ok-first-in-Operation.first in
+    let first_is = subst (λ m. Allows host ctx (written m) (Ok first)) c.deref-in-Operation.ensures c.in_ok-first-in-Operation.ensures.answer in
+    let next = Continued op first (Allows host ctx (written r)) in
+    subst (λ n. Gives c.operate.result (Allows host ctx n)) (sym is) (
+    Gives-under c.operate.result next (Allows host ctx (operation op (written l) (written r))) (λ a p. (Ok first, first_is, p)) (
+    subst (λ m. Gives c.operate.result (Continued op first (Allows host ctx (written m)))) c.deref-in-Operation-2.ensures c.operate.ensures.answer
+    )
+    )
+
+pub evaluate-returns-in-Operation-clause-plain : goal.evaluate-returns-in-Operation-clause-plain
+evaluate-returns-in-Operation-clause-plain g t c =
+    let host : Host = g.H.Functions.host c.args.self.now.host.now in
+    let base : Context = g.P.ContextProvider.context c.args.self.now.provider in
     let ctx : Context = overridden c.args.scope.now base in
     let l = c.in-Operation.left.value in
     let r = c.in-Operation.right.value in
     let op = c.in-Operation.operator in
     let first = c.in_ok-first-in-Operation.first in
     let is : written c.args.node.now ≡ operation op (written l) (written r) = ap written c.in-Operation.is ∙ written-Operation op c.in-Operation.left c.in-Operation.right c.in-Operation.compiled_regex in
-    subst (λ n. (v : Value) → IsTrue (is_plain n) → Allows host ctx n (Ok v) → c.join.result ≡ Ok v) (sym is) (
+    subst (λ n. (v : Value) → IsTrue (is_plain n) → Allows host ctx n (Ok v) → c.operate.result ≡ Ok v) (sym is) (
     λ v p h.
     let o = left-true (is_plain_operator op) (is_plain (written l) && is_plain (written r)) p in
     let both = right-true (is_plain_operator op) (is_plain (written l) && is_plain (written r)) p in
@@ -63,50 +83,54 @@ evaluate-returns-in_ok-first-in-Operation-clause-plain g t c =
     (subst (λ m. Allows host ctx (written m) (Ok q.0)) (sym c.deref-in-Operation.ensures) q.1)) in
     let first_plain = subst (λ w. IsTrue (is_plain_value w)) (sym same) (Allows-plain host ctx (written l) q.0 l_plain q.1) in
     let next = subst (λ w. Continued op w (Allows host ctx (written r)) (Ok v)) (sym same) q.2 in
-    c.join.ensures.plain v o first_plain
+    c.operate.ensures.plain v o first_plain
     (subst (λ m. IsTrue (is_plain (written m))) (sym c.deref-in-Operation-2.ensures) (right-true (is_plain (written l)) (is_plain (written r)) both))
     (subst (λ m. Continued op first (Allows host ctx (written m)) (Ok v)) (sym c.deref-in-Operation-2.ensures) next)
     )
 
-pub join-returns-in-And-clause-plain : goal.join-returns-in-And-clause-plain
-join-returns-in-And-clause-plain g t c =
-    let host : Host = hosted (g.H.Functions.adds c.args.self.now.host.now) (g.H.Functions.calls c.args.self.now.host.now) in
-    let base : Context = given_by (g.P.ContextProvider.value_of c.args.self.now.provider) (g.P.ContextProvider.map_of c.args.self.now.provider) in
+pub operate-returns-in-EndsAtFalse-clause-plain : goal.operate-returns-in-EndsAtFalse-clause-plain
+operate-returns-in-EndsAtFalse-clause-plain g t c =
+    let host : Host = g.H.Functions.host c.args.self.now.host.now in
+    let base : Context = g.P.ContextProvider.context c.args.self.now.provider in
+    let op = c.args.operator in
     let right = Allows host (overridden c.args.scope.now base) (written c.args.right.now) in
-    λ v o p q h. c.and_then.ensures.plain v q (subst (λ op. Continued op c.args.first right (Ok v)) c.in-And.is h)
+    let asked : asking_of op ≡ EndsAtFalse = sym c.sides_asked.ensures ∙ c.in-EndsAtFalse.is in
+    λ v o p q h. c.and_then.ensures.plain v q (subst (λ k. ContinuedAs k op c.args.first right (Ok v)) asked h)
 
-pub join-returns-in-Or-clause-plain : goal.join-returns-in-Or-clause-plain
-join-returns-in-Or-clause-plain g t c =
-    let host : Host = hosted (g.H.Functions.adds c.args.self.now.host.now) (g.H.Functions.calls c.args.self.now.host.now) in
-    let base : Context = given_by (g.P.ContextProvider.value_of c.args.self.now.provider) (g.P.ContextProvider.map_of c.args.self.now.provider) in
+pub operate-returns-in-EndsAtTrue-clause-plain : goal.operate-returns-in-EndsAtTrue-clause-plain
+operate-returns-in-EndsAtTrue-clause-plain g t c =
+    let host : Host = g.H.Functions.host c.args.self.now.host.now in
+    let base : Context = g.P.ContextProvider.context c.args.self.now.provider in
+    let op = c.args.operator in
     let right = Allows host (overridden c.args.scope.now base) (written c.args.right.now) in
-    λ v o p q h. c.or_else.ensures.plain v q (subst (λ op. Continued op c.args.first right (Ok v)) c.in-Or.is h)
+    let asked : asking_of op ≡ EndsAtTrue = sym c.sides_asked.ensures ∙ c.in-EndsAtTrue.is in
+    λ v o p q h. c.or_else.ensures.plain v q (subst (λ k. ContinuedAs k op c.args.first right (Ok v)) asked h)
 
-pub join-returns-in_ok-second-in_default : goal.join-returns-in_ok-second-in_default
-join-returns-in_ok-second-in_default g t c =
-    let host : Host = hosted (g.H.Functions.adds c.args.self.now.host.now) (g.H.Functions.calls c.args.self.now.host.now) in
-    let base : Context = given_by (g.P.ContextProvider.value_of c.args.self.now.provider) (g.P.ContextProvider.map_of c.args.self.now.provider) in
+pub operate-returns-in-Both : goal.operate-returns-in-Both
+operate-returns-in-Both g t c =
+    let host : Host = g.H.Functions.host c.args.self.now.host.now in
+    let base : Context = g.P.ContextProvider.context c.args.self.now.provider in
     let ctx : Context = overridden c.args.scope.now base in
     let op = c.args.operator in
     let first = c.args.first in
-    let second = c.in_ok-second-in_default.second in
+    let second = c.in_ok-second-in-Both.second in
     let right = Allows host ctx (written c.args.right.now) in
+    let asked : asking_of op ≡ Both = sym c.sides_asked.ensures ∙ c.in-Both.is in
     record {
-      answer = Gives-of-Is c.applied.result (applied op first second) (Continued op first right) c.applied.ensures.answer (
-          subst (λ T. T) (sym (Continued-both op first right (applied op first second) c.in_default.not-And c.in_default.not-Or))
-          (Ok second, c.in_ok-second-in_default.ensures.answer, refl)
+      answer = Gives-of-Is c.apply_held.result (applied op first second) (Continued op first right) c.apply_held.ensures.answer (
+          subst (λ k. ContinuedAs k op first right (applied op first second)) (sym asked) (Ok second, c.in_ok-second-in-Both.ensures.answer, refl)
           );
       plain = λ v o p q h.
-          let found = first_of-After right (λ y b. b ≡ applied op first y) v (subst (λ T. T) (Continued-both op first right (Ok v) c.in_default.not-And c.in_default.not-Or) h) in
-          let same : second ≡ found.0 = cc (c.in_ok-second-in_default.ensures.plain found.0 q found.1) in
+          let found = first_of-After right (λ y b. b ≡ applied op first y) v (subst (λ k. ContinuedAs k op first right (Ok v)) asked h) in
+          let same : second ≡ found.0 = cc (c.in_ok-second-in-Both.ensures.plain found.0 q found.1) in
           let second_plain = subst (λ w. IsTrue (is_plain_value w)) (sym same) (Allows-plain host ctx (written c.args.right.now) found.0 q found.1) in
-          Surely-at c.applied.result (applied op first second) v (c.applied.ensures.plain o p second_plain) (ap (applied op first) same ∙ sym found.2);
+          Surely-at c.apply_held.result (applied op first second) v (c.apply_held.ensures.plain o p second_plain) (ap (applied op first) same ∙ sym found.2);
     }
 
 pub follow-returns-in_err-start-in-Range : goal.follow-returns-in_err-start-in-Range
 follow-returns-in_err-start-in-Range g t c =
-    let host : Host = hosted (g.H.Functions.adds c.args.self.now.host.now) (g.H.Functions.calls c.args.self.now.host.now) in
-    let base : Context = given_by (g.P.ContextProvider.value_of c.args.self.now.provider) (g.P.ContextProvider.map_of c.args.self.now.provider) in
+    let host : Host = g.H.Functions.host c.args.self.now.host.now in
+    let base : Context = g.P.ContextProvider.context c.args.self.now.provider in
     let ctx : Context = overridden c.args.scope.now base in
     let a = bound_written c.in-Range.start in
     let b = bound_written c.in-Range.end in
@@ -122,8 +146,8 @@ follow-returns-in_err-start-in-Range g t c =
 
 pub follow-returns-in_err-stop-in-Range : goal.follow-returns-in_err-stop-in-Range
 follow-returns-in_err-stop-in-Range g t c =
-    let host : Host = hosted (g.H.Functions.adds c.args.self.now.host.now) (g.H.Functions.calls c.args.self.now.host.now) in
-    let base : Context = given_by (g.P.ContextProvider.value_of c.args.self.now.provider) (g.P.ContextProvider.map_of c.args.self.now.provider) in
+    let host : Host = g.H.Functions.host c.args.self.now.host.now in
+    let base : Context = g.P.ContextProvider.context c.args.self.now.provider in
     let ctx : Context = overridden c.args.scope.now base in
     let a = bound_written c.in-Range.start in
     let b = bound_written c.in-Range.end in
@@ -147,8 +171,8 @@ follow-returns-in_err-stop-in-Range g t c =
 
 pub follow-returns-in-Range : goal.follow-returns-in-Range
 follow-returns-in-Range g t c =
-    let host : Host = hosted (g.H.Functions.adds c.args.self.now.host.now) (g.H.Functions.calls c.args.self.now.host.now) in
-    let base : Context = given_by (g.P.ContextProvider.value_of c.args.self.now.provider) (g.P.ContextProvider.map_of c.args.self.now.provider) in
+    let host : Host = g.H.Functions.host c.args.self.now.host.now in
+    let base : Context = g.P.ContextProvider.context c.args.self.now.provider in
     let ctx : Context = overridden c.args.scope.now base in
     let a = bound_written c.in-Range.start in
     let b = bound_written c.in-Range.end in
@@ -168,44 +192,92 @@ follow-returns-in-Range g t c =
     )
     )
 
-pub evaluate_all-loop-node-preserved : goal.evaluate_all-loop-node-preserved
-evaluate_all-loop-node-preserved g t c =
-    let host : Host = hosted (g.H.Functions.adds c.args.self.now.host.now) (g.H.Functions.calls c.args.self.now.host.now) in
-    let base : Context = given_by (g.P.ContextProvider.value_of c.args.self.now.provider) (g.P.ContextProvider.map_of c.args.self.now.provider) in
+pub items-loop-node-preserved : goal.items-loop-node-preserved
+items-loop-node-preserved g t c =
+    let host : Host = g.H.Functions.host c.args.self.now.host.now in
+    let base : Context = g.P.ContextProvider.context c.args.self.now.provider in
     let ctx : Context = overridden c.args.scope.now base in
     let v = c.in_ok-keep.field-0 in
     let node = c.node-item.result in
-    λ rest p. subst (λ vs. AllowsAll host ctx (terms_written c.args.nodes.now) (prepended vs rest)) (sym c.in_ok-push.ensures.items) (
-    loop-step (λ ns. AllowsAll host ctx (terms_written ns)) c.args.nodes.now c.loop-node.node-index c.loop-node.values.items c.loop-node.invariant node v c.node-item.is c.loop-node-test.true (AllowsAll-first host ctx (written node) (terms_written (drop (c.loop-node.node-index + 1) c.args.nodes.now)) v c.in_ok-keep.ensures) rest p
+    let all = AllowsAll host ctx (terms_written c.args.nodes.now) in
+    λ rest p. subst (λ vs. all (prepended vs rest)) (sym c.in_ok-push.ensures.items) (
+    loop-step (λ ns. AllowsAll host ctx (terms_written ns)) all c.args.nodes.now c.loop-node.node-index c.loop-node.values.items c.loop-node.invariant node v c.node-item.is c.loop-node-test.true (AllowsAll-first host ctx (written node) (terms_written (drop (c.loop-node.node-index + 1) c.args.nodes.now)) v c.in_ok-keep.ensures) rest p
     )
 
-pub evaluate_all-returns-in_err-keep : goal.evaluate_all-returns-in_err-keep
-evaluate_all-returns-in_err-keep g t c =
-    let host : Host = hosted (g.H.Functions.adds c.args.self.now.host.now) (g.H.Functions.calls c.args.self.now.host.now) in
-    let base : Context = given_by (g.P.ContextProvider.value_of c.args.self.now.provider) (g.P.ContextProvider.map_of c.args.self.now.provider) in
+pub items-returns-in_err-keep : goal.items-returns-in_err-keep
+items-returns-in_err-keep g t c =
+    let host : Host = g.H.Functions.host c.args.self.now.host.now in
+    let base : Context = g.P.ContextProvider.context c.args.self.now.provider in
     let ctx : Context = overridden c.args.scope.now base in
     let k = fault_of c.in_err-keep.field-0.0 in
-    Gives-passed _ c.in_err-keep.field-0.0 (AllowsAll host ctx (terms_written c.args.nodes.now)) c.from_residual-in_err-keep.ensures.1 (
-    λ m. loop-failed (λ ns. AllowsAll host ctx (terms_written ns)) c.args.nodes.now c.loop-node.node-index c.loop-node.values.items c.loop-node.invariant c.node-item.result k c.node-item.is c.loop-node-test.true (
+    let all = AllowsAll host ctx (terms_written c.args.nodes.now) in
+    Gives-passed _ c.in_err-keep.field-0.0 all c.from_residual-in_err-keep.ensures.1 (
+    λ m. loop-failed (λ ns. AllowsAll host ctx (terms_written ns)) all c.args.nodes.now c.loop-node.node-index c.loop-node.values.items c.loop-node.invariant c.node-item.result k c.node-item.is c.loop-node-test.true (
       Err k,
       c.in_err-keep.ensures m,
       refl,
     )
     )
 
-pub evaluate_all-returns : goal.evaluate_all-returns
-evaluate_all-returns g t c =
-    let host : Host = hosted (g.H.Functions.adds c.args.self.now.host.now) (g.H.Functions.calls c.args.self.now.host.now) in
-    let base : Context = given_by (g.P.ContextProvider.value_of c.args.self.now.provider) (g.P.ContextProvider.map_of c.args.self.now.provider) in
+pub items-returns : goal.items-returns
+items-returns g t c =
+    let host : Host = g.H.Functions.host c.args.self.now.host.now in
+    let base : Context = g.P.ContextProvider.context c.args.self.now.provider in
     let ctx : Context = overridden c.args.scope.now base in
-    subst (λ vs. AllowsAll host ctx (terms_written c.args.nodes.now) (Ok vs)) (sym c.from_vec.ensures) (
-    loop-done (λ ns. AllowsAll host ctx (terms_written ns)) c.args.nodes.now c.loop-node.node-index c.loop-node.values.items c.loop-node.invariant c.loop-node-test.false refl
+    let all = AllowsAll host ctx (terms_written c.args.nodes.now) in
+    subst (λ vs. all (Ok vs)) (sym c.from_vec.ensures) (
+    loop-done (λ ns. AllowsAll host ctx (terms_written ns)) all c.args.nodes.now c.loop-node.node-index c.loop-node.values.items c.loop-node.invariant c.loop-node-test.false refl
+    )
+
+pub arguments-loop-node-init : goal.arguments-loop-node-init
+arguments-loop-node-init g t c =
+    let host : Host = g.H.Functions.host c.args.self.now.host.now in
+    let base : Context = g.P.ContextProvider.context c.args.self.now.provider in
+    let ctx : Context = overridden c.args.scope.now base in
+    let ts = terms_written c.args.nodes.now in
+    λ rest p. subst (λ vs. AllowsMore host ctx (listed c.args.first) ts (prepended vs rest)) (sym c.in_ok-values.ensures) (AllowsMore-all host ctx (listed c.args.first) ts rest p)
+
+pub arguments-loop-node-preserved : goal.arguments-loop-node-preserved
+arguments-loop-node-preserved g t c =
+    let host : Host = g.H.Functions.host c.args.self.now.host.now in
+    let base : Context = g.P.ContextProvider.context c.args.self.now.provider in
+    let ctx : Context = overridden c.args.scope.now base in
+    let v = c.in_ok-evaluate.field-0 in
+    let node = c.node-item.result in
+    let whole = AllowsMore host ctx (listed c.args.first) (terms_written c.args.nodes.now) in
+    λ rest p. subst (λ vs. whole (prepended vs rest)) (sym c.in_ok-push.ensures.items) (
+    loop-step (λ ns. AllowsAll host ctx (terms_written ns)) whole c.args.nodes.now c.loop-node.node-index c.loop-node.values.items c.loop-node.invariant node v c.node-item.is c.loop-node-test.true (AllowsAll-first host ctx (written node) (terms_written (drop (c.loop-node.node-index + 1) c.args.nodes.now)) v c.in_ok-evaluate.ensures.answer) rest p
+    )
+
+pub arguments-returns-in_err-evaluate : goal.arguments-returns-in_err-evaluate
+arguments-returns-in_err-evaluate g t c =
+    let host : Host = g.H.Functions.host c.args.self.now.host.now in
+    let base : Context = g.P.ContextProvider.context c.args.self.now.provider in
+    let ctx : Context = overridden c.args.scope.now base in
+    let k = fault_of c.in_err-evaluate.field-0.0 in
+    let whole = AllowsMore host ctx (listed c.args.first) (terms_written c.args.nodes.now) in
+    Gives-passed _ c.in_err-evaluate.field-0.0 whole c.from_residual-in_err-evaluate.ensures.1 (
+    λ m. loop-failed (λ ns. AllowsAll host ctx (terms_written ns)) whole c.args.nodes.now c.loop-node.node-index c.loop-node.values.items c.loop-node.invariant c.node-item.result k c.node-item.is c.loop-node-test.true (
+      Err k,
+      c.in_err-evaluate.ensures.answer m,
+      refl,
+    )
+    )
+
+pub arguments-returns : goal.arguments-returns
+arguments-returns g t c =
+    let host : Host = g.H.Functions.host c.args.self.now.host.now in
+    let base : Context = g.P.ContextProvider.context c.args.self.now.provider in
+    let ctx : Context = overridden c.args.scope.now base in
+    let whole = AllowsMore host ctx (listed c.args.first) (terms_written c.args.nodes.now) in
+    subst (λ vs. whole (Ok vs)) (sym c.from_vec.ensures) (
+    loop-done (λ ns. AllowsAll host ctx (terms_written ns)) whole c.args.nodes.now c.loop-node.node-index c.loop-node.values.items c.loop-node.invariant c.loop-node-test.false refl
     )
 
 pub run_lines-loop-name-preserved : goal.run_lines-loop-name-preserved
 run_lines-loop-name-preserved g t c =
-    let host : Host = hosted (g.H.Functions.adds c.args.self.now.host.now) (g.H.Functions.calls c.args.self.now.host.now) in
-    let base : Context = given_by (g.P.ContextProvider.value_of c.args.self.now.provider) (g.P.ContextProvider.map_of c.args.self.now.provider) in
+    let host : Host = g.H.Functions.host c.args.self.now.host.now in
+    let base : Context = g.P.ContextProvider.context c.args.self.now.provider in
     let lines_of = λ (ls : List (String Global × Node)). block_of (map (λ p. (p.0, written p.1)) ls) (written c.args.program.now.expr) in
     let lines = c.args.program.now.lines.items in
     let i = c.loop-name.name-index in
@@ -228,8 +300,8 @@ run_lines-loop-name-preserved g t c =
 
 pub run_lines-returns-in_err-value : goal.run_lines-returns-in_err-value
 run_lines-returns-in_err-value g t c =
-    let host : Host = hosted (g.H.Functions.adds c.args.self.now.host.now) (g.H.Functions.calls c.args.self.now.host.now) in
-    let base : Context = given_by (g.P.ContextProvider.value_of c.args.self.now.provider) (g.P.ContextProvider.map_of c.args.self.now.provider) in
+    let host : Host = g.H.Functions.host c.args.self.now.host.now in
+    let base : Context = g.P.ContextProvider.context c.args.self.now.provider in
     let lines_of = λ (ls : List (String Global × Node)). block_of (map (λ p. (p.0, written p.1)) ls) (written c.args.program.now.expr) in
     let lines = c.args.program.now.lines.items in
     let i = c.loop-name.name-index in
@@ -251,8 +323,8 @@ run_lines-returns-in_err-value g t c =
 
 pub run_lines-returns : goal.run_lines-returns
 run_lines-returns g t c =
-    let host : Host = hosted (g.H.Functions.adds c.args.self.now.host.now) (g.H.Functions.calls c.args.self.now.host.now) in
-    let base : Context = given_by (g.P.ContextProvider.value_of c.args.self.now.provider) (g.P.ContextProvider.map_of c.args.self.now.provider) in
+    let host : Host = g.H.Functions.host c.args.self.now.host.now in
+    let base : Context = g.P.ContextProvider.context c.args.self.now.provider in
     let lines_of = λ (ls : List (String Global × Node)). block_of (map (λ p. (p.0, written p.1)) ls) (written c.args.program.now.expr) in
     let lines = c.args.program.now.lines.items in
     let i = c.loop-name.name-index in
@@ -267,8 +339,8 @@ run_lines-returns g t c =
     subst (λ s. Gives c.keep-2.result (Allows host (overridden s base) (written c.args.program.now.expr))) c.deref-2.ensures.value c.keep-2.ensures
     )
 
-pub evaluate-returns-in_err-evaluate_all-in-Array-clause-plain : goal.evaluate-returns-in_err-evaluate_all-in-Array-clause-plain
-evaluate-returns-in_err-evaluate_all-in-Array-clause-plain g t c = λ v p h. Array-plain _ c.args.node.now c.in-Array.is p
+pub evaluate-returns-in_err-items-in-Array-clause-plain : goal.evaluate-returns-in_err-items-in-Array-clause-plain
+evaluate-returns-in_err-items-in-Array-clause-plain g t c = λ v p h. Array-plain _ c.args.node.now c.in-Array.is p
 
 pub evaluate-returns-in_err-first-in-Range-clause-plain : goal.evaluate-returns-in_err-first-in-Range-clause-plain
 evaluate-returns-in_err-first-in-Range-clause-plain g t c = λ v p h. Range-plain c.args.node.now c.in-Range.is p
@@ -288,20 +360,20 @@ evaluate-returns-in_err-holds-in-Conditional-clause-plain g t c = λ v p h. Cond
 pub evaluate-returns-in-Ident-clause-plain : goal.evaluate-returns-in-Ident-clause-plain
 evaluate-returns-in-Ident-clause-plain g t c = λ v p h. Ident-plain c.args.node.now c.in-Ident.is p
 
-pub evaluate-returns-in_ok-evaluate_all-in-Array-clause-plain : goal.evaluate-returns-in_ok-evaluate_all-in-Array-clause-plain
-evaluate-returns-in_ok-evaluate_all-in-Array-clause-plain g t c = λ v p h. Array-plain _ c.args.node.now c.in-Array.is p
+pub evaluate-returns-in-Array-clause-plain : goal.evaluate-returns-in-Array-clause-plain
+evaluate-returns-in-Array-clause-plain g t c = λ v p h. Array-plain _ c.args.node.now c.in-Array.is p
 
-pub evaluate-returns-in_ok-first-in-Range-clause-plain : goal.evaluate-returns-in_ok-first-in-Range-clause-plain
-evaluate-returns-in_ok-first-in-Range-clause-plain g t c = λ v p h. Range-plain c.args.node.now c.in-Range.is p
+pub evaluate-returns-in-Range-clause-plain : goal.evaluate-returns-in-Range-clause-plain
+evaluate-returns-in-Range-clause-plain g t c = λ v p h. Range-plain c.args.node.now c.in-Range.is p
 
-pub evaluate-returns-in_ok-args-in-Func-clause-plain : goal.evaluate-returns-in_ok-args-in-Func-clause-plain
-evaluate-returns-in_ok-args-in-Func-clause-plain g t c = λ v p h. Func-plain _ _ _ c.args.node.now c.in-Func.is p
+pub evaluate-returns-in-Func-clause-plain : goal.evaluate-returns-in-Func-clause-plain
+evaluate-returns-in-Func-clause-plain g t c = λ v p h. Func-plain _ _ _ c.args.node.now c.in-Func.is p
 
-pub evaluate-returns-in_ok-value-in-Postfix-clause-plain : goal.evaluate-returns-in_ok-value-in-Postfix-clause-plain
-evaluate-returns-in_ok-value-in-Postfix-clause-plain g t c = λ v p h. Postfix-plain c.args.node.now c.in-Postfix.is p
+pub evaluate-returns-in-Postfix-clause-plain : goal.evaluate-returns-in-Postfix-clause-plain
+evaluate-returns-in-Postfix-clause-plain g t c = λ v p h. Postfix-plain c.args.node.now c.in-Postfix.is p
 
 pub evaluate-returns-then-branch-clause-plain : goal.evaluate-returns-then-branch-clause-plain
 evaluate-returns-then-branch-clause-plain g t c = λ v p h. Conditional-plain _ _ _ c.args.node.now c.in-Conditional.is p
 
-pub evaluate-returns-else-branch-clause-plain : goal.evaluate-returns-else-branch-clause-plain
-evaluate-returns-else-branch-clause-plain g t c = λ v p h. Conditional-plain _ _ _ c.args.node.now c.in-Conditional.is p
+pub evaluate-returns-clause-plain : goal.evaluate-returns-clause-plain
+evaluate-returns-clause-plain g t c = λ v p h. Conditional-plain _ _ _ c.args.node.now c.in-Conditional.is p
