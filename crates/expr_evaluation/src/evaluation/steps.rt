@@ -176,11 +176,7 @@ fn values_of(alloc: Global, held: Items<Held<'_>>) -> Result<Vec<Value>>
 
 /// A list with room for so many more than the value that is there already, if there is one.
 #[inline(never)]
-pub fn list_of<'s>(
-    alloc: Global,
-    first: Option<Held<'s>>,
-    more: usize,
-) -> Result<Vec<Held<'s>>>
+pub fn list_of<'s>(alloc: Global, first: Option<Held<'s>>, more: usize) -> Result<Vec<Held<'s>>>
     ensures ok { IfOk result (λ vs. vs.items ≡ listed first.entry) }
     ensures refusal { IfErr result (λ e. fault_of e ≡ memory) }
 {

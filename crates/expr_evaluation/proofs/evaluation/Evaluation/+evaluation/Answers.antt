@@ -235,7 +235,7 @@ arguments-loop-node-init g t c =
     let base : Context = g.P.ContextProvider.context c.args.self.now.provider in
     let ctx : Context = overridden c.args.scope.now base in
     let ts = terms_written c.args.nodes.now in
-    λ rest p. subst (λ vs. AllowsMore host ctx (listed c.args.first) ts (prepended vs rest)) (sym c.in_ok-values.ensures) (AllowsMore-all host ctx (listed c.args.first) ts rest p)
+    λ rest p. subst (λ vs. AllowsMore host ctx (listed c.args.first) ts (prepended vs rest)) (sym c.in_ok-values.ensures.ok) (AllowsMore-all host ctx (listed c.args.first) ts rest p)
 
 pub arguments-loop-node-preserved : goal.arguments-loop-node-preserved
 arguments-loop-node-preserved g t c =
