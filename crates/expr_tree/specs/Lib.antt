@@ -1,5 +1,7 @@
+pub mod Children
 pub mod Codes
 pub mod Context
+pub mod Inside
 pub mod Names
 pub mod Shown
 pub mod Term
