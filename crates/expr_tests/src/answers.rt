@@ -8,6 +8,8 @@ use expr_value::value;
 use std::alloc::Global;
 use std::test::Fail;
 
+type Tested = std::result::Result<(), Fail>;
+
 /// A provider whose function and map may disagree, and which may have no memory for its map where that is asked for.
 #[derive(Drop)]
 struct Odd {
@@ -49,27 +51,30 @@ fn odd(alloc: Global, refuses: bool) -> Result<Odd> {
     })
 }
 
-/// Texts, what they answer under the odd provider, and what they answer where it refuses its map.
-const UNDER_ODD_PROVIDERS: [(&str, &str, &str); 7] = [
-    ("x", "7", "7"),
-    ("#", "{x: 7}", "{x: 7}"),
-    ("a", "2", "2"),
-    ("$env", "{a: 3}", "!memory"),
-    (r#"$env["$env"]"#, "nil", "!memory"),
-    ("let a = 1; $env.a", "3", "!memory"),
-    ("let $env = 5; $env.a", "3", "!memory"),
+/// What a text answers under the odd provider.
+fn said_by_odd(alloc: Global, refuses: bool, code: &str) -> Result<String> {
+    let provider = odd(alloc, refuses)?;
+    Ok(said(alloc, &provider, code)?)
+}
+
+/// Texts, whether the odd provider refuses its map, and what they answer under it.
+const UNDER_ODD_PROVIDERS: &[(&str, bool, &str)] = &[
+    ("x", false, "7"),
+    ("#", false, "{x: 7}"),
+    ("a", false, "2"),
+    ("$env", false, "{a: 3}"),
+    (r#"$env["$env"]"#, false, "nil"),
+    ("let a = 1; $env.a", false, "3"),
+    ("let $env = 5; $env.a", false, "3"),
+    ("$env", true, "!memory"),
+    ("a", true, "2"),
 ];
 
 #[test]
-fn function_and_map_may_disagree(rt: HostRuntime) -> std::result::Result<(), Fail> {
-    let (open, closed) = (odd(rt.alloc(), false)?, odd(rt.alloc(), true)?);
-    for (code, answer, refusal) in UNDER_ODD_PROVIDERS {
-        assert_eq!(rt; said(rt.alloc(), &open, code)?.as_str(), answer, "{code}");
-        assert_eq!(rt;
-            said(rt.alloc(), &closed, code)?.as_str(),
-            refusal,
-            "{code}"
-        );
+fn function_and_map_may_disagree(rt: HostRuntime) -> Tested {
+    for (code, refuses, expected) in UNDER_ODD_PROVIDERS {
+        let answer = said_by_odd(rt.alloc(), *refuses, code)?;
+        assert_eq!(rt; answer.as_str(), *expected, "{code}");
     }
     Ok(())
 }
@@ -92,14 +97,8 @@ fn by_its_parts(alloc: Global, code: &str) -> Result<Value> {
     }
 }
 
-/// What a program of a text answers, by `run`.
-fn by_run(alloc: Global, code: &str) -> Result<Value> {
-    let context = Context::new(alloc);
-    let program = compile(alloc, code)?;
-    run(alloc, &program, &context)
-}
-
-const BY_PARTS: [(&str, &str); 7] = [
+/// Texts and their answers.
+const BY_PARTS: &[(&str, &str)] = &[
     ("[1, 2]", "[1, 2]"),
     ("1 + 2 * 3 + 1", "8"),
     ("false and 1 / 0", "false"),
@@ -110,12 +109,20 @@ const BY_PARTS: [(&str, &str); 7] = [
 ];
 
 #[test]
-fn parts_are_called_alone(rt: HostRuntime) -> std::result::Result<(), Fail> {
-    for (code, answer) in BY_PARTS {
-        let parts = printed(rt.alloc(), by_its_parts(rt.alloc(), code))?;
-        assert_eq!(rt; parts.as_str(), answer, "{code}");
-        let whole = printed(rt.alloc(), by_run(rt.alloc(), code))?;
-        assert_eq!(rt; whole.as_str(), answer, "{code}");
+fn parts_are_called_alone(rt: HostRuntime) -> Tested {
+    for (code, expected) in BY_PARTS {
+        let answer = printed(rt.alloc(), by_its_parts(rt.alloc(), code))?;
+        assert_eq!(rt; answer.as_str(), *expected, "{code}");
     }
+    Ok(())
+}
+
+// No clause can say that memory is left: a body that is always out of memory is proved.
+#[test]
+fn programs_run(rt: HostRuntime) -> Tested {
+    let program = compile(rt.alloc(), "[1, \"a\" + b]")?;
+    let context = Context::try_from(rt.alloc(), value!(rt.alloc(); {"b": "c"})?)?;
+    let answer = run(rt.alloc(), &program, &context)?;
+    assert_eq!(rt; answer.to_string(rt.alloc())?.as_str(), "[1, \"ac\"]");
     Ok(())
 }

@@ -5,6 +5,8 @@ use expr_value::{bail, refusal, value};
 use std::alloc::Global;
 use std::test::Fail;
 
+type Tested = std::result::Result<(), Fail>;
+
 /// The literal of a row.
 fn literal(alloc: Global, row: usize) -> Result<Value> {
     let key = "key";
@@ -20,7 +22,7 @@ fn literal(alloc: Global, row: usize) -> Result<Value> {
 }
 
 /// What the literals of the rows print.
-const LITERALS: [&str; 6] = [
+const LITERALS: &[&str] = &[
     r#"{a: [1, nil, {b: true}], c: "x"}"#,
     "{key: 42, d: {}, e: [[]]}",
     r#"{key: true, keys: "x"}"#,
@@ -30,7 +32,7 @@ const LITERALS: [&str; 6] = [
 ];
 
 #[test]
-fn literals_are_values(rt: HostRuntime) -> std::result::Result<(), Fail> {
+fn literals_are_values(rt: HostRuntime) -> Tested {
     for (row, text) in LITERALS.iter().enumerate() {
         let printed = printed(rt.alloc(), literal(rt.alloc(), row))?;
         assert_eq!(rt; printed.as_str(), *text);
@@ -50,7 +52,7 @@ fn is_refused<T: Drop>(answer: Result<T>) -> bool {
 }
 
 #[test]
-fn refusals_have_their_kinds(rt: HostRuntime) -> std::result::Result<(), Fail> {
+fn refusals_have_their_kinds(rt: HostRuntime) -> Tested {
     let alloc = rt.alloc();
     assert!(rt; is_refused(quotient(alloc, 7, 0)));
     assert!(rt; is_refused::<()>(Err(refusal(alloc, "no"))));

@@ -18,7 +18,7 @@ fn shown(alloc: Global, text: &str) -> Result<String, Fail> {
 }
 
 /// Pairs of texts, and the one program of both.
-const PAIRS: [(&str, &str, &str); 19] = [
+const PAIRS: &[(&str, &str, &str)] = &[
     ("a | f() * 2", "(a | f()) * 2", "((a | f[]) * 2)"),
     ("2 ^ not a * b", "2 ^ (not (a * b))", "(2 ^ not (a * b))"),
     ("a ^ -b ^ c", "a ^ (-(b ^ c))", "(a ^ -(b ^ c))"),
@@ -55,14 +55,14 @@ const PAIRS: [(&str, &str, &str); 19] = [
 #[test]
 fn pairs_have_one_program(rt: HostRuntime) -> Result<(), Fail> {
     for (text, other, program) in PAIRS {
-        assert_eq!(rt; shown(rt.alloc(), text)?.as_str(), program, "{text}");
-        assert_eq!(rt; shown(rt.alloc(), other)?.as_str(), program, "{other}");
+        assert_eq!(rt; shown(rt.alloc(), text)?.as_str(), *program, "{text}");
+        assert_eq!(rt; shown(rt.alloc(), other)?.as_str(), *program, "{other}");
     }
     Ok(())
 }
 
 /// Texts and their refusals.
-const REFUSALS: [(&str, &str); 18] = [
+const REFUSALS: &[(&str, &str)] = &[
     ("ifx { 1 } else { 2 }", "syntax fault at 4"),
     ("[1, 2", "syntax fault at 5"),
     ("[,]", "syntax fault at 1"),
@@ -86,13 +86,13 @@ const REFUSALS: [(&str, &str); 18] = [
 #[test]
 fn refusals_have_their_places(rt: HostRuntime) -> Result<(), Fail> {
     for (text, refusal) in REFUSALS {
-        assert_eq!(rt; shown(rt.alloc(), text)?.as_str(), refusal, "{text}");
+        assert_eq!(rt; shown(rt.alloc(), text)?.as_str(), *refusal, "{text}");
     }
     Ok(())
 }
 
 /// Texts, the names of their programs, and whether these use `$env`.
-const NAMES: [(&str, &str, bool); 6] = [
+const NAMES: &[(&str, &str, bool)] = &[
     (
         "let a = b; xs | map(a + #) | f(c.d, {k: 1}, $env)",
         "# a b c xs",
@@ -110,8 +110,8 @@ fn programs_have_names(rt: HostRuntime) -> Result<(), Fail> {
     for (text, names, uses_env) in NAMES {
         let program = compile(rt.alloc(), text)?;
         let found = program.names(rt.alloc())?;
-        assert_eq!(rt; found.join(rt.alloc(), " ")?.as_str(), names, "{text}");
-        assert_eq!(rt; program.uses_env(), uses_env, "{text}");
+        assert_eq!(rt; found.join(rt.alloc(), " ")?.as_str(), *names, "{text}");
+        assert_eq!(rt; program.uses_env(), *uses_env, "{text}");
     }
     Ok(())
 }

@@ -4,7 +4,7 @@ use expr_value::{Key, KeyedMap, ValueMap};
 use std::mem::size_of;
 
 /// Bytes of a type, and how many they may be at most.
-const SIZES: [(&str, usize, usize); 8] = [
+const SIZES: &[(&str, usize, usize)] = &[
     ("Value", size_of::<Value>(), 32),
     ("Key", size_of::<Key>(), 32),
     ("ValueMap", size_of::<ValueMap>(), 16),

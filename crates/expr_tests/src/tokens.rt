@@ -34,7 +34,7 @@ fn shown(alloc: Global, text: &str) -> Result<String, Fail> {
 }
 
 /// Texts and their readings.
-const READINGS: [(&str, &str); 43] = [
+const READINGS: &[(&str, &str)] = &[
     ("0x_2A 0B101 0o17 1_000 007", "42 5 15 1000 7 "),
     ("0x7FFF_FFFF_FFFF_FFFF", "9223372036854775807 "),
     ("0x8000000000000000 9223372036854775808", "large large "),
@@ -92,8 +92,13 @@ const READINGS: [(&str, &str); 43] = [
 #[test]
 fn texts_have_their_readings(rt: HostRuntime) -> Result<(), Fail> {
     for (text, tokens) in READINGS {
-        assert_eq!(rt; shown(rt.alloc(), text)?.as_str(), tokens, "{text}");
+        assert_eq!(rt; shown(rt.alloc(), text)?.as_str(), *tokens, "{text}");
     }
+    Ok(())
+}
+
+#[test]
+fn tokens_have_their_starts(rt: HostRuntime) -> Result<(), Fail> {
     let reading = read(rt.alloc(), "'é' /* é */ ab+1")?;
     assert_eq!(rt; reading.starts.as_slice(), [0, 14, 16, 17].as_slice());
     Ok(())

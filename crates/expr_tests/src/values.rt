@@ -52,19 +52,21 @@ fn made(alloc: Global) -> Result<Context> {
             "repeated": repeated,
             "kinds": kinds,
             "named": named,
+            "owned": string(alloc, "x")?,
             "nested": {"b": [1, "x"], "a": {"c": nil}},
         })?,
     )
 }
 
 /// Texts and their answers.
-const ANSWERS: [(&str, &str); 14] = [
+const ANSWERS: &[(&str, &str)] = &[
     ("default", "nil"),
     ("largest", "-1"),
     ("span", "-5ns"),
     ("none", "13"),
     ("repeated", r#"{2: "b", "x": 1}"#),
     ("named", "{b: 3, a: 2}"),
+    ("owned", "\"x\""),
     ("repeated[2]", r#""b""#),
     (r#"repeated["x"]"#, "1"),
     ("repeated[two]", "nil"),
@@ -79,7 +81,7 @@ const ANSWERS: [(&str, &str); 14] = [
 fn made_values_answer(rt: HostRuntime) -> Tested {
     let names = made(rt.alloc())?;
     for (code, answer) in ANSWERS {
-        assert_eq!(rt; said(rt.alloc(), &names, code)?.as_str(), answer, "{code}");
+        assert_eq!(rt; said(rt.alloc(), &names, code)?.as_str(), *answer, "{code}");
     }
     Ok(())
 }
@@ -91,7 +93,7 @@ fn string_of(alloc: Global, names: &Context, code: &str) -> Result<(String, bool
 }
 
 /// Texts and the `string` texts of their answers.
-const STRINGS: [(&str, &str); 6] = [
+const STRINGS: &[(&str, &str)] = &[
     ("kinds", "map[<nil>:4 2:3 10:2 1x:1]"),
     ("nested", "map[a:map[c:<nil>] b:[1 x]]"),
     ("last", "December"),
@@ -105,14 +107,14 @@ fn made_values_have_strings(rt: HostRuntime) -> Tested {
     let names = made(rt.alloc())?;
     for (code, expected) in STRINGS {
         let (text, has_equal_copy) = string_of(rt.alloc(), &names, code)?;
-        assert_eq!(rt; text.as_str(), expected, "{code}");
+        assert_eq!(rt; text.as_str(), *expected, "{code}");
         assert!(rt; has_equal_copy, "{code}");
     }
     Ok(())
 }
 
 /// Lengths of time, in nanoseconds, as Go's `time.Duration` prints them.
-const DURATIONS: [(i64, &str); 11] = [
+const DURATIONS: &[(i64, &str)] = &[
     (0, "0s"),
     (1, "1ns"),
     (1_100, "1.1\u{b5}s"),
@@ -129,8 +131,8 @@ const DURATIONS: [(i64, &str); 11] = [
 #[test]
 fn durations_have_strings(rt: HostRuntime) -> Tested {
     for (nanoseconds, expected) in DURATIONS {
-        let text = Value::Duration(nanoseconds).string_text(rt.alloc())?;
-        assert_eq!(rt; text.as_str(), expected);
+        let text = Value::Duration(*nanoseconds).string_text(rt.alloc())?;
+        assert_eq!(rt; text.as_str(), *expected);
     }
     Ok(())
 }
@@ -237,6 +239,11 @@ fn values_lend_what_they_hold(rt: HostRuntime) {
         Value::from(7_i32).as_integer() == Some(7) && Value::from(true).as_bool() == Some(true)
     );
     assert!(rt; Value::Duration(7).as_duration() == Some(7) && Value::Nil.is_nil());
+    assert!(rt;
+        Value::Bytes(Items::from_vec(Vec::new(rt.alloc())))
+            .as_bytes()
+            .is_some()
+    );
     assert!(rt; Value::Month(7).as_string().is_none() && Value::Month(7).as_array().is_none());
     assert!(rt; Key::Nil < Key::Bool(false) && Key::Bool(false) < Key::Bool(true));
     assert!(rt; Key::Integer(10) > Key::Integer(-10) && Key::Integer(10) < Key::Duration(-10));
