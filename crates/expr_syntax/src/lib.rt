@@ -7,8 +7,6 @@ pub mod laws;
 pub mod parser;
 mod read;
 pub mod sign;
-#[cfg(test)]
-mod tests;
 mod text;
 
 pub use text::compile;
