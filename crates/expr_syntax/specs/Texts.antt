@@ -7,9 +7,9 @@ use Rattle.expr_tree.specs.Written.{program_written}
 use Rattle.expr_tree.specs.declared.node.Program.{Program}
 use Rattle.expr_value.specs.declared.error.Error.{Error}
 use Rattle.expr_value.specs.declared.error.Error.TheVariants.{PestError, ParseError, ExprError, RegexError, MemoryError}
-use Rattle.expr_syntax.specs.Grammar.{TreeProgram, Spells, Fits, LiteralsFit}
-use Rattle.expr_syntax.specs.Kept.{program_of}
-use Rattle.expr_syntax.specs.Prefixes.{SomeBegins, NoneBegins}
+use Rattle.expr_grammar.specs.Grammar.{TreeProgram, Spells, Fits, LiteralsFit}
+use Rattle.expr_frames.specs.Kept.{program_of}
+use Rattle.expr_grammar.specs.Prefixes.{SomeBegins, NoneBegins}
 
 -- the tree spells what the text reads as, and fits
 pub record IsTreeOf (text : List ℕ) (t : TreeProgram) : Type 0 where

@@ -3,25 +3,28 @@
 ghost use Rattle.std.specs.Prelude.{◌≡◌, ◌∷◌, [], ◌++◌, None, IfOk, MatchOption, vec_len, ◌<◌};
 ghost use Rattle.expr_tree.specs.Term.{postfix, slice, literal};
 ghost use Rattle.expr_tree.specs.Parts.{bound_with};
-ghost use Rattle.expr_syntax.specs.declared.frame.Frame.TheVariants as frame;
-ghost use Rattle.expr_syntax.specs.declared.frame.Place.TheVariants as place;
-ghost use Rattle.expr_syntax.specs.declared.frame.Section.TheVariants as section;
-ghost use Rattle.expr_syntax.specs.declared.frame.Operand.TheVariants as operand;
+ghost use Rattle.expr_frames.specs.declared.frame.Frame.TheVariants as frame;
+ghost use Rattle.expr_frames.specs.declared.frame.Place.TheVariants as place;
+ghost use Rattle.expr_frames.specs.declared.frame.Section.TheVariants as section;
+ghost use Rattle.expr_frames.specs.declared.frame.Operand.TheVariants as operand;
 ghost use Rattle.expr_value.specs.declared.value.Value.TheVariants as value;
-ghost use Rattle.expr_syntax.specs.Machine.{role as role_of};
-ghost use Rattle.expr_syntax.specs.Grammar.{TreeProgram, Spells, Fits};
-ghost use Rattle.expr_syntax.specs.Kept.{given_more, given_program};
-ghost use Rattle.expr_syntax.specs.Nodes as machine;
-ghost use Rattle.expr_syntax.specs.Reading.{stack, IsCallOnTop, Stands, Gives, PopsAbove, IsParse, IsAnswer, IsLiteralFault, IsAtFault};
+ghost use Rattle.expr_grammar.specs.Machine.{role as role_of};
+ghost use Rattle.expr_grammar.specs.Grammar.{TreeProgram, Spells, Fits};
+ghost use Rattle.expr_frames.specs.Kept.{given_more, given_program};
+ghost use Rattle.expr_frames.specs.Nodes as machine;
+ghost use Rattle.expr_frames.specs.Faults.{Gives};
+ghost use Rattle.expr_syntax.specs.Reading.{stack, IsCallOnTop, Stands, PopsAbove, IsParse, IsAnswer, IsLiteralFault, IsAtFault};
 
 mod brace;
 
-use crate::build::{branched, member, nested};
-use crate::frame::{
-    Caller, Chain, Fault, Frame, Holder, Operand, Place, Reaching, Role, Section, Start,
+use expr_frames::build::{branched, member, nested};
+use expr_frames::frame::{
+    Caller, Chain, Fault, Frame, Holder, Operand, Place, Reaching, Section, Start,
 };
-use crate::read;
-use crate::sign::InfixSign;
+use expr_frames::read;
+use expr_grammar::literals::literals_fit;
+use expr_grammar::role::Role;
+use expr_grammar::sign::InfixSign;
 use expr_token::{Reserved, Sign, Token};
 use expr_tree::node::Program;
 use expr_tree::part::{Arguments, Lines, Part, ProgramPart};
@@ -179,7 +182,7 @@ impl Parser {
     fn follow(&mut self, left: Operand, token: Token) -> Result<Place, Fault>
         ensures { Stands (machine.had (role_of token) token (stack self.old.frames.items) left) self.new.frames.items result }
     {
-        let role = read::role(&token);
+        let role = Role::of(&token);
         self.had(role, left, token)
     }
 
@@ -712,7 +715,7 @@ pub fn parse(alloc: Global, tokens: Vec<Token>) -> Result<Program, ParseError>
     // Some program begins with the tokens before the index of a syntax fault, and none with the one at it too.
     ensures place { IsAtFault tokens.items result }
 {
-    let literals_fit = read::literals_fit(&tokens);
+    let literals_fit = literals_fit(&tokens);
     let Ok(mut parser) = Parser::new(alloc) else {
         return Err(ParseError::Memory);
     };
