@@ -8,7 +8,7 @@ ghost use Rattle.expr_frames.specs.Nodes as machine;
 use crate::frame::{Caller, Chain, Fault, Frame, Meaning, Operand, Reaching};
 use expr_grammar::sign::{InfixSign, PrefixSign};
 use expr_tree::operator::{Operator, UnaryOperator};
-use expr_tree::part::{Arguments, Lines, Part, ProgramPart};
+use expr_parts::{Arguments, Lines, Part, ProgramPart};
 use expr_value::{Items, Text, Value};
 use std::alloc::{AllocError, AllocFailed, Global};
 

@@ -3,7 +3,7 @@
 use expr_grammar::sign::{InfixSign, PrefixSign};
 use expr_token::Token;
 use expr_tree::operator::Operator;
-use expr_tree::part::{Arguments, Lines, Part, ProgramPart};
+use expr_parts::{Arguments, Lines, Part, ProgramPart};
 use expr_value::{Items, Text, Value, ValueMap};
 
 /// The branches of a choice before its last one.

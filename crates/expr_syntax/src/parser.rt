@@ -2,7 +2,7 @@
 
 ghost use Rattle.std.specs.Prelude.{◌≡◌, ◌∷◌, [], ◌++◌, None, IfOk, MatchOption, vec_len, ◌<◌};
 ghost use Rattle.expr_tree.specs.Term.{postfix, slice, literal};
-ghost use Rattle.expr_tree.specs.Parts.{bound_with};
+ghost use Rattle.expr_parts.specs.Parts.{bound_with};
 ghost use Rattle.expr_frames.specs.declared.frame.Frame.TheVariants as frame;
 ghost use Rattle.expr_frames.specs.declared.frame.Place.TheVariants as place;
 ghost use Rattle.expr_frames.specs.declared.frame.Section.TheVariants as section;
@@ -27,7 +27,7 @@ use expr_grammar::role::Role;
 use expr_grammar::sign::InfixSign;
 use expr_token::{Reserved, Sign, Token};
 use expr_tree::node::Program;
-use expr_tree::part::{Arguments, Lines, Part, ProgramPart};
+use expr_parts::{Arguments, Lines, Part, ProgramPart};
 use expr_value::{Items, Text, Value, ValueMap};
 use std::alloc::{AllocError, AllocFailed, Global};
 

@@ -3,8 +3,7 @@ use Rattle.std.proofs.Common.{◌≡◌, ℕ, zero, suc, arith, bytes_eq, ◌+�
 use Rattle.std.proofs.lemmas.List.{append-nil, take_more, map-append}
 use Rattle.std.proofs.lemmas.List.Folds.{list_any-append}
 use Rattle.expr_tree.specs.Names.{env, has_env, operands, all_operands, block_operands, lines_operands, with_name, with_names}
-use Rattle.expr_tree.specs.Parts.{Lines, block_with}
-use Rattle.expr_tree.specs.Term.{Term}
+use Rattle.expr_tree.specs.Term.{Term, LineTerms, block_with}
 use Rattle.expr_tree.specs.Written.{written, line_written, terms_of}
 use Rattle.expr_tree.specs.declared.node.Node.{Node}
 
@@ -20,7 +19,7 @@ pub joined : {E : Type 0} (r : Result (Unit {0}) E) (old mid new xs ys all : Nam
 joined (Ok u) old mid new xs ys all whole first rest = rest ∙ ap (λ m. with_names m ys) first ∙ with_names-append old xs ys ∙ ap (with_names old) (sym whole)
 joined (Err e) old mid new xs ys all whole first rest = tt
 
-pub lines_operands-block : (ls : Lines) (last : Term) → block_operands (block_with ls last) ≡ lines_operands ls ++ operands last
+pub lines_operands-block : (ls : LineTerms) (last : Term) → block_operands (block_with ls last) ≡ lines_operands ls ++ operands last
 lines_operands-block [] last = refl
 lines_operands-block (l ∷ ls) last = ap (λ ns. operands l.1 ++ ns) (lines_operands-block ls last) ∙ sym (append_assoc (operands l.1) (lines_operands ls) (operands last))
 
@@ -32,7 +31,7 @@ all_operands-push : (ts : List Term) (t : Term) → all_operands (terms_of (ts +
 all_operands-push [] t = append-nil (operands t)
 all_operands-push (u ∷ us) t = ap (λ ns. operands u ++ ns) (all_operands-push us t) ∙ sym (append_assoc (operands u) (all_operands (terms_of us)) (operands t))
 
-lines_operands-push : (ls : Lines) (l : List ℕ × Term) → lines_operands (ls ++ l ∷ []) ≡ lines_operands ls ++ operands l.1
+lines_operands-push : (ls : LineTerms) (l : List ℕ × Term) → lines_operands (ls ++ l ∷ []) ≡ lines_operands ls ++ operands l.1
 lines_operands-push [] l = append-nil (operands l.1)
 lines_operands-push (k ∷ ks) l = ap (λ ns. operands k.1 ++ ns) (lines_operands-push ks l) ∙ sym (append_assoc (operands k.1) (lines_operands ks) (operands l.1))
 
@@ -99,5 +98,5 @@ lines_with (m ∷ ls) zero l within at q =
     ∙ ap (λ b. b || has_env (lines_operands (map line_written ls))) (ap (λ (x : String Global × Node). has_env (operands (written x.1))) (sym at) ∙ q)
 lines_with (m ∷ ls) (suc i) l within at q = second _ _ _ (has_env-append (operands (written m.1)) (lines_operands (map line_written ls))) (lines_with ls i l (omega (arith, within)) at q)
 
-pub block_env : (ls : Lines) (last : Term) → has_env (block_operands (block_with ls last)) ≡ (has_env (lines_operands ls) || has_env (operands last))
+pub block_env : (ls : LineTerms) (last : Term) → has_env (block_operands (block_with ls last)) ≡ (has_env (lines_operands ls) || has_env (operands last))
 block_env ls last = ap has_env (lines_operands-block ls last) ∙ has_env-append (lines_operands ls) (operands last)

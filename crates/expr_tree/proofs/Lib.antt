@@ -1,7 +1,6 @@
 pub mod Agreement
 pub mod Gathered
-pub mod Parts
-pub mod Places
+pub mod Programs
 pub mod Rising
 pub mod Shapes
 pub mod Weights

@@ -1,9 +1,6 @@
 pub mod Codes
 pub mod Context
 pub mod Names
-pub mod Parts
-pub mod Places
-pub mod Promotion
 pub mod Shown
 pub mod Term
 pub mod Weight

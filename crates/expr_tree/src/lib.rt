@@ -5,4 +5,3 @@ mod chain;
 mod names;
 pub mod node;
 pub mod operator;
-pub mod part;

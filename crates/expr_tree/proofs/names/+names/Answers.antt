@@ -3,7 +3,7 @@ use Rattle.std.proofs.lemmas.List.{take_all}
 use Rattle.expr_tree.specs.Names.{operands, postfix_operands, bound_operands, all_operands, predicate_operands, block_operands, lines_operands, with_names}
 use Rattle.expr_tree.specs.Written.{written, postfix_written, bound_written, predicate_written, program_written, line_written, terms_of}
 use Rattle.expr_tree.proofs.Gathered.{joined, both, lines_operands-block, next_node, next_line}
-use Rattle.expr_tree.proofs.Parts.{written-parts}
+use Rattle.expr_tree.proofs.Programs.{written-parts}
 use Rattle.expr_tree.proofs.Shapes.{written-Range, written-Operation, written-Postfix, written-Conditional, written-Func, written-Slice, written-Ternary}
 use Rattle.expr_tree.proofs.names.+names.Goals as goal
 

@@ -1,8 +1,8 @@
 -- What a program is made from, before it is whole.
-use Rattle.std.specs.Prelude.{ℕ, List, [], ◌∷◌, Option, Some, None, refl}
+use Rattle.std.specs.Prelude.{List, Option, Some, None, refl}
 use Rattle.std.specs.Coded.{Coded, code_by, coded×, coded_ℕ, coded_list}
 use Rattle.expr_tree.specs.Codes.{term_code, predicate_code}
-use Rattle.expr_tree.specs.Term.{Term, Bound, unbounded, bound, Predicate, no_predicate, predicate, Block, answers, line}
+use Rattle.expr_tree.specs.Term.{Term, Bound, unbounded, bound, Predicate, no_predicate, predicate, Block, LineTerms}
 
 -- the arguments of a call, and the program that was last given in braces
 pub record Given : Type 0 where
@@ -12,17 +12,8 @@ pub record Given : Type 0 where
 abbrev pub given_code : Coded Given
 given_code = code_by (List Term × Predicate) (coded× (coded_list term_code) predicate_code) (λ g. (g.terms, g.program)) (λ p. record { terms = p.0; program = p.1 }) (λ _. refl)
 
--- the names and values of lines, in order
-abbrev pub Lines : Type 0
-Lines = List (List ℕ × Term)
-
-abbrev pub lines_code : Coded Lines
+abbrev pub lines_code : Coded LineTerms
 lines_code = coded_list (coded× (coded_list coded_ℕ) term_code)
-
--- a program of lines and what it answers
-abbrev pub block_with : Lines → Term → Block
-block_with [] last = answers last
-block_with (l ∷ ls) last = line l.0 l.1 (block_with ls last)
 
 -- a bound that may be left out
 abbrev pub bound_with : Option Term → Bound

@@ -1,10 +1,11 @@
 use Rattle.std.proofs.Common.{◌≡◌, ◌||◌, map, sym, ap, ◌∙◌}
-use Rattle.expr_tree.specs.Parts.{block_with}
-use Rattle.expr_tree.specs.Promotion.{has_free_hash, block_has_free_hash, lines_have_free_hash}
+use Rattle.expr_tree.specs.Term.{block_with}
+use Rattle.expr_parts.specs.Promotion.{has_free_hash, block_has_free_hash, lines_have_free_hash}
 use Rattle.expr_tree.specs.Written.{written, line_written}
-use Rattle.expr_tree.proofs.Parts.{written-program, block_free}
-use Rattle.expr_tree.proofs.part.Lines.answering.Goals as goal
-use Rattle.expr_tree.proofs.part.Lines.answering.Goals.{then-has_free_hash, else-has_free_hash}
+use Rattle.expr_tree.proofs.Programs.{written-program}
+use Rattle.expr_parts.proofs.Parts.{block_free}
+use Rattle.expr_parts.proofs.program.Lines.answering.Goals as goal
+use Rattle.expr_parts.proofs.program.Lines.answering.Goals.{then-has_free_hash, else-has_free_hash}
 
 pub invariant_of-result : goal.invariant_of-result
 invariant_of-result c =

@@ -1,7 +1,7 @@
 -- Which argument is promoted, by whether a hash name is free in each.
 use Rattle.std.specs.Prelude.{ℕ, ◌-◌, Bool, false, bytes_eq, codes, List, length, Option, Some, None, slice_index_or, if◌then◌else◌}
 use Rattle.std.specs.List.{remove}
-use Rattle.expr_tree.specs.Promotion.{Promoted, takes_predicate}
+use Rattle.expr_parts.specs.Promotion.{Promoted, takes_predicate}
 use Rattle.expr_tree.specs.Term.{Term, list, no_terms, no_predicate, predicate, answers}
 
 -- the place, if what stands there is free

@@ -1,7 +1,7 @@
 -- Which argument of a call is the program that it runs, where none is given in braces.
 use Rattle.std.specs.Prelude.{ℕ, Bool, false, ◌==◌, ◌||◌, bytes_eq, codes, List, [], ◌∷◌, if◌then◌else◌}
 use Rattle.std.specs.List.{list_any}
-use Rattle.expr_tree.specs.Term.{Term, name, literal, list, range, call, unary, operation, postfix, choice, Postfix, index, slice, coalesce, pipe, ternary, method, Bound, unbounded, bound, Terms, no_terms, term, Predicate, no_predicate, predicate, Block, answers, line}
+use Rattle.expr_tree.specs.Term.{Term, name, literal, list, range, call, unary, operation, postfix, choice, Postfix, index, slice, coalesce, pipe, ternary, method, Bound, unbounded, bound, Terms, no_terms, term, Predicate, no_predicate, predicate, Block, answers, line, LineTerms}
 use Rattle.expr_tree.specs.Written.{terms_of}
 
 -- a hash name begins with `#`
@@ -43,7 +43,7 @@ abbrev mutual
   block_has_free_hash (line key t b) = has_free_hash t || block_has_free_hash b
 
 -- whether a hash name stands in a line's value outside predicates
-abbrev pub lines_have_free_hash : List (List ℕ × Term) → Bool
+abbrev pub lines_have_free_hash : LineTerms → Bool
 lines_have_free_hash ls = list_any (λ l. has_free_hash l.1) ls
 
 -- the functions whose last argument may be their program

@@ -1,9 +1,9 @@
 use Rattle.std.proofs.Common.{map, sym, ap, ◌∙◌}
 use Rattle.std.specs.List.{list_any}
-use Rattle.expr_tree.specs.Promotion.{any_free_hash}
+use Rattle.expr_parts.specs.Promotion.{any_free_hash}
 use Rattle.expr_tree.specs.Written.{written, terms_of}
-use Rattle.expr_tree.proofs.Parts.{any-terms}
-use Rattle.expr_tree.proofs.part.Listed.has_free_hash.Goals as goal
+use Rattle.expr_parts.proofs.Parts.{any-terms}
+use Rattle.expr_parts.proofs.arguments.Listed.has_free_hash.Goals as goal
 
 pub returns : goal.returns
 returns c =

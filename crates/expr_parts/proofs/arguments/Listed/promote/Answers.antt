@@ -1,10 +1,10 @@
 use Rattle.std.proofs.Common.{◌≡◌, ◌<◌, ℕ, Bool, List, Option, Some, None, length, map, sym, ap, ◌∙◌, arith}
-use Rattle.expr_tree.specs.Promotion.{Promoted, has_free_hash, promoted}
-use Rattle.expr_tree.specs.Parts.{block_with}
+use Rattle.expr_parts.specs.Promotion.{Promoted, has_free_hash, promoted}
+use Rattle.expr_tree.specs.Term.{block_with}
 use Rattle.expr_tree.specs.Term.{Term, predicate}
-use Rattle.expr_tree.specs.Places.{promoted_place, taken_out}
-use Rattle.expr_tree.proofs.Places.{promoted_is, promoted_within, frees_length}
-use Rattle.expr_tree.proofs.part.Listed.promote.Goals as goal
+use Rattle.expr_parts.specs.Places.{promoted_place, taken_out}
+use Rattle.expr_parts.proofs.Places.{promoted_is, promoted_within, frees_length}
+use Rattle.expr_parts.proofs.arguments.Listed.promote.Goals as goal
 
 -- what is promoted, by the place that was found
 by_place : (key : List ℕ) (ts : List Term) (free : List Bool) (found place : Option ℕ) → free ≡ map has_free_hash ts → found ≡ promoted_place key free → found ≡ place

@@ -4,8 +4,8 @@ use Rattle.std.proofs.lemmas.List.{length-map}
 use Rattle.std.proofs.lemmas.Bool.{false≢true}
 use Rattle.std.proofs.lemmas.Option.{none-some, same_Some}
 use Rattle.expr_tree.specs.Term.{Term, no_predicate, predicate, answers}
-use Rattle.expr_tree.specs.Promotion.{Promoted, has_free_hash, promoted, last_promoted, reducer_promoted, takes_predicate}
-use Rattle.expr_tree.specs.Places.{free_place, promoted_place, taken_out}
+use Rattle.expr_parts.specs.Promotion.{Promoted, has_free_hash, promoted, last_promoted, reducer_promoted, takes_predicate}
+use Rattle.expr_parts.specs.Places.{free_place, promoted_place, taken_out}
 
 abbrev frees : List Term → List Bool
 frees ts = map has_free_hash ts

@@ -1,10 +1,10 @@
 use Rattle.std.proofs.Common.{◌<◌, length, map, get_or, sym, ap, ◌∙◌, arith}
 use Rattle.std.specs.List.{remove}
 use Rattle.std.proofs.lemmas.List.{get_or-map, length-map}
-use Rattle.expr_tree.specs.Promotion.{has_free_hash}
+use Rattle.expr_parts.specs.Promotion.{has_free_hash}
 use Rattle.expr_tree.specs.Written.{written}
-use Rattle.expr_tree.proofs.Parts.{map-remove}
-use Rattle.expr_tree.proofs.part.Listed.remove.Goals as goal
+use Rattle.expr_parts.proofs.Parts.{map-remove}
+use Rattle.expr_parts.proofs.arguments.Listed.remove.Goals as goal
 
 pub invariant_of-self : goal.invariant_of-self
 invariant_of-self c =
