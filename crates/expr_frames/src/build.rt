@@ -1,14 +1,17 @@
 //! What a sign, a word and a token stand for.
 
-ghost use Rattle.std.specs.Prelude.{◌≡◌, ◌∷◌, [], ◌++◌, IfOk};
+ghost use Rattle.std.specs.Prelude.{◌≡◌, ◌∷◌, [], ◌++◌, IfOk, MatchOption};
 ghost use Rattle.expr_tree.specs.Term.{choice};
 ghost use Rattle.expr_frames.specs.Kept.{prefix_operator, infix_meaning, joined, member_term};
 ghost use Rattle.expr_frames.specs.Nodes as machine;
+ghost use Rattle.expr_frames.specs.Faults.{HoldsNoBody, HoldsNoCall, HoldsNoOperand};
+ghost use Rattle.expr_frames.specs.declared.frame.Frame.TheVariants as frame;
+ghost use Rattle.expr_frames.specs.declared.frame.Place.TheVariants as place;
 
-use crate::frame::{Caller, Chain, Fault, Frame, Meaning, Operand, Reaching};
+use crate::frame::{Caller, Chain, Fault, Frame, Meaning, Operand, Place, Reaching, Section};
 use expr_grammar::sign::{InfixSign, PrefixSign};
-use expr_tree::operator::{Operator, UnaryOperator};
 use expr_parts::{Arguments, Lines, Part, ProgramPart};
+use expr_tree::operator::{Operator, UnaryOperator};
 use expr_value::{Items, Text, Value};
 use std::alloc::{AllocError, AllocFailed, Global};
 
@@ -117,6 +120,48 @@ impl Frame {
             _ => 0,
         }
     }
+
+    /// What waits for its last part, if the frame does.
+    pub fn into_reaching(self) -> Option<Reaching>
+        ensures { MatchOption result (machine.reach self ≡ 0) (λ r. self ≡ frame.Reaching r) }
+    {
+        match self {
+            Frame::Reaching(open) => Some(open),
+            _ => None,
+        }
+    }
+
+    /// What the arguments are for, and those so far, if the frame is of arguments.
+    pub fn into_call(self) -> Option<(Caller, Arguments)>
+        ensures { MatchOption result (HoldsNoCall self) (λ call. self ≡ frame.Call call.0 call.1) }
+    {
+        match self {
+            Frame::Call(caller, arguments) => Some((caller, arguments)),
+            _ => None,
+        }
+    }
+
+    /// What the program is for, and its lines so far, if the frame is a program's.
+    pub fn into_body(self) -> Option<(Section, Lines)>
+        ensures { MatchOption result (HoldsNoBody self) (λ body. self ≡ frame.Body body.0 body.1) }
+    {
+        match self {
+            Frame::Body(section, lines) => Some((section, lines)),
+            _ => None,
+        }
+    }
+}
+
+impl Place {
+    /// The operand that was read last, if one was.
+    pub fn into_operand(self) -> Option<Operand>
+        ensures { MatchOption result (HoldsNoOperand self) (λ operand. self ≡ place.Have operand) }
+    {
+        match self {
+            Place::Have(operand) => Some(operand),
+            _ => None,
+        }
+    }
 }
 
 impl Operand {
@@ -146,12 +191,7 @@ impl Caller {
 }
 
 // A member is an index by the text of its word.
-pub fn member(
-    alloc: Global,
-    left: Part,
-    name: Text,
-    optional: bool,
-) -> Result<Part, AllocError>
+pub fn member(alloc: Global, left: Part, name: Text, optional: bool) -> Result<Part, AllocError>
     ensures { IfOk result (λ p. p ≡ member_term left optional name) }
 {
     Part::index(alloc, left, Part::literal(Value::String(name)), optional)
@@ -177,11 +217,7 @@ pub fn nested(
 }
 
 // The branches with one more.
-pub fn branched(
-    before: Chain,
-    condition: Part,
-    then: ProgramPart,
-) -> Result<Chain, AllocError>
+pub fn branched(before: Chain, condition: Part, then: ProgramPart) -> Result<Chain, AllocError>
     ensures { IfOk result (λ c. c ≡ before ++ (condition, then) ∷ []) }
 {
     let mut branches = before.into_vec();

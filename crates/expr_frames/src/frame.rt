@@ -1,9 +1,9 @@
 //! What the parser keeps of what it has read.
 
 use expr_grammar::sign::{InfixSign, PrefixSign};
+use expr_parts::{Arguments, Lines, Part, ProgramPart};
 use expr_token::Token;
 use expr_tree::operator::Operator;
-use expr_parts::{Arguments, Lines, Part, ProgramPart};
 use expr_value::{Items, Text, Value, ValueMap};
 
 /// The branches of a choice before its last one.

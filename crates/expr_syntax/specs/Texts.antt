@@ -18,6 +18,10 @@ pub record IsTreeOf (text : List ℕ) (t : TreeProgram) : Type 0 where
   pub spells : Spells t tokens
   pub fits : Fits t
 
+-- Two trees of a text are one.
+abbrev pub OneTreeOfText : Type 0
+OneTreeOfText = (text : List ℕ) (t u : TreeProgram) → IsTreeOf text t → IsTreeOf text u → t ≡ u
+
 -- the program of a tree of the text whose integer literals are below 2^63
 pub record IsProgramOf (text : List ℕ) (b : Block) : Type 0 where
   pub tree : TreeProgram

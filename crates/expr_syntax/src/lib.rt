@@ -1,6 +1,7 @@
 //! From a text to its program: the parser over the grammar's machine, and `compile`.
 #![tactic(auto)]
 
+pub mod laws;
 pub mod parser;
 mod text;
 

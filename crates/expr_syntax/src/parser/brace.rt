@@ -7,8 +7,8 @@ ghost use Rattle.expr_frames.specs.declared.frame.Section.TheVariants as section
 ghost use Rattle.expr_frames.specs.Nodes as machine;
 ghost use Rattle.expr_syntax.specs.Reading.{stack, Stands};
 
-use expr_frames::frame::{Fault, Frame, Place, Section};
 use crate::parser::{Parser, map_literal};
+use expr_frames::frame::{Fault, Frame, Place, Section};
 use expr_parts::Lines;
 use expr_token::{Sign, Token};
 use expr_value::ValueMap;
