@@ -8,7 +8,7 @@ use Rattle.expr_token.specs.declared.sign.Sign.TheVariants as sign
 use Rattle.expr_token.specs.declared.reserved.Reserved.TheVariants as reserved
 use Rattle.expr_tree.specs.Term.{Term, literal, list, postfix, choice, index, slice, method, pipe, Block, answers}
 use Rattle.expr_tree.specs.Written.{terms_of}
-use Rattle.expr_tree.specs.Parts.{Given, bound_with}
+use Rattle.expr_parts.specs.Parts.{Given, bound_with}
 use Rattle.expr_syntax.specs.declared.frame.Role.{Role}
 use Rattle.expr_syntax.specs.declared.frame.Role.TheVariants.{Binary, Negating, Asking, Piping, Dotting, Questioning, Applying, Picking, Plain}
 use Rattle.expr_syntax.specs.declared.frame.Holder.{Holder}

@@ -7,10 +7,10 @@ use Rattle.expr_token.specs.Spellings.{reserved_text}
 use Rattle.expr_tree.specs.declared.operator.UnaryOperator.{UnaryOperator}
 use Rattle.expr_tree.specs.declared.operator.UnaryOperator.TheVariants as prefixed
 use Rattle.expr_tree.specs.declared.operator.Operator.TheVariants as operator
-use Rattle.expr_tree.specs.Term.{Term, name, literal, list, range, unary, operation, postfix, choice, index, slice, coalesce, pipe, ternary, method, Bound as BoundTerm, unbounded, bound, no_predicate, predicate, Block, answers}
+use Rattle.expr_tree.specs.Term.{Term, name, literal, list, range, unary, operation, postfix, choice, index, slice, coalesce, pipe, ternary, method, Bound as BoundTerm, unbounded, bound, no_predicate, predicate, Block, answers, LineTerms, block_with}
 use Rattle.expr_tree.specs.Written.{terms_of}
-use Rattle.expr_tree.specs.Promotion.{call_of}
-use Rattle.expr_tree.specs.Parts.{Given, Lines as LineTerms, block_with}
+use Rattle.expr_parts.specs.Promotion.{call_of}
+use Rattle.expr_parts.specs.Parts.{Given}
 use Rattle.expr_syntax.specs.declared.sign.PrefixSign.{PrefixSign}
 use Rattle.expr_syntax.specs.declared.sign.PrefixSign.TheVariants as prefix
 use Rattle.expr_syntax.specs.declared.sign.InfixSign.{InfixSign}

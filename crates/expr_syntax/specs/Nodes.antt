@@ -10,9 +10,9 @@ use Rattle.expr_token.specs.declared.sign.Sign.TheVariants as sign
 use Rattle.expr_token.specs.declared.reserved.Reserved.{Reserved}
 use Rattle.expr_token.specs.declared.reserved.Reserved.TheVariants as reserved
 use Rattle.expr_token.specs.Spellings.{reserved_text}
-use Rattle.expr_tree.specs.Term.{Term, name, literal, list, unary, postfix, choice, index, slice, pipe, ternary, method, bound, unbounded, Block, answers}
+use Rattle.expr_tree.specs.Term.{Term, name, literal, list, unary, postfix, choice, index, slice, pipe, ternary, method, bound, unbounded, Block, answers, block_with}
 use Rattle.expr_tree.specs.Written.{terms_of}
-use Rattle.expr_tree.specs.Parts.{Given, block_with, bound_with}
+use Rattle.expr_parts.specs.Parts.{Given, bound_with}
 use Rattle.expr_syntax.specs.declared.sign.PrefixSign.TheVariants as prefix
 use Rattle.expr_syntax.specs.declared.sign.InfixSign.TheVariants as infixed
 use Rattle.expr_syntax.specs.declared.frame.Role.{Role}

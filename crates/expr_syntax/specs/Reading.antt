@@ -4,7 +4,7 @@ use Rattle.expr_token.specs.declared.token.Token.{Token}
 use Rattle.expr_tree.specs.declared.node.Program.{Program}
 use Rattle.expr_tree.specs.Term.{Term, Block}
 use Rattle.expr_tree.specs.Written.{program_written}
-use Rattle.expr_tree.specs.Parts.{Given}
+use Rattle.expr_parts.specs.Parts.{Given}
 use Rattle.expr_syntax.specs.declared.frame.Caller.{Caller}
 use Rattle.expr_syntax.specs.declared.frame.Frame.{Frame}
 use Rattle.expr_syntax.specs.declared.frame.Frame.TheVariants as frame

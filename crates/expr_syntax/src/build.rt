@@ -9,8 +9,8 @@ ghost use Rattle.expr_syntax.specs.Nodes as machine;
 
 use crate::frame::{Caller, Chain, Fault, Frame, Operand, Reaching};
 use crate::sign::{InfixSign, Meaning, PrefixSign};
+use expr_parts::{Arguments, Lines, Part, ProgramPart};
 use expr_tree::operator::{Operator, UnaryOperator};
-use expr_tree::part::{Arguments, Lines, Part, ProgramPart};
 use expr_value::{Items, Text, Value};
 use std::alloc::{AllocError, AllocFailed, Global};
 

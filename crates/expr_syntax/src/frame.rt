@@ -1,8 +1,8 @@
 //! What the parser keeps of what it has read.
 
 use crate::sign::{InfixSign, PrefixSign};
+use expr_parts::{Arguments, Lines, Part, ProgramPart};
 use expr_token::Token;
-use expr_tree::part::{Arguments, Lines, Part, ProgramPart};
 use expr_value::{Items, Text, Value, ValueMap};
 
 // The branches of a choice before its last one.

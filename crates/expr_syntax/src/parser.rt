@@ -2,7 +2,7 @@
 
 ghost use Rattle.std.specs.Prelude.{◌≡◌, ◌∷◌, [], ◌++◌, None, IfOk, MatchOption, vec_len, ◌<◌};
 ghost use Rattle.expr_tree.specs.Term.{postfix, slice, literal};
-ghost use Rattle.expr_tree.specs.Parts.{bound_with};
+ghost use Rattle.expr_parts.specs.Parts.{bound_with};
 ghost use Rattle.expr_syntax.specs.declared.frame.Frame.TheVariants as frame;
 ghost use Rattle.expr_syntax.specs.declared.frame.Place.TheVariants as place;
 ghost use Rattle.expr_syntax.specs.declared.frame.Section.TheVariants as section;
@@ -22,9 +22,9 @@ use crate::frame::{
 };
 use crate::read;
 use crate::sign::InfixSign;
+use expr_parts::{Arguments, Lines, Part, ProgramPart};
 use expr_token::{Reserved, Sign, Token};
 use expr_tree::node::Program;
-use expr_tree::part::{Arguments, Lines, Part, ProgramPart};
 use expr_value::{Items, Text, Value, ValueMap};
 use std::alloc::{AllocError, AllocFailed, Global};
 
@@ -579,10 +579,10 @@ impl Parser {
         ensures { Stands (machine.value_in (stack self.now.frames.items) map key (machine.value_at token)) self.now.frames.items result }
     {
         match read::constant(token) {
-            Some(value) => {
-                map.insert(key, value)?;
-                Ok(Place::Entered(map))
-            }
+            Some(value) => match map.insert(key, value) {
+                Ok(()) => Ok(Place::Entered(map)),
+                Err(_) => Err(Fault::Memory),
+            },
             None => Err(Fault::Syntax),
         }
     }

@@ -1,26 +1,16 @@
--- Names, gathered one operand after another.
-use Rattle.std.proofs.Common.{◌≡◌, ℕ, zero, suc, arith, bytes_eq, ◌+◌, ◌<◌, Bool, true, false, ◌||◌, List, [], ◌∷◌, ◌++◌, map, take, length, get_or, Result, Ok, Err, OnOk, Global, String, refl, sym, ap, ◌∙◌, append_assoc}
+-- Operands of parts, one after another.
+use Rattle.std.proofs.Common.{◌≡◌, ℕ, zero, suc, arith, bytes_eq, ◌+◌, ◌<◌, Bool, true, false, ◌||◌, List, [], ◌∷◌, ◌++◌, map, take, length, get_or, Global, String, refl, sym, ap, ◌∙◌, append_assoc}
 use Rattle.std.proofs.lemmas.List.{append-nil, take_more, map-append}
 use Rattle.std.proofs.lemmas.List.Folds.{list_any-append}
-use Rattle.expr_tree.specs.Names.{env, has_env, operands, all_operands, block_operands, lines_operands, with_name, with_names}
-use Rattle.expr_tree.specs.Parts.{Lines, block_with}
-use Rattle.expr_tree.specs.Term.{Term}
+use Rattle.expr_tree.specs.Names.{env, has_env, operands, all_operands, block_operands, lines_operands}
+use Rattle.expr_tree.specs.Term.{Term, LineTerms, block_with}
 use Rattle.expr_tree.specs.Written.{written, line_written, terms_of}
 use Rattle.expr_tree.specs.declared.node.Node.{Node}
 
 abbrev Names : Type 0
 Names = List (List ℕ)
 
-pub with_names-append : (old xs ys : Names) → with_names (with_names old xs) ys ≡ with_names old (xs ++ ys)
-with_names-append old [] ys = refl
-with_names-append old (x ∷ xs) ys = with_names-append (with_name old x) xs ys
-
--- some names, and then some more
-pub joined : {E : Type 0} (r : Result (Unit {0}) E) (old mid new xs ys all : Names) → all ≡ xs ++ ys → mid ≡ with_names old xs → OnOk r (new ≡ with_names mid ys) → OnOk r (new ≡ with_names old all)
-joined (Ok u) old mid new xs ys all whole first rest = rest ∙ ap (λ m. with_names m ys) first ∙ with_names-append old xs ys ∙ ap (with_names old) (sym whole)
-joined (Err e) old mid new xs ys all whole first rest = tt
-
-pub lines_operands-block : (ls : Lines) (last : Term) → block_operands (block_with ls last) ≡ lines_operands ls ++ operands last
+pub lines_operands-block : (ls : LineTerms) (last : Term) → block_operands (block_with ls last) ≡ lines_operands ls ++ operands last
 lines_operands-block [] last = refl
 lines_operands-block (l ∷ ls) last = ap (λ ns. operands l.1 ++ ns) (lines_operands-block ls last) ∙ sym (append_assoc (operands l.1) (lines_operands ls) (operands last))
 
@@ -32,25 +22,12 @@ all_operands-push : (ts : List Term) (t : Term) → all_operands (terms_of (ts +
 all_operands-push [] t = append-nil (operands t)
 all_operands-push (u ∷ us) t = ap (λ ns. operands u ++ ns) (all_operands-push us t) ∙ sym (append_assoc (operands u) (all_operands (terms_of us)) (operands t))
 
-lines_operands-push : (ls : Lines) (l : List ℕ × Term) → lines_operands (ls ++ l ∷ []) ≡ lines_operands ls ++ operands l.1
+lines_operands-push : (ls : LineTerms) (l : List ℕ × Term) → lines_operands (ls ++ l ∷ []) ≡ lines_operands ls ++ operands l.1
 lines_operands-push [] l = append-nil (operands l.1)
 lines_operands-push (k ∷ ks) l = ap (λ ns. operands k.1 ++ ns) (lines_operands-push ks l) ∙ sym (append_assoc (operands k.1) (lines_operands ks) (operands l.1))
 
 map-next : {X Y : Type 0} (f : X → Y) (xs : List X) (i : ℕ) (x : X) → i < length xs → x ≡ get_or xs i x → map f (take (i + 1) xs) ≡ map f (take i xs) ++ f x ∷ []
 map-next f xs i x within at = ap (map f) (take_more xs i x within ∙ ap (λ y. take i xs ++ y ∷ []) (sym at)) ∙ map-append f (take i xs) (x ∷ [])
-
-module _ (old now next : Names) where
-  pub next_node : (ns : List Node) (i : ℕ) (n : Node) → i < length ns → n ≡ get_or ns i n → now ≡ with_names old (all_operands (terms_of (map written (take i ns)))) → next ≡ with_names now (operands (written n))
-      → next ≡ with_names old (all_operands (terms_of (map written (take (i + 1) ns))))
-  next_node ns i n within at so_far more =
-      more ∙ ap (λ m. with_names m (operands (written n))) so_far ∙ with_names-append old (all_operands (terms_of (map written (take i ns)))) (operands (written n))
-      ∙ ap (with_names old) (sym (ap (λ ts. all_operands (terms_of ts)) (map-next written ns i n within at) ∙ all_operands-push (map written (take i ns)) (written n)))
-
-  pub next_line : (ls : List (String Global × Node)) (i : ℕ) (l : String Global × Node) → i < length ls → l ≡ get_or ls i l → now ≡ with_names old (lines_operands (map line_written (take i ls))) → next ≡ with_names now (operands (written l.1))
-      → next ≡ with_names old (lines_operands (map line_written (take (i + 1) ls)))
-  next_line ls i l within at so_far more =
-      more ∙ ap (λ m. with_names m (operands (written l.1))) so_far ∙ with_names-append old (lines_operands (map line_written (take i ls))) (operands (written l.1))
-      ∙ ap (with_names old) (sym (ap lines_operands (map-next line_written ls i l within at) ∙ lines_operands-push (map line_written (take i ls)) (line_written l)))
 
 has_env-append : (xs ys : Names) → has_env (xs ++ ys) ≡ (has_env xs || has_env ys)
 has_env-append xs ys = list_any-append (bytes_eq env) xs ys
@@ -99,5 +76,5 @@ lines_with (m ∷ ls) zero l within at q =
     ∙ ap (λ b. b || has_env (lines_operands (map line_written ls))) (ap (λ (x : String Global × Node). has_env (operands (written x.1))) (sym at) ∙ q)
 lines_with (m ∷ ls) (suc i) l within at q = second _ _ _ (has_env-append (operands (written m.1)) (lines_operands (map line_written ls))) (lines_with ls i l (omega (arith, within)) at q)
 
-pub block_env : (ls : Lines) (last : Term) → has_env (block_operands (block_with ls last)) ≡ (has_env (lines_operands ls) || has_env (operands last))
+pub block_env : (ls : LineTerms) (last : Term) → has_env (block_operands (block_with ls last)) ≡ (has_env (lines_operands ls) || has_env (operands last))
 block_env ls last = ap has_env (lines_operands-block ls last) ∙ has_env-append (lines_operands ls) (operands last)

@@ -1,7 +1,8 @@
 pub mod Agreement
+pub mod Children
 pub mod Gathered
-pub mod Parts
-pub mod Places
+pub mod Programs
 pub mod Rising
 pub mod Shapes
+pub mod Waiting
 pub mod Weights

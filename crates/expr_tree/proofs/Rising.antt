@@ -9,12 +9,11 @@ use Rattle.std.specs.Ordering.{nat_cmp, is_eq, match_ordering, ordering_reverse}
 use Rattle.std.specs.String.{string_cmp}
 use Rattle.std.specs.declared.cmp.Ordering.{Ordering}
 use Rattle.std.specs.declared.cmp.Ordering.TheVariants.{Less, Equal, Greater}
-use Rattle.std.proofs.lemmas.Bool.{false≢true, false_from_ne_true}
+use Rattle.std.proofs.lemmas.Bool.{false≢true}
 use Rattle.std.proofs.lemmas.Map.Text.{is_eq-slice_cmp}
 use Rattle.std.proofs.lemmas.Map.Views.{list_any-from_Contains, Contains-from_any}
 use Rattle.std.proofs.lemmas.Slice.Eq.{bytes_eq-Decides}
-use Rattle.expr_tree.specs.Names.{env, with_name, with_names, block_operands, AreNamesOf}
-use Rattle.expr_tree.specs.Term.{Block}
+use Rattle.expr_tree.specs.Names.{env, with_name, with_names}
 
 abbrev Bytes : Type 0
 Bytes = List ℕ
@@ -82,7 +81,7 @@ or_swap true false c = refl
 or_swap false true c = refl
 or_swap false false c = refl
 
-or_false : (a : Bool) → (a || false) ≡ a
+pub or_false : (a : Bool) → (a || false) ≡ a
 or_false true = refl
 or_false false = refl
 
@@ -120,11 +119,11 @@ has-env n xs = by (bytes_eq n env) refl
     by true is = refl
     by false is = has-insert env n xs ∙ ap (λ b. b || has env xs) (nat_list_eq_equiv.symm env n ∙ is)
 
-all-other : (q : Bytes) (xs ns : List Bytes) → bytes_eq q env ≡ false → has q (with_names xs ns) ≡ (has q ns || has q xs)
+pub all-other : (q : Bytes) (xs ns : List Bytes) → bytes_eq q env ≡ false → has q (with_names xs ns) ≡ (has q ns || has q xs)
 all-other q xs [] other = refl
 all-other q xs (n ∷ ns) other = all-other q (with_name xs n) ns other ∙ ap (λ b. has q ns || b) (has-other q n xs other) ∙ or_shift (has q ns) (bytes_eq q n) (has q xs)
 
-all-env : (xs ns : List Bytes) → has env (with_names xs ns) ≡ has env xs
+pub all-env : (xs ns : List Bytes) → has env (with_names xs ns) ≡ has env xs
 all-env xs [] = refl
 all-env xs (n ∷ ns) = all-env (with_name xs n) ns ∙ has-env n xs
 
@@ -133,21 +132,3 @@ Contains-from_has q xs e = Contains-from_any (λ x y. (bytes_eq-Decides x y).0) 
 
 pub has-from_Contains : (q : Bytes) (xs : List Bytes) → Contains xs q → has q xs ≡ true
 has-from_Contains q xs h = list_any-from_Contains nat_list_eq_equiv q xs h
-
--- names that are gathered from the operands of a program are its names
-pub are_names : (names : List Bytes) (b : Block) → IsStrictlySortedBy cmp names → names ≡ with_names [] (block_operands b) → AreNamesOf names b
-are_names names b sorted is = record { ascending = sorted; exact = λ n. (there n, back n) }
-  where
-    there : (n : Bytes) → Contains names n → Contains (block_operands b) n × (n ≢ env)
-    there n h =
-        let here : has n (with_names [] (block_operands b)) ≡ true = ap (has n) (sym is) ∙ has-from_Contains n names h in
-        let not_env : n ≢ env = λ e. false≢true (sym (all-env [] (block_operands b)) ∙ ap (λ m. has m (with_names [] (block_operands b))) (sym e) ∙ here) in
-        let other : bytes_eq n env ≡ false = false_from_ne_true (bytes_eq n env) (λ e. not_env ((bytes_eq-Decides n env).0 e)) in
-        (Contains-from_has n (block_operands b) (sym (or_false (has n (block_operands b))) ∙ sym (all-other n [] (block_operands b) other) ∙ here), not_env)
-
-    back : (n : Bytes) → Contains (block_operands b) n × (n ≢ env) → Contains names n
-    back n h =
-        let other : bytes_eq n env ≡ false = false_from_ne_true (bytes_eq n env) (λ e. h.1 ((bytes_eq-Decides n env).0 e)) in
-        Contains-from_has n names (
-        ap (has n) is ∙ all-other n [] (block_operands b) other ∙ or_false (has n (block_operands b)) ∙ has-from_Contains n (block_operands b) h.0
-        )

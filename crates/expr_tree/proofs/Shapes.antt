@@ -1,7 +1,7 @@
 -- The tree of each form of node, by the trees of its parts.
 use Rattle.std.proofs.Common.{◌≡◌, Bool, map, Option, Vec, Box, Global, String, string_bytes, rules}
 use Rattle.expr_value.specs.declared.value.Value.{Value}
-use Rattle.expr_tree.specs.Term.{name, literal, list, range, call, unary, operation, postfix, choice, index, slice, ternary}
+use Rattle.expr_tree.specs.Term.{name, literal, list, range, call, unary, operation, postfix, choice, index, slice, ternary, method}
 use Rattle.expr_tree.specs.Written.{written, postfix_written, bound_written, predicate_written, program_written, terms_of}
 use Rattle.expr_tree.specs.declared.node.Node.{Node, the_lemmas}
 use Rattle.expr_tree.specs.declared.node.Node.TheVariants as node
@@ -47,3 +47,6 @@ written-Slice a b = search (rules, the_lemmas)
 
 pub written-Ternary : (a b : Box Node Global) → postfix_written (behind.Ternary a b) ≡ ternary (written a.value) (written b.value)
 written-Ternary a b = search (rules, the_lemmas)
+
+pub written-Method : (s : String Global) (ns : Vec Node Global) → postfix_written (behind.Method s ns) ≡ method (string_bytes s) (terms_of (map written ns.items))
+written-Method s ns = search (rules, the_lemmas)

@@ -1,7 +1,6 @@
 -- How the weight of a tree is made up of its parts'.
 use Rattle.std.proofs.Common.{◌≡◌, ◌+◌, ℕ, List, [], ◌∷◌, ◌++◌, map, Option, Vec, Box, Global, String, arith, ap, ◌∙◌}
-use Rattle.expr_tree.specs.Parts.{Lines, block_with}
-use Rattle.expr_tree.specs.Term.{Term}
+use Rattle.expr_tree.specs.Term.{Term, LineTerms, block_with}
 use Rattle.expr_tree.specs.Weight.{weight, terms_weight, predicate_weight, postfix_weight, block_weight, lines_weight}
 use Rattle.expr_tree.specs.Written.{written, postfix_written, predicate_written, program_written, line_written, terms_of}
 use Rattle.expr_tree.specs.declared.node.Node.{Node}
@@ -11,7 +10,7 @@ use Rattle.expr_tree.specs.declared.node.PostfixOperator.{PostfixOperator}
 use Rattle.expr_tree.specs.declared.node.Program.{Program}
 use Rattle.expr_tree.specs.declared.operator.Operator.{Operator}
 use Rattle.expr_tree.specs.declared.node.Node.TheViews.{roll-Program}
-use Rattle.expr_tree.proofs.Parts.{written-parts, written-program}
+use Rattle.expr_tree.proofs.Programs.{written-parts, written-program}
 use Rattle.expr_tree.proofs.Shapes.{written-Array, written-Range, written-Func, written-Operation, written-Postfix, written-Conditional}
 
 abbrev pub node_weight : Node → ℕ
@@ -31,7 +30,7 @@ pub lines-push : (ls : List (String Global × Node)) (l : String Global × Node)
 lines-push [] l = omega arith
 lines-push (m ∷ ls) l = omega (arith, lines-push ls l)
 
-block-with : (ls : Lines) (last : Term) → block_weight (block_with ls last) ≡ lines_weight ls + weight last
+block-with : (ls : LineTerms) (last : Term) → block_weight (block_with ls last) ≡ lines_weight ls + weight last
 block-with [] last = omega arith
 block-with (l ∷ ls) last = omega (arith, block-with ls last)
 

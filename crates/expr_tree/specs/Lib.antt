@@ -1,9 +1,8 @@
+pub mod Children
 pub mod Codes
 pub mod Context
+pub mod Inside
 pub mod Names
-pub mod Parts
-pub mod Places
-pub mod Promotion
 pub mod Shown
 pub mod Term
 pub mod Weight

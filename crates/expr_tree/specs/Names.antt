@@ -5,8 +5,7 @@ use Rattle.std.specs.List.Sorted.{IsStrictlySortedBy}
 use Rattle.std.specs.Cmp.Lexicographic.{slice_cmp}
 use Rattle.std.specs.Ordering.{nat_cmp}
 use Rattle.std.specs.BTreeSet.{insert_key}
-use Rattle.expr_tree.specs.Parts.{Lines}
-use Rattle.expr_tree.specs.Term.{Term, name, literal, list, range, call, unary, operation, postfix, choice, Postfix, index, slice, coalesce, pipe, ternary, method, Bound, unbounded, bound, Terms, no_terms, term, Predicate, no_predicate, predicate, Block, answers, line}
+use Rattle.expr_tree.specs.Term.{Term, name, literal, list, range, call, unary, operation, postfix, choice, Postfix, index, slice, coalesce, pipe, ternary, method, Bound, unbounded, bound, Terms, no_terms, term, Predicate, no_predicate, predicate, Block, answers, line, LineTerms}
 
 -- the names and hash names that stand as operands, in order
 abbrev mutual
@@ -46,7 +45,7 @@ abbrev mutual
   block_operands (line key t b) = operands t ++ block_operands b
 
 -- those of the values of lines
-abbrev pub lines_operands : Lines → List (List ℕ)
+abbrev pub lines_operands : LineTerms → List (List ℕ)
 lines_operands [] = []
 lines_operands (l ∷ ls) = operands l.1 ++ lines_operands ls
 

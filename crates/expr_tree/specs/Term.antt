@@ -1,5 +1,5 @@
 -- The tree of a program as pure data, apart from the memory that holds it.
-use Rattle.std.specs.Prelude.{ℕ, Bool, List}
+use Rattle.std.specs.Prelude.{ℕ, Bool, List, [], ◌∷◌}
 use Rattle.expr_value.specs.declared.value.Value.{Value}
 use Rattle.expr_tree.specs.declared.operator.Operator.{Operator}
 use Rattle.expr_tree.specs.declared.operator.UnaryOperator.{UnaryOperator}
@@ -43,3 +43,12 @@ mutual
   pub data Block : Type 0 where
     answers : (t : Term) → Block
     line : (key : List ℕ) (t : Term) (b : Block) → Block
+
+-- the names and values of lines, in order
+abbrev pub LineTerms : Type 0
+LineTerms = List (List ℕ × Term)
+
+-- a program of lines and what it answers
+abbrev pub block_with : LineTerms → Term → Block
+block_with [] last = answers last
+block_with (l ∷ ls) last = line l.0 l.1 (block_with ls last)

@@ -1,7 +1,6 @@
 -- How many nodes a tree has.
 use Rattle.std.specs.Prelude.{ℕ, ◌+◌, [], ◌∷◌}
-use Rattle.expr_tree.specs.Parts.{Lines}
-use Rattle.expr_tree.specs.Term.{Term, name, literal, list, range, call, unary, operation, postfix, choice, Postfix, index, slice, coalesce, pipe, ternary, method, Bound, unbounded, bound, Terms, no_terms, term, Predicate, no_predicate, predicate, Block, answers, line}
+use Rattle.expr_tree.specs.Term.{Term, name, literal, list, range, call, unary, operation, postfix, choice, Postfix, index, slice, coalesce, pipe, ternary, method, Bound, unbounded, bound, Terms, no_terms, term, Predicate, no_predicate, predicate, Block, answers, line, LineTerms}
 
 abbrev mutual
   pub weight : Term → ℕ
@@ -40,6 +39,6 @@ abbrev mutual
   block_weight (line key t b) = weight t + block_weight b
 
 -- those of the values of lines
-abbrev pub lines_weight : Lines → ℕ
+abbrev pub lines_weight : LineTerms → ℕ
 lines_weight [] = 0
 lines_weight (l ∷ ls) = weight l.1 + lines_weight ls

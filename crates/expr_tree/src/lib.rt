@@ -2,7 +2,7 @@
 #![tactic(auto)]
 
 mod chain;
+mod inside;
 mod names;
 pub mod node;
 pub mod operator;
-pub mod part;

@@ -1,12 +1,15 @@
 //! The names of a program.
-ghost use Rattle.std.specs.Prelude.{◌≡◌, ◌↔◌, [], IsTrue, IfOk, IfErr, OnOk, map, string_bytes};
+ghost use Rattle.std.specs.Prelude.{◌≡◌, ◌↔◌, ◌++◌, [], IsTrue, IfOk, IfErr, OnOk, map, string_bytes};
 ghost use Rattle.std.specs.List.{Contains};
 ghost use Rattle.std.specs.List.Sorted.{IsStrictlySortedBy};
 ghost use Rattle.std.specs.Cmp.Lexicographic.{slice_cmp};
 ghost use Rattle.std.specs.Ordering.{nat_cmp};
+ghost use Rattle.expr_tree.specs.Children.{children, own_name};
+ghost use Rattle.expr_tree.specs.Inside.{lent_terms, maybe_child, program_children};
 ghost use Rattle.expr_tree.specs.Names.{operands, postfix_operands, bound_operands, all_operands, predicate_operands, block_operands, lines_operands, env, has_env, AreNamesOf, with_name, with_names};
 ghost use Rattle.expr_tree.specs.Written.{written, postfix_written, bound_written, predicate_written, program_written, line_written, terms_of};
 
+use crate::inside::{Inside, look_inside};
 use crate::node::{Node, PostfixOperator, Program};
 use expr_value::{Error, Result};
 use std::alloc::{AllocError, Global};
@@ -24,7 +27,11 @@ impl Program {
         ensures err { IfErr result (λ e. e ≡ Error.MemoryError) }
     {
         let mut names = Names::new(alloc);
-        add_program(self, &mut names)?;
+        let mut waiting = Vec::new(alloc);
+        wait_for_program(self, &mut waiting)?;
+        while let Some(node) = waiting.pop() {
+            gather(node, &mut names, &mut waiting)?;
+        }
         Ok(names.into_vec()?)
     }
 
@@ -85,120 +92,75 @@ impl Names {
     }
 }
 
-#[cycle(names)]
-fn add_node(node: &Node, names: &mut Names) -> std::result::Result<(), AllocError>
-    ensures { OnOk result (names.new ≡ with_names names.old (operands (written node.now))) }
+// Adds the name that the node is, or puts what is right inside it among the nodes that wait.
+fn gather<'a>(
+    node: &'a Node,
+    names: &mut Names,
+    waiting: &mut Vec<&'a Node>,
+) -> std::result::Result<(), AllocError>
+    ensures names { OnOk result (names.new ≡ with_names names.old (own_name (written node.now))) }
+    ensures waiting { OnOk result (lent_terms waiting.new.items ≡ lent_terms waiting.old.items ++ children (written node.now)) }
+{
+    match look_inside(node) {
+        Inside::Name(name) => names.add(name),
+        Inside::Nodes(first, second, third) => {
+            wait_for(first, waiting)?;
+            wait_for(second, waiting)?;
+            wait_for(third, waiting)
+        }
+        Inside::Items(first, items, program) => {
+            wait_for(first, waiting)?;
+            wait_for_all(items, waiting)?;
+            match program {
+                None => Ok(()),
+                Some(program) => wait_for_program(program, waiting),
+            }
+        }
+        Inside::Choice(condition, consequent, alternative) => {
+            waiting.push(condition)?;
+            wait_for_program(consequent, waiting)?;
+            wait_for_program(alternative, waiting)
+        }
+    }
+}
+
+fn wait_for<'a>(
+    node: Option<&'a Node>,
+    waiting: &mut Vec<&'a Node>,
+) -> std::result::Result<(), AllocError>
+    ensures { OnOk result (lent_terms waiting.new.items ≡ lent_terms waiting.old.items ++ maybe_child node.entry) }
 {
     match node {
-        Node::Ident(name) => names.add(name.as_str()),
-        Node::Array(items) => add_nodes(items, names),
-        Node::Range(first, last) => {
-            add_node(first, names)?;
-            add_node(last, names)
-        }
-        Node::Value(_) => Ok(()),
-        Node::Func {
-            ident: _,
-            args,
-            predicate,
-        } => {
-            add_nodes(args, names)?;
-            add_predicate(predicate, names)
-        }
-        Node::Unary { operator: _, node } => add_node(node, names),
-        Node::Operation {
-            operator: _,
-            left,
-            right,
-            compiled_regex: _,
-        } => {
-            add_node(left, names)?;
-            add_node(right, names)
-        }
-        Node::Postfix { operator, node } => {
-            add_node(node, names)?;
-            add_postfix(operator, names)
-        }
-        Node::Conditional {
-            condition,
-            consequent,
-            alternative,
-        } => {
-            add_node(condition, names)?;
-            add_program(consequent, names)?;
-            add_program(alternative, names)
-        }
-    }
-}
-
-#[cycle(names)]
-fn add_postfix(operator: &PostfixOperator, names: &mut Names) -> std::result::Result<(), AllocError>
-    ensures { OnOk result (names.new ≡ with_names names.old (postfix_operands (postfix_written operator.now))) }
-{
-    match operator {
-        PostfixOperator::Index { idx, optional: _ } => add_node(idx, names),
-        PostfixOperator::Range { start, end } => {
-            add_bound(start, names)?;
-            add_bound(end, names)
-        }
-        PostfixOperator::Default(node) => add_node(node, names),
-        PostfixOperator::Pipe(node) => add_node(node, names),
-        PostfixOperator::Ternary { left, right } => {
-            add_node(left, names)?;
-            add_node(right, names)
-        }
-        PostfixOperator::Method { ident: _, args } => add_nodes(args, names),
-    }
-}
-
-#[cycle(names)]
-fn add_bound(bound: &Option<Box<Node>>, names: &mut Names) -> std::result::Result<(), AllocError>
-    ensures { OnOk result (names.new ≡ with_names names.old (bound_operands (bound_written bound.now))) }
-{
-    match bound {
         None => Ok(()),
-        Some(node) => add_node(node, names),
+        Some(node) => {
+            waiting.push(node)?;
+            Ok(())
+        }
     }
 }
 
-#[cycle(names)]
-fn add_predicate(
-    predicate: &Option<Box<Program>>,
-    names: &mut Names,
+fn wait_for_all<'a>(
+    nodes: &'a [Node],
+    waiting: &mut Vec<&'a Node>,
 ) -> std::result::Result<(), AllocError>
-    ensures { OnOk result (names.new ≡ with_names names.old (predicate_operands (predicate_written predicate.now))) }
-{
-    match predicate {
-        None => Ok(()),
-        Some(program) => add_program(program, names),
-    }
-}
-
-#[cycle(names)]
-fn add_nodes(nodes: &[Node], names: &mut Names) -> std::result::Result<(), AllocError>
-    ensures { OnOk result (names.new ≡ with_names names.old (all_operands (terms_of (map written nodes.now)))) }
+    ensures { OnOk result (lent_terms waiting.new.items ≡ lent_terms waiting.old.items ++ map written nodes.now) }
 {
     for node in nodes {
-        add_node(node, names)?;
+        waiting.push(node)?;
     }
     Ok(())
 }
 
-#[cycle(names)]
-fn add_program(program: &Program, names: &mut Names) -> std::result::Result<(), AllocError>
-    ensures { OnOk result (names.new ≡ with_names names.old (block_operands (program_written program.now))) }
+fn wait_for_program<'a>(
+    program: &'a Program,
+    waiting: &mut Vec<&'a Node>,
+) -> std::result::Result<(), AllocError>
+    ensures { OnOk result (lent_terms waiting.new.items ≡ lent_terms waiting.old.items ++ program_children program.now) }
 {
-    add_lines(&program.lines, names)?;
-    add_node(&program.expr, names)
-}
-
-#[cycle(names)]
-fn add_lines(lines: &[(String, Node)], names: &mut Names) -> std::result::Result<(), AllocError>
-    ensures { OnOk result (names.new ≡ with_names names.old (lines_operands (map line_written lines.now))) }
-{
-    for (_name, value) in lines {
-        add_node(value, names)?;
+    for (_name, value) in &program.lines {
+        waiting.push(value)?;
     }
+    waiting.push(&program.expr)?;
     Ok(())
 }
 

@@ -9,8 +9,8 @@ ghost use Rattle.expr_syntax.specs.Reading.{stack, Stands};
 
 use crate::frame::{Fault, Frame, Place, Section};
 use crate::parser::{Parser, map_literal};
+use expr_parts::Lines;
 use expr_token::{Sign, Token};
-use expr_tree::part::Lines;
 use expr_value::ValueMap;
 
 impl Parser {

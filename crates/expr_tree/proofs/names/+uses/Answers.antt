@@ -2,7 +2,7 @@ use Rattle.std.proofs.Common.{◌≡◌, ◌||◌, map, sym, ap, ◌∙◌}
 use Rattle.expr_tree.specs.Names.{operands, block_operands, lines_operands, has_env}
 use Rattle.expr_tree.specs.Written.{written, line_written}
 use Rattle.expr_tree.proofs.Gathered.{nodes_without, lines_without, nodes_with, lines_with, block_env}
-use Rattle.expr_tree.proofs.Parts.{written-parts}
+use Rattle.expr_tree.proofs.Programs.{written-parts}
 use Rattle.expr_tree.proofs.names.+uses.Goals as goal
 
 pub any_uses_env-returns-then-node_uses_env : goal.any_uses_env-returns-then-node_uses_env

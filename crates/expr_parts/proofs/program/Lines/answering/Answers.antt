@@ -1,0 +1,24 @@
+use Rattle.std.proofs.Common.{◌≡◌, ◌||◌, map, sym, ap, ◌∙◌}
+use Rattle.expr_tree.specs.Term.{block_with}
+use Rattle.expr_parts.specs.Promotion.{has_free_hash, block_has_free_hash, lines_have_free_hash}
+use Rattle.expr_tree.specs.Written.{written, line_written}
+use Rattle.expr_tree.proofs.Programs.{written-program}
+use Rattle.expr_parts.proofs.Parts.{block_free}
+use Rattle.expr_parts.proofs.program.Lines.answering.Goals as goal
+use Rattle.expr_parts.proofs.program.Lines.answering.Goals.{then-has_free_hash, else-has_free_hash}
+
+pub invariant_of-result : goal.invariant_of-result
+invariant_of-result c =
+    let flag : c.if-has_free_hash.has_free_hash ≡ (c.self.inside.has_free_hash || c.last.inside.has_free_hash) =
+    elim c.if-has_free_hash.branch [
+      | then-has_free_hash w ↦ w.has_free_hash-is ∙ w.if-has_free_hash.true ∙ ap (λ b. b || c.last.inside.has_free_hash) (sym w.if-has_free_hash.true)
+      | else-has_free_hash w ↦ w.has_free_hash-is ∙ ap (λ b. b || c.last.inside.has_free_hash) (sym w.if-has_free_hash.false)
+    ] in
+    let free : (c.self.inside.has_free_hash || c.last.inside.has_free_hash) ≡ (lines_have_free_hash (map line_written c.self.inside.lines.items) || has_free_hash (written c.last.inside.node)) =
+    λ i. c.self.invariant i || c.last.invariant i in
+    let same : written c.last.inside.node ≡ written c.into_node.result = c.last.view_is ∙ sym c.into_node.ensures in
+    flag ∙ free ∙ ap (λ t. lines_have_free_hash (map line_written c.self.inside.lines.items) || has_free_hash t) same
+    ∙ sym (ap block_has_free_hash (written-program c.self.inside.lines c.into_node.result) ∙ block_free (map line_written c.self.inside.lines.items) (written c.into_node.result))
+
+pub returns : goal.returns
+returns c = written-program c.self.inside.lines c.into_node.result ∙ (λ i. block_with (c.self.view_is i) (c.into_node.ensures i))

@@ -1,0 +1,129 @@
+//! Programs made from their lines, one after another, and from what they answer.
+ghost use Rattle.std.specs.Prelude.{◌≡◌, ◌∷◌, ◌++◌, [], OnOk, OnErr, string_bytes};
+ghost use Rattle.expr_tree.specs.Term.{block_with};
+ghost use Rattle.expr_tree.specs.Written.{program_written};
+
+use crate::part::Part;
+use expr_tree::node::{Node, Program};
+use std::alloc::{AllocError, Global};
+use std::marker::Model;
+
+/// A program and whether a hash name is free in it, which contracts see as its lines and what it answers.
+pub struct ProgramPart {
+    program: Program,
+    pub(crate) has_free_hash: bool,
+}
+
+// Written out so that letting go of one is a single step in the proofs above.
+impl Drop for ProgramPart {
+    fn drop(self) {
+        let ProgramPart {
+            program: _,
+            has_free_hash: _,
+        } = self;
+    }
+}
+
+impl Model for ProgramPart {
+    ghost use Rattle.expr_tree.specs.Term.{Block};
+    ghost use Rattle.expr_tree.specs.Codes.{block_code};
+
+    ghost Value = { Block };
+
+    ghost coded = { block_code };
+
+    ghost use Rattle.std.specs.Prelude.{◌≡◌};
+    ghost use Rattle.expr_tree.specs.Written.{program_written};
+    ghost use Rattle.expr_parts.specs.Promotion.{block_has_free_hash};
+
+    ghost view = { λ p. program_written p.program };
+
+    ghost invariant = { λ p. p.has_free_hash ≡ block_has_free_hash (program_written p.program) };
+}
+
+impl ProgramPart {
+    /// The program, alone.
+    pub fn into_program(self) -> Program
+        ensures { program_written result ≡ self }
+    {
+        let ProgramPart {
+            program,
+            has_free_hash: _,
+        } = self;
+        program
+    }
+}
+
+/// The lines of a program, as far as they have been read.
+pub struct Lines {
+    lines: Vec<(String, Node)>,
+    has_free_hash: bool,
+}
+
+// Written out so that letting go of one is a single step in the proofs above.
+impl Drop for Lines {
+    fn drop(self) {
+        let Lines {
+            lines: _,
+            has_free_hash: _,
+        } = self;
+    }
+}
+
+impl Model for Lines {
+    ghost use Rattle.expr_tree.specs.Term.{LineTerms};
+    ghost use Rattle.expr_parts.specs.Parts.{lines_code};
+
+    ghost Value = { LineTerms };
+
+    ghost coded = { lines_code };
+
+    ghost use Rattle.std.specs.Prelude.{◌≡◌, map};
+    ghost use Rattle.expr_tree.specs.Written.{line_written};
+    ghost use Rattle.expr_parts.specs.Promotion.{lines_have_free_hash};
+
+    ghost view = { λ l. map line_written l.lines.items };
+
+    ghost invariant = { λ l. l.has_free_hash ≡ lines_have_free_hash (map line_written l.lines.items) };
+}
+
+impl Lines {
+    /// No lines.
+    pub fn new(alloc: Global) -> Lines
+        ensures { result ≡ [] }
+    {
+        Lines {
+            lines: Vec::new(alloc),
+            has_free_hash: false,
+        }
+    }
+
+    /// Adds the line that names a value.
+    pub fn push(&mut self, name: String, value: Part) -> Result<(), AllocError>
+        ensures ok { OnOk result (self.new ≡ self.old ++ (string_bytes name, value) ∷ []) }
+        ensures err { OnErr result (self.new ≡ self.old) }
+    {
+        let has_free_hash = value.has_free_hash;
+        self.lines.push((name, value.into_node()))?;
+        self.has_free_hash = self.has_free_hash || has_free_hash;
+        Ok(())
+    }
+
+    /// The program of these lines that answers a node.
+    pub fn answering(self, last: Part) -> ProgramPart
+        ensures { result ≡ block_with self last }
+    {
+        let Lines {
+            lines,
+            has_free_hash,
+        } = self;
+        let has_free_hash = has_free_hash || last.has_free_hash;
+        ProgramPart {
+            program: Program {
+                lines,
+                expr: last.into_node(),
+            },
+            has_free_hash,
+        }
+    }
+}

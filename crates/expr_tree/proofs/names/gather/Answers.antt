@@ -1,0 +1,2 @@
+use Rattle.expr_tree.proofs.Waiting.{then_more}
+use Rattle.expr_tree.proofs.names.gather.Goals as goal

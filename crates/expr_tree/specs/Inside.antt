@@ -1,0 +1,37 @@
+-- What stands right inside a node in memory, as trees.
+use Rattle.std.specs.Prelude.{ℕ, List, [], ◌∷◌, ◌++◌, Option, Some, None, map}
+use Rattle.std.specs.Borrow.{Bor}
+use Rattle.expr_tree.specs.Children.{block_children}
+use Rattle.expr_tree.specs.Term.{Term}
+use Rattle.expr_tree.specs.Written.{written, program_written}
+use Rattle.expr_tree.specs.declared.inside.Inside.{Inside}
+use Rattle.expr_tree.specs.declared.inside.Inside.TheVariants.{Name, Nodes, Items, Choice}
+use Rattle.expr_tree.specs.declared.node.Node.{Node}
+use Rattle.expr_tree.specs.declared.node.Program.{Program}
+
+abbrev pub maybe_child : Option (Bor Node) → List Term
+maybe_child None = []
+maybe_child (Some n) = written n.now ∷ []
+
+abbrev pub program_children : Program → List Term
+program_children p = block_children (program_written p)
+
+abbrev pub maybe_children : Option (Bor Program) → List Term
+maybe_children None = []
+maybe_children (Some p) = program_children p.now
+
+abbrev pub children_inside : Inside → List Term
+children_inside (Name key) = []
+children_inside (Nodes first second third) = maybe_child first ++ (maybe_child second ++ maybe_child third)
+children_inside (Items first items program) = maybe_child first ++ (map written items.now ++ maybe_children program)
+children_inside (Choice condition consequent alternative) = written condition.now ∷ (program_children consequent.now ++ program_children alternative.now)
+
+abbrev pub name_inside : Inside → List (List ℕ)
+name_inside (Name key) = key.now ∷ []
+name_inside (Nodes first second third) = []
+name_inside (Items first items program) = []
+name_inside (Choice condition consequent alternative) = []
+
+-- the trees that borrowed nodes stand for
+abbrev pub lent_terms : List (Bor Node) → List Term
+lent_terms ns = map (λ n. written n.now) ns
