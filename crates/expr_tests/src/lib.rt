@@ -6,6 +6,8 @@ mod answers;
 #[cfg(test)]
 mod macros;
 #[cfg(test)]
+mod page;
+#[cfg(test)]
 mod programs;
 #[cfg(test)]
 mod said;

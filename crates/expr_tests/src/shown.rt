@@ -1,49 +1,48 @@
 //! Programs as texts with each of their brackets.
+use crate::page::Page;
 use expr::{Node, PostfixOperator, Program, UnaryOperator};
-use std::alloc::AllocError;
 
 #[cycle(shown)]
-pub fn show_program(program: &Program, out: &mut String) -> Result<(), AllocError> {
-    show_lines(&program.lines, out)?;
-    show_node(&program.expr, out)
+pub fn show_program(program: &Program, page: &mut Page) {
+    show_lines(&program.lines, page);
+    show_node(&program.expr, page);
 }
 
 #[cycle(shown)]
-fn show_lines(lines: &[(String, Node)], out: &mut String) -> Result<(), AllocError> {
+fn show_lines(lines: &[(String, Node)], page: &mut Page) {
     for (name, value) in lines {
-        out.push_str(name)?;
-        out.push_str(" = ")?;
-        show_node(value, out)?;
-        out.push_str("; ")?;
+        page.put(name);
+        page.put(" = ");
+        show_node(value, page);
+        page.put("; ");
     }
-    Ok(())
 }
 
 #[cycle(shown)]
-fn show_node(node: &Node, out: &mut String) -> Result<(), AllocError> {
+fn show_node(node: &Node, page: &mut Page) {
     match node {
-        Node::Ident(name) => out.push_str(name),
-        Node::Value(value) => out.push_str(&value.to_string(*out.allocator())?),
-        Node::Array(items) => show_nodes(items, out),
+        Node::Ident(name) => page.put(name),
+        Node::Value(value) => page.put_made(value.to_string(page.allocator())),
+        Node::Array(items) => show_nodes(items, page),
         Node::Range(first, last) => {
-            out.push_str("(")?;
-            show_node(first, out)?;
-            out.push_str(" .. ")?;
-            show_node(last, out)?;
-            out.push_str(")")
+            page.put("(");
+            show_node(first, page);
+            page.put(" .. ");
+            show_node(last, page);
+            page.put(")");
         }
         Node::Func {
             ident,
             args,
             predicate,
         } => {
-            out.push_str(ident)?;
-            show_nodes(args, out)?;
-            show_predicate(predicate, out)
+            page.put(ident);
+            show_nodes(args, page);
+            show_predicate(predicate, page);
         }
         Node::Unary { operator, node } => {
-            out.push_str(sign(*operator))?;
-            show_node(node, out)
+            page.put(sign(*operator));
+            show_node(node, page);
         }
         Node::Operation {
             operator,
@@ -51,101 +50,101 @@ fn show_node(node: &Node, out: &mut String) -> Result<(), AllocError> {
             right,
             compiled_regex: _,
         } => {
-            out.push_str("(")?;
-            show_node(left, out)?;
-            out.push_str(" ")?;
-            out.push_str(&operator.to_string(*out.allocator())?)?;
-            out.push_str(" ")?;
-            show_node(right, out)?;
-            out.push_str(")")
+            page.put("(");
+            show_node(left, page);
+            page.put(" ");
+            page.put_made(operator.to_string(page.allocator()));
+            page.put(" ");
+            show_node(right, page);
+            page.put(")");
         }
         Node::Postfix { operator, node } => {
-            out.push_str("(")?;
-            show_node(node, out)?;
-            show_postfix(operator, out)?;
-            out.push_str(")")
+            page.put("(");
+            show_node(node, page);
+            show_postfix(operator, page);
+            page.put(")");
         }
         Node::Conditional {
             condition,
             consequent,
             alternative,
         } => {
-            out.push_str("if ")?;
-            show_node(condition, out)?;
-            out.push_str(" {")?;
-            show_program(consequent, out)?;
-            out.push_str("} {")?;
-            show_program(alternative, out)?;
-            out.push_str("}")
+            page.put("if ");
+            show_node(condition, page);
+            page.put(" {");
+            show_program(consequent, page);
+            page.put("} {");
+            show_program(alternative, page);
+            page.put("}");
         }
     }
 }
 
 #[cycle(shown)]
-fn show_postfix(operator: &PostfixOperator, out: &mut String) -> Result<(), AllocError> {
+fn show_postfix(operator: &PostfixOperator, page: &mut Page) {
     match operator {
         PostfixOperator::Index { idx, optional } => {
-            out.push_str(if *optional { "?[" } else { "[" })?;
-            show_node(idx, out)?;
-            out.push_str("]")
+            page.put(if *optional { "?[" } else { "[" });
+            show_node(idx, page);
+            page.put("]");
         }
         PostfixOperator::Range { start, end } => {
-            out.push_str("[")?;
-            show_bound(start, out)?;
-            out.push_str(":")?;
-            show_bound(end, out)?;
-            out.push_str("]")
+            page.put("[");
+            show_bound(start, page);
+            page.put(":");
+            show_bound(end, page);
+            page.put("]");
         }
         PostfixOperator::Default(node) => {
-            out.push_str(" ?? ")?;
-            show_node(node, out)
+            page.put(" ?? ");
+            show_node(node, page);
         }
         PostfixOperator::Pipe(node) => {
-            out.push_str(" | ")?;
-            show_node(node, out)
+            page.put(" | ");
+            show_node(node, page);
         }
         PostfixOperator::Ternary { left, right } => {
-            out.push_str(" ? ")?;
-            show_node(left, out)?;
-            out.push_str(" : ")?;
-            show_node(right, out)
+            page.put(" ? ");
+            show_node(left, page);
+            page.put(" : ");
+            show_node(right, page);
         }
         PostfixOperator::Method { ident, args } => {
-            out.push_str(".")?;
-            out.push_str(ident)?;
-            show_nodes(args, out)
+            page.put(".");
+            page.put(ident);
+            show_nodes(args, page);
         }
     }
 }
 
 #[cycle(shown)]
-fn show_bound(bound: &Option<Box<Node>>, out: &mut String) -> Result<(), AllocError> {
+fn show_bound(bound: &Option<Box<Node>>, page: &mut Page) {
     match bound {
-        Some(node) => show_node(node, out),
-        None => Ok(()),
+        Some(node) => show_node(node, page),
+        None => {}
     }
 }
 
 #[cycle(shown)]
-fn show_predicate(predicate: &Option<Box<Program>>, out: &mut String) -> Result<(), AllocError> {
+fn show_predicate(predicate: &Option<Box<Program>>, page: &mut Page) {
     match predicate {
         Some(program) => {
-            out.push_str("{")?;
-            show_program(program, out)?;
-            out.push_str("}")
+            page.put("{");
+            show_program(program, page);
+            page.put("}");
         }
-        None => Ok(()),
+        None => {}
     }
 }
 
 #[cycle(shown)]
-fn show_nodes(nodes: &[Node], out: &mut String) -> Result<(), AllocError> {
-    out.push_str("[")?;
+fn show_nodes(nodes: &[Node], page: &mut Page) {
+    page.put("[");
     for node in nodes {
-        show_node(node, out)?;
-        out.push_str(",")?;
+        show_node(node, page);
+        page.put(",");
     }
-    out.push_str("]")
+    page.put("]");
 }
 
 fn sign(operator: UnaryOperator) -> &'static str {

@@ -1,36 +1,49 @@
 //! Readings of texts.
+use crate::page::Page;
+use expr::Result;
 use expr_token::{Token, read};
 use std::alloc::Global;
-use std::fmt::Write;
 use std::test::Fail;
 
+type Tested = std::result::Result<(), Fail>;
+
 /// A token in a form of its own: large integers as `large`, contents in angle brackets after the first letter of their kind.
-fn show(token: &Token, out: &mut String) -> Result<(), Fail> {
+fn show(token: &Token, page: &mut Page) {
     match token {
-        Token::Integer(Some(value)) => write!(out, "{value} ")?,
-        Token::Integer(None) => out.push_str("large ")?,
-        Token::Word(word) => write!(out, "{} ", word.as_str())?,
-        Token::Reserved(reserved) => write!(out, "{}! ", reserved.spelling())?,
-        Token::Hash(name) => write!(out, "{} ", name.as_str())?,
-        Token::Quoted(content) => write!(out, "q<{}> ", content.as_str())?,
-        Token::Raw(content) => write!(out, "r<{}> ", content.as_str())?,
-        Token::Bytes(bytes) => write!(out, "b<{:?}> ", bytes.as_slice())?,
-        Token::Sign(sign) => write!(out, "{} ", sign.spelling())?,
+        Token::Integer(Some(value)) => page.put_made(value.to_string(page.allocator())),
+        Token::Integer(None) => page.put("large"),
+        Token::Word(word) => page.put(word.as_str()),
+        Token::Reserved(reserved) => put_between("", reserved.spelling(), "!", page),
+        Token::Hash(name) => page.put(name.as_str()),
+        Token::Quoted(content) => put_between("q<", content.as_str(), ">", page),
+        Token::Raw(content) => put_between("r<", content.as_str(), ">", page),
+        Token::Bytes(bytes) => page.put_made(format!(in page.allocator();
+            "b<{:?}>",
+            bytes.as_slice()
+        )),
+        Token::Sign(sign) => page.put(sign.spelling()),
     }
-    Ok(())
+    page.put(" ");
+}
+
+fn put_between(front: &str, middle: &str, back: &str, page: &mut Page) {
+    page.put(front);
+    page.put(middle);
+    page.put(back);
 }
 
 /// The tokens of a text, each with a space after it, and the place of the fault, after `?`.
-fn shown(alloc: Global, text: &str) -> Result<String, Fail> {
+fn shown(alloc: Global, text: &str) -> Result<String> {
     let reading = read(alloc, text)?;
-    let mut out = String::new(alloc);
+    let mut page = Page::new(alloc);
     for token in &reading.tokens {
-        show(token, &mut out)?;
+        show(token, &mut page);
     }
     if let Some(place) = reading.fault {
-        write!(out, "?{place}")?;
+        page.put("?");
+        page.put_made(place.to_string(alloc));
     }
-    Ok(out)
+    Ok(page.finished()?)
 }
 
 /// Texts and their readings.
@@ -90,7 +103,7 @@ const READINGS: &[(&str, &str)] = &[
 ];
 
 #[test]
-fn texts_have_their_readings(rt: HostRuntime) -> Result<(), Fail> {
+fn texts_have_their_readings(rt: HostRuntime) -> Tested {
     for (text, tokens) in READINGS {
         assert_eq!(rt; shown(rt.alloc(), text)?.as_str(), *tokens, "{text}");
     }
@@ -98,7 +111,7 @@ fn texts_have_their_readings(rt: HostRuntime) -> Result<(), Fail> {
 }
 
 #[test]
-fn tokens_have_their_starts(rt: HostRuntime) -> Result<(), Fail> {
+fn tokens_have_their_starts(rt: HostRuntime) -> Tested {
     let reading = read(rt.alloc(), "'é' /* é */ ab+1")?;
     assert_eq!(rt; reading.starts.as_slice(), [0, 14, 16, 17].as_slice());
     Ok(())
