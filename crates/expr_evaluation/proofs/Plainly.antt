@@ -1,5 +1,5 @@
 -- What plain nodes answer is plain, and how it follows from what their parts answer.
-use Rattle.std.proofs.Common.{◌≡◌, Bool, true, ◌&&◌, IsTrue, Option, Result, Ok, Err, refl, sym, subst, rules, Global, false, ap, ◌∙◌, String, string_bytes, map, Vec}
+use Rattle.std.proofs.Common.{◌≡◌, Bool, true, ◌&&◌, IsTrue, Option, Ok, refl, subst, rules, Global, false, ap, ◌∙◌, String, string_bytes, map, Vec}
 use Rattle.expr_tree.proofs.Shapes.{written-Ident, written-Array, written-Range, written-Func, written-Postfix, written-Conditional}
 use Rattle.expr_tree.specs.declared.node.PostfixOperator.{PostfixOperator}
 use Rattle.expr_tree.specs.declared.node.Program.{Program}
@@ -10,7 +10,6 @@ use Rattle.expr_tree.specs.declared.node.Node as node
 use Rattle.expr_tree.specs.declared.node.Node.{Node, the_lemmas as node_lemmas}
 use Rattle.expr_tree.specs.declared.node.Pattern.{Pattern as Kept}
 use Rattle.std.specs.declared.boxed.Box.{Box}
-use Rattle.expr_value.specs.Fault.{Fault}
 use Rattle.expr_value.specs.declared.value.Value as value
 use Rattle.expr_value.specs.declared.value.Value.{Value, out-Value}
 use Rattle.expr_value.specs.declared.value.Value.TheOpen.{Value-F}

@@ -2,7 +2,6 @@
 use Rattle.std.specs.Prelude.{◌≡◌, ℕ, Bool, List, Option, Some, None, Ok, Err, codes}
 use Rattle.expr_value.specs.Answers.{Answer}
 use Rattle.expr_value.specs.Fault.{evaluation}
-use Rattle.expr_value.specs.declared.value.Value as value
 use Rattle.expr_value.specs.declared.value.Value.{Value}
 use Rattle.expr_evaluation.specs.Context.{Context, override, hash}
 

@@ -55,7 +55,6 @@ pub fn prefix_held<'s>(alloc: Global, operator: UnaryOperator, value: &Held<'_>)
 }
 
 /// What an operator that asks both sides gives on their values.
-#[inline(never)]
 pub fn apply_held<'s>(
     alloc: Global,
     operator: Operator,
