@@ -1,6 +1,6 @@
 -- A text as it stands between quotes, of which whole runs are written at once.
 use Rattle.std.proofs.Common.{◌≡◌, ℕ, ◌+◌, ◌-◌, ◌<◌, ◌≤◌, List, [], ◌∷◌, ◌++◌, length, take, drop, get_or, flat_map, sym, ap, ◌∙◌, arith, append_assoc}
-use Rattle.std.proofs.lemmas.List.{append-nil, length-drop, get_or-drop, take_all, take_more}
+use Rattle.std.proofs.lemmas.List.{append-nil, length-drop, get_or-drop, take_more}
 use Rattle.std.proofs.lemmas.Grind.{flat_map-append}
 use Rattle.expr_value.specs.Values.{escaped}
 
@@ -35,9 +35,3 @@ pub run_begins : (text : List ℕ) (i : ℕ) → IsRun text i i
 run_begins text i =
     let none : i - i ≡ 0 = omega arith in
     sym (append-nil (flat_map escaped (take i text))) ∙ ap (λ n. flat_map escaped (take i text) ++ take n (drop i text)) (sym none)
-
--- the last run
-pub run_last : (text : List ℕ) (start i : ℕ) → length text ≤ i → IsRun text start i → flat_map escaped (take start text) ++ drop start text ≡ flat_map escaped text
-run_last text start i end run =
-    ap (λ l. flat_map escaped (take start text) ++ l) (sym (take_all (i - start) (drop start text) (omega (arith, length-drop start text, end))))
-    ∙ sym run ∙ ap (flat_map escaped) (take_all i text end)

@@ -2,13 +2,13 @@
 
 ghost use Rattle.std.specs.Prelude.{[], ◌∷◌};
 ghost use Rattle.expr_token.specs.declared.token.Token.TheVariants as token;
-ghost use Rattle.expr_syntax.specs.declared.frame.Frame.TheVariants as frame;
-ghost use Rattle.expr_syntax.specs.declared.frame.Section.TheVariants as section;
-ghost use Rattle.expr_syntax.specs.Nodes as machine;
+ghost use Rattle.expr_frames.specs.declared.frame.Frame.TheVariants as frame;
+ghost use Rattle.expr_frames.specs.declared.frame.Section.TheVariants as section;
+ghost use Rattle.expr_frames.specs.Nodes as machine;
 ghost use Rattle.expr_syntax.specs.Reading.{stack, Stands};
 
-use crate::frame::{Fault, Frame, Place, Section};
 use crate::parser::{Parser, map_literal};
+use expr_frames::frame::{Fault, Frame, Place, Section};
 use expr_parts::Lines;
 use expr_token::{Sign, Token};
 use expr_value::ValueMap;

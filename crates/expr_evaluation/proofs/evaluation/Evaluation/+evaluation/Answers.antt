@@ -6,8 +6,8 @@ use Rattle.expr_tree.specs.Written.{written, bound_written, postfix_written, pro
 use Rattle.expr_tree.specs.declared.node.Node.{Node}
 use Rattle.expr_value.specs.Fault.{fault_of}
 use Rattle.expr_value.specs.declared.value.Value.{Value}
-use Rattle.expr_evaluation.specs.Allows.{Allows, AllowsAll, AllowsBlock, AllowsMore, AllowsPostfix, Continued, ContinuedAs, listed}
-use Rattle.expr_value.specs.Answers.{Answer, Gives}
+use Rattle.expr_evaluation.specs.Allows.{Allows, AllowsAll, AllowsBlock, AllowsBound, AllowsMore, AllowsPostfix, Continued, ContinuedAs, listed}
+use Rattle.expr_value.specs.Answers.{After, Answer, Gives}
 use Rattle.expr_evaluation.specs.Context.{Context}
 use Rattle.expr_evaluation.specs.Host.{Host}
 use Rattle.expr_operators.specs.Asking.{asking_of}
@@ -136,36 +136,11 @@ follow-returns-in_err-start-in-Range g t c =
     let b = bound_written c.in-Range.end in
     let v = c.args.value in
     let is : postfix_written c.args.operator.now ≡ slice a b = ap postfix_written c.in-Range.is ∙ written-Slice c.in-Range.start c.in-Range.end in
-    let r = c.from_residual-in_err-start-in-Range.result in
+    let r = c.from_residual.result in
     let e = c.in_err-start-in-Range.field-0.0 in
     subst (λ p. Gives r (AllowsPostfix host ctx p v)) (sym is) (
-    Gives-passed r e (AllowsPostfix host ctx (slice a b) v) c.from_residual-in_err-start-in-Range.ensures.1 (
+    Gives-passed r e (AllowsPostfix host ctx (slice a b) v) c.from_residual.ensures.1 (
     λ m. (Err (fault_of e), c.in_err-start-in-Range.ensures m, refl)
-    )
-    )
-
-pub follow-returns-in_err-stop-in-Range : goal.follow-returns-in_err-stop-in-Range
-follow-returns-in_err-stop-in-Range g t c =
-    let host : Host = g.H.Functions.host c.args.self.now.host.now in
-    let base : Context = g.P.ContextProvider.context c.args.self.now.provider in
-    let ctx : Context = overridden c.args.scope.now base in
-    let a = bound_written c.in-Range.start in
-    let b = bound_written c.in-Range.end in
-    let v = c.args.value in
-    let is : postfix_written c.args.operator.now ≡ slice a b = ap postfix_written c.in-Range.is ∙ written-Slice c.in-Range.start c.in-Range.end in
-    let r = c.from_residual-in_err-stop-in-Range.result in
-    let e = c.in_err-stop-in-Range.field-0.0 in
-    subst (λ p. Gives r (AllowsPostfix host ctx p v)) (sym is) (
-    Gives-passed r e (AllowsPostfix host ctx (slice a b) v) c.from_residual-in_err-stop-in-Range.ensures.1 (
-    λ m. (
-      Ok c.in_ok-start-in-Range.start,
-      c.in_ok-start-in-Range.ensures,
-      (
-        Err (fault_of e),
-        c.in_err-stop-in-Range.ensures m,
-        refl,
-      ),
-    )
     )
     )
 
@@ -179,17 +154,10 @@ follow-returns-in-Range g t c =
     let v = c.args.value in
     let is : postfix_written c.args.operator.now ≡ slice a b = ap postfix_written c.in-Range.is ∙ written-Slice c.in-Range.start c.in-Range.end in
     let from = c.in_ok-start-in-Range.start in
-    let to = c.in_ok-stop-in-Range.stop in
-    subst (λ p. Gives c.slice_of.result (AllowsPostfix host ctx p v)) (sym is) (
-    Gives-of-Is c.slice_of.result (sliced v from to) (AllowsPostfix host ctx (slice a b) v) c.slice_of.ensures (
-      Ok from,
-      c.in_ok-start-in-Range.ensures,
-      (
-        Ok to,
-        c.in_ok-stop-in-Range.ensures,
-        refl,
-      ),
-    )
+    subst (λ p. Gives c.slice_to.result (AllowsPostfix host ctx p v)) (sym is) (
+    Gives-under c.slice_to.result (After (AllowsBound host ctx b) (λ to a. a ≡ sliced v from to)) (AllowsPostfix host ctx (slice a b) v) (
+    λ x p. (Ok from, c.in_ok-start-in-Range.ensures, p)
+    ) c.slice_to.ensures
     )
 
 pub items-loop-node-preserved : goal.items-loop-node-preserved
