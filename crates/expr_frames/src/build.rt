@@ -98,7 +98,7 @@ impl Reaching {
         }
     }
 
-    // The part that it becomes with its last part.
+    /// The part that it becomes with its last part.
     pub fn plug(self, alloc: Global, last: Part) -> Result<Part, AllocError>
         ensures { IfOk result (λ p. p ≡ machine.plug self last) }
     {
@@ -111,7 +111,7 @@ impl Reaching {
 }
 
 impl Frame {
-    // The least level of an operator that goes inside, 0 where only its own token closes the frame.
+    /// The least level of an operator that goes inside, 0 where only its own token closes the frame.
     pub fn reach(&self) -> u8
         ensures { result ≡ machine.reach self.now }
     {
@@ -165,6 +165,7 @@ impl Place {
 }
 
 impl Operand {
+    /// The part that it is, where no arguments follow.
     pub fn part(self, alloc: Global) -> Result<Part, AllocError>
         ensures { IfOk result (λ p. p ≡ machine.make self) }
     {
@@ -177,6 +178,7 @@ impl Operand {
 }
 
 impl Caller {
+    /// The call with these arguments.
     pub fn call(self, alloc: Global, arguments: Arguments) -> Result<Part, AllocError>
         ensures { IfOk result (λ p. p ≡ machine.call_term self arguments) }
     {
@@ -190,14 +192,14 @@ impl Caller {
     }
 }
 
-// A member is an index by the text of its word.
+/// A member is an index by the text of its word.
 pub fn member(alloc: Global, left: Part, name: Text, optional: bool) -> Result<Part, AllocError>
     ensures { IfOk result (λ p. p ≡ member_term left optional name) }
 {
     Part::index(alloc, left, Part::literal(Value::String(name)), optional)
 }
 
-// A choice, inside the branches before it.
+/// A choice, inside the branches before it.
 pub fn nested(
     alloc: Global,
     before: Chain,
@@ -216,7 +218,7 @@ pub fn nested(
     Ok(inner)
 }
 
-// The branches with one more.
+/// The branches with one more.
 pub fn branched(before: Chain, condition: Part, then: ProgramPart) -> Result<Chain, AllocError>
     ensures { IfOk result (λ c. c ≡ before ++ (condition, then) ∷ []) }
 {

@@ -10,8 +10,16 @@ use expr_grammar::sign::PrefixSign;
 use expr_token::{Reserved, Sign, Token};
 use expr_value::{Text, Value};
 use std::alloc::Global;
+use std::mem;
 
-// What a token is where an operand is wanted.
+/// The token, in whose place a sign is left.
+pub fn taken(token: &mut Token) -> Token
+    ensures { result ≡ token.old }
+{
+    mem::replace(token, Token::Sign(Sign::Semicolon))
+}
+
+/// What a token is where an operand is wanted.
 pub fn start(token: Token) -> Start
     ensures { result ≡ machine.start_of token }
 {
@@ -64,7 +72,7 @@ fn start_of_sign(sign: Sign) -> Start
     }
 }
 
-// The text of a word, reserved or not.
+/// The text of a word, reserved or not.
 pub fn word(alloc: Global, token: Token) -> Result<Text, Fault>
     ensures { Gives (machine.text_at token) result }
 {
@@ -75,7 +83,7 @@ pub fn word(alloc: Global, token: Token) -> Result<Text, Fault>
     }
 }
 
-// The text of a key of a map literal.
+/// The text of a key of a map literal.
 pub fn key(alloc: Global, token: Token) -> Result<Text, Fault>
     ensures { Gives (machine.key_text_at token) result }
 {
@@ -87,7 +95,7 @@ pub fn key(alloc: Global, token: Token) -> Result<Text, Fault>
     }
 }
 
-// The value of a literal.
+/// The value of a literal.
 pub fn constant(token: Token) -> Option<Value>
     ensures { result ≡ machine.value_at token }
 {

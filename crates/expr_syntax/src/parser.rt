@@ -58,54 +58,74 @@ impl Parser {
     }
 
     // Reads one token.
-    fn step(&mut self, place: Place, token: Token) -> Result<Place, Fault>
+    fn step(&mut self, place: Place, mut token: Token) -> Result<Place, Fault>
         ensures { Stands (machine.step_in (stack self.old.frames.items) place token) self.new.frames.items result }
     {
         match place {
-            Place::BracedKey(key) => self.after_key(key, token),
-            _ => self.step_on(place, token),
+            Place::BracedKey(key) => self.after_key(key, &mut token),
+            _ => self.step_on(place, &mut token),
         }
     }
 
     // Reads one token, but after a key that may begin a predicate.
-    fn step_on(&mut self, place: Place, token: Token) -> Result<Place, Fault>
-        ensures { Stands (machine.step_on (stack self.old.frames.items) place token) self.new.frames.items result }
+    fn step_on(&mut self, place: Place, token: &mut Token) -> Result<Place, Fault>
+        ensures { Stands (machine.step_on (stack self.old.frames.items) place token.old) self.new.frames.items result }
     {
         match place {
-            Place::Want => self.want(token),
-            Place::Have(left) => self.follow(left, &token),
-            Place::Dotted(left) => self.member(left, token),
-            Place::Questioned(left) => self.optional(left, token),
-            Place::Negated(left) => self.not_in(left, &token),
-            Place::Barred(left) => self.function(left, token),
-            Place::Piped(left, name) => self.arguments(left, name, &token),
-            Place::Chosen(chain, condition, then) => self.otherwise(chain, condition, then, &token),
+            Place::Want => self.want(read::taken(token)),
+            Place::Have(left) => self.follow(left, token),
+            Place::Dotted(left) => self.member(left, read::taken(token)),
+            Place::Questioned(left) => self.optional(left, read::taken(token)),
+            Place::Negated(left) => self.not_in(left, token),
+            Place::Barred(left) => self.function(left, read::taken(token)),
+            Place::Piped(left, name) => self.arguments(left, name, token),
+            Place::Chosen(chain, condition, then) => self.otherwise(chain, condition, then, token),
             Place::Alternate(chain, condition, then) => {
-                self.alternative(chain, condition, then, &token)
+                self.alternative(chain, condition, then, token)
             }
-            Place::NamesLine => self.line_name(token),
-            Place::Named(name) => self.line_value(name, &token),
-            Place::Argued(program) => self.argued(program, &token),
-            Place::NamesMember => self.member_alone(token),
-            Place::Braced => self.braced(token),
+            Place::NamesLine => self.line_name(read::taken(token)),
+            Place::Named(name) => self.line_value(name, token),
+            Place::Argued(program) => self.argued(program, token),
+            Place::NamesMember => self.member_alone(read::taken(token)),
+            Place::Braced => self.braced(read::taken(token)),
             Place::BracedKey(_) => Err(Fault::Syntax),
-            Place::Keys(map) => self.map_key(map, token),
-            Place::Colons(map, key) => self.map_colon(map, key, &token),
-            Place::Values(map, key) => self.map_value(map, key, token),
-            Place::Entered(map) => self.map_end(map, &token),
+            Place::Keys(map) => self.map_key(map, read::taken(token)),
+            Place::Colons(map, key) => self.map_colon(map, key, token),
+            Place::Values(map, key) => self.map_value(map, key, read::taken(token)),
+            Place::Entered(map) => self.map_end(map, token),
         }
     }
 
     // A key after an opening brace, which begins a map literal where a colon follows, else a predicate.
-    fn after_key(&mut self, key: Token, token: Token) -> Result<Place, Fault>
-        ensures { Stands (machine.step_in (stack self.old.frames.items) (place.BracedKey key) token) self.new.frames.items result }
+    fn after_key(&mut self, key: Token, token: &mut Token) -> Result<Place, Fault>
+        ensures { Stands (machine.step_in (stack self.old.frames.items) (place.BracedKey key) token.old) self.new.frames.items result }
     {
-        if let Token::Sign(Sign::Colon) = token {
-            let key = read::key(self.alloc, key)?;
-            return Ok(Place::Values(ValueMap::new(self.alloc), key));
+        match token {
+            Token::Sign(Sign::Colon) => self.first_key(key),
+            Token::Sign(_)
+            | Token::Integer(_)
+            | Token::Word(_)
+            | Token::Reserved(_)
+            | Token::Hash(_)
+            | Token::Quoted(_)
+            | Token::Raw(_)
+            | Token::Bytes(_) => self.after_first(key, token),
         }
-        self.push(Frame::Body(Section::Predicate, Lines::new(self.alloc)))?;
-        let place = self.want(key)?;
+    }
+
+    // A map literal after its first key and the colon.
+    fn first_key(&self, key: Token) -> Result<Place, Fault>
+        ensures { Stands (machine.value_after_key (stack self.now.frames.items) (machine.key_text_at key)) self.now.frames.items result }
+    {
+        let key = read::key(self.alloc, key)?;
+        Ok(Place::Values(ValueMap::new(self.alloc), key))
+    }
+
+    // A predicate after its first token.
+    fn after_first(&mut self, first: Token, token: &mut Token) -> Result<Place, Fault>
+        ensures { Stands (machine.steps_on (machine.want first (frame.Body section.Predicate [] ∷ stack self.old.frames.items)) token.old) self.new.frames.items result }
+    {
+        let place = self.body(first)?;
         self.step_on(place, token)
     }
 

@@ -36,7 +36,7 @@ impl Parser {
     }
 
     // The first token of a predicate.
-    fn body(&mut self, first: Token) -> Result<Place, Fault>
+    pub(super) fn body(&mut self, first: Token) -> Result<Place, Fault>
         ensures { Stands (machine.want first (frame.Body section.Predicate [] ∷ stack self.old.frames.items)) self.new.frames.items result }
     {
         self.push(Frame::Body(Section::Predicate, Lines::new(self.alloc)))?;
