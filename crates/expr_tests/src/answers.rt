@@ -38,7 +38,7 @@ impl ContextProvider for Odd {
     }
 }
 
-fn odd(alloc: Global, refuses: bool) -> Result<Odd> {
+fn made(alloc: Global, refuses: bool) -> Result<Odd> {
     let names = Context::try_from(alloc, value!(in alloc; {"#": {"x": 7}, "$env": 1, "a": 2})?)?;
     let shown = Context::try_from(alloc, value!(in alloc; {"a": 3})?)?;
     Ok(Odd {
@@ -50,7 +50,7 @@ fn odd(alloc: Global, refuses: bool) -> Result<Odd> {
 
 /// What a text answers under the odd provider.
 fn said_by_odd(alloc: Global, refuses: bool, code: &str) -> Result<String> {
-    let provider = odd(alloc, refuses)?;
+    let provider = made(alloc, refuses)?;
     Ok(said(alloc, &provider, code)?)
 }
 
