@@ -1,11 +1,12 @@
 //! What the program does with its words and its streams.
-ghost use Rattle.std.specs.Prelude.{◌≡◌, ◌≤◌, ◌↔◌, [], ◌∷◌, ◌++◌, false, map, string_bytes};
+ghost use Rattle.std.specs.Prelude.{◌≡◌, ◌≢◌, ◌≤◌, ◌↔◌, [], ◌∷◌, ◌++◌, false, map, string_bytes, Ok, Err, OnOk, IfErr};
 ghost use Rattle.std.specs.Io.KnownBytes.{Appends};
 ghost use Rattle.std.specs.List.{list_all};
-ghost use Rattle.expr.specs.Answers.{Gives};
 ghost use Rattle.expr_program.specs.Served.{MayBind, MayGive, MayPrint, MayServe};
 ghost use Rattle.expr_program.specs.Words.{code_of, is_binding, is_call, name_of, word_for};
-ghost use Rattle.expr_value.specs.Fault.{fault_of};
+ghost use Rattle.expr_value.specs.Answers.{Gives};
+ghost use Rattle.expr_value.specs.Fault.{fault_of, memory};
+ghost use Rattle.expr_value.specs.Names.{put};
 ghost use Rattle.expr_value.specs.Values.{text_of};
 ghost use Rattle.expr_value.specs.declared.value.Value.{Value};
 
@@ -53,16 +54,24 @@ fn value_under(alloc: Global, code: &str, names: &Context) -> Result<Value>
     eval(alloc, code, names)
 }
 
-/// The names that bindings give values to, from left to right, each by its code in an empty context.
+/// Puts the value of a binding under its name. Its code is evaluated in an empty context.
+fn bind(alloc: Global, word: &str, context: &mut Context) -> Result<()>
+    ensures bound { OnOk result ((v : Value) × MayGive [] (code_of word.now) (Ok v)
+        × context.new ≡ put (name_of word.now) v context.old) }
+    ensures refused { IfErr result (λ e. fault_of e ≢ memory → MayGive [] (code_of word.now) (Err (fault_of e))) }
+{
+    let (name, code) = parts(word);
+    let value = value_under(alloc, code, &Context::new(alloc))?;
+    context.insert(String::from_str(alloc, name)?, value)
+}
+
+/// The names that bindings give values to, from left to right.
 fn bound(alloc: Global, bindings: &[String]) -> Result<Context>
     ensures { Gives result (MayBind (map string_bytes bindings.now) []) }
 {
-    let empty = Context::new(alloc);
     let mut context = Context::new(alloc);
     for word in bindings {
-        let (name, code) = parts(word.as_str());
-        let value = value_under(alloc, code, &empty)?;
-        context.insert(String::from_str(alloc, name)?, value)?;
+        bind(alloc, word.as_str(), &mut context)?;
     }
     Ok(context)
 }

@@ -2,9 +2,8 @@
 use crate::said::{printed, said};
 use expr::{
     Context, ContextProvider, Error, Node, Result, Value, compile, eval_expr, eval_func,
-    eval_operator, eval_postfix_operator, eval_unary_operator, run,
+    eval_operator, eval_postfix_operator, eval_unary_operator, run, value,
 };
-use expr_value::value;
 use std::alloc::Global;
 use std::test::Fail;
 
@@ -21,9 +20,7 @@ struct Odd {
 impl ContextProvider for Odd {
     ghost use Rattle.expr_value.specs.Names.{find};
 
-    ghost value_of = { λ p name. find name p.names };
-
-    ghost map_of = { λ p. p.shown };
+    ghost context = { λ p. record { value_of = λ name. find name p.names; map = p.shown } };
 
     fn get(&self, key: &str) -> Option<&Value> {
         self.names.get(key)
@@ -41,9 +38,9 @@ impl ContextProvider for Odd {
     }
 }
 
-fn odd(alloc: Global, refuses: bool) -> Result<Odd> {
-    let names = Context::try_from(alloc, value!(alloc; {"#": {"x": 7}, "$env": 1, "a": 2})?)?;
-    let shown = Context::try_from(alloc, value!(alloc; {"a": 3})?)?;
+fn made(alloc: Global, refuses: bool) -> Result<Odd> {
+    let names = Context::try_from(alloc, value!(in alloc; {"#": {"x": 7}, "$env": 1, "a": 2})?)?;
+    let shown = Context::try_from(alloc, value!(in alloc; {"a": 3})?)?;
     Ok(Odd {
         names,
         shown,
@@ -53,7 +50,7 @@ fn odd(alloc: Global, refuses: bool) -> Result<Odd> {
 
 /// What a text answers under the odd provider.
 fn said_by_odd(alloc: Global, refuses: bool, code: &str) -> Result<String> {
-    let provider = odd(alloc, refuses)?;
+    let provider = made(alloc, refuses)?;
     Ok(said(alloc, &provider, code)?)
 }
 
@@ -121,7 +118,7 @@ fn parts_are_called_alone(rt: HostRuntime) -> Tested {
 #[test]
 fn programs_run(rt: HostRuntime) -> Tested {
     let program = compile(rt.alloc(), "[1, \"a\" + b]")?;
-    let context = Context::try_from(rt.alloc(), value!(rt.alloc(); {"b": "c"})?)?;
+    let context = Context::try_from(rt.alloc(), value!(in rt.alloc(); {"b": "c"})?)?;
     let answer = run(rt.alloc(), &program, &context)?;
     assert_eq!(rt; answer.to_string(rt.alloc())?.as_str(), "[1, \"ac\"]");
     Ok(())

@@ -4,7 +4,11 @@
 #[cfg(test)]
 mod answers;
 #[cfg(test)]
+mod collections;
+#[cfg(test)]
 mod macros;
+#[cfg(test)]
+mod moments;
 #[cfg(test)]
 mod page;
 #[cfg(test)]

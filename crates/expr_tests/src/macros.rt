@@ -1,7 +1,7 @@
 //! What `value!` and `bail!` make.
 use crate::said::printed;
-use expr::{Error, Result, Value};
-use expr_value::{bail, refusal, value};
+use expr::{Error, Result, Value, bail, value};
+use expr_value::refusal;
 use std::alloc::Global;
 use std::test::Fail;
 
@@ -11,13 +11,13 @@ type Tested = std::result::Result<(), Fail>;
 fn literal(alloc: Global, row: usize) -> Result<Value> {
     let key = "key";
     match row {
-        0 => value!(alloc; {"a": [1, nil, {"b": true}], "c": "x",}),
-        1 => value!(alloc; {key: 6_i64 * 7, ("d"): {}, "e": [[],],}),
+        0 => value!(in alloc; {"a": [1, nil, {"b": true}], "c": "x",}),
+        1 => value!(in alloc; {key: 6_i64 * 7, ("d"): {}, "e": [[],],}),
         2 =>
-            value!(alloc; {String::from_str(alloc, key)?: true, format!(in alloc; "{key}s")?: "x"}),
-        3 => value!(alloc; [[1], 2]),
-        4 => value!(alloc; [{"a": 1}, 2]),
-        _ => value!(alloc; {"a": nil, "b": 1}),
+            value!(in alloc; {String::from_str(alloc, key)?: true, format!(in alloc; "{key}s")?: "x"}),
+        3 => value!(in alloc; [[1], 2]),
+        4 => value!(in alloc; [{"a": 1}, 2]),
+        _ => value!(in alloc; {"a": nil, "b": 1}),
     }
 }
 
@@ -42,7 +42,7 @@ fn literals_are_values(rt: HostRuntime) -> Tested {
 
 fn quotient(alloc: Global, a: i64, b: i64) -> Result<i64> {
     if b == 0 {
-        bail!(alloc; "{a} divided by zero");
+        bail!(in alloc; "{a} divided by zero");
     }
     Ok(a.wrapping_div(b))
 }

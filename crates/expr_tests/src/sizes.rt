@@ -1,6 +1,5 @@
 //! How many bytes the types take.
-use expr::{Context, Error, Node, Result, Value};
-use expr_value::{Key, KeyedMap, ValueMap};
+use expr::{Context, Error, Key, KeyedMap, Node, Result, Value, ValueMap};
 use std::mem::size_of;
 
 /// Bytes of a type, and how many they may be at most.

@@ -1,7 +1,10 @@
 //! Values that no text makes, and each public call on values once with memory to spare.
 use crate::said::said;
-use expr::{Context, ContextProvider, Error, Result, Value, eval};
-use expr_value::{Boxed, Items, Key, KeyedMap, Text, ValueMap, value};
+use expr::{
+    Context, ContextProvider, Error, Items, Key, KeyedMap, Result, Text, Value, ValueMap, eval,
+    value,
+};
+use expr_value::Boxed;
 use std::alloc::Global;
 use std::test::Fail;
 
@@ -33,12 +36,12 @@ fn named(alloc: Global) -> Result<Vec<(String, Value)>> {
 
 /// Values that no text makes, by name.
 fn made(alloc: Global) -> Result<Context> {
-    let repeated = keyed(alloc, value!(alloc; [2, "a", "x", 1, 2, "b"]))?;
-    let kinds = keyed(alloc, value!(alloc; ["1x", 1, 10, 2, 2, 3, nil, 4]))?;
+    let repeated = keyed(alloc, value!(in alloc; [2, "a", "x", 1, 2, "b"]))?;
+    let kinds = keyed(alloc, value!(in alloc; ["1x", 1, 10, 2, 2, 3, nil, 4]))?;
     let named = Value::from_pairs(alloc, named(alloc)?)?;
     Context::try_from(
         alloc,
-        value!(alloc; {
+        value!(in alloc; {
             "default": Value::default(),
             "largest": usize::MAX,
             "span": Value::Duration(-5),
@@ -53,6 +56,7 @@ fn made(alloc: Global) -> Result<Context> {
             "kinds": kinds,
             "named": named,
             "owned": string(alloc, "x")?,
+            "bytes": vec![in alloc; 1_u8, 2]?,
             "nested": {"b": [1, "x"], "a": {"c": nil}},
         })?,
     )
@@ -67,6 +71,7 @@ const ANSWERS: &[(&str, &str)] = &[
     ("repeated", r#"{2: "b", "x": 1}"#),
     ("named", "{b: 3, a: 2}"),
     ("owned", "\"x\""),
+    ("bytes", "[1 2]"),
     ("repeated[2]", r#""b""#),
     (r#"repeated["x"]"#, "1"),
     ("repeated[two]", "nil"),
@@ -151,10 +156,10 @@ fn is_no_context(alloc: Global, value: Result<Value>) -> Result<bool> {
 #[test]
 fn collections_are_refused_as_keys(rt: HostRuntime) -> Tested {
     let alloc = rt.alloc();
-    assert!(rt; is_no_key(alloc, value!(alloc; []))?);
-    assert!(rt; is_no_key(alloc, keyed(alloc, value!(alloc; [1, 2])))?);
-    assert!(rt; is_no_context(alloc, value!(alloc; 1))?);
-    assert!(rt; is_no_context(alloc, keyed(alloc, value!(alloc; [1, 2])))?);
+    assert!(rt; is_no_key(alloc, value!(in alloc; []))?);
+    assert!(rt; is_no_key(alloc, keyed(alloc, value!(in alloc; [1, 2])))?);
+    assert!(rt; is_no_context(alloc, value!(in alloc; 1))?);
+    assert!(rt; is_no_context(alloc, keyed(alloc, value!(in alloc; [1, 2])))?);
     Ok(())
 }
 
@@ -175,7 +180,7 @@ fn has_name<P: ContextProvider>(alloc: Global, provider: &P, name: &str) -> Resu
 #[test]
 fn contexts_are_maps(rt: HostRuntime) -> Tested {
     let alloc = rt.alloc();
-    let literal = Context::try_from(alloc, value!(alloc; {"b": 1, "a": 2})?);
+    let literal = Context::try_from(alloc, value!(in alloc; {"b": 1, "a": 2})?);
     let context = inserted(alloc, literal, "b")?;
     assert_eq!(rt; said(alloc, &context, "$env")?.as_str(), "{b: nil, a: 2}");
     let context = inserted(alloc, Context::from_pairs(alloc, named(alloc)?), "c")?;
@@ -195,7 +200,7 @@ fn has_key(alloc: Global, key: Key) -> Result<bool> {
     let mut map = KeyedMap::new(alloc);
     let value = key.to_value(alloc)?;
     map.insert(key.clone()?, Value::Nil)?;
-    let is_there = map.get(&value).is_some() && map.find(&key).is_some();
+    let is_there = map.get(&value).is_some() && map.get_by_key(&key).is_some();
     let is_first = map.get_index(0).is_some() && map.get_index(1).is_none();
     Ok(
         is_there

@@ -1,26 +1,24 @@
 use Rattle.std.proofs.Common.{◌≡◌, ◌+◌, [], ◌∷◌, map, drop, string_bytes, Ok, Err, ap, subst, sym, refl, ◌∙◌}
-use Rattle.expr.proofs.Answered.{Gives-passed, drop-at}
+use Rattle.std.proofs.lemmas.List.{drop_more}
 use Rattle.expr_program.specs.Served.{MayBind, MayGive}
 use Rattle.expr_program.specs.Words.{name_of, code_of}
+use Rattle.expr_value.proofs.Answered.{Gives-passed}
 use Rattle.expr_value.specs.Fault.{fault_of}
 use Rattle.expr_value.specs.Names.{put}
 use Rattle.expr_program.proofs.serve.bound.Goals as goal
 
-pub returns-in_err-value : goal.returns-in_err-value
-returns-in_err-value c =
+pub returns-in_err-bind : goal.returns-in_err-bind
+returns-in_err-bind c =
     let words = c.args.bindings.now in
     let i = c.loop-word.word-index in
     let word = c.word-item.result in
-    let at : drop i words ≡ word ∷ drop (i + 1) words = drop-at words i word c.word-item.is c.loop-word-test.true in
-    let code : c.parts.result.1.now ≡ code_of (string_bytes word) = c.parts.ensures.code ∙ ap code_of c.as_str.ensures.value in
-    let e = c.in_err-value.field-0.0 in
+    let at : drop i words ≡ word ∷ drop (i + 1) words = drop_more words i word c.loop-word-test.true ∙ ap (λ w. w ∷ drop (i + 1) words) (sym c.word-item.is) in
+    let e = c.in_err-bind.field-0.0 in
     Gives-passed c.from_residual.result e (MayBind (map string_bytes words) []) c.from_residual.ensures.1 (
     λ m. c.loop-word.invariant (Err (fault_of e)) (
     subst (λ ws. MayBind (map string_bytes ws) c.loop-word.context (Err (fault_of e))) (sym at) (
       Err (fault_of e),
-      subst (λ pairs. MayGive pairs (code_of (string_bytes word)) (Err (fault_of e))) c.new-empty.ensures (
-          subst (λ text. MayGive c.new-empty.result text (Err (fault_of e))) code (c.in_err-value.ensures m)
-          ),
+      subst (λ text. MayGive [] (code_of text) (Err (fault_of e))) c.as_str.ensures.value (c.in_err-bind.ensures.refused m),
       refl,
     )
     )
@@ -31,18 +29,15 @@ loop-word-preserved c =
     let words = c.args.bindings.now in
     let i = c.loop-word.word-index in
     let word = c.word-item.result in
-    let value = c.in_ok-value.value in
-    let at : drop i words ≡ word ∷ drop (i + 1) words = drop-at words i word c.word-item.is c.loop-word-test.true in
-    let code : c.parts.result.1.now ≡ code_of (string_bytes word) = c.parts.ensures.code ∙ ap code_of c.as_str.ensures.value in
-    let name : string_bytes c.in_ok-from_str.field-0 ≡ name_of (string_bytes word) = c.in_ok-from_str.ensures.ok ∙ c.parts.ensures.name ∙ ap name_of c.as_str.ensures.value in
-    let pairs : c.insert.new.self ≡ put (name_of (string_bytes word)) value c.loop-word.context =
-    c.in_ok-insert.ensures.ok ∙ ap (λ n. put n value c.loop-word.context) name in
+    let at : drop i words ≡ word ∷ drop (i + 1) words = drop_more words i word c.loop-word-test.true ∙ ap (λ w. w ∷ drop (i + 1) words) (sym c.word-item.is) in
+    let given_to = c.in_ok-bind.ensures.bound in
+    let value = given_to.0 in
+    let pairs : c.bind.new.context ≡ put (name_of (string_bytes word)) value c.loop-word.context =
+    given_to.2 ∙ ap (λ n. put (name_of n) value c.loop-word.context) c.as_str.ensures.value in
     λ given p. c.loop-word.invariant given (
     subst (λ ws. MayBind (map string_bytes ws) c.loop-word.context given) (sym at) (
       Ok value,
-      subst (λ pairs. MayGive pairs (code_of (string_bytes word)) (Ok value)) c.new-empty.ensures (
-          subst (λ text. MayGive c.new-empty.result text (Ok value)) code c.in_ok-value.ensures
-          ),
+      subst (λ text. MayGive [] (code_of text) (Ok value)) c.as_str.ensures.value given_to.1,
       subst (λ pairs. MayBind (map string_bytes (drop (i + 1) words)) pairs given) pairs p,
     )
     )
