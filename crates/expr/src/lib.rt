@@ -1,22 +1,29 @@
 //! A small expression language: texts in, values or refusals out.
 #![tactic(auto)]
 
-mod environment;
-mod evaluation;
-mod laws;
-mod messages;
-mod scope;
-#[cfg(test)]
-mod tests;
+mod text;
 
-pub use evaluation::{
-    eval, eval_expr, eval_func, eval_operator, eval_postfix_operator, eval_unary_operator, run,
+pub use expr_evaluation::{
+    eval_expr, eval_func, eval_operator, eval_postfix_operator, eval_unary_operator,
+    left_side_decides, run,
 };
 pub use expr_operators::{
     outside_is_not_within, part_stands_between_front_and_back, unequal_is_not_equal,
 };
+pub use expr_frames::laws::brackets_leave_program;
+pub use expr_grammar::laws::{brackets_fit, one_tree};
 pub use expr_syntax::compile;
+pub use expr_syntax::laws::one_tree_of_text;
+pub use expr_token::{lexer_gives_the_reading, one_reading};
 pub use expr_tree::node::{Node, Pattern, PostfixOperator, Program};
 pub use expr_tree::operator::{Operator, UnaryOperator};
-pub use expr_value::{Context, ContextProvider, Error, Result, Value};
-pub use laws::left_side_decides;
+pub use expr_value::laws::{
+    equality_is_an_equivalence, keys_are_compared_by_kind, keys_are_ordered, keys_are_scalars,
+    keys_keep_their_first_places, moments_are_moved, names_keep_their_first_places,
+    pairs_are_put_in_order, times_are_equal_by,
+};
+pub use expr_value::{
+    Context, ContextProvider, DateTimeValue, Error, Items, Key, KeyedMap, Result, Text,
+    TimezoneValue, Value, ValueMap, bail, value,
+};
+pub use text::eval;

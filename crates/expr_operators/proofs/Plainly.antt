@@ -11,7 +11,7 @@ use Rattle.expr_value.specs.declared.error.Error.{Error}
 use Rattle.expr_value.specs.declared.value.Value as value
 use Rattle.expr_value.specs.declared.value.Value.{Value, out-Value, the_lemmas}
 use Rattle.expr_value.specs.declared.value.Value.TheOpen.{Value-F}
-use Rattle.expr_operators.specs.Answers.{Answer}
+use Rattle.expr_value.specs.Answers.{Answer}
 use Rattle.expr_operators.specs.Operators.{added_layers, subtracted_layers, multiplied_layers, remainder_layers, judged, verdict, applied, truth_layer, prefixed_layer}
 use Rattle.expr_operators.specs.Plain.{is_plain_operator, is_plain_value, is_plain_layer, Surely}
 

@@ -1,8 +1,9 @@
-pub mod Answers
+pub mod Asking
 pub mod Holdings
 pub mod Operators
 pub mod Plain
 pub mod Positions
+pub use Rattle.expr_value.specs.Answers
 pub use Rattle.expr_value.specs.Fault
 pub use Rattle.expr_value.specs.Names
 pub use Rattle.expr_value.specs.Values

@@ -15,7 +15,7 @@ use Rattle.expr_value.specs.Values.{equals, at_key}
 use Rattle.expr_value.specs.declared.value.Value as value
 use Rattle.expr_value.specs.declared.value.Value.{Value, out-Value}
 use Rattle.expr_value.specs.declared.value.Value.TheOpen.{Value-F}
-use Rattle.expr_operators.specs.Answers.{Answer}
+use Rattle.expr_value.specs.Answers.{Answer}
 
 -- sums, differences and products wrap at 64 bits; the sum of two texts is the one before the other
 abbrev pub added_layers : Value-F Value → Value-F Value → Answer
@@ -119,7 +119,7 @@ ended_by_layers a b = None
 abbrev pub ended_by : Value → Value → Option Bool
 ended_by a b = ended_by_layers (out-Value a) (out-Value b)
 
--- What the operators that answer yes or no say of two values. The others say nothing: quotients, powers and patterns.
+-- What the operators that answer yes or no say of two values. The others say nothing: quotients and powers among them.
 unfoldable pub verdict : Operator → Value → Value → Option Bool
 verdict Equal a b = equality a b
 verdict NotEqual a b = option_map not (equality a b)
@@ -149,6 +149,10 @@ applied Subtract a b = subtracted a b
 applied Multiply a b = multiplied a b
 applied Modulo a b = remainder a b
 applied op a b = judged (verdict op a b)
+
+-- what `matches` may answer on a text and a pattern; there are no patterns yet
+abbrev pub Matched : Value → Value → Answer → Type 0
+Matched text pattern answer = answer ≡ Err evaluation
 
 -- one answer is a boolean and the other is the opposite one, or both are refused
 abbrev pub AreOpposite : Answer → Answer → Type 0

@@ -5,7 +5,7 @@ use Rattle.expr_tree.specs.declared.operator.Operator.TheVariants.{Add, Subtract
 use Rattle.expr_value.specs.declared.error.Error.{Error}
 use Rattle.expr_value.specs.declared.value.Value.{Value, out-Value}
 use Rattle.expr_value.specs.declared.value.Value.TheOpen.{Value-F}
-use Rattle.expr_operators.specs.Answers.{Answer}
+use Rattle.expr_value.specs.Answers.{Answer}
 
 abbrev pub is_plain_layer : Value-F Value → Bool
 is_plain_layer Value-F.Nil = true

@@ -9,7 +9,7 @@ use Rattle.expr_value.specs.Values.{at_key}
 use Rattle.expr_value.specs.declared.value.Value as value
 use Rattle.expr_value.specs.declared.value.Value.{Value, out-Value}
 use Rattle.expr_value.specs.declared.value.Value.TheOpen.{Value-F}
-use Rattle.expr_operators.specs.Answers.{Answer}
+use Rattle.expr_value.specs.Answers.{Answer}
 
 -- how many integers there are from the first to the last, both counted: none if the first is greater
 unfoldable pub how_many : ℤ → ℤ → ℕ

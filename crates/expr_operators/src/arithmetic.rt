@@ -1,6 +1,6 @@
 //! Sums, differences, products and remainders.
 ghost use Rattle.std.specs.Prelude.{◌≡◌, ◌++◌, IfOk, string_bytes, IsTrue};
-ghost use Rattle.expr_operators.specs.Answers.{Is};
+ghost use Rattle.expr_value.specs.Answers.{Is};
 ghost use Rattle.expr_operators.specs.Operators.{added, subtracted, multiplied, remainder};
 ghost use Rattle.expr_operators.specs.Plain.{is_plain_value, Surely};
 

@@ -1,11 +1,12 @@
 //! Values that an evaluation holds: its own, or lent by the host, the tree or a line.
 ghost use Rattle.std.specs.Prelude.{◌≡◌, Ok, IsTrue};
-ghost use Rattle.expr_operators.specs.Answers.{Is};
+ghost use Rattle.expr_value.specs.Answers.{Is};
 ghost use Rattle.expr_operators.specs.Plain.{is_plain_value};
 ghost use Rattle.expr_operators.specs.Positions.{indexed, sliced};
 
-use crate::positions::{index, slice, slice_lent};
-use expr_value::{Result, Value};
+use crate::messages::not_indexed;
+use crate::positions::{index, slice, slice_lent, take_item};
+use expr_value::{Items, Result, Value};
 use std::alloc::Global;
 use std::marker::Model;
 
@@ -81,16 +82,13 @@ impl<'a> Held<'a> {
         }
     }
 
-    /// What the value has at a key: a part of a lent value is lent, and one of its own is copied.
+    /// What the value has at a key: a part of a lent value is lent, and an item of an array of its own is moved out.
     pub fn part(self, alloc: Global, key: &Value, optional: bool) -> Result<Held<'a>>
         ensures { Is result (indexed self.entry key.now optional) }
     {
         let Held { holding } = self;
         match holding {
-            Holding::Own(value) => {
-                let part = index(alloc, &value, key, optional)?;
-                Ok(Held::own(part.into_value()?))
-            }
+            Holding::Own(value) => Ok(Held::own(part_of_own(alloc, value, key, optional)?)),
             Holding::Lent(value) => index(alloc, value, key, optional),
         }
     }
@@ -104,6 +102,27 @@ impl<'a> Held<'a> {
             Holding::Own(value) => slice(alloc, value, start, stop),
             Holding::Lent(value) => slice_lent(alloc, value, start, stop),
         }
+    }
+}
+
+/// What a value that is given has at a key: an item of an array is moved out, and another part is copied.
+fn part_of_own(alloc: Global, value: Value, key: &Value, optional: bool) -> Result<Value>
+    ensures { Is result (indexed value key.now optional) }
+{
+    match value {
+        Value::Array(items) => item_of_own(alloc, items, key, optional),
+        other => index(alloc, &other, key, optional)?.into_value(),
+    }
+}
+
+/// The item of an array that is given, moved out.
+fn item_of_own(alloc: Global, items: Items<Value>, key: &Value, optional: bool) -> Result<Value>
+    ensures { Is result (indexed (Value.Array items) key.now optional) }
+{
+    match key {
+        Value::Integer(place) => Ok(take_item(items, *place).unwrap_or(Value::Nil)),
+        _ if optional => Ok(Value::Nil),
+        _ => Err(not_indexed(alloc, &Value::Array(items), key)),
     }
 }
 

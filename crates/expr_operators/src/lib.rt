@@ -2,6 +2,7 @@
 #![tactic(auto)]
 
 mod arithmetic;
+mod asking;
 mod comparison;
 mod held;
 mod laws;
@@ -9,11 +10,10 @@ mod membership;
 mod messages;
 mod operators;
 mod positions;
-#[cfg(test)]
-mod tests;
 
+pub use asking::{Asking, sides_asked};
 pub use held::Held;
 pub use laws::{outside_is_not_within, part_stands_between_front_and_back, unequal_is_not_equal};
 pub use messages::{refused, unexpected};
-pub use operators::{apply, as_condition, as_truth, prefix};
+pub use operators::{apply, as_condition, as_truth, match_pattern, prefix};
 pub use positions::{index, range, slice, slice_bound, slice_lent};

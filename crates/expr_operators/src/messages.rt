@@ -60,6 +60,8 @@ fn kind_of(value: &Value) -> &'static str {
         Value::Duration(_) => "a Duration",
         Value::Month(_) => "a Month",
         Value::Weekday(_) => "a Weekday",
+        Value::DateTime(_) => "a DateTime",
+        Value::Timezone(_) => "a Timezone",
         Value::Array(_) => "an Array",
         Value::Bytes(_) => "Bytes",
         Value::Map(_) => "a Map",

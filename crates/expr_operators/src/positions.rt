@@ -1,7 +1,7 @@
 //! Ranges, indices and slices.
 ghost use Rattle.std.specs.Prelude.{◌≡◌, ◌≤◌, Ok, IfOk, IfErr, string_bytes};
 ghost use Rattle.std.specs.Option.{option_copied};
-ghost use Rattle.expr_operators.specs.Answers.{Is};
+ghost use Rattle.expr_value.specs.Answers.{Is};
 ghost use Rattle.expr_operators.specs.Positions.{bound_at, bound_checked, indexed, integers_between, item_from, or_nil, part, ranged, repaired, sliced, start_at, stop_at};
 
 use crate::held::Held;
@@ -80,6 +80,23 @@ fn item<T>(items: &[T], place: i64) -> Option<&T>
     }
     let place = items.len().checked_sub(place.unsigned_abs() as usize)?;
     items.get(place)
+}
+
+/// The item at a place of a list that is given, from the end if the place is negative.
+pub fn take_item<T: Drop>(items: Items<T>, place: i64) -> Option<T>
+    ensures { result ≡ item_from items place }
+{
+    let place = if place >= 0 {
+        place as usize
+    } else {
+        items.len().checked_sub(place.unsigned_abs() as usize)?
+    };
+    let mut items = items.into_vec();
+    if place < items.len() {
+        Some(items.swap_remove(place))
+    } else {
+        None
+    }
 }
 
 /// A bound of a slice, which is an integer.

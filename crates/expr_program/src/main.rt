@@ -7,6 +7,7 @@ mod tests;
 
 use serve::{refuse_usage, serve};
 use std::alloc::AllocError;
+use std::io::BufWriter;
 use std::process::ExitCode;
 use std::{env, io};
 
@@ -22,6 +23,8 @@ fn main(rt: HostRuntime) -> ExitCode {
     let Ok(words) = words else {
         return ExitCode::from(1);
     };
-    let mut out = rt.stdout();
+    let Ok(mut out) = BufWriter::new(rt.alloc(), rt.stdout()) else {
+        return ExitCode::from(1);
+    };
     ExitCode::from(serve(rt.alloc(), words.as_slice(), &mut out, &mut err))
 }

@@ -122,11 +122,12 @@ fn print<O: Write>(out: &mut O, value: &Value) -> u8
 /// Each binding is cut at its first `=`. No word, a binding without `=` or an empty NAME: `usage` on `err`, status 2.
 /// Else the bindings are evaluated from left to right, each in an empty context (a repeated NAME takes the later value),
 /// then CODE in the context of the bindings. Its value's `Display` goes to `out`, status 0. The first refusal is one word
-/// on `err`, status 1: `syntax`, `literal`, `evaluation`, `pattern` or `memory`. If `out` fails, the status is 1; a failing
-/// `err` changes no status.
+/// on `err`, status 1: `syntax`, `literal`, `evaluation`, `pattern` or `memory`. `out` is written to at status 0 alone, is
+/// flushed then, and fails with status 1; a failing `err` changes no status.
 pub fn serve<O: Write, E: Write>(alloc: Global, words: &[String], out: &mut O, err: &mut E) -> u8
     ensures status { result ≤ 2 }
     ensures usage { result ≡ 2 ↔ is_call (map string_bytes words.now) ≡ false }
+    ensures silent { result ≡ 2 → O.contents out.new ≡ O.contents out.old }
     ensures printed { result ≡ 0 → (v : Value) × MayPrint (map string_bytes words.now) v
         × Appends (O.contents out.old) (O.contents out.new) (text_of v ++ 10 ∷ []) }
 {

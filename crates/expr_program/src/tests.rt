@@ -3,6 +3,7 @@ use crate::serve::serve;
 use std::alloc::{AllocError, Global};
 use std::io;
 use std::io::Write;
+use std::test::Fail;
 
 /// A writer that fails at its nth write.
 #[derive(Drop)]
@@ -33,86 +34,62 @@ fn writer(alloc: Global, left: u32) -> Stream {
     }
 }
 
-/// The words of a line, which stand between bars.
+/// The words of a line, each of which stands after a bar.
 fn words(alloc: Global, line: &str) -> Result<Vec<String>, AllocError> {
     let mut all = Vec::new(alloc);
-    for word in line.split('|') {
+    for word in line.split('|').skip(1) {
         all.push(String::from_str(alloc, word)?)?;
     }
     Ok(all)
 }
 
-/// Words, what they print on either stream, and the status.
-const RUNS: [(&str, &str, &str, u8); 17] = [
-    ("a + 2 * b|a=1|b=3", "7\n", "", 0),
-    ("(1 + 2) * 3", "9\n", "", 0),
-    ("10 - 3 - 2", "5\n", "", 0),
-    ("9223372036854775807 + 1", "-9223372036854775808\n", "", 0),
-    ("a|a=1|a=2", "2\n", "", 0),
-    ("9223372036854775808", "", "literal\n", 1),
-    ("x", "", "evaluation\n", 1),
-    ("a|a=b", "", "evaluation\n", 1),
-    ("a|a=1 + 1 = 2", "", "syntax\n", 1),
-    ("1 +|b", "", "usage\n", 2),
-    ("a|=1", "", "usage\n", 2),
-    ("a + b|a=1|b=2", "3\n", "", 0),
-    ("1 +", "", "syntax\n", 1),
-    ("1 + 2 * 3 + 1", "8\n", "", 0),
-    ("let a = 1; a|a=5", "1\n", "", 0),
-    ("a|a=b|b", "", "usage\n", 2),
-    ("", "", "syntax\n", 1),
+/// What the words of a line print on two streams that take so many writes, and the status, with bars between.
+fn run(alloc: Global, line: &str, out_writes: u32, err_writes: u32) -> Result<String, Fail> {
+    let words = words(alloc, line)?;
+    let mut out = writer(alloc, out_writes);
+    let mut err = writer(alloc, err_writes);
+    let status = serve(alloc, words.as_slice(), &mut out, &mut err);
+    let printed = std::str::from_utf8(&out.said)?;
+    let refused = std::str::from_utf8(&err.said)?;
+    Ok(format!(in alloc; "{printed}|{refused}|{status}")?)
+}
+
+/// Lines, the writes that output and error stream take, and what the run gives.
+const RUNS: &[(&str, u32, u32, &str)] = &[
+    ("|a + 2 * b|a=1|b=3", 9, 9, "7\n||0"),
+    ("|(1 + 2) * 3", 9, 9, "9\n||0"),
+    ("|10 - 3 - 2", 9, 9, "5\n||0"),
+    (
+        "|9223372036854775807 + 1",
+        9,
+        9,
+        "-9223372036854775808\n||0",
+    ),
+    ("|a|a=1|a=2", 9, 9, "2\n||0"),
+    ("|9223372036854775808", 9, 9, "|literal\n|1"),
+    ("|x", 9, 9, "|evaluation\n|1"),
+    ("|a|a=b", 9, 9, "|evaluation\n|1"),
+    ("|a|a=1 + 1 = 2", 9, 9, "|syntax\n|1"),
+    ("|1 +|b", 9, 9, "|usage\n|2"),
+    ("|a|=1", 9, 9, "|usage\n|2"),
+    ("|a + b|a=1|b=2", 9, 9, "3\n||0"),
+    ("|1 +", 9, 9, "|syntax\n|1"),
+    ("|1 + 2 * 3 + 1", 9, 9, "8\n||0"),
+    ("|let a = 1; a|a=5", 9, 9, "1\n||0"),
+    ("|a|a=b|b", 9, 9, "|usage\n|2"),
+    ("|", 9, 9, "|syntax\n|1"),
+    ("", 9, 9, "|usage\n|2"),
+    ("|1 + 1", 0, 9, "||1"),
+    ("|1 + 1", 1, 9, "2||1"),
+    ("|x", 9, 0, "||1"),
+    ("|1 +|b", 9, 0, "||2"),
 ];
 
-fn run(alloc: Global, line: &str, out: &mut Stream, err: &mut Stream) -> Result<u8, AllocError> {
-    let words = words(alloc, line)?;
-    Ok(serve(alloc, words.as_slice(), out, err))
-}
-
 #[test]
-fn answers_its_table(rt: HostRuntime) -> Result<(), AllocError> {
-    for (line, out, err, status) in RUNS {
-        let mut printed = writer(rt.alloc(), 100);
-        let mut refused = writer(rt.alloc(), 100);
-        let answered = run(rt.alloc(), line, &mut printed, &mut refused)?;
-        assert_eq!(rt; answered, status, "{line}");
-        assert_eq!(rt; printed.said.as_slice(), out.as_bytes(), "{line}");
-        assert_eq!(rt; refused.said.as_slice(), err.as_bytes(), "{line}");
-    }
-    Ok(())
-}
-
-#[test]
-fn asks_for_a_word(rt: HostRuntime) {
-    let mut out = writer(rt.alloc(), 100);
-    let mut err = writer(rt.alloc(), 100);
-    assert_eq!(rt; serve(rt.alloc(), &[], &mut out, &mut err), 2);
-    assert_eq!(rt; err.said.as_slice(), b"usage\n".as_slice());
-}
-
-#[test]
-fn fails_with_its_output(rt: HostRuntime) -> Result<(), AllocError> {
-    for left in 0..2u32 {
-        let mut out = writer(rt.alloc(), left);
-        let mut err = writer(rt.alloc(), 100);
-        assert_eq!(rt;
-            run(rt.alloc(), "1 + 1", &mut out, &mut err)?,
-            1,
-            "at {left}"
-        );
-    }
-    Ok(())
-}
-
-#[test]
-fn heeds_no_failing_refusal(rt: HostRuntime) -> Result<(), AllocError> {
-    for (line, status) in [("x", 1), ("1 +|b", 2)] {
-        let mut out = writer(rt.alloc(), 100);
-        let mut err = writer(rt.alloc(), 0);
-        assert_eq!(rt;
-            run(rt.alloc(), line, &mut out, &mut err)?,
-            status,
-            "{line}"
-        );
+fn answers_its_table(rt: HostRuntime) -> Result<(), Fail> {
+    for (line, out_writes, err_writes, expected) in RUNS {
+        let given = run(rt.alloc(), line, *out_writes, *err_writes)?;
+        assert_eq!(rt; given.as_str(), *expected, "{line}");
     }
     Ok(())
 }

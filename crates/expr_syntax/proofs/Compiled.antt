@@ -11,8 +11,8 @@ use Rattle.expr_tree.specs.Written.{program_written}
 use Rattle.expr_tree.specs.declared.node.Program.{Program}
 use Rattle.expr_value.specs.declared.error.Error.{Error}
 use Rattle.expr_value.specs.declared.error.Error.TheVariants.{PestError, ParseError, ExprError, RegexError, MemoryError}
-use Rattle.expr_syntax.specs.Grammar.{TreeProgram, Spells, LiteralsFit}
-use Rattle.expr_syntax.specs.Prefixes.{SomeBegins, StopsAt}
+use Rattle.expr_grammar.specs.Grammar.{TreeProgram, Spells, LiteralsFit}
+use Rattle.expr_grammar.specs.Prefixes.{SomeBegins, StopsAt}
 use Rattle.expr_syntax.specs.Reading.{IsParse, IsTooLarge}
 use Rattle.expr_syntax.specs.Texts.{IsTreeOf, IsProgramOf, HasLargeLiteral, IsCompiled, IsAnswerFor, IsLiteralRefusal, FaultPlace, AtToken}
 

@@ -1,9 +1,4 @@
-pub mod Chains
-mod Measures
-pub mod Complete
-mod Sound
-mod Erase
 mod Whole
 mod Turns
-mod Closing
+mod Begun
 mod Compiled

@@ -2,7 +2,7 @@
 use Rattle.std.proofs.Common.{◌≡◌, ◌+◌, ◌<◌, List, ◌∷◌, ◌++◌, length, take, drop, get_or, map, sym, ap, ◌∙◌}
 use Rattle.std.proofs.lemmas.List.{drop_more, map-id, take-append-drop}
 use Rattle.expr_token.specs.declared.token.Token.{Token}
-use Rattle.expr_syntax.specs.Nodes.{State, finish, block_of_tokens}
+use Rattle.expr_frames.specs.Nodes.{State, finish, block_of_tokens}
 use Rattle.expr_syntax.proofs.Whole.{after}
 
 -- the tokens are those that were seen, this one and the rest

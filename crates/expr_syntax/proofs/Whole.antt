@@ -7,16 +7,16 @@ use Rattle.expr_token.specs.declared.token.Token.{Token}
 use Rattle.expr_tree.specs.declared.node.Program.{Program}
 use Rattle.expr_tree.specs.Term.{Block}
 use Rattle.expr_tree.specs.Written.{program_written}
-use Rattle.expr_syntax.specs.Grammar.{TreeProgram, Spells, Fits, LiteralsFit, IntegerFits}
+use Rattle.expr_grammar.specs.Grammar.{TreeProgram, Spells, Fits, LiteralsFit, IntegerFits}
 use Rattle.std.specs.List.{AllByRecursion}
-use Rattle.expr_syntax.specs.Machine.{tree_of}
-use Rattle.expr_syntax.specs.Kept.{program_of, kept}
-use Rattle.expr_syntax.specs.Nodes.{State, begins, Fail, step, finish, block_of_tokens}
-use Rattle.expr_syntax.specs.Prefixes.{NoneBegins}
+use Rattle.expr_grammar.specs.Machine.{tree_of}
+use Rattle.expr_frames.specs.Kept.{program_of, kept}
+use Rattle.expr_frames.specs.Nodes.{State, begins, Fail, step, finish, block_of_tokens}
+use Rattle.expr_grammar.specs.Prefixes.{NoneBegins}
 use Rattle.expr_syntax.specs.Reading.{IsParse, IsTooLarge}
-use Rattle.expr_syntax.proofs.Complete.{complete}
-use Rattle.expr_syntax.proofs.Sound.{sound}
-use Rattle.expr_syntax.proofs.Erase.{erases}
+use Rattle.expr_grammar.proofs.Complete.{complete}
+use Rattle.expr_grammar.proofs.Sound.{sound}
+use Rattle.expr_frames.proofs.Erase.{erases}
 
 -- the state after some tokens
 abbrev pub after : List Token → State

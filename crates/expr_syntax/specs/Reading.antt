@@ -5,19 +5,20 @@ use Rattle.expr_tree.specs.declared.node.Program.{Program}
 use Rattle.expr_tree.specs.Term.{Term, Block}
 use Rattle.expr_tree.specs.Written.{program_written}
 use Rattle.expr_parts.specs.Parts.{Given}
-use Rattle.expr_syntax.specs.declared.frame.Caller.{Caller}
-use Rattle.expr_syntax.specs.declared.frame.Frame.{Frame}
-use Rattle.expr_syntax.specs.declared.frame.Frame.TheVariants as frame
-use Rattle.expr_syntax.specs.declared.frame.Reaching.{Reaching}
-use Rattle.expr_syntax.specs.declared.frame.Place.{Place}
-use Rattle.expr_syntax.specs.declared.frame.Fault.{Fault}
-use Rattle.expr_syntax.specs.declared.frame.Fault.TheVariants as fault
+use Rattle.expr_frames.specs.declared.frame.Caller.{Caller}
+use Rattle.expr_frames.specs.declared.frame.Frame.{Frame}
+use Rattle.expr_frames.specs.declared.frame.Frame.TheVariants as frame
+use Rattle.expr_frames.specs.declared.frame.Reaching.{Reaching}
+use Rattle.expr_frames.specs.declared.frame.Section.{Section}
+use Rattle.expr_frames.specs.declared.frame.Place.{Place}
+use Rattle.expr_frames.specs.declared.frame.Fault.{Fault}
+use Rattle.expr_frames.specs.declared.frame.Fault.TheVariants as fault
 use Rattle.expr_syntax.specs.declared.parser.ParseError.{ParseError}
 use Rattle.expr_syntax.specs.declared.parser.ParseError.TheVariants as error
-use Rattle.expr_syntax.specs.Grammar.{TreeProgram, Spells, Fits, LiteralsFit}
-use Rattle.expr_syntax.specs.Kept.{program_of}
-use Rattle.expr_syntax.specs.Nodes.{plug, settle, argued, State, On, Fail}
-use Rattle.expr_syntax.specs.Prefixes.{StopsAt}
+use Rattle.expr_grammar.specs.Grammar.{TreeProgram, Spells, Fits, LiteralsFit}
+use Rattle.expr_frames.specs.Kept.{program_of}
+use Rattle.expr_frames.specs.Nodes.{plug, settle, argued, bind, whole_in, State, On, Fail}
+use Rattle.expr_grammar.specs.Prefixes.{StopsAt}
 
 -- The frames, the last first.
 abbrev pub stack : List Frame → List Frame
@@ -29,16 +30,15 @@ Stands s fs (Ok p) = s ≡ On (stack fs) p
 Stands s fs (Err fault.Syntax) = s ≡ Fail
 Stands s fs (Err fault.Memory) = Unit {0}
 
--- the answer o, and a fault only where there is none
-abbrev pub Gives : {A : Type 0} → Option A → Result A Fault → Type 0
-Gives o (Ok n) = o ≡ Some n
-Gives o (Err fault.Syntax) = o ≡ None
-Gives o (Err fault.Memory) = Unit {0}
-
 -- after the top frame is popped where arguments are open there
 abbrev pub IsCallOnTop : List Frame → List Frame → Option (Caller × Given) → Type 0
 IsCallOnTop old new (Some p) = old ≡ frame.Call p.0 p.1 ∷ new
 IsCallOnTop old new None = (t : Token) (b : Block) → argued t old b ≡ Fail
+
+-- after the top frame is popped where a program is open there
+abbrev pub IsBodyOnTop : List Frame → List Frame → Option (Section × List (List ℕ × Term)) → Type 0
+IsBodyOnTop old new (Some p) = old ≡ frame.Body p.0 p.1 ∷ new
+IsBodyOnTop old new None = ((w : List ℕ) (l : Term) → bind old w l ≡ Fail) × ((l : Term) → whole_in old l ≡ None)
 
 -- after the top frame is popped where it reaches above the level
 abbrev pub PopsAbove : ℕ → List Frame → List Frame → Option Reaching → Type 0

@@ -7,9 +7,9 @@ use Rattle.expr_tree.specs.Written.{program_written}
 use Rattle.expr_tree.specs.declared.node.Program.{Program}
 use Rattle.expr_value.specs.declared.error.Error.{Error}
 use Rattle.expr_value.specs.declared.error.Error.TheVariants.{PestError, ParseError, ExprError, RegexError, MemoryError}
-use Rattle.expr_syntax.specs.Grammar.{TreeProgram, Spells, Fits, LiteralsFit}
-use Rattle.expr_syntax.specs.Kept.{program_of}
-use Rattle.expr_syntax.specs.Prefixes.{SomeBegins, NoneBegins}
+use Rattle.expr_grammar.specs.Grammar.{TreeProgram, Spells, Fits, LiteralsFit}
+use Rattle.expr_frames.specs.Kept.{program_of}
+use Rattle.expr_grammar.specs.Prefixes.{SomeBegins, NoneBegins}
 
 -- the tree spells what the text reads as, and fits
 pub record IsTreeOf (text : List ℕ) (t : TreeProgram) : Type 0 where
@@ -17,6 +17,10 @@ pub record IsTreeOf (text : List ℕ) (t : TreeProgram) : Type 0 where
   pub reads : Reads text tokens
   pub spells : Spells t tokens
   pub fits : Fits t
+
+-- Two trees of a text are one.
+abbrev pub OneTreeOfText : Type 0
+OneTreeOfText = (text : List ℕ) (t u : TreeProgram) → IsTreeOf text t → IsTreeOf text u → t ≡ u
 
 -- the program of a tree of the text whose integer literals are below 2^63
 pub record IsProgramOf (text : List ℕ) (b : Block) : Type 0 where

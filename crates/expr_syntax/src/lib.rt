@@ -1,14 +1,8 @@
-//! From tokens to the one tree that spells them and fits, and its program.
+//! From a text to its program: the parser over the grammar's machine, and `compile`.
 #![tactic(auto)]
 
-mod build;
-mod frame;
 pub mod laws;
 pub mod parser;
-mod read;
-pub mod sign;
-#[cfg(test)]
-mod tests;
 mod text;
 
 pub use text::compile;

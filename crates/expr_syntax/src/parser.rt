@@ -3,25 +3,28 @@
 ghost use Rattle.std.specs.Prelude.{◌≡◌, ◌∷◌, [], ◌++◌, None, IfOk, MatchOption, vec_len, ◌<◌};
 ghost use Rattle.expr_tree.specs.Term.{postfix, slice, literal};
 ghost use Rattle.expr_parts.specs.Parts.{bound_with};
-ghost use Rattle.expr_syntax.specs.declared.frame.Frame.TheVariants as frame;
-ghost use Rattle.expr_syntax.specs.declared.frame.Place.TheVariants as place;
-ghost use Rattle.expr_syntax.specs.declared.frame.Section.TheVariants as section;
-ghost use Rattle.expr_syntax.specs.declared.frame.Operand.TheVariants as operand;
+ghost use Rattle.expr_frames.specs.declared.frame.Frame.TheVariants as frame;
+ghost use Rattle.expr_frames.specs.declared.frame.Place.TheVariants as place;
+ghost use Rattle.expr_frames.specs.declared.frame.Section.TheVariants as section;
+ghost use Rattle.expr_frames.specs.declared.frame.Operand.TheVariants as operand;
 ghost use Rattle.expr_value.specs.declared.value.Value.TheVariants as value;
-ghost use Rattle.expr_syntax.specs.Machine.{role as role_of};
-ghost use Rattle.expr_syntax.specs.Grammar.{TreeProgram, Spells, Fits};
-ghost use Rattle.expr_syntax.specs.Kept.{given_more, given_program};
-ghost use Rattle.expr_syntax.specs.Nodes as machine;
-ghost use Rattle.expr_syntax.specs.Reading.{stack, IsCallOnTop, Stands, Gives, PopsAbove, IsParse, IsAnswer, IsLiteralFault, IsAtFault};
+ghost use Rattle.expr_grammar.specs.Machine.{role as role_of, role_level};
+ghost use Rattle.expr_grammar.specs.Grammar.{TreeProgram, Spells, Fits};
+ghost use Rattle.expr_frames.specs.Kept.{given_more, given_program};
+ghost use Rattle.expr_frames.specs.Nodes as machine;
+ghost use Rattle.expr_frames.specs.Faults.{Gives};
+ghost use Rattle.expr_syntax.specs.Reading.{stack, IsBodyOnTop, IsCallOnTop, Stands, PopsAbove, IsParse, IsAnswer, IsLiteralFault, IsAtFault};
 
 mod brace;
 
-use crate::build::{branched, member, nested};
-use crate::frame::{
-    Caller, Chain, Fault, Frame, Holder, Operand, Place, Reaching, Role, Section, Start,
+use expr_frames::build::{branched, member, nested};
+use expr_frames::frame::{
+    Caller, Chain, Fault, Frame, Holder, Operand, Place, Reaching, Section, Start,
 };
-use crate::read;
-use crate::sign::InfixSign;
+use expr_frames::read;
+use expr_grammar::literals::literals_fit;
+use expr_grammar::role::Role;
+use expr_grammar::sign::InfixSign;
 use expr_parts::{Arguments, Lines, Part, ProgramPart};
 use expr_token::{Reserved, Sign, Token};
 use expr_tree::node::Program;
@@ -55,54 +58,74 @@ impl Parser {
     }
 
     // Reads one token.
-    fn step(&mut self, place: Place, token: Token) -> Result<Place, Fault>
+    fn step(&mut self, place: Place, mut token: Token) -> Result<Place, Fault>
         ensures { Stands (machine.step_in (stack self.old.frames.items) place token) self.new.frames.items result }
     {
         match place {
-            Place::BracedKey(key) => self.after_key(key, token),
-            _ => self.step_on(place, token),
+            Place::BracedKey(key) => self.after_key(key, &mut token),
+            _ => self.step_on(place, &mut token),
         }
     }
 
     // Reads one token, but after a key that may begin a predicate.
-    fn step_on(&mut self, place: Place, token: Token) -> Result<Place, Fault>
-        ensures { Stands (machine.step_on (stack self.old.frames.items) place token) self.new.frames.items result }
+    fn step_on(&mut self, place: Place, token: &mut Token) -> Result<Place, Fault>
+        ensures { Stands (machine.step_on (stack self.old.frames.items) place token.old) self.new.frames.items result }
     {
         match place {
-            Place::Want => self.want(token),
+            Place::Want => self.want(read::taken(token)),
             Place::Have(left) => self.follow(left, token),
-            Place::Dotted(left) => self.member(left, token),
-            Place::Questioned(left) => self.optional(left, token),
+            Place::Dotted(left) => self.member(left, read::taken(token)),
+            Place::Questioned(left) => self.optional(left, read::taken(token)),
             Place::Negated(left) => self.not_in(left, token),
-            Place::Barred(left) => self.function(left, token),
+            Place::Barred(left) => self.function(left, read::taken(token)),
             Place::Piped(left, name) => self.arguments(left, name, token),
             Place::Chosen(chain, condition, then) => self.otherwise(chain, condition, then, token),
             Place::Alternate(chain, condition, then) => {
                 self.alternative(chain, condition, then, token)
             }
-            Place::NamesLine => self.line_name(token),
+            Place::NamesLine => self.line_name(read::taken(token)),
             Place::Named(name) => self.line_value(name, token),
             Place::Argued(program) => self.argued(program, token),
-            Place::NamesMember => self.member_alone(token),
-            Place::Braced => self.braced(token),
+            Place::NamesMember => self.member_alone(read::taken(token)),
+            Place::Braced => self.braced(read::taken(token)),
             Place::BracedKey(_) => Err(Fault::Syntax),
-            Place::Keys(map) => self.map_key(map, token),
+            Place::Keys(map) => self.map_key(map, read::taken(token)),
             Place::Colons(map, key) => self.map_colon(map, key, token),
-            Place::Values(map, key) => self.map_value(map, key, token),
+            Place::Values(map, key) => self.map_value(map, key, read::taken(token)),
             Place::Entered(map) => self.map_end(map, token),
         }
     }
 
     // A key after an opening brace, which begins a map literal where a colon follows, else a predicate.
-    fn after_key(&mut self, key: Token, token: Token) -> Result<Place, Fault>
-        ensures { Stands (machine.step_in (stack self.old.frames.items) (place.BracedKey key) token) self.new.frames.items result }
+    fn after_key(&mut self, key: Token, token: &mut Token) -> Result<Place, Fault>
+        ensures { Stands (machine.step_in (stack self.old.frames.items) (place.BracedKey key) token.old) self.new.frames.items result }
     {
-        if let Token::Sign(Sign::Colon) = token {
-            let key = read::key(self.alloc, key)?;
-            return Ok(Place::Values(ValueMap::new(self.alloc), key));
+        match token {
+            Token::Sign(Sign::Colon) => self.first_key(key),
+            Token::Sign(_)
+            | Token::Integer(_)
+            | Token::Word(_)
+            | Token::Reserved(_)
+            | Token::Hash(_)
+            | Token::Quoted(_)
+            | Token::Raw(_)
+            | Token::Bytes(_) => self.after_first(key, token),
         }
-        self.push(Frame::Body(Section::Predicate, Lines::new(self.alloc)))?;
-        let place = self.want(key)?;
+    }
+
+    // A map literal after its first key and the colon.
+    fn first_key(&self, key: Token) -> Result<Place, Fault>
+        ensures { Stands (machine.value_after_key (stack self.now.frames.items) (machine.key_text_at key)) self.now.frames.items result }
+    {
+        let key = read::key(self.alloc, key)?;
+        Ok(Place::Values(ValueMap::new(self.alloc), key))
+    }
+
+    // A predicate after its first token.
+    fn after_first(&mut self, first: Token, token: &mut Token) -> Result<Place, Fault>
+        ensures { Stands (machine.steps_on (machine.want first (frame.Body section.Predicate [] ∷ stack self.old.frames.items)) token.old) self.new.frames.items result }
+    {
+        let place = self.body(first)?;
         self.step_on(place, token)
     }
 
@@ -126,13 +149,13 @@ impl Parser {
             Start::Brace => self.brace(),
             Start::Choice => self.enter(Frame::Condition(Items::from_vec(Vec::new(self.alloc)))),
             Start::Line => self.line(),
-            Start::Other(token) => self.lack(token),
+            Start::Other(token) => self.lack(&token),
         }
     }
 
     // A token that begins no operand, where one is wanted.
-    fn lack(&mut self, token: Token) -> Result<Place, Fault>
-        ensures { Stands (machine.lack token (stack self.old.frames.items)) self.new.frames.items result }
+    fn lack(&mut self, token: &Token) -> Result<Place, Fault>
+        ensures { Stands (machine.lack token.now (stack self.old.frames.items)) self.new.frames.items result }
     {
         match self.pop() {
             Some(frame) => self.lack_in(frame, token),
@@ -140,8 +163,8 @@ impl Parser {
         }
     }
 
-    fn lack_in(&mut self, frame: Frame, token: Token) -> Result<Place, Fault>
-        ensures { Stands (machine.lack token (frame ∷ stack self.old.frames.items)) self.new.frames.items result }
+    fn lack_in(&mut self, frame: Frame, token: &Token) -> Result<Place, Fault>
+        ensures { Stands (machine.lack token.now (frame ∷ stack self.old.frames.items)) self.new.frames.items result }
     {
         match frame {
             Frame::List(holder, items) => self.end_list(holder, items, token),
@@ -162,9 +185,9 @@ impl Parser {
         &mut self,
         caller: Caller,
         arguments: Arguments,
-        token: Token,
+        token: &Token,
     ) -> Result<Place, Fault>
-        ensures { Stands (machine.lack token (frame.Call caller arguments ∷ stack self.old.frames.items)) self.new.frames.items result }
+        ensures { Stands (machine.lack token.now (frame.Call caller arguments ∷ stack self.old.frames.items)) self.new.frames.items result }
     {
         match token {
             Token::Sign(Sign::Dot) => {
@@ -176,38 +199,37 @@ impl Parser {
     }
 
     // A token after an operand.
-    fn follow(&mut self, left: Operand, token: Token) -> Result<Place, Fault>
-        ensures { Stands (machine.had (role_of token) token (stack self.old.frames.items) left) self.new.frames.items result }
+    fn follow(&mut self, left: Operand, token: &Token) -> Result<Place, Fault>
+        ensures { Stands (machine.had (role_of token.now) token.now (stack self.old.frames.items) left) self.new.frames.items result }
     {
-        let role = read::role(&token);
-        self.had(role, left, token)
+        match Role::of(token) {
+            Role::Applying => self.apply(left),
+            role => self.go_on(role, left, token),
+        }
     }
 
-    fn had(&mut self, role: Role, left: Operand, token: Token) -> Result<Place, Fault>
-        ensures { Stands (machine.had role token (stack self.old.frames.items) left) self.new.frames.items result }
+    // A token after an operand that doesn't begin its arguments.
+    fn go_on(&mut self, role: Role, left: Operand, token: &Token) -> Result<Place, Fault>
+        ensures { Stands (machine.follow role token.now (machine.settle (role_level role) (stack self.old.frames.items) (machine.make left))) self.new.frames.items result }
+    {
+        let left = self.settled(role.level(), left)?;
+        self.act(role, left, token)
+    }
+
+    // A token after a part that it does not go inside.
+    fn act(&mut self, role: Role, left: Part, token: &Token) -> Result<Place, Fault>
+        ensures { Stands (machine.act role token.now (stack self.old.frames.items) left) self.new.frames.items result }
     {
         match role {
-            Role::Applying => self.apply(left),
-            Role::Binary(sign) => {
-                let left = self.settled(sign.level(), left)?;
-                self.enter(Frame::Reaching(Reaching::After(left, sign)))
-            }
-            Role::Negating => Ok(Place::Negated(self.settled(5, left)?)),
-            Role::Asking => {
-                let left = self.settled(1, left)?;
-                self.enter(Frame::Middle(left))
-            }
-            Role::Piping => Ok(Place::Barred(self.settled(2, left)?)),
-            Role::Dotting => Ok(Place::Dotted(self.settled(13, left)?)),
-            Role::Questioning => Ok(Place::Questioned(self.settled(13, left)?)),
-            Role::Picking => {
-                let left = self.settled(13, left)?;
-                self.enter(Frame::Index(left, false))
-            }
-            Role::Plain => {
-                let left = self.settled(0, left)?;
-                self.shut(left, token)
-            }
+            Role::Applying => Err(Fault::Syntax),
+            Role::Binary(sign) => self.enter(Frame::Reaching(Reaching::After(left, sign))),
+            Role::Negating => Ok(Place::Negated(left)),
+            Role::Asking => self.enter(Frame::Middle(left)),
+            Role::Piping => Ok(Place::Barred(left)),
+            Role::Dotting => Ok(Place::Dotted(left)),
+            Role::Questioning => Ok(Place::Questioned(left)),
+            Role::Picking => self.enter(Frame::Index(left, false)),
+            Role::Plain => self.shut(left, token),
         }
     }
 
@@ -226,8 +248,8 @@ impl Parser {
     }
 
     // A token that is no operator, after an operand.
-    fn shut(&mut self, last: Part, token: Token) -> Result<Place, Fault>
-        ensures { Stands (machine.shut token (stack self.old.frames.items) last) self.new.frames.items result }
+    fn shut(&mut self, last: Part, token: &Token) -> Result<Place, Fault>
+        ensures { Stands (machine.shut token.now (stack self.old.frames.items) last) self.new.frames.items result }
     {
         match self.pop() {
             Some(frame) => self.shut_frame(frame, last, token),
@@ -235,8 +257,8 @@ impl Parser {
         }
     }
 
-    fn shut_frame(&mut self, frame: Frame, last: Part, token: Token) -> Result<Place, Fault>
-        ensures { Stands (machine.shut token (frame ∷ stack self.old.frames.items) last) self.new.frames.items result }
+    fn shut_frame(&mut self, frame: Frame, last: Part, token: &Token) -> Result<Place, Fault>
+        ensures { Stands (machine.shut token.now (frame ∷ stack self.old.frames.items) last) self.new.frames.items result }
     {
         match frame {
             Frame::Inside => {
@@ -283,9 +305,9 @@ impl Parser {
         holder: Holder,
         mut items: Arguments,
         last: Part,
-        token: Token,
+        token: &Token,
     ) -> Result<Place, Fault>
-        ensures { Stands (machine.listed token holder (given_more items last) (stack self.old.frames.items)) self.new.frames.items result }
+        ensures { Stands (machine.listed token.now holder (given_more items last) (stack self.old.frames.items)) self.new.frames.items result }
     {
         items.push(last)?;
         match token {
@@ -294,8 +316,8 @@ impl Parser {
         }
     }
 
-    fn end_list(&self, holder: Holder, items: Arguments, token: Token) -> Result<Place, Fault>
-        ensures { Stands (machine.list_end holder token items (stack self.now.frames.items)) self.now.frames.items result }
+    fn end_list(&self, holder: Holder, items: Arguments, token: &Token) -> Result<Place, Fault>
+        ensures { Stands (machine.list_end holder token.now items (stack self.now.frames.items)) self.now.frames.items result }
     {
         match holder {
             Holder::Array => {
@@ -320,17 +342,22 @@ impl Parser {
         caller: Caller,
         mut arguments: Arguments,
         last: Part,
-        token: Token,
+        token: &Token,
     ) -> Result<Place, Fault>
-        ensures { Stands (machine.called token caller (given_more arguments last) (stack self.old.frames.items)) self.new.frames.items result }
+        ensures { Stands (machine.called token.now caller (given_more arguments last) (stack self.old.frames.items)) self.new.frames.items result }
     {
         arguments.push(last)?;
         self.called(caller, arguments, token)
     }
 
     // Arguments after one of them.
-    fn called(&mut self, caller: Caller, arguments: Arguments, token: Token) -> Result<Place, Fault>
-        ensures { Stands (machine.called token caller arguments (stack self.old.frames.items)) self.new.frames.items result }
+    fn called(
+        &mut self,
+        caller: Caller,
+        arguments: Arguments,
+        token: &Token,
+    ) -> Result<Place, Fault>
+        ensures { Stands (machine.called token.now caller arguments (stack self.old.frames.items)) self.new.frames.items result }
     {
         match token {
             Token::Sign(Sign::Comma) => self.enter(Frame::Call(caller, arguments)),
@@ -338,8 +365,8 @@ impl Parser {
         }
     }
 
-    fn end_call(&self, caller: Caller, arguments: Arguments, token: Token) -> Result<Place, Fault>
-        ensures { Stands (machine.call_end caller token arguments (stack self.now.frames.items)) self.now.frames.items result }
+    fn end_call(&self, caller: Caller, arguments: Arguments, token: &Token) -> Result<Place, Fault>
+        ensures { Stands (machine.call_end caller token.now arguments (stack self.now.frames.items)) self.now.frames.items result }
     {
         let Token::Sign(Sign::ParenClose) = token else {
             return Err(Fault::Syntax);
@@ -349,8 +376,8 @@ impl Parser {
     }
 
     // Arguments after a predicate.
-    fn argued(&mut self, program: ProgramPart, token: Token) -> Result<Place, Fault>
-        ensures { Stands (machine.argued token (stack self.old.frames.items) program) self.new.frames.items result }
+    fn argued(&mut self, program: ProgramPart, token: &Token) -> Result<Place, Fault>
+        ensures { Stands (machine.argued token.now (stack self.old.frames.items) program) self.new.frames.items result }
     {
         let Some((caller, arguments)) = self.pop_call() else {
             return Err(Fault::Syntax);
@@ -363,9 +390,9 @@ impl Parser {
         left: Part,
         optional: bool,
         index: Part,
-        token: Token,
+        token: &Token,
     ) -> Result<Place, Fault>
-        ensures { Stands (machine.shut token (frame.Index left optional ∷ stack self.old.frames.items) index) self.new.frames.items result }
+        ensures { Stands (machine.shut token.now (frame.Index left optional ∷ stack self.old.frames.items) index) self.new.frames.items result }
     {
         match token {
             Token::Sign(Sign::SquareClose) => {
@@ -382,9 +409,9 @@ impl Parser {
         left: Part,
         from: Option<Part>,
         to: Option<Part>,
-        token: Token,
+        token: &Token,
     ) -> Result<Place, Fault>
-        ensures { Stands (machine.at_square token (machine.whole (stack self.now.frames.items) (postfix (slice (bound_with from) (bound_with to)) left)) machine.Fail) self.now.frames.items result }
+        ensures { Stands (machine.at_square token.now (machine.whole (stack self.now.frames.items) (postfix (slice (bound_with from) (bound_with to)) left)) machine.Fail) self.now.frames.items result }
     {
         let Token::Sign(Sign::SquareClose) = token else {
             return Err(Fault::Syntax);
@@ -432,13 +459,11 @@ impl Parser {
     fn bind(&mut self, name: Text, value: Part) -> Result<Place, Fault>
         ensures { Stands (machine.bind (stack self.old.frames.items) name value) self.new.frames.items result }
     {
-        match self.pop() {
-            Some(Frame::Body(section, mut lines)) => {
-                lines.push(name.into_string(), value)?;
-                self.enter(Frame::Body(section, lines))
-            }
-            _ => Err(Fault::Syntax),
-        }
+        let Some((section, mut lines)) = self.pop_body() else {
+            return Err(Fault::Syntax);
+        };
+        lines.push(name.into_string(), value)?;
+        self.enter(Frame::Body(section, lines))
     }
 
     fn member(&self, left: Part, token: Token) -> Result<Place, Fault>
@@ -459,8 +484,8 @@ impl Parser {
         Ok(whole(part))
     }
 
-    fn not_in(&mut self, left: Part, token: Token) -> Result<Place, Fault>
-        ensures { Stands (machine.in_after_not (stack self.old.frames.items) left token) self.new.frames.items result }
+    fn not_in(&mut self, left: Part, token: &Token) -> Result<Place, Fault>
+        ensures { Stands (machine.in_after_not (stack self.old.frames.items) left token.now) self.new.frames.items result }
     {
         match token {
             Token::Reserved(Reserved::In) => {
@@ -479,8 +504,8 @@ impl Parser {
         }
     }
 
-    fn arguments(&mut self, left: Part, name: Text, token: Token) -> Result<Place, Fault>
-        ensures { Stands (machine.open_after_word (stack self.old.frames.items) left name token) self.new.frames.items result }
+    fn arguments(&mut self, left: Part, name: Text, token: &Token) -> Result<Place, Fault>
+        ensures { Stands (machine.open_after_word (stack self.old.frames.items) left name token.now) self.new.frames.items result }
     {
         match token {
             Token::Sign(Sign::ParenOpen) => {
@@ -496,9 +521,9 @@ impl Parser {
         chain: Chain,
         condition: Part,
         then: ProgramPart,
-        token: Token,
+        token: &Token,
     ) -> Result<Place, Fault>
-        ensures { Stands (machine.else_after (stack self.now.frames.items) chain condition then token) self.now.frames.items result }
+        ensures { Stands (machine.else_after (stack self.now.frames.items) chain condition then token.now) self.now.frames.items result }
     {
         match token {
             Token::Reserved(Reserved::Else) => Ok(Place::Alternate(chain, condition, then)),
@@ -511,9 +536,9 @@ impl Parser {
         chain: Chain,
         condition: Part,
         then: ProgramPart,
-        token: Token,
+        token: &Token,
     ) -> Result<Place, Fault>
-        ensures { Stands (machine.alternative (stack self.old.frames.items) chain condition then token) self.new.frames.items result }
+        ensures { Stands (machine.alternative (stack self.old.frames.items) chain condition then token.now) self.new.frames.items result }
     {
         match token {
             Token::Sign(Sign::BraceOpen) => {
@@ -537,8 +562,8 @@ impl Parser {
         }
     }
 
-    fn line_value(&mut self, name: Text, token: Token) -> Result<Place, Fault>
-        ensures { Stands (machine.equals_after (stack self.old.frames.items) name token) self.new.frames.items result }
+    fn line_value(&mut self, name: Text, token: &Token) -> Result<Place, Fault>
+        ensures { Stands (machine.equals_after (stack self.old.frames.items) name token.now) self.new.frames.items result }
     {
         match token {
             Token::Sign(Sign::Equal) => self.enter(Frame::Value(name)),
@@ -566,8 +591,8 @@ impl Parser {
         Ok(Place::Colons(map, key))
     }
 
-    fn map_colon(&self, map: ValueMap, key: Text, token: Token) -> Result<Place, Fault>
-        ensures { Stands (machine.step_on (stack self.now.frames.items) (place.Colons map key) token) self.now.frames.items result }
+    fn map_colon(&self, map: ValueMap, key: Text, token: &Token) -> Result<Place, Fault>
+        ensures { Stands (machine.step_on (stack self.now.frames.items) (place.Colons map key) token.now) self.now.frames.items result }
     {
         match token {
             Token::Sign(Sign::Colon) => Ok(Place::Values(map, key)),
@@ -579,16 +604,16 @@ impl Parser {
         ensures { Stands (machine.value_in (stack self.now.frames.items) map key (machine.value_at token)) self.now.frames.items result }
     {
         match read::constant(token) {
-            Some(value) => {
-                map.insert(key, value)?;
-                Ok(Place::Entered(map))
-            }
+            Some(value) => match map.insert(key, value) {
+                Ok(()) => Ok(Place::Entered(map)),
+                Err(_) => Err(Fault::Memory),
+            },
             None => Err(Fault::Syntax),
         }
     }
 
-    fn map_end(&self, map: ValueMap, token: Token) -> Result<Place, Fault>
-        ensures { Stands (machine.step_on (stack self.now.frames.items) (place.Entered map) token) self.now.frames.items result }
+    fn map_end(&self, map: ValueMap, token: &Token) -> Result<Place, Fault>
+        ensures { Stands (machine.step_on (stack self.now.frames.items) (place.Entered map) token.now) self.now.frames.items result }
     {
         match token {
             Token::Sign(Sign::Comma) => Ok(Place::Keys(map)),
@@ -601,12 +626,27 @@ impl Parser {
     fn finish(&mut self, place: Place) -> Result<ProgramPart, Fault>
         ensures { Gives (machine.finish_in (stack self.old.frames.items) place) result }
     {
-        let Place::Have(last) = place else {
+        match place.into_operand() {
+            Some(last) => self.end(last),
+            None => Err(Fault::Syntax),
+        }
+    }
+
+    fn end(&mut self, last: Operand) -> Result<ProgramPart, Fault>
+        ensures { Gives (machine.whole_of (machine.settle 0 (stack self.old.frames.items) (machine.make last))) result }
+    {
+        let last = self.settled(0, last)?;
+        self.end_whole(last)
+    }
+
+    fn end_whole(&mut self, last: Part) -> Result<ProgramPart, Fault>
+        ensures { Gives (machine.whole_in (stack self.old.frames.items) last) result }
+    {
+        let Some((section, lines)) = self.pop_body() else {
             return Err(Fault::Syntax);
         };
-        let last = self.settled(0, last)?;
-        match self.pop() {
-            Some(Frame::Body(Section::Top, lines)) => match self.pop() {
+        match section {
+            Section::Top => match self.frames.last() {
                 None => Ok(lines.answering(last)),
                 Some(_) => Err(Fault::Syntax),
             },
@@ -637,10 +677,7 @@ impl Parser {
         ensures { PopsAbove level self.old.frames.items self.new.frames.items result }
     {
         match self.frames.last() {
-            Some(frame) if level < frame.reach() => match self.pop() {
-                Some(Frame::Reaching(open)) => Some(open),
-                _ => None,
-            },
+            Some(frame) if level < frame.reach() => self.pop()?.into_reaching(),
             _ => None,
         }
     }
@@ -649,10 +686,14 @@ impl Parser {
     fn pop_call(&mut self) -> Option<(Caller, Arguments)>
         ensures { IsCallOnTop (stack self.old.frames.items) (stack self.new.frames.items) result }
     {
-        match self.pop() {
-            Some(Frame::Call(caller, arguments)) => Some((caller, arguments)),
-            _ => None,
-        }
+        self.pop()?.into_call()
+    }
+
+    // The innermost frame, if a program is open there.
+    fn pop_body(&mut self) -> Option<(Section, Lines)>
+        ensures { IsBodyOnTop (stack self.old.frames.items) (stack self.new.frames.items) result }
+    {
+        self.pop()?.into_body()
     }
 
     // An operand comes next, inside the frame.
@@ -712,7 +753,7 @@ pub fn parse(alloc: Global, tokens: Vec<Token>) -> Result<Program, ParseError>
     // Some program begins with the tokens before the index of a syntax fault, and none with the one at it too.
     ensures place { IsAtFault tokens.items result }
 {
-    let literals_fit = read::literals_fit(&tokens);
+    let literals_fit = literals_fit(&tokens);
     let Ok(mut parser) = Parser::new(alloc) else {
         return Err(ParseError::Memory);
     };

@@ -1,7 +1,7 @@
 //! From a text to its program.
 ghost use Rattle.std.specs.Prelude.{◌≡◌, ◌≤◌, List, length, drop, slice_get, unwrap_or, IfOk, IfErr, MatchOption};
-ghost use Rattle.expr_syntax.specs.Grammar.{TreeProgram};
-ghost use Rattle.expr_syntax.specs.Prefixes.{SomeBegins, StopsAt};
+ghost use Rattle.expr_grammar.specs.Grammar.{TreeProgram};
+ghost use Rattle.expr_grammar.specs.Prefixes.{SomeBegins, StopsAt};
 ghost use Rattle.expr_syntax.specs.Texts.{IsAnswerFor, IsCompiled, IsLiteralRefusal, IsPlaced, IsTreeOf};
 ghost use Rattle.expr_token.specs.Reading.{Begins, NoPiece, Reads, ReadsAt};
 ghost use Rattle.expr_token.specs.declared.token.Token.{Token};

@@ -9,8 +9,6 @@ mod quoted;
 mod reading;
 mod reserved;
 mod sign;
-#[cfg(test)]
-mod tests;
 mod token;
 mod word;
 

@@ -1,22 +1,9 @@
--- What names stand for, and contexts that agree at the names of a program.
-use Rattle.std.specs.Prelude.{◌≡◌, ◌≢◌, ℕ, List, Option, Some, bytes_eq, if◌then◌else◌, codes}
+-- Contexts that agree at the names of a program.
+use Rattle.std.specs.Prelude.{◌≡◌, ◌≢◌, ℕ, List}
 use Rattle.std.specs.List.{Contains}
-use Rattle.expr_value.specs.declared.value.Value.{Value}
+pub use Rattle.expr_value.specs.Context.{Context, override, hash}
 use Rattle.expr_tree.specs.Names.{env, block_operands}
 use Rattle.expr_tree.specs.Term.{Block}
-
--- a value or none for each name, and the map that `$env` stands for
-pub record Context : Type 0 where
-  pub value_of : List ℕ → Option Value
-  pub map : List (List ℕ × Value)
-
--- the context with another value at one name; the map stays
-abbrev pub override : Context → List ℕ → Value → Context
-override context key v = record context { value_of = λ n. if bytes_eq key n then Some v else context.value_of n }
-
--- the name to which predicates bind their item
-abbrev pub hash : List ℕ
-hash = codes "#"
 
 -- two contexts agree at some operands if they give the same value, or both none, at `#` and at each of them but `$env`, and the same map where `$env` is among them
 pub record Agree (one other : Context) (operands : List (List ℕ)) : Type 0 where

@@ -26,13 +26,7 @@ impl Program {
         ensures ok { IfOk result (λ ns. AreNamesOf (map string_bytes ns.items) (program_written self.now)) }
         ensures err { IfErr result (λ e. e ≡ Error.MemoryError) }
     {
-        let mut names = Names::new(alloc);
-        let mut waiting = Vec::new(alloc);
-        wait_for_program(self, &mut waiting)?;
-        while let Some(node) = waiting.pop() {
-            gather(node, &mut names, &mut waiting)?;
-        }
-        Ok(names.into_vec()?)
+        names_within(self, alloc, Vec::new(alloc))
     }
 
     /// Whether `$env` stands as an operand anywhere in the program.
@@ -41,6 +35,25 @@ impl Program {
     {
         program_uses_env(self)
     }
+}
+
+// The names within a program; the list is for the nodes that wait, and is empty. (It is handed in, since the borrow check
+// takes a list of references under a `&mut` only where its lifetime is a parameter's.)
+fn names_within<'a>(
+    program: &'a Program,
+    alloc: Global,
+    mut waiting: Vec<&'a Node>,
+) -> Result<Vec<String>>
+    requires { waiting.items ≡ [] }
+    ensures ok { IfOk result (λ ns. AreNamesOf (map string_bytes ns.items) (program_written program.now)) }
+    ensures err { IfErr result (λ e. e ≡ Error.MemoryError) }
+{
+    let mut names = Names::new(alloc);
+    wait_for_program(program, &mut waiting)?;
+    while let Some(node) = waiting.pop() {
+        gather(node, &mut names, &mut waiting)?;
+    }
+    Ok(names.into_vec()?)
 }
 
 // Names in byte order, each once.

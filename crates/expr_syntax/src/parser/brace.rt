@@ -2,13 +2,13 @@
 
 ghost use Rattle.std.specs.Prelude.{[], ◌∷◌};
 ghost use Rattle.expr_token.specs.declared.token.Token.TheVariants as token;
-ghost use Rattle.expr_syntax.specs.declared.frame.Frame.TheVariants as frame;
-ghost use Rattle.expr_syntax.specs.declared.frame.Section.TheVariants as section;
-ghost use Rattle.expr_syntax.specs.Nodes as machine;
+ghost use Rattle.expr_frames.specs.declared.frame.Frame.TheVariants as frame;
+ghost use Rattle.expr_frames.specs.declared.frame.Section.TheVariants as section;
+ghost use Rattle.expr_frames.specs.Nodes as machine;
 ghost use Rattle.expr_syntax.specs.Reading.{stack, Stands};
 
-use crate::frame::{Fault, Frame, Place, Section};
 use crate::parser::{Parser, map_literal};
+use expr_frames::frame::{Fault, Frame, Place, Section};
 use expr_parts::Lines;
 use expr_token::{Sign, Token};
 use expr_value::ValueMap;
@@ -36,7 +36,7 @@ impl Parser {
     }
 
     // The first token of a predicate.
-    fn body(&mut self, first: Token) -> Result<Place, Fault>
+    pub(super) fn body(&mut self, first: Token) -> Result<Place, Fault>
         ensures { Stands (machine.want first (frame.Body section.Predicate [] ∷ stack self.old.frames.items)) self.new.frames.items result }
     {
         self.push(Frame::Body(Section::Predicate, Lines::new(self.alloc)))?;

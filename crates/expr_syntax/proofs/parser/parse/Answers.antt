@@ -2,10 +2,11 @@ use Rattle.std.proofs.Common.{rules, Err, [], ◌∷◌, ◌++◌, ◌+◌, leng
 use Rattle.std.proofs.lemmas.Iterator.Adapters.{YieldsList-from_vec}
 use Rattle.std.proofs.lemmas.Iterator.Consumers.{YieldsList-turn, YieldsList-so_far, YieldsList-end}
 use Rattle.std.specs.List.{AllByRecursion}
-use Rattle.expr_syntax.specs.Grammar.{IntegerFits}
-use Rattle.expr_syntax.specs.Nodes.{On, step_in, finish_in}
-use Rattle.expr_syntax.specs.Reading.{stack, Stands, Gives}
-use Rattle.expr_syntax.proofs.Closing.{stops, stops_at_end}
+use Rattle.expr_grammar.specs.Grammar.{IntegerFits}
+use Rattle.expr_frames.specs.Nodes.{On, step_in, finish_in}
+use Rattle.expr_frames.specs.Faults.{Gives}
+use Rattle.expr_syntax.specs.Reading.{stack, Stands}
+use Rattle.expr_syntax.proofs.Begun.{stops, stops_at_end}
 use Rattle.expr_syntax.proofs.Turns.{split_at, ended}
 use Rattle.expr_syntax.proofs.Whole.{parsed, too_large, only_program, no_tree, stuck, stuck_only}
 use Rattle.expr_syntax.proofs.parser.parse.Goals as goal

@@ -1,5 +1,5 @@
 use Rattle.std.proofs.Common.{◌≡◌, length, fold}
-use Rattle.expr_syntax.specs.Nodes.{step, begins, On}
+use Rattle.expr_frames.specs.Nodes.{step, begins, On}
 use Rattle.expr_syntax.specs.Reading.{stack}
 use Rattle.expr_syntax.proofs.parser.parse.Given as goal
 

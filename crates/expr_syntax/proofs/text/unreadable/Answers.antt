@@ -1,4 +1,4 @@
-use Rattle.expr_syntax.specs.Prefixes.{SomeBegins, StopsAt}
+use Rattle.expr_grammar.specs.Prefixes.{SomeBegins, StopsAt}
 use Rattle.expr_syntax.specs.Texts.{AtUnreadable}
 use Rattle.expr_syntax.proofs.Compiled.{placed}
 use Rattle.expr_syntax.proofs.text.unreadable.Goals as goal

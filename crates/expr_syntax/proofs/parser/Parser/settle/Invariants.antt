@@ -1,5 +1,5 @@
 use Rattle.std.proofs.Common.{◌≡◌, vec_len}
-use Rattle.expr_syntax.specs.Nodes.{settle}
+use Rattle.expr_frames.specs.Nodes.{settle}
 use Rattle.expr_syntax.specs.Reading.{stack}
 use Rattle.expr_syntax.proofs.parser.Parser.settle.Given as goal
 

@@ -1,0 +1,11 @@
+//! The texts of times: what a clock shows at a moment, and lengths of time.
+#![tactic(auto)]
+
+mod digits;
+mod duration;
+mod moment;
+mod offset;
+
+pub use duration::show_duration;
+pub use moment::{show_moment, show_stamp, show_year};
+pub use offset::show_offset;

@@ -1,0 +1,4 @@
+pub mod Allowed
+pub mod Independent
+pub mod Plainly
+pub mod Scoped

@@ -1,0 +1,347 @@
+use Rattle.std.proofs.Common.{◌≡◌, ◌&&◌, IsTrue, ◌+◌, ◌≤◌, List, ◌∷◌, length, map, drop, rules, sym, ap, ◌∙◌, subst, refl, Ok, Err, String, Global, string_bytes}
+use Rattle.std.proofs.lemmas.List.{drop_all}
+use Rattle.expr_tree.proofs.Shapes.{written-Slice}
+use Rattle.expr_tree.specs.Term.{operation, slice}
+use Rattle.expr_tree.specs.Written.{written, bound_written, postfix_written, program_written, block_of}
+use Rattle.expr_tree.specs.declared.node.Node.{Node}
+use Rattle.expr_value.specs.Fault.{fault_of}
+use Rattle.expr_value.specs.declared.value.Value.{Value}
+use Rattle.expr_evaluation.specs.Allows.{Allows, AllowsAll, AllowsBlock, AllowsBound, AllowsMore, AllowsPostfix, Continued, ContinuedAs, listed}
+use Rattle.expr_value.specs.Answers.{After, Answer, Gives}
+use Rattle.expr_evaluation.specs.Context.{Context}
+use Rattle.expr_evaluation.specs.Host.{Host}
+use Rattle.expr_operators.specs.Asking.{asking_of}
+use Rattle.expr_operators.specs.Operators.{applied}
+use Rattle.expr_operators.specs.declared.asking.Asking.TheVariants.{Both, EndsAtFalse, EndsAtTrue}
+use Rattle.expr_operators.specs.Positions.{sliced}
+use Rattle.expr_evaluation.specs.Plain.{is_plain}
+use Rattle.expr_operators.specs.Plain.{is_plain_operator, is_plain_value}
+use Rattle.expr_evaluation.specs.Scope.{overridden}
+use Rattle.expr_evaluation.specs.Several.{terms_written}
+use Rattle.expr_evaluation.specs.declared.scope.Binding.{Binding}
+use Rattle.expr_evaluation.proofs.Allowed.{prepended, drop-at, loop-step, loop-failed, loop-done, AllowsAll-first, AllowsBlock-line, AllowsMore-all}
+use Rattle.expr_value.proofs.Answered.{Gives-of-Is, Gives-passed, Gives-under, first_of-After}
+use Rattle.expr_operators.proofs.Plainly.{Surely-at}
+use Rattle.expr_evaluation.proofs.Plainly.{Ident-plain, Array-plain, Range-plain, Func-plain, Postfix-plain, Conditional-plain, Allows-plain, left-true, right-true, written-Operation}
+use Rattle.expr_evaluation.proofs.evaluation.Evaluation.+evaluation.Goals as goal
+
+pub evaluate-returns-in_err-first-in-Operation-clause-plain : goal.evaluate-returns-in_err-first-in-Operation-clause-plain
+evaluate-returns-in_err-first-in-Operation-clause-plain g t c =
+    let host : Host = g.H.Functions.host c.args.self.now.host.now in
+    let base : Context = g.P.ContextProvider.context c.args.self.now.provider in
+    let ctx : Context = overridden c.args.scope.now base in
+    let l = c.in-Operation.left.value in
+    let r = c.in-Operation.right.value in
+    let op = c.in-Operation.operator in
+    let result = c.from_residual-in_err-first-in-Operation.result in
+    let is : written c.args.node.now ≡ operation op (written l) (written r) = ap written c.in-Operation.is ∙ written-Operation op c.in-Operation.left c.in-Operation.right c.in-Operation.compiled_regex in
+    subst (λ n. (v : Value) → IsTrue (is_plain n) → Allows host ctx n (Ok v) → result ≡ Ok v) (sym is) (
+    λ v p h.
+    let both = right-true (is_plain_operator op) (is_plain (written l) && is_plain (written r)) p in
+    let q = first_of-After (Allows host ctx (written l)) (λ x. Continued op x (Allows host ctx (written r))) v h in
+    let wrong = c.in_err-first-in-Operation.ensures.plain q.0
+    (subst (λ m. IsTrue (is_plain (written m))) (sym c.deref-in-Operation.ensures) (left-true (is_plain (written l)) (is_plain (written r)) both))
+    (subst (λ m. Allows host ctx (written m) (Ok q.0)) (sym c.deref-in-Operation.ensures) q.1) in
+    absurd (cc wrong)
+    )
+
+pub evaluate-returns-in-Operation-clause-answer : goal.evaluate-returns-in-Operation-clause-answer
+evaluate-returns-in-Operation-clause-answer g t c =
+    let host : Host = g.H.Functions.host c.args.self.now.host.now in
+    let ctx : Context = overridden c.args.scope.now (g.P.ContextProvider.context c.args.self.now.provider) in
+    let l = c.in-Operation.left.value in
+    let r = c.in-Operation.right.value in
+    let op = c.in-Operation.operator in
+    let is : written c.args.node.now ≡ operation op (written l) (written r) = ap written c.in-Operation.is ∙ written-Operation op c.in-Operation.left c.in-Operation.right c.in-Operation.compiled_regex in
+    let first = c.in_ok-first-in-Operation.first in
+    let first_is = subst (λ m. Allows host ctx (written m) (Ok first)) c.deref-in-Operation.ensures c.in_ok-first-in-Operation.ensures.answer in
+    let next = Continued op first (Allows host ctx (written r)) in
+    subst (λ n. Gives c.operate.result (Allows host ctx n)) (sym is) (
+    Gives-under c.operate.result next (Allows host ctx (operation op (written l) (written r))) (λ a p. (Ok first, first_is, p)) (
+    subst (λ m. Gives c.operate.result (Continued op first (Allows host ctx (written m)))) c.deref-in-Operation-2.ensures c.operate.ensures.answer
+    )
+    )
+
+pub evaluate-returns-in-Operation-clause-plain : goal.evaluate-returns-in-Operation-clause-plain
+evaluate-returns-in-Operation-clause-plain g t c =
+    let host : Host = g.H.Functions.host c.args.self.now.host.now in
+    let base : Context = g.P.ContextProvider.context c.args.self.now.provider in
+    let ctx : Context = overridden c.args.scope.now base in
+    let l = c.in-Operation.left.value in
+    let r = c.in-Operation.right.value in
+    let op = c.in-Operation.operator in
+    let first = c.in_ok-first-in-Operation.first in
+    let is : written c.args.node.now ≡ operation op (written l) (written r) = ap written c.in-Operation.is ∙ written-Operation op c.in-Operation.left c.in-Operation.right c.in-Operation.compiled_regex in
+    subst (λ n. (v : Value) → IsTrue (is_plain n) → Allows host ctx n (Ok v) → c.operate.result ≡ Ok v) (sym is) (
+    λ v p h.
+    let o = left-true (is_plain_operator op) (is_plain (written l) && is_plain (written r)) p in
+    let both = right-true (is_plain_operator op) (is_plain (written l) && is_plain (written r)) p in
+    let l_plain = left-true (is_plain (written l)) (is_plain (written r)) both in
+    let q = first_of-After (Allows host ctx (written l)) (λ x. Continued op x (Allows host ctx (written r))) v h in
+    let same : first ≡ q.0 = cc (c.in_ok-first-in-Operation.ensures.plain q.0
+    (subst (λ m. IsTrue (is_plain (written m))) (sym c.deref-in-Operation.ensures) l_plain)
+    (subst (λ m. Allows host ctx (written m) (Ok q.0)) (sym c.deref-in-Operation.ensures) q.1)) in
+    let first_plain = subst (λ w. IsTrue (is_plain_value w)) (sym same) (Allows-plain host ctx (written l) q.0 l_plain q.1) in
+    let next = subst (λ w. Continued op w (Allows host ctx (written r)) (Ok v)) (sym same) q.2 in
+    c.operate.ensures.plain v o first_plain
+    (subst (λ m. IsTrue (is_plain (written m))) (sym c.deref-in-Operation-2.ensures) (right-true (is_plain (written l)) (is_plain (written r)) both))
+    (subst (λ m. Continued op first (Allows host ctx (written m)) (Ok v)) (sym c.deref-in-Operation-2.ensures) next)
+    )
+
+pub operate-returns-in-EndsAtFalse-clause-plain : goal.operate-returns-in-EndsAtFalse-clause-plain
+operate-returns-in-EndsAtFalse-clause-plain g t c =
+    let host : Host = g.H.Functions.host c.args.self.now.host.now in
+    let base : Context = g.P.ContextProvider.context c.args.self.now.provider in
+    let op = c.args.operator in
+    let right = Allows host (overridden c.args.scope.now base) (written c.args.right.now) in
+    let asked : asking_of op ≡ EndsAtFalse = sym c.sides_asked.ensures ∙ c.in-EndsAtFalse.is in
+    λ v o p q h. c.and_then.ensures.plain v q (subst (λ k. ContinuedAs k op c.args.first right (Ok v)) asked h)
+
+pub operate-returns-in-EndsAtTrue-clause-plain : goal.operate-returns-in-EndsAtTrue-clause-plain
+operate-returns-in-EndsAtTrue-clause-plain g t c =
+    let host : Host = g.H.Functions.host c.args.self.now.host.now in
+    let base : Context = g.P.ContextProvider.context c.args.self.now.provider in
+    let op = c.args.operator in
+    let right = Allows host (overridden c.args.scope.now base) (written c.args.right.now) in
+    let asked : asking_of op ≡ EndsAtTrue = sym c.sides_asked.ensures ∙ c.in-EndsAtTrue.is in
+    λ v o p q h. c.or_else.ensures.plain v q (subst (λ k. ContinuedAs k op c.args.first right (Ok v)) asked h)
+
+pub operate-returns-in-Both : goal.operate-returns-in-Both
+operate-returns-in-Both g t c =
+    let host : Host = g.H.Functions.host c.args.self.now.host.now in
+    let base : Context = g.P.ContextProvider.context c.args.self.now.provider in
+    let ctx : Context = overridden c.args.scope.now base in
+    let op = c.args.operator in
+    let first = c.args.first in
+    let second = c.in_ok-second-in-Both.second in
+    let right = Allows host ctx (written c.args.right.now) in
+    let asked : asking_of op ≡ Both = sym c.sides_asked.ensures ∙ c.in-Both.is in
+    record {
+      answer = Gives-of-Is c.apply_held.result (applied op first second) (Continued op first right) c.apply_held.ensures.answer (
+          subst (λ k. ContinuedAs k op first right (applied op first second)) (sym asked) (Ok second, c.in_ok-second-in-Both.ensures.answer, refl)
+          );
+      plain = λ v o p q h.
+          let found = first_of-After right (λ y b. b ≡ applied op first y) v (subst (λ k. ContinuedAs k op first right (Ok v)) asked h) in
+          let same : second ≡ found.0 = cc (c.in_ok-second-in-Both.ensures.plain found.0 q found.1) in
+          let second_plain = subst (λ w. IsTrue (is_plain_value w)) (sym same) (Allows-plain host ctx (written c.args.right.now) found.0 q found.1) in
+          Surely-at c.apply_held.result (applied op first second) v (c.apply_held.ensures.plain o p second_plain) (ap (applied op first) same ∙ sym found.2);
+    }
+
+pub follow-returns-in_err-start-in-Range : goal.follow-returns-in_err-start-in-Range
+follow-returns-in_err-start-in-Range g t c =
+    let host : Host = g.H.Functions.host c.args.self.now.host.now in
+    let base : Context = g.P.ContextProvider.context c.args.self.now.provider in
+    let ctx : Context = overridden c.args.scope.now base in
+    let a = bound_written c.in-Range.start in
+    let b = bound_written c.in-Range.end in
+    let v = c.args.value in
+    let is : postfix_written c.args.operator.now ≡ slice a b = ap postfix_written c.in-Range.is ∙ written-Slice c.in-Range.start c.in-Range.end in
+    let r = c.from_residual.result in
+    let e = c.in_err-start-in-Range.field-0.0 in
+    subst (λ p. Gives r (AllowsPostfix host ctx p v)) (sym is) (
+    Gives-passed r e (AllowsPostfix host ctx (slice a b) v) c.from_residual.ensures.1 (
+    λ m. (Err (fault_of e), c.in_err-start-in-Range.ensures m, refl)
+    )
+    )
+
+pub follow-returns-in-Range : goal.follow-returns-in-Range
+follow-returns-in-Range g t c =
+    let host : Host = g.H.Functions.host c.args.self.now.host.now in
+    let base : Context = g.P.ContextProvider.context c.args.self.now.provider in
+    let ctx : Context = overridden c.args.scope.now base in
+    let a = bound_written c.in-Range.start in
+    let b = bound_written c.in-Range.end in
+    let v = c.args.value in
+    let is : postfix_written c.args.operator.now ≡ slice a b = ap postfix_written c.in-Range.is ∙ written-Slice c.in-Range.start c.in-Range.end in
+    let from = c.in_ok-start-in-Range.start in
+    subst (λ p. Gives c.slice_to.result (AllowsPostfix host ctx p v)) (sym is) (
+    Gives-under c.slice_to.result (After (AllowsBound host ctx b) (λ to a. a ≡ sliced v from to)) (AllowsPostfix host ctx (slice a b) v) (
+    λ x p. (Ok from, c.in_ok-start-in-Range.ensures, p)
+    ) c.slice_to.ensures
+    )
+
+pub items-loop-node-preserved : goal.items-loop-node-preserved
+items-loop-node-preserved g t c =
+    let host : Host = g.H.Functions.host c.args.self.now.host.now in
+    let base : Context = g.P.ContextProvider.context c.args.self.now.provider in
+    let ctx : Context = overridden c.args.scope.now base in
+    let v = c.in_ok-keep.field-0 in
+    let node = c.node-item.result in
+    let all = AllowsAll host ctx (terms_written c.args.nodes.now) in
+    λ rest p. subst (λ vs. all (prepended vs rest)) (sym c.in_ok-push.ensures.items) (
+    loop-step (λ ns. AllowsAll host ctx (terms_written ns)) all c.args.nodes.now c.loop-node.node-index c.loop-node.values.items c.loop-node.invariant node v c.node-item.is c.loop-node-test.true (AllowsAll-first host ctx (written node) (terms_written (drop (c.loop-node.node-index + 1) c.args.nodes.now)) v c.in_ok-keep.ensures) rest p
+    )
+
+pub items-returns-in_err-keep : goal.items-returns-in_err-keep
+items-returns-in_err-keep g t c =
+    let host : Host = g.H.Functions.host c.args.self.now.host.now in
+    let base : Context = g.P.ContextProvider.context c.args.self.now.provider in
+    let ctx : Context = overridden c.args.scope.now base in
+    let k = fault_of c.in_err-keep.field-0.0 in
+    let all = AllowsAll host ctx (terms_written c.args.nodes.now) in
+    Gives-passed _ c.in_err-keep.field-0.0 all c.from_residual-in_err-keep.ensures.1 (
+    λ m. loop-failed (λ ns. AllowsAll host ctx (terms_written ns)) all c.args.nodes.now c.loop-node.node-index c.loop-node.values.items c.loop-node.invariant c.node-item.result k c.node-item.is c.loop-node-test.true (
+      Err k,
+      c.in_err-keep.ensures m,
+      refl,
+    )
+    )
+
+pub items-returns : goal.items-returns
+items-returns g t c =
+    let host : Host = g.H.Functions.host c.args.self.now.host.now in
+    let base : Context = g.P.ContextProvider.context c.args.self.now.provider in
+    let ctx : Context = overridden c.args.scope.now base in
+    let all = AllowsAll host ctx (terms_written c.args.nodes.now) in
+    subst (λ vs. all (Ok vs)) (sym c.from_vec.ensures) (
+    loop-done (λ ns. AllowsAll host ctx (terms_written ns)) all c.args.nodes.now c.loop-node.node-index c.loop-node.values.items c.loop-node.invariant c.loop-node-test.false refl
+    )
+
+pub arguments-loop-node-init : goal.arguments-loop-node-init
+arguments-loop-node-init g t c =
+    let host : Host = g.H.Functions.host c.args.self.now.host.now in
+    let base : Context = g.P.ContextProvider.context c.args.self.now.provider in
+    let ctx : Context = overridden c.args.scope.now base in
+    let ts = terms_written c.args.nodes.now in
+    λ rest p. subst (λ vs. AllowsMore host ctx (listed c.args.first) ts (prepended vs rest)) (sym c.in_ok-values.ensures.ok) (AllowsMore-all host ctx (listed c.args.first) ts rest p)
+
+pub arguments-loop-node-preserved : goal.arguments-loop-node-preserved
+arguments-loop-node-preserved g t c =
+    let host : Host = g.H.Functions.host c.args.self.now.host.now in
+    let base : Context = g.P.ContextProvider.context c.args.self.now.provider in
+    let ctx : Context = overridden c.args.scope.now base in
+    let v = c.in_ok-evaluate.field-0 in
+    let node = c.node-item.result in
+    let whole = AllowsMore host ctx (listed c.args.first) (terms_written c.args.nodes.now) in
+    λ rest p. subst (λ vs. whole (prepended vs rest)) (sym c.in_ok-push.ensures.items) (
+    loop-step (λ ns. AllowsAll host ctx (terms_written ns)) whole c.args.nodes.now c.loop-node.node-index c.loop-node.values.items c.loop-node.invariant node v c.node-item.is c.loop-node-test.true (AllowsAll-first host ctx (written node) (terms_written (drop (c.loop-node.node-index + 1) c.args.nodes.now)) v c.in_ok-evaluate.ensures.answer) rest p
+    )
+
+pub arguments-returns-in_err-evaluate : goal.arguments-returns-in_err-evaluate
+arguments-returns-in_err-evaluate g t c =
+    let host : Host = g.H.Functions.host c.args.self.now.host.now in
+    let base : Context = g.P.ContextProvider.context c.args.self.now.provider in
+    let ctx : Context = overridden c.args.scope.now base in
+    let k = fault_of c.in_err-evaluate.field-0.0 in
+    let whole = AllowsMore host ctx (listed c.args.first) (terms_written c.args.nodes.now) in
+    Gives-passed _ c.in_err-evaluate.field-0.0 whole c.from_residual-in_err-evaluate.ensures.1 (
+    λ m. loop-failed (λ ns. AllowsAll host ctx (terms_written ns)) whole c.args.nodes.now c.loop-node.node-index c.loop-node.values.items c.loop-node.invariant c.node-item.result k c.node-item.is c.loop-node-test.true (
+      Err k,
+      c.in_err-evaluate.ensures.answer m,
+      refl,
+    )
+    )
+
+pub arguments-returns : goal.arguments-returns
+arguments-returns g t c =
+    let host : Host = g.H.Functions.host c.args.self.now.host.now in
+    let base : Context = g.P.ContextProvider.context c.args.self.now.provider in
+    let ctx : Context = overridden c.args.scope.now base in
+    let whole = AllowsMore host ctx (listed c.args.first) (terms_written c.args.nodes.now) in
+    subst (λ vs. whole (Ok vs)) (sym c.from_vec.ensures) (
+    loop-done (λ ns. AllowsAll host ctx (terms_written ns)) whole c.args.nodes.now c.loop-node.node-index c.loop-node.values.items c.loop-node.invariant c.loop-node-test.false refl
+    )
+
+pub run_lines-loop-name-preserved : goal.run_lines-loop-name-preserved
+run_lines-loop-name-preserved g t c =
+    let host : Host = g.H.Functions.host c.args.self.now.host.now in
+    let base : Context = g.P.ContextProvider.context c.args.self.now.provider in
+    let lines_of = λ (ls : List (String Global × Node)). block_of (map (λ p. (p.0, written p.1)) ls) (written c.args.program.now.expr) in
+    let lines = c.args.program.now.lines.items in
+    let i = c.loop-name.name-index in
+    let inner = c.loop-name.inner.items in
+    let same : c.deref-name-items.result.now ≡ lines = c.deref-name-items.ensures.value in
+    let l = c.loop-name-item.result in
+    let at : drop i lines ≡ l ∷ drop (i + 1) lines =
+    subst (λ xs. drop i xs ≡ l ∷ drop (i + 1) xs) same (drop-at c.deref-name-items.result.now i l c.loop-name-item.is c.loop-name-test.true) in
+    let b : Binding = record { name = c.deref-in-loop-name.result; value = c.own.result } in
+    let named : b.name.now ≡ string_bytes l.0 = search rules in
+    let allowed : Allows host (overridden inner base) (written l.1) (Ok b.value) =
+    subst (λ v. Allows host (overridden inner base) (written l.1) (Ok v)) (sym c.own.ensures) (
+    subst (λ s. Allows host (overridden s base) (written l.1) (Ok c.in_ok-value.value)) c.deref.ensures.value c.in_ok-value.ensures
+    ) in
+    λ answer p. c.loop-name.invariant answer (
+    subst (λ ls. AllowsBlock host (overridden inner base) (lines_of ls) answer) (sym at) (
+    AllowsBlock-line host base inner c.push.new.self.items b l.0 (written l.1) (lines_of (drop (i + 1) lines)) answer c.in_ok-push.ensures.items named allowed p
+    )
+    )
+
+pub run_lines-returns-in_err-value : goal.run_lines-returns-in_err-value
+run_lines-returns-in_err-value g t c =
+    let host : Host = g.H.Functions.host c.args.self.now.host.now in
+    let base : Context = g.P.ContextProvider.context c.args.self.now.provider in
+    let lines_of = λ (ls : List (String Global × Node)). block_of (map (λ p. (p.0, written p.1)) ls) (written c.args.program.now.expr) in
+    let lines = c.args.program.now.lines.items in
+    let i = c.loop-name.name-index in
+    let inner = c.loop-name.inner.items in
+    let same : c.deref-name-items.result.now ≡ lines = c.deref-name-items.ensures.value in
+    let l = c.loop-name-item.result in
+    let at : drop i lines ≡ l ∷ drop (i + 1) lines =
+    subst (λ xs. drop i xs ≡ l ∷ drop (i + 1) xs) same (drop-at c.deref-name-items.result.now i l c.loop-name-item.is c.loop-name-test.true) in
+    let k = fault_of c.in_err-value.field-0.0 in
+    Gives-passed _ c.in_err-value.field-0.0 (AllowsBlock host (overridden c.args.scope.now base) (program_written c.args.program.now)) c.from_residual-in_err-value.ensures.1 (
+    λ m. c.loop-name.invariant (Err k) (
+    subst (λ ls. AllowsBlock host (overridden inner base) (lines_of ls) (Err k)) (sym at) (
+      Err k,
+      subst (λ s. Allows host (overridden s base) (written l.1) (Err k)) c.deref.ensures.value (c.in_err-value.ensures m),
+      refl,
+    )
+    )
+    )
+
+pub run_lines-returns : goal.run_lines-returns
+run_lines-returns g t c =
+    let host : Host = g.H.Functions.host c.args.self.now.host.now in
+    let base : Context = g.P.ContextProvider.context c.args.self.now.provider in
+    let lines_of = λ (ls : List (String Global × Node)). block_of (map (λ p. (p.0, written p.1)) ls) (written c.args.program.now.expr) in
+    let lines = c.args.program.now.lines.items in
+    let i = c.loop-name.name-index in
+    let inner = c.loop-name.inner.items in
+    let same : c.deref-name-items.result.now ≡ lines = c.deref-name-items.ensures.value in
+    let over : length lines ≤ i = subst (λ xs. length xs ≤ i) same c.loop-name-test.false in
+    let last = Allows host (overridden inner base) (written c.args.program.now.expr) in
+    let whole = AllowsBlock host (overridden c.args.scope.now base) (program_written c.args.program.now) in
+    let on : (a : Answer) → last a → whole a =
+    λ a p. c.loop-name.invariant a (subst (λ ls. AllowsBlock host (overridden inner base) (lines_of ls) a) (sym (drop_all i lines over)) p) in
+    Gives-under c.keep-2.result last whole on (
+    subst (λ s. Gives c.keep-2.result (Allows host (overridden s base) (written c.args.program.now.expr))) c.deref-2.ensures.value c.keep-2.ensures
+    )
+
+pub evaluate-returns-in_err-items-in-Array-clause-plain : goal.evaluate-returns-in_err-items-in-Array-clause-plain
+evaluate-returns-in_err-items-in-Array-clause-plain g t c = λ v p h. Array-plain _ c.args.node.now c.in-Array.is p
+
+pub evaluate-returns-in_err-first-in-Range-clause-plain : goal.evaluate-returns-in_err-first-in-Range-clause-plain
+evaluate-returns-in_err-first-in-Range-clause-plain g t c = λ v p h. Range-plain c.args.node.now c.in-Range.is p
+
+pub evaluate-returns-in_err-args-in-Func-clause-plain : goal.evaluate-returns-in_err-args-in-Func-clause-plain
+evaluate-returns-in_err-args-in-Func-clause-plain g t c = λ v p h. Func-plain _ _ _ c.args.node.now c.in-Func.is p
+
+pub evaluate-returns-in_err-value-in-Postfix-clause-plain : goal.evaluate-returns-in_err-value-in-Postfix-clause-plain
+evaluate-returns-in_err-value-in-Postfix-clause-plain g t c = λ v p h. Postfix-plain c.args.node.now c.in-Postfix.is p
+
+pub evaluate-returns-in_err-condition-in-Conditional-clause-plain : goal.evaluate-returns-in_err-condition-in-Conditional-clause-plain
+evaluate-returns-in_err-condition-in-Conditional-clause-plain g t c = λ v p h. Conditional-plain _ _ _ c.args.node.now c.in-Conditional.is p
+
+pub evaluate-returns-in_err-holds-in-Conditional-clause-plain : goal.evaluate-returns-in_err-holds-in-Conditional-clause-plain
+evaluate-returns-in_err-holds-in-Conditional-clause-plain g t c = λ v p h. Conditional-plain _ _ _ c.args.node.now c.in-Conditional.is p
+
+pub evaluate-returns-in-Ident-clause-plain : goal.evaluate-returns-in-Ident-clause-plain
+evaluate-returns-in-Ident-clause-plain g t c = λ v p h. Ident-plain c.args.node.now c.in-Ident.is p
+
+pub evaluate-returns-in-Array-clause-plain : goal.evaluate-returns-in-Array-clause-plain
+evaluate-returns-in-Array-clause-plain g t c = λ v p h. Array-plain _ c.args.node.now c.in-Array.is p
+
+pub evaluate-returns-in-Range-clause-plain : goal.evaluate-returns-in-Range-clause-plain
+evaluate-returns-in-Range-clause-plain g t c = λ v p h. Range-plain c.args.node.now c.in-Range.is p
+
+pub evaluate-returns-in-Func-clause-plain : goal.evaluate-returns-in-Func-clause-plain
+evaluate-returns-in-Func-clause-plain g t c = λ v p h. Func-plain _ _ _ c.args.node.now c.in-Func.is p
+
+pub evaluate-returns-in-Postfix-clause-plain : goal.evaluate-returns-in-Postfix-clause-plain
+evaluate-returns-in-Postfix-clause-plain g t c = λ v p h. Postfix-plain c.args.node.now c.in-Postfix.is p
+
+pub evaluate-returns-then-branch-clause-plain : goal.evaluate-returns-then-branch-clause-plain
+evaluate-returns-then-branch-clause-plain g t c = λ v p h. Conditional-plain _ _ _ c.args.node.now c.in-Conditional.is p
+
+pub evaluate-returns-clause-plain : goal.evaluate-returns-clause-plain
+evaluate-returns-clause-plain g t c = λ v p h. Conditional-plain _ _ _ c.args.node.now c.in-Conditional.is p

@@ -1,0 +1,17 @@
+pub mod Allows
+pub mod Calls
+pub mod Context
+pub mod Host
+pub mod Independence
+pub mod Plain
+pub mod Scope
+pub mod Several
+pub use Rattle.expr_operators.specs.Asking
+pub use Rattle.expr_operators.specs.Operators
+pub use Rattle.expr_operators.specs.Positions
+pub use Rattle.expr_tree.specs.Names
+pub use Rattle.expr_tree.specs.Term
+pub use Rattle.expr_tree.specs.Written
+pub use Rattle.expr_value.specs.Answers
+pub use Rattle.expr_value.specs.Fault
+pub use Rattle.expr_value.specs.Values

@@ -1,0 +1,214 @@
+//! What an evaluation does with the values of parts.
+ghost use Rattle.std.specs.Prelude.{◌≡◌, ◌≢◌, Err, IfErr, IfOk, IsTrue, false};
+ghost use Rattle.expr_evaluation.specs.Allows.{AllowsCall, given_bound, listed};
+ghost use Rattle.expr_evaluation.specs.Calls.{AllowsMethod, AsksItself};
+ghost use Rattle.expr_evaluation.specs.Context.{looked_up};
+ghost use Rattle.expr_evaluation.specs.Scope.{overridden};
+ghost use Rattle.expr_operators.specs.Operators.{Matched, applied, prefixed, truth, truth_answer};
+ghost use Rattle.expr_operators.specs.Plain.{is_plain_operator, is_plain_value, Surely};
+ghost use Rattle.expr_operators.specs.Positions.{bound_checked, indexed, ranged, sliced};
+ghost use Rattle.expr_value.specs.Answers.{Gives, Is};
+ghost use Rattle.expr_value.specs.Fault.{fault_of, memory};
+
+use crate::environment::{ExprCall, Functions};
+use crate::messages::{unknown_function, unknown_method, unknown_name};
+use crate::scope::{Binding, look_up};
+use expr_operators::{
+    Held, apply, as_condition, as_truth, match_pattern, prefix, range, slice_bound,
+};
+use expr_tree::operator::{Operator, UnaryOperator};
+use expr_value::{ContextProvider, Items, Result, Value};
+use std::alloc::Global;
+
+/// The value of a name.
+#[inline(never)]
+pub fn name_value<'s, P: ContextProvider>(
+    alloc: Global,
+    scope: &'s [Binding<'s>],
+    provider: &'s P,
+    key: &str,
+) -> Result<Held<'s>>
+    ensures { Is result (looked_up (overridden scope.now (P.context provider.now)) key.now) }
+{
+    if key == "$env" {
+        return Ok(Held::own(Value::Map(provider.environment(alloc)?.into_map())));
+    }
+    if let Some(value) = look_up(scope, provider, key) {
+        return Ok(Held::lent(value));
+    }
+    if let Some(Value::Map(fields)) = look_up(scope, provider, "#") {
+        if let Some(value) = fields.get(key) {
+            return Ok(Held::lent(value));
+        }
+    }
+    Err(unknown_name(alloc, key))
+}
+
+/// What an operator before its operand gives on its value.
+#[inline(never)]
+pub fn prefix_held<'s>(alloc: Global, operator: UnaryOperator, value: &Held<'_>) -> Result<Held<'s>>
+    ensures answer { Is result (prefixed operator value.now) }
+    ensures plain { Surely result (prefixed operator value.now) }
+{
+    let value = prefix(alloc, operator, value.get())?;
+    Ok(Held::own(value))
+}
+
+/// What an operator that asks both sides gives on their values.
+#[inline(never)]
+pub fn apply_held<'s>(
+    alloc: Global,
+    operator: Operator,
+    left: &Held<'_>,
+    right: &Held<'_>,
+) -> Result<Held<'s>>
+    ensures answer { Is result (applied operator left.now right.now) }
+    ensures plain { IsTrue (is_plain_operator operator) → IsTrue (is_plain_value left.now) → IsTrue (is_plain_value right.now)
+        → Surely result (applied operator left.now right.now) }
+{
+    let value = apply(alloc, operator, left.get(), right.get())?;
+    Ok(Held::own(value))
+}
+
+/// Whether a text matches a pattern.
+#[inline(never)]
+pub fn match_held<'s>(alloc: Global, text: &Held<'_>, pattern: &Held<'_>) -> Result<Held<'s>>
+    ensures { Gives result (Matched text.now pattern.now) }
+{
+    let value = match_pattern(alloc, text.get(), pattern.get())?;
+    Ok(Held::own(value))
+}
+
+/// A boolean as it is; any other value is refused.
+#[inline(never)]
+pub fn truth_of<'s>(alloc: Global, value: &Held<'_>) -> Result<Held<'s>>
+    ensures answer { Is result (truth value.now) }
+    ensures plain { Surely result (truth value.now) }
+{
+    let truth = as_truth(alloc, value.get())?;
+    Ok(Held::own(truth))
+}
+
+/// Whether a condition of this value holds.
+#[inline(never)]
+pub fn holds(alloc: Global, value: &Held<'_>) -> Result<bool>
+    ensures holds { IfOk result (λ b. truth value.now ≡ truth_answer b) }
+    ensures refusal { IfErr result (λ e. fault_of e ≢ memory → truth value.now ≡ Err (fault_of e)) }
+{
+    as_condition(alloc, value.get())
+}
+
+/// What a value has at a key.
+#[inline(never)]
+pub fn part_at<'s>(
+    alloc: Global,
+    value: Held<'s>,
+    key: &Held<'_>,
+    optional: bool,
+) -> Result<Held<'s>>
+    ensures { Is result (indexed value.entry key.now optional) }
+{
+    value.part(alloc, key.get(), optional)
+}
+
+/// The integers from one value to another.
+#[inline(never)]
+pub fn range_between<'s>(alloc: Global, first: &Held<'_>, last: &Held<'_>) -> Result<Held<'s>>
+    ensures { Is result (ranged first.now last.now) }
+{
+    let integers = range(alloc, first.get(), last.get())?;
+    Ok(Held::own(integers))
+}
+
+/// What stands between two bounds of a value.
+#[inline(never)]
+pub fn slice_of<'s>(
+    alloc: Global,
+    value: Held<'s>,
+    start: Option<i64>,
+    stop: Option<i64>,
+) -> Result<Held<'s>>
+    ensures { Is result (sliced value.entry start stop) }
+{
+    let part = value.slice(alloc, start, stop)?;
+    Ok(Held::own(part))
+}
+
+/// A bound of a slice that is given.
+#[inline(never)]
+pub fn bound_at(alloc: Global, value: &Held<'_>) -> Result<Option<i64>>
+    ensures { Is result (given_bound (bound_checked value.now)) }
+{
+    let bound = slice_bound(alloc, value.get())?;
+    Ok(Some(bound))
+}
+
+/// What a call on these values answers.
+#[inline(never)]
+pub fn call<'s, H: Functions>(
+    alloc: Global,
+    host: &H,
+    ident: &str,
+    args: Items<Held<'_>>,
+) -> Result<Held<'s>>
+    ensures { Gives result (AllowsCall (H.host host.now) ident.now args.entry false AsksItself) }
+{
+    if !host.has(ident) {
+        return Err(unknown_function(alloc, ident));
+    }
+    let ident = String::from_str(alloc, ident)?;
+    let args = values_of(alloc, args)?;
+    let answer = host.ask(ExprCall { ident, args })?;
+    Ok(Held::own(answer))
+}
+
+/// The values that are held, to be kept.
+fn values_of(alloc: Global, held: Items<Held<'_>>) -> Result<Vec<Value>>
+    ensures ok { IfOk result (λ vs. vs.items ≡ held.entry) }
+    ensures refusal { IfErr result (λ e. fault_of e ≡ memory) }
+{
+    let mut values = Vec::with_capacity(alloc, held.len())?;
+    for value in held.into_vec() {
+        values.push(value.into_value()?)?;
+    }
+    Ok(values)
+}
+
+/// A list with room for so many more than the value that is there already, if there is one.
+#[inline(never)]
+pub fn list_of<'s>(alloc: Global, first: Option<Held<'s>>, more: usize) -> Result<Vec<Held<'s>>>
+    ensures ok { IfOk result (λ vs. vs.items ≡ listed first.entry) }
+    ensures refusal { IfErr result (λ e. fault_of e ≡ memory) }
+{
+    let Some(value) = first else {
+        return Ok(Vec::with_capacity(alloc, more)?);
+    };
+    let mut values = Vec::with_capacity(alloc, more.saturating_add(1))?;
+    values.push(value)?;
+    Ok(values)
+}
+
+/// What a method answers of a value, on these arguments. No value has methods yet.
+#[inline(never)]
+pub fn call_method<'s>(
+    alloc: Global,
+    ident: &str,
+    _value: &Held<'_>,
+    _args: &Items<Held<'_>>,
+) -> Result<Held<'s>>
+    ensures { Gives result (AllowsMethod ident.now _value.now _args.now) }
+{
+    Err(unknown_method(alloc, ident))
+}
+
+/// Values that are given, to be held.
+pub fn held_values<'s>(alloc: Global, values: Vec<Value>) -> Result<Items<Held<'s>>>
+    ensures ok { IfOk result (λ hs. hs ≡ values.items) }
+    ensures refusal { IfErr result (λ e. fault_of e ≡ memory) }
+{
+    let mut held = Vec::with_capacity(alloc, values.len())?;
+    for value in values {
+        held.push(Held::own(value))?;
+    }
+    Ok(Items::from_vec(held))
+}

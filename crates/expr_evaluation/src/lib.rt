@@ -1,0 +1,14 @@
+//! What a program answers in a context, by recursion on its tree.
+#![tactic(auto)]
+
+mod environment;
+mod evaluation;
+mod laws;
+mod messages;
+mod scope;
+
+pub use environment::{ExprCall, Functions, NoFunctions};
+pub use evaluation::{
+    eval_expr, eval_func, eval_operator, eval_postfix_operator, eval_unary_operator, run,
+};
+pub use laws::left_side_decides;

@@ -1,0 +1,175 @@
+-- The program of a tree: brackets, commas and spellings are dropped.
+use Rattle.std.specs.Prelude.{◌≡◌, ℕ, ℤ, pos, Bool, true, false, List, [], ◌∷◌, ◌++◌, Option, Some, None}
+use Rattle.expr_value.specs.declared.value.Value.{Value}
+use Rattle.expr_value.specs.declared.value.Value.TheVariants as value
+use Rattle.expr_value.specs.Names.{put}
+use Rattle.expr_token.specs.Spellings.{reserved_text}
+use Rattle.expr_tree.specs.declared.operator.UnaryOperator.{UnaryOperator}
+use Rattle.expr_tree.specs.declared.operator.UnaryOperator.TheVariants as prefixed
+use Rattle.expr_tree.specs.declared.operator.Operator.TheVariants as operator
+use Rattle.expr_tree.specs.Term.{Term, name, literal, list, range, unary, operation, postfix, choice, index, slice, coalesce, pipe, ternary, method, Bound as BoundTerm, unbounded, bound, no_predicate, predicate, Block, answers, LineTerms, block_with}
+use Rattle.expr_tree.specs.Written.{terms_of}
+use Rattle.expr_parts.specs.Promotion.{call_of}
+use Rattle.expr_parts.specs.Parts.{Given}
+use Rattle.expr_grammar.specs.declared.sign.PrefixSign.{PrefixSign}
+use Rattle.expr_grammar.specs.declared.sign.PrefixSign.TheVariants as prefix
+use Rattle.expr_grammar.specs.declared.sign.InfixSign.{InfixSign}
+use Rattle.expr_grammar.specs.declared.sign.InfixSign.TheVariants as infixed
+use Rattle.expr_frames.specs.declared.frame.Meaning.{Meaning}
+use Rattle.expr_frames.specs.declared.frame.Meaning.TheVariants as meaning
+use Rattle.expr_grammar.specs.Grammar.{Word, Usual, Kept, Constant, True, False, Nil, Integer, Quoted, Raw, Bytes, Key, WordKey, QuotedKey, EntryRow, OneEntry, MoreEntries, Entries, NoEntries, SomeEntries, Tree, Literal, Name, HashName, Paren, Array, Map, Call, If, Prefix, Infix, Member, Method, Index, Slice, Pipe, Ternary, Items, NoItems, SomeItems, Row, One, More, Arguments, NoArguments, SomeArguments, ArgumentRow, OneArgument, MoreArguments, Argument, Expression, MemberAlone, Braces, Bound, LeftOut, At, ElsePart, Else, ElseIf, TreeProgram, Program, Lines, NoLines, MoreLines}
+
+abbrev pub word_text : Word → List ℕ
+word_text (Usual w) = w
+word_text (Kept r) = reserved_text r
+
+abbrev pub key_text : Key → List ℕ
+key_text (WordKey w) = word_text w
+key_text (QuotedKey s) = s
+
+-- an integer literal, where it fits
+abbrev pub integer_value : Option ℤ → Value
+integer_value (Some n) = value.Integer n
+integer_value None = value.Integer (pos 0)
+
+abbrev pub constant_value : Constant → Value
+constant_value True = value.Bool true
+constant_value False = value.Bool false
+constant_value Nil = value.Nil
+constant_value (Integer n) = integer_value n
+constant_value (Quoted s) = value.String s
+constant_value (Raw s) = value.String s
+constant_value (Bytes s) = value.Bytes s
+
+-- A repeated key keeps its place and takes the later value.
+abbrev pub entry_row_pairs : EntryRow → List (List ℕ × Value)
+entry_row_pairs (OneEntry key c) = put (key_text key) (constant_value c) []
+entry_row_pairs (MoreEntries r key c) = put (key_text key) (constant_value c) (entry_row_pairs r)
+
+abbrev pub entries_pairs : Entries → List (List ℕ × Value)
+entries_pairs NoEntries = []
+entries_pairs (SomeEntries r comma) = entry_row_pairs r
+
+-- what the signs stand for
+abbrev pub prefix_operator : PrefixSign → UnaryOperator
+prefix_operator prefix.Not = prefixed.Not
+prefix_operator prefix.Bang = prefixed.Not
+prefix_operator prefix.Positive = prefixed.Positive
+prefix_operator prefix.Negative = prefixed.Negative
+
+abbrev pub infix_meaning : InfixSign → Meaning
+infix_meaning infixed.Or = meaning.Operator operator.Or
+infix_meaning infixed.BarBar = meaning.Operator operator.Or
+infix_meaning infixed.And = meaning.Operator operator.And
+infix_meaning infixed.AndAnd = meaning.Operator operator.And
+infix_meaning infixed.Equal = meaning.Operator operator.Equal
+infix_meaning infixed.NotEqual = meaning.Operator operator.NotEqual
+infix_meaning infixed.Less = meaning.Operator operator.LessThan
+infix_meaning infixed.LessEqual = meaning.Operator operator.LessThanOrEqual
+infix_meaning infixed.Greater = meaning.Operator operator.GreaterThan
+infix_meaning infixed.GreaterEqual = meaning.Operator operator.GreaterThanOrEqual
+infix_meaning infixed.In = meaning.Operator operator.In
+infix_meaning infixed.NotIn = meaning.Operator operator.NotIn
+infix_meaning infixed.Contains = meaning.Operator operator.Contains
+infix_meaning infixed.StartsWith = meaning.Operator operator.StartsWith
+infix_meaning infixed.EndsWith = meaning.Operator operator.EndsWith
+infix_meaning infixed.Matches = meaning.Operator operator.Matches
+infix_meaning infixed.Range = meaning.Range
+infix_meaning infixed.Add = meaning.Operator operator.Add
+infix_meaning infixed.Subtract = meaning.Operator operator.Subtract
+infix_meaning infixed.Multiply = meaning.Operator operator.Multiply
+infix_meaning infixed.Divide = meaning.Operator operator.Divide
+infix_meaning infixed.Modulo = meaning.Operator operator.Modulo
+infix_meaning infixed.Caret = meaning.Operator operator.Pow
+infix_meaning infixed.StarStar = meaning.Operator operator.Pow
+infix_meaning infixed.Coalesce = meaning.Default
+
+abbrev pub joined : Meaning → Term → Term → Term
+joined (meaning.Operator o) l r = operation o l r
+joined meaning.Range l r = range l r
+joined meaning.Default l r = postfix (coalesce r) l
+
+-- a member is an index by the text of its word
+abbrev pub member_term : Term → Bool → List ℕ → Term
+member_term l optional w = postfix (index (literal (value.String w)) optional) l
+
+-- arguments so far: an expression is one more, a predicate takes the place of the one before
+abbrev pub none_given : Given
+none_given = record { terms = []; program = no_predicate }
+
+abbrev pub given_more : Given → Term → Given
+given_more g t = record { terms = g.terms ++ t ∷ []; program = g.program }
+
+abbrev pub given_program : Given → Block → Given
+given_program g b = record { terms = g.terms; program = predicate b }
+
+abbrev pub call_given : List ℕ → Given → Term
+call_given w g = call_of w g.terms g.program
+
+abbrev mutual
+  pub term_of : Tree → Term
+  term_of (Literal c) = literal (constant_value c)
+  term_of (Name w) = name w
+  term_of (HashName w) = name w
+  term_of (Paren t) = term_of t
+  term_of (Array xs) = list (terms_of (items_terms xs))
+  term_of (Map es) = literal (value.Map (entries_pairs es))
+  term_of (Call w xs) = call_given w (arguments_given xs)
+  term_of (If c a e) = choice (term_of c) (program_of a) (else_block e)
+  term_of (Prefix o t) = unary (prefix_operator o) (term_of t)
+  term_of (Infix o l r) = joined (infix_meaning o) (term_of l) (term_of r)
+  term_of (Member l optional w) = member_term (term_of l) optional (word_text w)
+  term_of (Method l w xs) = postfix (method (word_text w) (terms_of (items_terms xs))) (term_of l)
+  term_of (Index l optional i) = postfix (index (term_of i) optional) (term_of l)
+  term_of (Slice l a b) = postfix (slice (bound_term a) (bound_term b)) (term_of l)
+  term_of (Pipe l w xs) = postfix (pipe (call_given w (arguments_given xs))) (term_of l)
+  term_of (Ternary c a b) = postfix (ternary (term_of a) (term_of b)) (term_of c)
+
+  pub items_terms : Items → List Term
+  items_terms NoItems = []
+  items_terms (SomeItems r comma) = row_terms r
+
+  pub row_terms : Row → List Term
+  row_terms (One t) = term_of t ∷ []
+  row_terms (More r t) = row_terms r ++ term_of t ∷ []
+
+  pub arguments_given : Arguments → Given
+  arguments_given NoArguments = none_given
+  arguments_given (SomeArguments r comma) = argument_row_given r
+
+  pub argument_row_given : ArgumentRow → Given
+  argument_row_given (OneArgument a) = with_argument a none_given
+  argument_row_given (MoreArguments r a) = with_argument a (argument_row_given r)
+
+  pub with_argument : Argument → Given → Given
+  with_argument (Expression t) g = given_more g (term_of t)
+  with_argument (MemberAlone w) g = given_program g (answers (name (word_text w)))
+  with_argument (Braces p) g = given_program g (program_of p)
+
+  pub bound_term : Bound → BoundTerm
+  bound_term LeftOut = unbounded
+  bound_term (At t) = bound (term_of t)
+
+  -- an `else if` is a program without lines
+  pub else_block : ElsePart → Block
+  else_block (Else b) = program_of b
+  else_block (ElseIf c a e) = answers (choice (term_of c) (program_of a) (else_block e))
+
+  pub program_of : TreeProgram → Block
+  program_of (Program ls t) = block_with (line_terms ls) (term_of t)
+
+  pub line_terms : Lines → LineTerms
+  line_terms NoLines = []
+  line_terms (MoreLines ls w t) = line_terms ls ++ (w, term_of t) ∷ []
+
+-- Brackets round an expression leave it as it is, and its program.
+abbrev pub BracketsLeaveExpression : Type 0
+BracketsLeaveExpression = (t : Tree) → term_of (Paren t) ≡ term_of t
+
+abbrev pub BracketsLeaveProgram : Type 0
+BracketsLeaveProgram = (ls : Lines) (t : Tree) → program_of (Program ls (Paren t)) ≡ program_of (Program ls t)
+
+-- the program of a tree, if there is one
+abbrev pub kept : Option TreeProgram → Option Block
+kept None = None
+kept (Some p) = Some (program_of p)

@@ -1,0 +1,3 @@
+pub mod Kept
+pub mod Nodes
+pub mod Faults

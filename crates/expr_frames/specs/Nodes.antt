@@ -1,0 +1,393 @@
+-- The machine over what a program keeps: a state and the next token give the next state.
+use Rattle.std.specs.Prelude.{ℕ, true, false, List, [], ◌∷◌, ◌++◌, Option, Some, None, nat_lt, if◌then◌else◌, fold}
+use Rattle.expr_value.specs.declared.value.Value.{Value}
+use Rattle.expr_value.specs.declared.value.Value.TheVariants as value
+use Rattle.expr_value.specs.Names.{put}
+use Rattle.expr_token.specs.declared.token.Token.{Token}
+use Rattle.expr_token.specs.declared.token.Token.TheVariants as token
+use Rattle.expr_token.specs.declared.sign.Sign.{Sign}
+use Rattle.expr_token.specs.declared.sign.Sign.TheVariants as sign
+use Rattle.expr_token.specs.declared.reserved.Reserved.{Reserved}
+use Rattle.expr_token.specs.declared.reserved.Reserved.TheVariants as reserved
+use Rattle.expr_token.specs.Spellings.{reserved_text}
+use Rattle.expr_tree.specs.Term.{Term, name, literal, list, unary, postfix, choice, index, slice, pipe, ternary, method, bound, unbounded, Block, answers, block_with}
+use Rattle.expr_tree.specs.Written.{terms_of}
+use Rattle.expr_parts.specs.Parts.{Given, bound_with}
+use Rattle.expr_grammar.specs.declared.sign.PrefixSign.TheVariants as prefix
+use Rattle.expr_grammar.specs.declared.sign.InfixSign.TheVariants as infixed
+use Rattle.expr_grammar.specs.declared.role.Role.{Role}
+use Rattle.expr_grammar.specs.declared.role.Role.TheVariants.{Binary, Negating, Asking, Piping, Dotting, Questioning, Applying, Picking, Plain}
+use Rattle.expr_frames.specs.declared.frame.Start.{Start}
+use Rattle.expr_frames.specs.declared.frame.Start.TheVariants as start
+use Rattle.expr_frames.specs.declared.frame.Holder.{Holder}
+use Rattle.expr_frames.specs.declared.frame.Holder.TheVariants as holder
+use Rattle.expr_frames.specs.declared.frame.Caller.{Caller}
+use Rattle.expr_frames.specs.declared.frame.Caller.TheVariants as caller
+use Rattle.expr_frames.specs.declared.frame.Section.{Section}
+use Rattle.expr_frames.specs.declared.frame.Section.TheVariants as section
+use Rattle.expr_frames.specs.declared.frame.Frame.{Frame}
+use Rattle.expr_frames.specs.declared.frame.Frame.TheVariants as frame
+use Rattle.expr_frames.specs.declared.frame.Reaching.{Reaching}
+use Rattle.expr_frames.specs.declared.frame.Reaching.TheVariants as reaching
+use Rattle.expr_frames.specs.declared.frame.Operand.{Operand}
+use Rattle.expr_frames.specs.declared.frame.Operand.TheVariants as operand
+use Rattle.expr_frames.specs.declared.frame.Place.{Place}
+use Rattle.expr_frames.specs.declared.frame.Place.TheVariants as place
+use Rattle.expr_grammar.specs.Grammar.{prefix_level}
+use Rattle.expr_grammar.specs.Machine.{infix_reach, role, role_level}
+use Rattle.expr_frames.specs.Kept.{integer_value, prefix_operator, infix_meaning, joined, member_term, none_given, given_more, given_program, call_given}
+
+-- what a token is where an operand is wanted
+abbrev pub sign_start : Sign → Start
+sign_start sign.ParenOpen = start.Group
+sign_start sign.SquareOpen = start.List
+sign_start sign.BraceOpen = start.Brace
+sign_start sign.Bang = start.Sign prefix.Bang
+sign_start sign.Plus = start.Sign prefix.Positive
+sign_start sign.Minus = start.Sign prefix.Negative
+sign_start s = start.Other (token.Sign s)
+
+abbrev pub reserved_start : Reserved → Start
+reserved_start reserved.True = start.Literal (value.Bool true)
+reserved_start reserved.False = start.Literal (value.Bool false)
+reserved_start reserved.Nil = start.Literal value.Nil
+reserved_start reserved.If = start.Choice
+reserved_start reserved.Let = start.Line
+reserved_start reserved.Not = start.Sign prefix.Not
+reserved_start r = start.Other (token.Reserved r)
+
+abbrev pub start_of : Token → Start
+start_of (token.Integer n) = start.Literal (integer_value n)
+start_of (token.Word w) = start.Name w
+start_of (token.Reserved r) = reserved_start r
+start_of (token.Hash w) = start.HashName w
+start_of (token.Quoted s) = start.Literal (value.String s)
+start_of (token.Raw s) = start.Literal (value.String s)
+start_of (token.Bytes s) = start.Literal (value.Bytes s)
+start_of (token.Sign s) = sign_start s
+
+-- the text of a word, of a key, and the value of a literal
+abbrev pub text_at : Token → Option (List ℕ)
+text_at (token.Word w) = Some w
+text_at (token.Reserved r) = Some (reserved_text r)
+text_at t = None
+
+abbrev pub key_text_at : Token → Option (List ℕ)
+key_text_at (token.Word w) = Some w
+key_text_at (token.Reserved r) = Some (reserved_text r)
+key_text_at (token.Quoted s) = Some s
+key_text_at t = None
+
+abbrev pub value_of_start : Start → Option Value
+value_of_start (start.Literal v) = Some v
+value_of_start s = None
+
+abbrev pub value_at : Token → Option Value
+value_at t = value_of_start (start_of t)
+
+abbrev pub make : Operand → Term
+make (operand.Name w) = name w
+make (operand.Member l w) = member_term l false w
+make (operand.Whole l) = l
+
+abbrev pub reaches : Reaching → ℕ
+reaches (reaching.Under o) = prefix_level o
+reaches (reaching.After l o) = infix_reach o
+reaches (reaching.Otherwise c a) = 1
+
+abbrev pub reach : Frame → ℕ
+reach (frame.Reaching r) = reaches r
+reach f = 0
+
+abbrev pub plug : Reaching → Term → Term
+plug (reaching.Under o) t = unary (prefix_operator o) t
+plug (reaching.After l o) t = joined (infix_meaning o) l t
+plug (reaching.Otherwise c a) t = postfix (ternary a t) c
+
+pub record Settled : Type 0 where
+  pub stack : List Frame
+  pub left : Term
+
+-- Closes the frames that don't capture level p.
+abbrev pub settle : ℕ → List Frame → Term → Settled
+settle p [] l = record { stack = []; left = l }
+settle p (frame.Reaching r ∷ k) l = if nat_lt p (reaches r) then settle p k (plug r l) else record { stack = frame.Reaching r ∷ k; left = l }
+settle p (f ∷ k) l = record { stack = f ∷ k; left = l }
+
+-- the open frames and what has been read since
+pub data State : Type 0 where
+  On : (k : List Frame) (p : Place) → State
+  Fail : State
+
+abbrev pub wanting : List Frame → State
+wanting k = On k place.Want
+
+abbrev pub whole : List Frame → Term → State
+whole k t = On k (place.Have (operand.Whole t))
+
+-- The state s where the token is that sign, else the other one.
+abbrev pub at_close : Token → State → State → State
+at_close (token.Sign sign.ParenClose) s r = s
+at_close t s r = r
+
+abbrev pub at_square : Token → State → State → State
+at_square (token.Sign sign.SquareClose) s r = s
+at_square t s r = r
+
+abbrev pub at_colon : Token → State → State → State
+at_colon (token.Sign sign.Colon) s r = s
+at_colon t s r = r
+
+abbrev pub at_comma : Token → State → State → State
+at_comma (token.Sign sign.Comma) s r = s
+at_comma t s r = r
+
+abbrev pub at_semicolon : Token → State → State → State
+at_semicolon (token.Sign sign.Semicolon) s r = s
+at_semicolon t s r = r
+
+abbrev pub at_brace : Token → State → State → State
+at_brace (token.Sign sign.BraceOpen) s r = s
+at_brace t s r = r
+
+abbrev pub at_end_brace : Token → State → State → State
+at_end_brace (token.Sign sign.BraceClose) s r = s
+at_end_brace t s r = r
+
+abbrev pub at_dot : Token → State → State → State
+at_dot (token.Sign sign.Dot) s r = s
+at_dot t s r = r
+
+abbrev pub at_square_open : Token → State → State → State
+at_square_open (token.Sign sign.SquareOpen) s r = s
+at_square_open t s r = r
+
+-- a list at a token that isn't a comma
+abbrev pub list_end : Holder → Token → Given → List Frame → State
+list_end holder.Array t g k = at_square t (whole k (list (terms_of g.terms))) Fail
+list_end (holder.Method l w) t g k = at_close t (whole k (postfix (method w (terms_of g.terms)) l)) Fail
+
+-- a list after an element
+abbrev pub listed : Token → Holder → Given → List Frame → State
+listed t h g k = at_comma t (wanting (frame.List h g ∷ k)) (list_end h t g k)
+
+abbrev pub call_term : Caller → Given → Term
+call_term (caller.Function w) g = call_given w g
+call_term (caller.Pipe l w) g = postfix (pipe (call_given w g)) l
+
+-- arguments at a token that isn't a comma, and after one of them
+abbrev pub call_end : Caller → Token → Given → List Frame → State
+call_end c t g k = at_close t (whole k (call_term c g)) Fail
+
+abbrev pub called : Token → Caller → Given → List Frame → State
+called t c g k = at_comma t (wanting (frame.Call c g ∷ k)) (call_end c t g k)
+
+abbrev pub argued : Token → List Frame → Block → State
+argued t (frame.Call c g ∷ k) b = called t c (given_program g b) k
+argued t k b = Fail
+
+-- a choice inside the branches before it
+abbrev pub nest : List (Term × Block) → Term → Term
+nest [] t = t
+nest (b ∷ bs) t = choice b.0 b.1 (answers (nest bs t))
+
+-- a program between braces is whole
+abbrev pub after_part : Section → Block → List Frame → State
+after_part section.Top p k = Fail
+after_part (section.Then ch c) p k = On k (place.Chosen ch c p)
+after_part (section.Last ch c a) p k = whole k (nest ch (choice c a p))
+after_part section.Predicate p k = On k (place.Argued p)
+
+-- a line is whole
+abbrev pub bind : List Frame → List ℕ → Term → State
+bind (frame.Body b ls ∷ k) w t = wanting (frame.Body b (ls ++ (w, t) ∷ []) ∷ k)
+bind k w t = Fail
+
+-- A token that is no operator, after an operand.
+abbrev pub shut : Token → List Frame → Term → State
+shut t (frame.Inside ∷ k) l = at_close t (whole k l) Fail
+shut t (frame.Middle c ∷ k) l = at_colon t (wanting (frame.Reaching (reaching.Otherwise c l) ∷ k)) Fail
+shut t (frame.List h g ∷ k) l = listed t h (given_more g l) k
+shut t (frame.Call c g ∷ k) l = called t c (given_more g l) k
+shut t (frame.Index x true ∷ k) l = at_square t (whole k (postfix (index l true) x)) Fail
+shut t (frame.Index x false ∷ k) l = at_colon t (wanting (frame.Cut x (Some l) ∷ k)) (at_square t (whole k (postfix (index l false) x)) Fail)
+shut t (frame.Cut x a ∷ k) l = at_square t (whole k (postfix (slice (bound_with a) (bound l)) x)) Fail
+shut t (frame.Condition ch ∷ k) l = at_brace t (wanting (frame.Body (section.Then ch l) [] ∷ k)) Fail
+shut t (frame.Body b ls ∷ k) l = at_end_brace t (after_part b (block_with ls l) k) Fail
+shut t (frame.Value w ∷ k) l = at_semicolon t (bind k w l) Fail
+shut t k l = Fail
+
+-- an opening parenthesis after an operand
+abbrev pub apply : List Frame → Operand → State
+apply k (operand.Name w) = wanting (frame.Call (caller.Function w) none_given ∷ k)
+apply k (operand.Member l w) = wanting (frame.List (holder.Method l w) none_given ∷ k)
+apply k (operand.Whole l) = Fail
+
+-- A token after an operand, once the frames are settled.
+abbrev pub act : Role → Token → List Frame → Term → State
+act (Binary o) t k l = wanting (frame.Reaching (reaching.After l o) ∷ k)
+act Negating t k l = On k (place.Negated l)
+act Asking t k l = wanting (frame.Middle l ∷ k)
+act Piping t k l = On k (place.Barred l)
+act Dotting t k l = On k (place.Dotted l)
+act Questioning t k l = On k (place.Questioned l)
+act Applying t k l = Fail
+act Picking t k l = wanting (frame.Index l false ∷ k)
+act Plain t k l = shut t k l
+
+abbrev pub follow : Role → Token → Settled → State
+follow r t a = act r t a.stack a.left
+
+abbrev pub had : Role → Token → List Frame → Operand → State
+had Applying t k h = apply k h
+had r t k h = follow r t (settle (role_level r) k (make h))
+
+-- A token that begins no operand, where one is wanted.
+abbrev pub lack : Token → List Frame → State
+lack t (frame.List h g ∷ k) = list_end h t g k
+lack t (frame.Call c g ∷ k) = at_dot t (On (frame.Call c g ∷ k) place.NamesMember) (call_end c t g k)
+lack t (frame.Index x false ∷ k) = at_colon t (wanting (frame.Cut x None ∷ k)) Fail
+lack t (frame.Cut x a ∷ k) = at_square t (whole k (postfix (slice (bound_with a) unbounded) x)) Fail
+lack t k = Fail
+
+abbrev pub begin_line : List Frame → State
+begin_line (frame.Body b ls ∷ k) = On (frame.Body b ls ∷ k) place.NamesLine
+begin_line k = Fail
+
+abbrev pub begin_brace : List Frame → State
+begin_brace (frame.Call c g ∷ k) = On (frame.Call c g ∷ k) place.Braced
+begin_brace k = On k (place.Keys [])
+
+abbrev pub begin : Start → List Frame → State
+begin (start.Literal v) k = whole k (literal v)
+begin (start.Name w) k = On k (place.Have (operand.Name w))
+begin (start.HashName w) k = whole k (name w)
+begin (start.Sign o) k = wanting (frame.Reaching (reaching.Under o) ∷ k)
+begin start.Group k = wanting (frame.Inside ∷ k)
+begin start.List k = wanting (frame.List holder.Array none_given ∷ k)
+begin start.Brace k = begin_brace k
+begin start.Choice k = wanting (frame.Condition [] ∷ k)
+begin start.Line k = begin_line k
+begin (start.Other t) k = lack t k
+
+-- A token where an operand is wanted.
+abbrev pub want : Token → List Frame → State
+want t k = begin (start_of t) k
+
+abbrev pub word_after_dot : List Frame → Term → Option (List ℕ) → State
+word_after_dot k l (Some w) = On k (place.Have (operand.Member l w))
+word_after_dot k l None = Fail
+
+abbrev pub word_after_question : List Frame → Term → Option (List ℕ) → State
+word_after_question k l (Some w) = whole k (member_term l true w)
+word_after_question k l None = Fail
+
+abbrev pub in_after_not : List Frame → Term → Token → State
+in_after_not k l (token.Reserved reserved.In) = wanting (frame.Reaching (reaching.After l infixed.NotIn) ∷ k)
+in_after_not k l t = Fail
+
+abbrev pub word_after_bar : List Frame → Term → Token → State
+word_after_bar k l (token.Word w) = On k (place.Piped l w)
+word_after_bar k l t = Fail
+
+abbrev pub open_after_word : List Frame → Term → List ℕ → Token → State
+open_after_word k l w (token.Sign sign.ParenOpen) = wanting (frame.Call (caller.Pipe l w) none_given ∷ k)
+open_after_word k l w t = Fail
+
+abbrev pub else_after : List Frame → List (Term × Block) → Term → Block → Token → State
+else_after k ch c a (token.Reserved reserved.Else) = On k (place.Alternate ch c a)
+else_after k ch c a t = Fail
+
+-- a program or another condition, after `else`
+abbrev pub alternative : List Frame → List (Term × Block) → Term → Block → Token → State
+alternative k ch c a (token.Sign sign.BraceOpen) = wanting (frame.Body (section.Last ch c a) [] ∷ k)
+alternative k ch c a (token.Reserved reserved.If) = wanting (frame.Condition (ch ++ (c, a) ∷ []) ∷ k)
+alternative k ch c a t = Fail
+
+abbrev pub word_after_let : List Frame → Token → State
+word_after_let k (token.Word w) = On k (place.Named w)
+word_after_let k t = Fail
+
+abbrev pub equals_after : List Frame → List ℕ → Token → State
+equals_after k w (token.Sign sign.Equal) = wanting (frame.Value w ∷ k)
+equals_after k w t = Fail
+
+abbrev pub member_alone : List Frame → Option (List ℕ) → State
+member_alone k (Some w) = On k (place.Argued (answers (name w)))
+member_alone k None = Fail
+
+-- the first token after an opening brace, where an argument begins
+abbrev pub braced : List Frame → Token → State
+braced k (token.Word w) = On k (place.BracedKey (token.Word w))
+braced k (token.Reserved r) = On k (place.BracedKey (token.Reserved r))
+braced k (token.Quoted s) = On k (place.BracedKey (token.Quoted s))
+braced k (token.Sign sign.BraceClose) = whole k (literal (value.Map []))
+braced k t = want t (frame.Body section.Predicate [] ∷ k)
+
+-- a key or the end, after a comma or an opening brace
+abbrev pub key_in : List Frame → List (List ℕ × Value) → Option (List ℕ) → Token → State
+key_in k m (Some key) t = On k (place.Colons m key)
+key_in k m None t = at_end_brace t (whole k (literal (value.Map m))) Fail
+
+abbrev pub value_in : List Frame → List (List ℕ × Value) → List ℕ → Option Value → State
+value_in k m key (Some v) = On k (place.Entered (put key v m))
+value_in k m key None = Fail
+
+abbrev pub value_after_key : List Frame → Option (List ℕ) → State
+value_after_key k (Some key) = On k (place.Values [] key)
+value_after_key k None = Fail
+
+abbrev pub step_on : List Frame → Place → Token → State
+step_on k place.Want t = want t k
+step_on k (place.Have h) t = had (role t) t k h
+step_on k (place.Dotted l) t = word_after_dot k l (text_at t)
+step_on k (place.Questioned l) t = at_square_open t (wanting (frame.Index l true ∷ k)) (word_after_question k l (text_at t))
+step_on k (place.Negated l) t = in_after_not k l t
+step_on k (place.Barred l) t = word_after_bar k l t
+step_on k (place.Piped l w) t = open_after_word k l w t
+step_on k (place.Chosen ch c a) t = else_after k ch c a t
+step_on k (place.Alternate ch c a) t = alternative k ch c a t
+step_on k place.NamesLine t = word_after_let k t
+step_on k (place.Named w) t = equals_after k w t
+step_on k (place.Argued b) t = argued t k b
+step_on k place.NamesMember t = member_alone k (text_at t)
+step_on k place.Braced t = braced k t
+step_on k (place.BracedKey key) t = Fail
+step_on k (place.Keys m) t = key_in k m (key_text_at t) t
+step_on k (place.Colons m key) t = at_colon t (On k (place.Values m key)) Fail
+step_on k (place.Values m key) t = value_in k m key (value_at t)
+step_on k (place.Entered m) t = at_comma t (On k (place.Keys m)) (at_end_brace t (whole k (literal (value.Map m))) Fail)
+
+abbrev pub steps_on : State → Token → State
+steps_on (On k p) t = step_on k p t
+steps_on Fail t = Fail
+
+abbrev pub step_in : List Frame → Place → Token → State
+step_in k (place.BracedKey key) t = at_colon t (value_after_key k (key_text_at key)) (steps_on (want key (frame.Body section.Predicate [] ∷ k)) t)
+step_in k p t = step_on k p t
+
+abbrev pub step : State → Token → State
+step (On k p) t = step_in k p t
+step Fail t = Fail
+
+abbrev pub whole_in : List Frame → Term → Option Block
+whole_in (frame.Body section.Top ls ∷ []) l = Some (block_with ls l)
+whole_in k l = None
+
+abbrev pub whole_of : Settled → Option Block
+whole_of a = whole_in a.stack a.left
+
+abbrev pub finish_in : List Frame → Place → Option Block
+finish_in k (place.Have h) = whole_of (settle 0 k (make h))
+finish_in k p = None
+
+abbrev pub finish : State → Option Block
+finish (On k p) = finish_in k p
+finish Fail = None
+
+abbrev pub begins : State
+begins = wanting (frame.Body section.Top [] ∷ [])
+
+-- the program of a token list, if it has one
+abbrev pub block_of_tokens : List Token → Option Block
+block_of_tokens ts = finish (fold step begins ts)

@@ -1,0 +1,118 @@
+//! What the parser keeps of what it has read.
+
+use expr_grammar::sign::{InfixSign, PrefixSign};
+use expr_parts::{Arguments, Lines, Part, ProgramPart};
+use expr_token::Token;
+use expr_tree::operator::Operator;
+use expr_value::{Items, Text, Value, ValueMap};
+
+/// The branches of a choice before its last one.
+pub type Chain = Items<(Part, ProgramPart)>;
+
+/// What a list is for.
+#[derive(Drop)]
+pub enum Holder {
+    Array,
+    Method(Part, Text),
+}
+
+/// What arguments are for.
+#[derive(Drop)]
+pub enum Caller {
+    Function(Text),
+    Pipe(Part, Text),
+}
+
+/// What a program between braces is for.
+#[derive(Drop)]
+pub enum Section {
+    Top,
+    Then(Chain, Part),
+    Last(Chain, Part, ProgramPart),
+    Predicate,
+}
+
+/// What waits for its last part, which an operator may end.
+#[derive(Drop)]
+pub enum Reaching {
+    Under(PrefixSign),
+    After(Part, InfixSign),
+    Otherwise(Part, Part),
+}
+
+/// What is open to the left of the reading point.
+#[derive(Drop)]
+pub enum Frame {
+    Reaching(Reaching),
+    Inside,
+    Middle(Part),
+    List(Holder, Arguments),
+    Call(Caller, Arguments),
+    Index(Part, bool),
+    Cut(Part, Option<Part>),
+    Condition(Chain),
+    Body(Section, Lines),
+    Value(Text),
+}
+
+/// An operand, as far as arguments may follow it.
+#[derive(Drop)]
+pub enum Operand {
+    Name(Text),
+    Member(Part, Text),
+    Whole(Part),
+}
+
+/// What has been read since the last frame.
+#[derive(Drop)]
+pub enum Place {
+    Want,
+    Have(Operand),
+    Dotted(Part),
+    Questioned(Part),
+    Negated(Part),
+    Barred(Part),
+    Piped(Part, Text),
+    Chosen(Chain, Part, ProgramPart),
+    Alternate(Chain, Part, ProgramPart),
+    NamesLine,
+    Named(Text),
+    Argued(ProgramPart),
+    NamesMember,
+    Braced,
+    BracedKey(Token),
+    Keys(ValueMap),
+    Colons(ValueMap, Text),
+    Values(ValueMap, Text),
+    Entered(ValueMap),
+}
+
+/// What a token is where an operand is wanted.
+#[derive(Drop)]
+pub enum Start {
+    Literal(Value),
+    Name(Text),
+    HashName(Text),
+    Sign(PrefixSign),
+    Group,
+    List,
+    Brace,
+    Choice,
+    Line,
+    Other(Token),
+}
+
+/// Why a token could not be read.
+#[derive(Clone, Copy, Debug, PartialEq, Eq)]
+pub enum Fault {
+    Syntax,
+    Memory,
+}
+
+/// What an infix makes of its operands.
+#[derive(Clone, Copy, PartialEq, Eq, Debug)]
+pub enum Meaning {
+    Operator(Operator),
+    Range,
+    Default,
+}

@@ -1,0 +1,18 @@
+//! What holds of the program that is kept of a tree.
+
+ghost use Rattle.std.specs.Prelude.{◌≡◌, List};
+ghost use Rattle.expr_token.specs.declared.token.Token.{Token};
+ghost use Rattle.expr_grammar.specs.Machine.{tree_of};
+ghost use Rattle.expr_frames.specs.Kept.{kept, BracketsLeaveExpression, BracketsLeaveProgram};
+ghost use Rattle.expr_frames.specs.Nodes.{block_of_tokens};
+
+/// Brackets round an expression leave its program.
+pub fn brackets_leave_program()
+    ensures expression { BracketsLeaveExpression }
+    ensures program { BracketsLeaveProgram }
+{}
+
+// The machine over what is kept answers the program of that tree.
+fn erasure()
+    ensures { (ts : List Token) → block_of_tokens ts ≡ kept (tree_of ts) }
+{}

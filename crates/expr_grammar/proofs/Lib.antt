@@ -1,0 +1,4 @@
+pub mod Measures
+pub mod Complete
+pub mod Sound
+pub mod Closing

@@ -1,0 +1,578 @@
+-- What the machine answers spells the tokens and fits.
+use Rattle.std.proofs.Common.{◌≡◌, ℕ, ◌<◌, ◌≤◌, List, [], ◌∷◌, ◌++◌, Bool, true, false, cond, nat_lt, Option, Some, None, arith, sym, ap, ◌∙◌, refl, append_assoc, append-nil}
+use Rattle.std.proofs.lemmas.Bool.{ltb-true, ltb-false}
+use Rattle.expr_token.specs.declared.token.Token.{Token}
+use Rattle.expr_token.specs.declared.token.Token.TheVariants as token
+use Rattle.expr_token.specs.declared.sign.Sign.TheVariants as sign
+use Rattle.expr_token.specs.declared.reserved.Reserved.TheVariants as reserved
+use Rattle.expr_grammar.specs.declared.sign.InfixSign.{InfixSign}
+use Rattle.expr_grammar.specs.declared.sign.InfixSign.TheVariants as infixed
+use Rattle.expr_grammar.specs.Grammar.{Word, Constant, True, False, Nil, Integer, Quoted, Raw, Bytes, Key, EntryRow, Entries, NoEntries, SomeEntries, Tree, Literal, Name, HashName, Paren, Array, Map, Call, Member, Method, Index, Slice, Pipe, Items, SomeItems, Row, Arguments, SomeArguments, ArgumentRow, Argument, Expression, LeftOut, At, ElsePart, Else, ElseIf, TreeProgram, Program, NoLines, word_token, constant_token, key_token, prefix_token, infix_tokens, member_token, index_tokens, entry_row_tokens, entries_tokens, tokens_of, items_tokens, row_tokens, arguments_tokens, argument_row_tokens, argument_tokens, bound_tokens, else_tokens, program_tokens, lines_tokens, Spells, infix_level, TreeFits, ItemsFit, RowFits, ArgumentsFit, ArgumentRowFits, ArgumentFits, BoundFits, ElseFits, Fits, LinesFit}
+use Rattle.expr_grammar.specs.Machine.{constant_at, role, role_level, word_at, key_at, push, push_argument, push_entry, items_end, arguments_end, entries_end, Shape, InArray, InMethod, shape_tree, shape_end, Caller, InCall, InPipe, caller_tree, Chain, NoBranch, Branch, chosen, Part, Top, ThenPart, LastPart, Predicate, Frame, Under, After, Otherwise, Inside, Middle, Listed, Calling, Indexed, Cut, Condition, Body, Value, reach, reach_of, plug, settle, State, Want, Have, Dotted, Questioned, Negated, Barred, Piped, Chosen, Alternate, NamesLine, Named, Argued, NamesMember, Braced, BracedKey, Keys, Colons, Values, Entered, Fail, at_close, at_square, at_colon, at_comma, at_semicolon, at_brace, at_end_brace, at_dot, at_end, argued, after_part, bind, shut, apply, act, lack, begin_line, begin_brace, want, word_after_dot, at_square_open, in_after_not, word_after_bar, open_after_word, else_after, at_if, word_after_let, equals_after, member_alone, braced, key_in, value_in, step_on, step, whole, finish, parse, start, tree_of}
+use Rattle.expr_grammar.proofs.Measures.{StartsAbove, EndsAbove, infix_above, tight, captured_if, ends_of_none, none_of_ends, reach_captures}
+use Rattle.expr_grammar.proofs.Complete.{key_back}
+
+-- the tokens of a frame, and of a stack
+abbrev shape_front : Shape → List Token
+shape_front InArray = token.Sign sign.SquareOpen ∷ []
+shape_front (InMethod l w) = tokens_of l ++ token.Sign sign.Dot ∷ word_token w ∷ token.Sign sign.ParenOpen ∷ []
+
+abbrev caller_front : Caller → List Token
+caller_front (InCall w) = token.Word w ∷ token.Sign sign.ParenOpen ∷ []
+caller_front (InPipe l w) = tokens_of l ++ token.Sign sign.Bar ∷ token.Word w ∷ token.Sign sign.ParenOpen ∷ []
+
+abbrev row_front : Option Row → List Token
+row_front None = []
+row_front (Some r) = row_tokens r ++ token.Sign sign.Comma ∷ []
+
+abbrev arguments_front : Option ArgumentRow → List Token
+arguments_front None = []
+arguments_front (Some r) = argument_row_tokens r ++ token.Sign sign.Comma ∷ []
+
+abbrev entries_front : Option EntryRow → List Token
+entries_front None = []
+entries_front (Some r) = entry_row_tokens r ++ token.Sign sign.Comma ∷ []
+
+-- up to the `if` of the last branch
+abbrev chain_front : Chain → List Token
+chain_front NoBranch = token.Reserved reserved.If ∷ []
+chain_front (Branch ch c a) = chain_front ch ++ (tokens_of c ++ token.Sign sign.BraceOpen ∷ (program_tokens a ++ token.Sign sign.BraceClose ∷ token.Reserved reserved.Else ∷ token.Reserved reserved.If ∷ []))
+
+abbrev part_front : Part → List Token
+part_front Top = []
+part_front (ThenPart ch c) = chain_front ch ++ (tokens_of c ++ token.Sign sign.BraceOpen ∷ [])
+part_front (LastPart ch c a) = chain_front ch ++ (tokens_of c ++ token.Sign sign.BraceOpen ∷ (program_tokens a ++ token.Sign sign.BraceClose ∷ token.Reserved reserved.Else ∷ token.Sign sign.BraceOpen ∷ []))
+part_front Predicate = token.Sign sign.BraceOpen ∷ []
+
+abbrev front : Frame → List Token
+front (Under o) = prefix_token o ∷ []
+front (After l o) = tokens_of l ++ infix_tokens o
+front (Otherwise c a) = tokens_of c ++ token.Sign sign.Question ∷ (tokens_of a ++ token.Sign sign.Colon ∷ [])
+front Inside = token.Sign sign.ParenOpen ∷ []
+front (Middle c) = tokens_of c ++ token.Sign sign.Question ∷ []
+front (Listed s r) = shape_front s ++ row_front r
+front (Calling c r) = caller_front c ++ arguments_front r
+front (Indexed l optional) = tokens_of l ++ index_tokens optional
+front (Cut l a) = tokens_of l ++ token.Sign sign.SquareOpen ∷ (bound_tokens a ++ token.Sign sign.Colon ∷ [])
+front (Condition ch) = chain_front ch
+front (Body b ls) = part_front b ++ lines_tokens ls
+front (Value w) = token.Reserved reserved.Let ∷ token.Word w ∷ token.Sign sign.Equal ∷ []
+
+abbrev before : List Frame → List Token
+before [] = []
+before (f ∷ k) = before k ++ front f
+
+-- a left part that an operator of level p follows, over k
+record IsLeft (p : ℕ) (k : List Frame) (l : Tree) : Type 0 where
+  fits : TreeFits l
+  starts : StartsAbove (reach_of k) l
+  ends : EndsAbove p l
+
+abbrev IsLeftAt : ℕ → List Frame → Tree → Type 0
+IsLeftAt p k l = IsLeft p k l × (reach_of k ≤ p)
+
+abbrev IsShape : List Frame → Shape → Type 0
+IsShape k InArray = Unit {0}
+IsShape k (InMethod l w) = IsLeftAt 13 k l
+
+abbrev IsCaller : List Frame → Caller → Type 0
+IsCaller k (InCall w) = Unit {0}
+IsCaller k (InPipe l w) = IsLeftAt 2 k l
+
+abbrev RowsFit : Option Row → Type 0
+RowsFit None = Unit {0}
+RowsFit (Some r) = RowFits r
+
+abbrev ArgumentRowsFit : Option ArgumentRow → Type 0
+ArgumentRowsFit None = Unit {0}
+ArgumentRowsFit (Some r) = ArgumentRowFits r
+
+abbrev ChainFits : Chain → Type 0
+ChainFits NoBranch = Unit {0}
+ChainFits (Branch ch c a) = ChainFits ch × TreeFits c × Fits a
+
+abbrev IsPart : Part → Type 0
+IsPart Top = Unit {0}
+IsPart (ThenPart ch c) = ChainFits ch × TreeFits c
+IsPart (LastPart ch c a) = ChainFits ch × TreeFits c × Fits a
+IsPart Predicate = Unit {0}
+
+abbrev IsFrame : List Frame → Frame → Type 0
+IsFrame k (Under o) = Unit {0}
+IsFrame k (After l o) = IsLeftAt (infix_level o) k l
+IsFrame k (Otherwise c a) = IsLeftAt 1 k c × TreeFits a
+IsFrame k Inside = Unit {0}
+IsFrame k (Middle c) = IsLeftAt 1 k c
+IsFrame k (Listed s r) = IsShape k s × RowsFit r
+IsFrame k (Calling c r) = IsCaller k c × ArgumentRowsFit r
+IsFrame k (Indexed l optional) = IsLeftAt 13 k l
+IsFrame k (Cut l a) = IsLeftAt 13 k l × BoundFits a
+IsFrame k (Condition ch) = ChainFits ch
+IsFrame k (Body b ls) = IsPart b × LinesFit ls
+IsFrame k (Value w) = Unit {0}
+
+abbrev IsStack : List Frame → Type 0
+IsStack [] = Unit {0}
+IsStack (f ∷ k) = IsFrame k f × IsStack k
+
+-- an operand over k, whose end captures only levels above p, after these tokens
+record Holds (p : ℕ) (k : List Frame) (l : Tree) (seen : List Token) : Type 0 where
+  stack : IsStack k
+  left : IsLeft p k l
+  spelled : seen ≡ before k ++ tokens_of l
+
+plugs : (p : ℕ) (f : Frame) (k : List Frame) (l : Tree) (seen : List Token) → p < reach f → Holds p (f ∷ k) l seen → Holds p k (plug f l) seen
+plugs p (Under o) k l seen h a = record {
+  stack = a.stack.1;
+  left = record { fits = (a.left.fits, a.left.starts); starts = (tt, tt); ends = (h, a.left.ends) };
+  spelled = a.spelled ∙ simp append_assoc;
+}
+plugs p (After l o) k r seen h a =
+    let f = a.stack.0 in
+    record {
+      stack = a.stack.1;
+      left = record {
+        fits = (f.0.fits, a.left.fits, none_of_ends (infix_level o) (let b = infix_above o in omega arith) l f.0.ends, captured_if (λ p q. reach_captures o p) r a.left.starts);
+        starts = (f.1, f.0.starts);
+        ends = (h, a.left.ends);
+      };
+      spelled = a.spelled ∙ append_assoc (before k) (tokens_of l ++ infix_tokens o) (tokens_of r) ∙ ap (λ q. before k ++ q) (append_assoc (tokens_of l) (infix_tokens o) (tokens_of r));
+    }
+plugs p (Otherwise c t) k b seen h a =
+    let f = a.stack.0 in
+    record {
+      stack = a.stack.1;
+      left = record {
+        fits = (f.0.0.fits, f.1, a.left.fits, none_of_ends 1 (omega arith) c f.0.0.ends);
+        starts = (f.0.1, f.0.0.starts);
+        ends = (h, a.left.ends);
+      };
+      spelled = a.spelled ∙ simp append_assoc;
+    }
+plugs p f k l seen h a = absurd (omega arith)
+
+-- what holds of what comes after settling, where P goes from a frame to the tree that it makes
+pub settled : {R : Type 0} (P : List Frame → Tree → Type 0) (Q : R → Type 0) (p : ℕ) (next : List Frame → Tree → R) → ((f : Frame) (k : List Frame) (l : Tree) → p < reach f → P (f ∷ k) l → P k (plug f l)) → ((k : List Frame) (l : Tree) → P k l → reach_of k ≤ p → Q (next k l)) → (k : List Frame) (l : Tree) → P k l → Q (settle p next k l)
+settled P Q p next makes go [] l a = go [] l a (omega arith)
+settled P Q p next makes go (f ∷ k) l a = choose (nat_lt p (reach f)) refl (λ e. settled P Q p next makes go k (plug f l) (makes f k l (ltb-true p (reach f) e) a))
+  where
+    choose : (b : Bool) → nat_lt p (reach f) ≡ b → (nat_lt p (reach f) ≡ true → Q (settle p next k (plug f l))) → Q (cond b (settle p next k (plug f l)) (next (f ∷ k) l))
+    choose true e below = below e
+    choose false e below = go (f ∷ k) l a (ltb-false p (reach f) e)
+
+-- the tokens since a map literal began
+abbrev map_front : List Frame → Option EntryRow → List Token
+map_front k r = before k ++ token.Sign sign.BraceOpen ∷ entries_front r
+
+-- a state, after these tokens
+abbrev IsState : State → List Token → Type 0
+IsState (Want k) seen = IsStack k × (seen ≡ before k)
+IsState (Have k l) seen = (p : ℕ) → Holds p k l seen
+IsState (Dotted k l) seen = IsStack k × IsLeftAt 13 k l × (seen ≡ before k ++ (tokens_of l ++ token.Sign sign.Dot ∷ []))
+IsState (Questioned k l) seen = IsStack k × IsLeftAt 13 k l × (seen ≡ before k ++ (tokens_of l ++ token.Sign sign.QuestionDot ∷ []))
+IsState (Negated k l) seen = IsStack k × IsLeftAt 5 k l × (seen ≡ before k ++ (tokens_of l ++ token.Reserved reserved.Not ∷ []))
+IsState (Barred k l) seen = IsStack k × IsLeftAt 2 k l × (seen ≡ before k ++ (tokens_of l ++ token.Sign sign.Bar ∷ []))
+IsState (Piped k l w) seen = IsStack k × IsLeftAt 2 k l × (seen ≡ before k ++ (tokens_of l ++ token.Sign sign.Bar ∷ token.Word w ∷ []))
+IsState (Chosen k ch c a) seen = IsStack k × (ChainFits ch × TreeFits c × Fits a) × (seen ≡ before k ++ (chain_front ch ++ (tokens_of c ++ token.Sign sign.BraceOpen ∷ (program_tokens a ++ token.Sign sign.BraceClose ∷ []))))
+IsState (Alternate k ch c a) seen = IsStack k × (ChainFits ch × TreeFits c × Fits a) × (seen ≡ before k ++ (chain_front ch ++ (tokens_of c ++ token.Sign sign.BraceOpen ∷ (program_tokens a ++ token.Sign sign.BraceClose ∷ token.Reserved reserved.Else ∷ []))))
+IsState (NamesLine k) seen = IsStack k × (seen ≡ before k ++ token.Reserved reserved.Let ∷ [])
+IsState (Named k w) seen = IsStack k × (seen ≡ before k ++ token.Reserved reserved.Let ∷ token.Word w ∷ [])
+IsState (Argued k a) seen = IsStack k × ArgumentFits a × (seen ≡ before k ++ argument_tokens a)
+IsState (NamesMember k) seen = IsStack k × (seen ≡ before k ++ token.Sign sign.Dot ∷ [])
+IsState (Braced k) seen = IsStack k × (seen ≡ before k ++ token.Sign sign.BraceOpen ∷ [])
+IsState (BracedKey k key) seen = IsStack k × (seen ≡ before k ++ token.Sign sign.BraceOpen ∷ key_token key ∷ [])
+IsState (Keys k r) seen = IsStack k × (seen ≡ before k ++ token.Sign sign.BraceOpen ∷ entries_front r)
+IsState (Colons k r key) seen = IsStack k × (seen ≡ before k ++ token.Sign sign.BraceOpen ∷ (entries_front r ++ key_token key ∷ []))
+IsState (Values k r key) seen = IsStack k × (seen ≡ before k ++ token.Sign sign.BraceOpen ∷ (entries_front r ++ key_token key ∷ token.Sign sign.Colon ∷ []))
+IsState (Entered k r) seen = IsStack k × (seen ≡ before k ++ token.Sign sign.BraceOpen ∷ entry_row_tokens r)
+IsState Fail seen = Unit {0}
+
+-- an operand that has no open part at its end
+holds : (k : List Frame) (l : Tree) (seen : List Token) → IsStack k → TreeFits l → StartsAbove (reach_of k) l → ((p : ℕ) → EndsAbove p l) → seen ≡ before k ++ tokens_of l → IsState (Have k l) seen
+holds k l seen s f a e q = λ p. record { stack = s; left = record { fits = f; starts = a; ends = e p }; spelled = q }
+
+-- one more in a list
+push_tokens : (r : Option Row) (t : Tree) → row_tokens (push r t) ≡ row_front r ++ tokens_of t
+push_tokens None t = refl
+push_tokens (Some r) t = sym (append_assoc (row_tokens r) (token.Sign sign.Comma ∷ []) (tokens_of t))
+
+push_fits : (r : Option Row) (t : Tree) → RowsFit r → TreeFits t → RowFits (push r t)
+push_fits None t a b = b
+push_fits (Some r) t a b = (a, b)
+
+push_argument_tokens : (r : Option ArgumentRow) (a : Argument) → argument_row_tokens (push_argument r a) ≡ arguments_front r ++ argument_tokens a
+push_argument_tokens None a = refl
+push_argument_tokens (Some r) a = sym (append_assoc (argument_row_tokens r) (token.Sign sign.Comma ∷ []) (argument_tokens a))
+
+push_argument_fits : (r : Option ArgumentRow) (a : Argument) → ArgumentRowsFit r → ArgumentFits a → ArgumentRowFits (push_argument r a)
+push_argument_fits None a h b = b
+push_argument_fits (Some r) a h b = (h, b)
+
+push_entry_tokens : (r : Option EntryRow) (key : Key) (c : Constant) → entry_row_tokens (push_entry r key c) ≡ entries_front r ++ key_token key ∷ token.Sign sign.Colon ∷ constant_token c ∷ []
+push_entry_tokens None key c = refl
+push_entry_tokens (Some r) key c = sym (append_assoc (entry_row_tokens r) (token.Sign sign.Comma ∷ []) (key_token key ∷ token.Sign sign.Colon ∷ constant_token c ∷ []))
+
+items_end_tokens : (r : Option Row) → items_tokens (items_end r) ≡ row_front r
+items_end_tokens None = refl
+items_end_tokens (Some r) = refl
+
+items_end_fit : (r : Option Row) → RowsFit r → ItemsFit (items_end r)
+items_end_fit None a = tt
+items_end_fit (Some r) a = a
+
+arguments_end_tokens : (r : Option ArgumentRow) → arguments_tokens (arguments_end r) ≡ arguments_front r
+arguments_end_tokens None = refl
+arguments_end_tokens (Some r) = refl
+
+arguments_end_fit : (r : Option ArgumentRow) → ArgumentRowsFit r → ArgumentsFit (arguments_end r)
+arguments_end_fit None a = tt
+arguments_end_fit (Some r) a = a
+
+entries_end_tokens : (r : Option EntryRow) → entries_tokens (entries_end r) ≡ entries_front r
+entries_end_tokens None = refl
+entries_end_tokens (Some r) = refl
+
+-- a choice of many branches
+chosen_tokens : (ch : Chain) (c : Tree) (a : TreeProgram) (e : ElsePart) → tokens_of (chosen ch c a e) ≡ chain_front ch ++ (tokens_of c ++ token.Sign sign.BraceOpen ∷ (program_tokens a ++ token.Sign sign.BraceClose ∷ token.Reserved reserved.Else ∷ else_tokens e))
+chosen_tokens NoBranch c a e = refl
+chosen_tokens (Branch ch d b) c a e = chosen_tokens ch d b (ElseIf c a e) ∙ simp append_assoc
+
+chosen_fits : (ch : Chain) (c : Tree) (a : TreeProgram) (e : ElsePart) → ChainFits ch → TreeFits c → Fits a → ElseFits e → TreeFits (chosen ch c a e)
+chosen_fits NoBranch c a e h f g i = (f, g, i)
+chosen_fits (Branch ch d b) c a e h f g i = chosen_fits ch d b (ElseIf c a e) h.0 h.1 h.2 (f, g, i)
+
+chosen_starts : (n : ℕ) (ch : Chain) (c : Tree) (a : TreeProgram) (e : ElsePart) → StartsAbove n (chosen ch c a e)
+chosen_starts n NoBranch c a e = (tt, tt)
+chosen_starts n (Branch ch d b) c a e = chosen_starts n ch d b (ElseIf c a e)
+
+chosen_ends : (p : ℕ) (ch : Chain) (c : Tree) (a : TreeProgram) (e : ElsePart) → EndsAbove p (chosen ch c a e)
+chosen_ends p NoBranch c a e = tt
+chosen_ends p (Branch ch d b) c a e = chosen_ends p ch d b (ElseIf c a e)
+
+-- a list is whole
+shape_done : (s : Shape) (k : List Frame) (xs : Items) (seen : List Token) → IsStack k → IsShape k s → ItemsFit xs → seen ≡ before k ++ (shape_front s ++ (items_tokens xs ++ shape_end s ∷ [])) → IsState (Have k (shape_tree s xs)) seen
+shape_done InArray k xs seen st sh f e = holds k (Array xs) seen st f (tt, tt) (λ p. tt) e
+shape_done (InMethod l w) k xs seen st sh f e = holds k (Method l w xs) seen st (sh.0.fits, none_of_ends 13 (omega arith) l sh.0.ends, f) (sh.1, sh.0.starts) (λ p. tt) (e ∙ ap (λ q. before k ++ q) (append_assoc (tokens_of l) (token.Sign sign.Dot ∷ word_token w ∷ token.Sign sign.ParenOpen ∷ []) (items_tokens xs ++ token.Sign sign.ParenClose ∷ [])))
+
+caller_done : (c : Caller) (k : List Frame) (xs : Arguments) (seen : List Token) → IsStack k → IsCaller k c → ArgumentsFit xs → seen ≡ before k ++ (caller_front c ++ (arguments_tokens xs ++ token.Sign sign.ParenClose ∷ [])) → IsState (Have k (caller_tree c xs)) seen
+caller_done (InCall w) k xs seen st sh f e = holds k (Call w xs) seen st f (tt, tt) (λ p. tt) e
+caller_done (InPipe l w) k xs seen st sh f e = holds k (Pipe l w xs) seen st (sh.0.fits, none_of_ends 2 (omega arith) l sh.0.ends, f) (sh.1, sh.0.starts) (λ p. tt) (e ∙ ap (λ q. before k ++ q) (append_assoc (tokens_of l) (token.Sign sign.Bar ∷ token.Word w ∷ token.Sign sign.ParenOpen ∷ []) (arguments_tokens xs ++ token.Sign sign.ParenClose ∷ [])))
+
+map_done : (k : List Frame) (es : Entries) (seen : List Token) → IsStack k → seen ≡ before k ++ token.Sign sign.BraceOpen ∷ (entries_tokens es ++ token.Sign sign.BraceClose ∷ []) → IsState (Have k (Map es)) seen
+map_done k es seen st e = holds k (Map es) seen st tt (tt, tt) (λ p. tt) e
+
+-- a test of the token
+close_at : (s : State) (seen : List Token) → IsState s (seen ++ token.Sign sign.ParenClose ∷ []) → (t : Token) → IsState (at_close t s) (seen ++ t ∷ [])
+close_at s seen a (token.Sign sign.ParenClose) = a
+close_at s seen a t = tt
+
+square_at : (s : State) (seen : List Token) → IsState s (seen ++ token.Sign sign.SquareClose ∷ []) → (t : Token) → IsState (at_square t s) (seen ++ t ∷ [])
+square_at s seen a (token.Sign sign.SquareClose) = a
+square_at s seen a t = tt
+
+colon_at : (s r : State) (seen : List Token) → IsState s (seen ++ token.Sign sign.Colon ∷ []) → (t : Token) → IsState r (seen ++ t ∷ []) → IsState (at_colon t s r) (seen ++ t ∷ [])
+colon_at s r seen a (token.Sign sign.Colon) b = a
+colon_at s r seen a t b = b
+
+comma_at : (s r : State) (seen : List Token) → IsState s (seen ++ token.Sign sign.Comma ∷ []) → (t : Token) → IsState r (seen ++ t ∷ []) → IsState (at_comma t s r) (seen ++ t ∷ [])
+comma_at s r seen a (token.Sign sign.Comma) b = a
+comma_at s r seen a t b = b
+
+semicolon_at : (s : State) (seen : List Token) → IsState s (seen ++ token.Sign sign.Semicolon ∷ []) → (t : Token) → IsState (at_semicolon t s) (seen ++ t ∷ [])
+semicolon_at s seen a (token.Sign sign.Semicolon) = a
+semicolon_at s seen a t = tt
+
+brace_at : (s r : State) (seen : List Token) → IsState s (seen ++ token.Sign sign.BraceOpen ∷ []) → (t : Token) → IsState r (seen ++ t ∷ []) → IsState (at_brace t s r) (seen ++ t ∷ [])
+brace_at s r seen a (token.Sign sign.BraceOpen) b = a
+brace_at s r seen a t b = b
+
+end_brace_at : (s r : State) (seen : List Token) → IsState s (seen ++ token.Sign sign.BraceClose ∷ []) → (t : Token) → IsState r (seen ++ t ∷ []) → IsState (at_end_brace t s r) (seen ++ t ∷ [])
+end_brace_at s r seen a (token.Sign sign.BraceClose) b = a
+end_brace_at s r seen a t b = b
+
+dot_at : (s r : State) (seen : List Token) → IsState s (seen ++ token.Sign sign.Dot ∷ []) → (t : Token) → IsState r (seen ++ t ∷ []) → IsState (at_dot t s r) (seen ++ t ∷ [])
+dot_at s r seen a (token.Sign sign.Dot) b = a
+dot_at s r seen a t b = b
+
+square_open_at : (s r : State) (seen : List Token) → IsState s (seen ++ token.Sign sign.SquareOpen ∷ []) → (t : Token) → IsState r (seen ++ t ∷ []) → IsState (at_square_open t s r) (seen ++ t ∷ [])
+square_open_at s r seen a (token.Sign sign.SquareOpen) b = a
+square_open_at s r seen a t b = b
+
+if_at : (s : State) (seen : List Token) → IsState s (seen ++ token.Reserved reserved.If ∷ []) → (t : Token) → IsState (at_if t s) (seen ++ t ∷ [])
+if_at s seen a (token.Reserved reserved.If) = a
+if_at s seen a t = tt
+
+end_at : (x : Shape) (s : State) (seen : List Token) → IsState s (seen ++ shape_end x ∷ []) → (t : Token) → IsState (at_end x t s) (seen ++ t ∷ [])
+end_at InArray s seen a t = square_at s seen a t
+end_at (InMethod l w) s seen a t = close_at s seen a t
+
+-- an argument is whole
+argues : (t : Token) (k : List Frame) (a : Argument) (seen : List Token) → IsStack k → ArgumentFits a → seen ≡ before k ++ argument_tokens a → IsState (argued t k a) (seen ++ t ∷ [])
+argues t (Calling c r ∷ k) a seen st f e =
+    comma_at _ _ seen
+    (((st.0.0, push_argument_fits r a st.0.1 f), st.1), ap (λ q. q ++ token.Sign sign.Comma ∷ []) e ∙ simp (push_argument_tokens, append_assoc))
+    t
+    (close_at _ seen (caller_done c k (SomeArguments (push_argument r a) false) _ st.1 st.0.0 (push_argument_fits r a st.0.1 f) (ap (λ q. q ++ token.Sign sign.ParenClose ∷ []) e ∙ simp (push_argument_tokens, append_assoc, append-nil))) t)
+argues t k a seen st f e = tt
+
+-- a program between braces is whole
+part_done : (b : Part) (p : TreeProgram) (k : List Frame) (seen : List Token) → IsStack k → IsPart b → Fits p → seen ≡ before k ++ (part_front b ++ (program_tokens p ++ token.Sign sign.BraceClose ∷ [])) → IsState (after_part b p k) seen
+part_done Top p k seen st h f e = tt
+part_done (ThenPart ch c) p k seen st h f e = (st, (h.0, h.1, f), e ∙ simp append_assoc)
+part_done (LastPart ch c a) p k seen st h f e = holds k (chosen ch c a (Else p)) seen st (chosen_fits ch c a (Else p) h.0 h.1 h.2 f) (chosen_starts (reach_of k) ch c a (Else p)) (λ q. chosen_ends q ch c a (Else p)) (e ∙ ap (λ q. before k ++ q) (simp append_assoc) ∙ ap (λ q. before k ++ q) (sym (chosen_tokens ch c a (Else p))))
+part_done Predicate p k seen st h f e = (st, f, e)
+
+line_done : (k : List Frame) (w : List ℕ) (l : Tree) (seen : List Token) → IsStack k → TreeFits l → seen ≡ before k ++ token.Reserved reserved.Let ∷ token.Word w ∷ token.Sign sign.Equal ∷ (tokens_of l ++ token.Sign sign.Semicolon ∷ []) → IsState (bind k w l) seen
+line_done (Body b ls ∷ k) w l seen st f e = (((st.0.0, (st.0.1, f)), st.1), e ∙ simp append_assoc)
+line_done k w l seen st f e = tt
+
+-- one more token after what is spelled
+more : (k : List Frame) (l : Tree) (seen : List Token) (t : Token) → seen ≡ before k ++ tokens_of l → seen ++ t ∷ [] ≡ before k ++ (tokens_of l ++ t ∷ [])
+more k l seen t e = ap (λ x. x ++ t ∷ []) e ∙ append_assoc (before k) (tokens_of l) (t ∷ [])
+
+shuts : (t : Token) (k : List Frame) (l : Tree) (seen : List Token) → Holds 0 k l seen → IsState (shut t k l) (seen ++ t ∷ [])
+shuts t (Inside ∷ k) l seen a = close_at _ seen (holds k (Paren l) _ a.stack.1 a.left.fits (tt, tt) (λ p. tt) (more (Inside ∷ k) l seen (token.Sign sign.ParenClose) a.spelled ∙ simp append_assoc)) t
+shuts t (Middle c ∷ k) l seen a = colon_at _ _ seen (((a.stack.0, a.left.fits), a.stack.1), more (Middle c ∷ k) l seen (token.Sign sign.Colon) a.spelled ∙ simp append_assoc) t tt
+shuts t (Listed s r ∷ k) l seen a =
+    comma_at _ _ seen
+    (((a.stack.0.0, push_fits r l a.stack.0.1 a.left.fits), a.stack.1), more (Listed s r ∷ k) l seen (token.Sign sign.Comma) a.spelled ∙ simp (push_tokens, append_assoc))
+    t
+    (end_at s _ seen (shape_done s k (SomeItems (push r l) false) _ a.stack.1 a.stack.0.0 (push_fits r l a.stack.0.1 a.left.fits) (more (Listed s r ∷ k) l seen (shape_end s) a.spelled ∙ simp (push_tokens, append_assoc, append-nil))) t)
+shuts t (Calling c r ∷ k) l seen a = argues t (Calling c r ∷ k) (Expression l) seen a.stack a.left.fits a.spelled
+shuts t (Indexed x true ∷ k) l seen a =
+    let f = a.stack.0 in
+    square_at _ seen (holds k (Index x true l) _ a.stack.1 (f.0.fits, none_of_ends 13 (omega arith) x f.0.ends, a.left.fits) (f.1, f.0.starts) (λ p. tt) (more (Indexed x true ∷ k) l seen (token.Sign sign.SquareClose) a.spelled ∙ simp append_assoc)) t
+shuts t (Indexed x false ∷ k) l seen a =
+    let f = a.stack.0 in
+    colon_at _ _ seen
+    (((f, a.left.fits), a.stack.1), more (Indexed x false ∷ k) l seen (token.Sign sign.Colon) a.spelled ∙ simp append_assoc)
+    t
+    (square_at _ seen (holds k (Index x false l) _ a.stack.1 (f.0.fits, none_of_ends 13 (omega arith) x f.0.ends, a.left.fits) (f.1, f.0.starts) (λ p. tt) (more (Indexed x false ∷ k) l seen (token.Sign sign.SquareClose) a.spelled ∙ simp append_assoc)) t)
+shuts t (Cut x b ∷ k) l seen a =
+    let f = a.stack.0 in
+    square_at _ seen (holds k (Slice x b (At l)) _ a.stack.1 (f.0.0.fits, none_of_ends 13 (omega arith) x f.0.0.ends, f.1, a.left.fits) (f.0.1, f.0.0.starts) (λ p. tt) (more (Cut x b ∷ k) l seen (token.Sign sign.SquareClose) a.spelled ∙ simp append_assoc)) t
+shuts t (Condition ch ∷ k) l seen a = brace_at _ _ seen ((((a.stack.0, a.left.fits), tt), a.stack.1), more (Condition ch ∷ k) l seen (token.Sign sign.BraceOpen) a.spelled ∙ simp (append_assoc, append-nil)) t tt
+shuts t (Body b ls ∷ k) l seen a =
+    end_brace_at _ _ seen (part_done b (Program ls l) k _ a.stack.1 a.stack.0.0 (a.stack.0.1, a.left.fits) (more (Body b ls ∷ k) l seen (token.Sign sign.BraceClose) a.spelled ∙ simp append_assoc)) t tt
+shuts t (Value w ∷ k) l seen a = semicolon_at _ seen (line_done k w l _ a.stack.1 a.left.fits (more (Value w ∷ k) l seen (token.Sign sign.Semicolon) a.spelled ∙ append_assoc (before k) (front (Value w)) _)) t
+shuts t k l seen a = tt
+
+applies : (k : List Frame) (l : Tree) (seen : List Token) → Holds 13 k l seen → IsState (apply k l) (seen ++ token.Sign sign.ParenOpen ∷ [])
+applies k (Name w) seen a = (((tt, tt), a.stack), more k (Name w) seen (token.Sign sign.ParenOpen) a.spelled)
+applies k (Member l false w) seen a =
+    ((((record { fits = a.left.fits.0; starts = a.left.starts.1; ends = ends_of_none 13 l a.left.fits.1 }, tight k), tt), a.stack), more k (Member l false w) seen (token.Sign sign.ParenOpen) a.spelled ∙ simp (append_assoc, append-nil))
+applies k l seen a = tt
+
+-- an infix of one token
+acts_infix : (o : InfixSign) (t : Token) (k : List Frame) (l : Tree) (seen : List Token) → infix_tokens o ≡ t ∷ [] → Holds (infix_level o) k l seen → reach_of k ≤ infix_level o → IsState (Want (After l o ∷ k)) (seen ++ t ∷ [])
+acts_infix o t k l seen e a r = (((a.left, r), a.stack), more k l seen t a.spelled ∙ ap (λ q. before k ++ (tokens_of l ++ q)) (sym e))
+
+acts_as : (t : Token) (k : List Frame) (l : Tree) (seen : List Token) → Holds (role_level (role t)) k l seen → reach_of k ≤ role_level (role t) → IsState (act (role t) t k l) (seen ++ t ∷ [])
+acts_as (token.Sign sign.Question) k l seen a r = (((a.left, r), a.stack), more k l seen (token.Sign sign.Question) a.spelled)
+acts_as (token.Sign sign.Dot) k l seen a r = (a.stack, (a.left, r), more k l seen (token.Sign sign.Dot) a.spelled)
+acts_as (token.Sign sign.QuestionDot) k l seen a r = (a.stack, (a.left, r), more k l seen (token.Sign sign.QuestionDot) a.spelled)
+acts_as (token.Sign sign.Bar) k l seen a r = (a.stack, (a.left, r), more k l seen (token.Sign sign.Bar) a.spelled)
+acts_as (token.Reserved reserved.Not) k l seen a r = (a.stack, (a.left, r), more k l seen (token.Reserved reserved.Not) a.spelled)
+acts_as (token.Sign sign.ParenOpen) k l seen a r = applies k l seen a
+acts_as (token.Sign sign.SquareOpen) k l seen a r = (((a.left, r), a.stack), more k l seen (token.Sign sign.SquareOpen) a.spelled)
+acts_as (token.Sign sign.BarBar) k l seen a r = acts_infix infixed.BarBar (token.Sign sign.BarBar) k l seen refl a r
+acts_as (token.Sign sign.AndAnd) k l seen a r = acts_infix infixed.AndAnd (token.Sign sign.AndAnd) k l seen refl a r
+acts_as (token.Sign sign.EqualEqual) k l seen a r = acts_infix infixed.Equal (token.Sign sign.EqualEqual) k l seen refl a r
+acts_as (token.Sign sign.NotEqual) k l seen a r = acts_infix infixed.NotEqual (token.Sign sign.NotEqual) k l seen refl a r
+acts_as (token.Sign sign.Less) k l seen a r = acts_infix infixed.Less (token.Sign sign.Less) k l seen refl a r
+acts_as (token.Sign sign.LessEqual) k l seen a r = acts_infix infixed.LessEqual (token.Sign sign.LessEqual) k l seen refl a r
+acts_as (token.Sign sign.Greater) k l seen a r = acts_infix infixed.Greater (token.Sign sign.Greater) k l seen refl a r
+acts_as (token.Sign sign.GreaterEqual) k l seen a r = acts_infix infixed.GreaterEqual (token.Sign sign.GreaterEqual) k l seen refl a r
+acts_as (token.Sign sign.DotDot) k l seen a r = acts_infix infixed.Range (token.Sign sign.DotDot) k l seen refl a r
+acts_as (token.Sign sign.Plus) k l seen a r = acts_infix infixed.Add (token.Sign sign.Plus) k l seen refl a r
+acts_as (token.Sign sign.Minus) k l seen a r = acts_infix infixed.Subtract (token.Sign sign.Minus) k l seen refl a r
+acts_as (token.Sign sign.Star) k l seen a r = acts_infix infixed.Multiply (token.Sign sign.Star) k l seen refl a r
+acts_as (token.Sign sign.Slash) k l seen a r = acts_infix infixed.Divide (token.Sign sign.Slash) k l seen refl a r
+acts_as (token.Sign sign.Percent) k l seen a r = acts_infix infixed.Modulo (token.Sign sign.Percent) k l seen refl a r
+acts_as (token.Sign sign.Caret) k l seen a r = acts_infix infixed.Caret (token.Sign sign.Caret) k l seen refl a r
+acts_as (token.Sign sign.StarStar) k l seen a r = acts_infix infixed.StarStar (token.Sign sign.StarStar) k l seen refl a r
+acts_as (token.Sign sign.QuestionQuestion) k l seen a r = acts_infix infixed.Coalesce (token.Sign sign.QuestionQuestion) k l seen refl a r
+acts_as (token.Reserved reserved.Or) k l seen a r = acts_infix infixed.Or (token.Reserved reserved.Or) k l seen refl a r
+acts_as (token.Reserved reserved.And) k l seen a r = acts_infix infixed.And (token.Reserved reserved.And) k l seen refl a r
+acts_as (token.Reserved reserved.In) k l seen a r = acts_infix infixed.In (token.Reserved reserved.In) k l seen refl a r
+acts_as (token.Reserved reserved.Contains) k l seen a r = acts_infix infixed.Contains (token.Reserved reserved.Contains) k l seen refl a r
+acts_as (token.Reserved reserved.StartsWith) k l seen a r = acts_infix infixed.StartsWith (token.Reserved reserved.StartsWith) k l seen refl a r
+acts_as (token.Reserved reserved.EndsWith) k l seen a r = acts_infix infixed.EndsWith (token.Reserved reserved.EndsWith) k l seen refl a r
+acts_as (token.Reserved reserved.Matches) k l seen a r = acts_infix infixed.Matches (token.Reserved reserved.Matches) k l seen refl a r
+acts_as t k l seen a r = shuts t k l seen a
+
+lacks : (t : Token) (k : List Frame) (seen : List Token) → IsStack k → seen ≡ before k → IsState (lack t k) (seen ++ t ∷ [])
+lacks t (Listed s r ∷ k) seen st e = end_at s _ seen (shape_done s k (items_end r) _ st.1 st.0.0 (items_end_fit r st.0.1) (ap (λ x. x ++ shape_end s ∷ []) e ∙ simp (items_end_tokens, append_assoc))) t
+lacks t (Calling c r ∷ k) seen st e =
+    dot_at _ _ seen (st, ap (λ x. x ++ token.Sign sign.Dot ∷ []) e) t
+    (close_at _ seen (caller_done c k (arguments_end r) _ st.1 st.0.0 (arguments_end_fit r st.0.1) (ap (λ x. x ++ token.Sign sign.ParenClose ∷ []) e ∙ simp (arguments_end_tokens, append_assoc))) t)
+lacks t (Indexed x false ∷ k) seen st e = colon_at _ _ seen (((st.0, tt), st.1), ap (λ x. x ++ token.Sign sign.Colon ∷ []) e ∙ simp append_assoc) t tt
+lacks t (Cut x b ∷ k) seen st e =
+    let f = st.0 in
+    square_at _ seen (holds k (Slice x b LeftOut) _ st.1 (f.0.0.fits, none_of_ends 13 (omega arith) x f.0.0.ends, f.1, tt) (f.0.1, f.0.0.starts) (λ p. tt) (ap (λ x. x ++ token.Sign sign.SquareClose ∷ []) e ∙ simp append_assoc)) t
+lacks t k seen st e = tt
+
+begins : (k : List Frame) (seen : List Token) → IsStack k → seen ≡ before k → IsState (begin_line k) (seen ++ token.Reserved reserved.Let ∷ [])
+begins (Body b ls ∷ k) seen st e = (st, ap (λ x. x ++ token.Reserved reserved.Let ∷ []) e)
+begins k seen st e = tt
+
+begins_brace : (k : List Frame) (seen : List Token) → IsStack k → seen ≡ before k → IsState (begin_brace k) (seen ++ token.Sign sign.BraceOpen ∷ [])
+begins_brace [] seen st e = (st, ap (λ x. x ++ token.Sign sign.BraceOpen ∷ []) e)
+begins_brace (Calling c r ∷ k) seen st e = (st, ap (λ x. x ++ token.Sign sign.BraceOpen ∷ []) e)
+begins_brace (f ∷ k) seen st e = (st, ap (λ x. x ++ token.Sign sign.BraceOpen ∷ []) e)
+
+-- a literal is its token
+literal_there : (c : Constant) (t : Token) (k : List Frame) (seen : List Token) → IsStack k → seen ≡ before k → constant_token c ≡ t → IsState (Have k (Literal c)) (seen ++ t ∷ [])
+literal_there c t k seen st e g = holds k (Literal c) _ st tt (tt, tt) (λ p. tt) (ap (λ x. x ++ t ∷ []) e ∙ ap (λ u. before k ++ u ∷ []) (sym g))
+
+wants : (t : Token) (k : List Frame) (seen : List Token) → IsStack k → seen ≡ before k → IsState (want t k) (seen ++ t ∷ [])
+wants (token.Integer n) k seen s e = literal_there (Integer n) _ k seen s e refl
+wants (token.Quoted n) k seen s e = literal_there (Quoted n) _ k seen s e refl
+wants (token.Raw n) k seen s e = literal_there (Raw n) _ k seen s e refl
+wants (token.Bytes n) k seen s e = literal_there (Bytes n) _ k seen s e refl
+wants (token.Reserved reserved.True) k seen s e = literal_there True _ k seen s e refl
+wants (token.Reserved reserved.False) k seen s e = literal_there False _ k seen s e refl
+wants (token.Reserved reserved.Nil) k seen s e = literal_there Nil _ k seen s e refl
+wants (token.Word w) k seen s e = holds k (Name w) _ s tt (tt, tt) (λ p. tt) (ap (λ x. x ++ token.Word w ∷ []) e)
+wants (token.Hash w) k seen s e = holds k (HashName w) _ s tt (tt, tt) (λ p. tt) (ap (λ x. x ++ token.Hash w ∷ []) e)
+wants (token.Sign sign.ParenOpen) k seen s e = ((tt, s), ap (λ x. x ++ token.Sign sign.ParenOpen ∷ []) e)
+wants (token.Sign sign.SquareOpen) k seen s e = (((tt, tt), s), ap (λ x. x ++ token.Sign sign.SquareOpen ∷ []) e)
+wants (token.Sign sign.BraceOpen) k seen s e = begins_brace k seen s e
+wants (token.Reserved reserved.If) k seen s e = ((tt, s), ap (λ x. x ++ token.Reserved reserved.If ∷ []) e)
+wants (token.Reserved reserved.Let) k seen s e = begins k seen s e
+wants (token.Reserved reserved.Not) k seen s e = ((tt, s), ap (λ x. x ++ token.Reserved reserved.Not ∷ []) e)
+wants (token.Sign sign.Bang) k seen s e = ((tt, s), ap (λ x. x ++ token.Sign sign.Bang ∷ []) e)
+wants (token.Sign sign.Plus) k seen s e = ((tt, s), ap (λ x. x ++ token.Sign sign.Plus ∷ []) e)
+wants (token.Sign sign.Minus) k seen s e = ((tt, s), ap (λ x. x ++ token.Sign sign.Minus ∷ []) e)
+wants t k seen s e = lacks t k seen s e
+
+-- a word and a literal are their tokens
+word_back : (t : Token) (w : Word) → word_at t ≡ Some w → word_token w ≡ t
+word_back (token.Word w) v h = cc
+word_back (token.Reserved r) v h = cc
+word_back t w h = let e : ⊥ = cc in absurd e
+
+constant_back : (t : Token) (c : Constant) → constant_at t ≡ Some c → constant_token c ≡ t
+constant_back (token.Integer n) c h = cc
+constant_back (token.Quoted n) c h = cc
+constant_back (token.Raw n) c h = cc
+constant_back (token.Bytes n) c h = cc
+constant_back (token.Reserved reserved.True) c h = cc
+constant_back (token.Reserved reserved.False) c h = cc
+constant_back (token.Reserved reserved.Nil) c h = cc
+constant_back (token.Sign sign.Comma) c h = let e : ⊥ = cc in absurd e
+constant_back t c h = let e : ⊥ = cc in absurd e
+
+dots : (k : List Frame) (l : Tree) (optional : Bool) (t : Token) (seen : List Token) (o : Option Word) → word_at t ≡ o → IsStack k → IsLeftAt 13 k l → seen ≡ before k ++ (tokens_of l ++ member_token optional ∷ []) → IsState (word_after_dot k l optional o) (seen ++ t ∷ [])
+dots k l optional t seen (Some w) h st a e = holds k (Member l optional w) _ st (a.0.fits, none_of_ends 13 (omega arith) l a.0.ends) (a.1, a.0.starts) (λ p. tt) (ap (λ x. x ++ t ∷ []) e ∙ ap (λ u. (before k ++ (tokens_of l ++ member_token optional ∷ [])) ++ u ∷ []) (sym (word_back t w h)) ∙ simp append_assoc)
+dots k l optional t seen None h st a e = tt
+
+nots : (k : List Frame) (l : Tree) (t : Token) (seen : List Token) → IsState (Negated k l) seen → IsState (in_after_not k l t) (seen ++ t ∷ [])
+nots k l (token.Reserved reserved.In) seen a = ((a.1, a.0), ap (λ x. x ++ token.Reserved reserved.In ∷ []) a.2 ∙ simp append_assoc)
+nots k l t seen a = tt
+
+bars : (k : List Frame) (l : Tree) (t : Token) (seen : List Token) → IsState (Barred k l) seen → IsState (word_after_bar k l t) (seen ++ t ∷ [])
+bars k l (token.Word w) seen a = (a.0, a.1, ap (λ x. x ++ token.Word w ∷ []) a.2 ∙ simp append_assoc)
+bars k l t seen a = tt
+
+pipes : (k : List Frame) (l : Tree) (w : List ℕ) (t : Token) (seen : List Token) → IsState (Piped k l w) seen → IsState (open_after_word k l w t) (seen ++ t ∷ [])
+pipes k l w (token.Sign sign.ParenOpen) seen a = (((a.1, tt), a.0), ap (λ x. x ++ token.Sign sign.ParenOpen ∷ []) a.2 ∙ simp (append_assoc, append-nil))
+pipes k l w t seen a = tt
+
+elses : (k : List Frame) (ch : Chain) (c : Tree) (p : TreeProgram) (t : Token) (seen : List Token) → IsState (Chosen k ch c p) seen → IsState (else_after k ch c p t) (seen ++ t ∷ [])
+elses k ch c p (token.Reserved reserved.Else) seen a = (a.0, a.1, ap (λ x. x ++ token.Reserved reserved.Else ∷ []) a.2 ∙ simp append_assoc)
+elses k ch c p t seen a = tt
+
+alternates : (k : List Frame) (ch : Chain) (c : Tree) (p : TreeProgram) (t : Token) (seen : List Token) → IsState (Alternate k ch c p) seen → IsState (step_on (Alternate k ch c p) t) (seen ++ t ∷ [])
+alternates k ch c p t seen a =
+    brace_at _ _ seen (((a.1, tt), a.0), ap (λ x. x ++ token.Sign sign.BraceOpen ∷ []) a.2 ∙ simp (append_assoc, append-nil)) t
+    (if_at _ seen ((a.1, a.0), ap (λ x. x ++ token.Reserved reserved.If ∷ []) a.2 ∙ simp append_assoc) t)
+
+names : (k : List Frame) (t : Token) (seen : List Token) → IsState (NamesLine k) seen → IsState (word_after_let k t) (seen ++ t ∷ [])
+names k (token.Word w) seen a = (a.0, ap (λ x. x ++ token.Word w ∷ []) a.1 ∙ simp append_assoc)
+names k t seen a = tt
+
+values : (k : List Frame) (w : List ℕ) (t : Token) (seen : List Token) → IsState (Named k w) seen → IsState (equals_after k w t) (seen ++ t ∷ [])
+values k w (token.Sign sign.Equal) seen a = ((tt, a.0), ap (λ x. x ++ token.Sign sign.Equal ∷ []) a.1 ∙ simp append_assoc)
+values k w t seen a = tt
+
+members : (k : List Frame) (t : Token) (seen : List Token) (o : Option Word) → word_at t ≡ o → IsState (NamesMember k) seen → IsState (member_alone k o) (seen ++ t ∷ [])
+members k t seen (Some w) h a = (a.0, tt, ap (λ x. x ++ t ∷ []) a.1 ∙ ap (λ u. (before k ++ token.Sign sign.Dot ∷ []) ++ u ∷ []) (sym (word_back t w h)) ∙ simp append_assoc)
+members k t seen None h a = tt
+
+opens : (k : List Frame) (t : Token) (seen : List Token) (o : Option Key) → key_at t ≡ o → IsState (Braced k) seen → IsState (braced k o t) (seen ++ t ∷ [])
+opens k t seen (Some key) h a = (a.0, ap (λ x. x ++ t ∷ []) a.1 ∙ ap (λ u. (before k ++ token.Sign sign.BraceOpen ∷ []) ++ u ∷ []) (sym (key_back t key h)) ∙ simp append_assoc)
+opens k t seen None h a =
+    end_brace_at _ _ seen (map_done k NoEntries _ a.0 (ap (λ x. x ++ token.Sign sign.BraceClose ∷ []) a.1 ∙ simp append_assoc)) t
+    (wants t (Body Predicate NoLines ∷ k) seen ((tt, tt), a.0) a.1)
+
+keys : (k : List Frame) (r : Option EntryRow) (t : Token) (seen : List Token) (o : Option Key) → key_at t ≡ o → IsState (Keys k r) seen → IsState (key_in k r o t) (seen ++ t ∷ [])
+keys k r t seen (Some key) h a = (a.0, ap (λ x. x ++ t ∷ []) a.1 ∙ ap (λ u. (before k ++ token.Sign sign.BraceOpen ∷ entries_front r) ++ u ∷ []) (sym (key_back t key h)) ∙ simp append_assoc)
+keys k r t seen None h a = end_brace_at _ _ seen (map_done k (entries_end r) _ a.0 (ap (λ x. x ++ token.Sign sign.BraceClose ∷ []) a.1 ∙ simp (entries_end_tokens, append_assoc))) t tt
+
+constants : (k : List Frame) (r : Option EntryRow) (key : Key) (t : Token) (seen : List Token) (o : Option Constant) → constant_at t ≡ o → IsState (Values k r key) seen → IsState (value_in k r key o) (seen ++ t ∷ [])
+constants k r key t seen (Some c) h a = (a.0, ap (λ x. x ++ t ∷ []) a.1 ∙ ap (λ u. (before k ++ token.Sign sign.BraceOpen ∷ (entries_front r ++ key_token key ∷ token.Sign sign.Colon ∷ [])) ++ u ∷ []) (sym (constant_back t c h)) ∙ simp (push_entry_tokens, append_assoc))
+constants k r key t seen None h a = tt
+
+entereds : (k : List Frame) (r : EntryRow) (t : Token) (seen : List Token) → IsState (Entered k r) seen → IsState (step_on (Entered k r) t) (seen ++ t ∷ [])
+entereds k r t seen a =
+    comma_at _ _ seen (a.0, ap (λ x. x ++ token.Sign sign.Comma ∷ []) a.1 ∙ simp append_assoc) t
+    (end_brace_at _ _ seen (map_done k (SomeEntries r false) _ a.0 (ap (λ x. x ++ token.Sign sign.BraceClose ∷ []) a.1 ∙ simp (append_assoc, append-nil))) t tt)
+
+steps_on : (s : State) (t : Token) (seen : List Token) → IsState s seen → IsState (step_on s t) (seen ++ t ∷ [])
+steps_on (Want k) t seen a = wants t k seen a.0 a.1
+steps_on (Have k l) t seen a = let p = role_level (role t) in settled (λ k l. Holds p k l seen) (λ s. IsState s (seen ++ t ∷ [])) p (act (role t) t) (λ f k l. plugs p f k l seen) (λ k l h r. acts_as t k l seen h r) k l (a p)
+steps_on (Dotted k l) t seen a = dots k l false t seen (word_at t) refl a.0 a.1 a.2
+steps_on (Questioned k l) t seen a =
+    square_open_at _ _ seen ((a.1, a.0), ap (λ x. x ++ token.Sign sign.SquareOpen ∷ []) a.2 ∙ simp append_assoc) t
+    (dots k l true t seen (word_at t) refl a.0 a.1 a.2)
+steps_on (Negated k l) t seen a = nots k l t seen a
+steps_on (Barred k l) t seen a = bars k l t seen a
+steps_on (Piped k l w) t seen a = pipes k l w t seen a
+steps_on (Chosen k ch c p) t seen a = elses k ch c p t seen a
+steps_on (Alternate k ch c p) t seen a = alternates k ch c p t seen a
+steps_on (NamesLine k) t seen a = names k t seen a
+steps_on (Named k w) t seen a = values k w t seen a
+steps_on (Argued k (Expression l)) t seen a = tt
+steps_on (Argued k x) t seen a = argues t k x seen a.0 a.1 a.2
+steps_on (NamesMember k) t seen a = members k t seen (word_at t) refl a
+steps_on (Braced k) t seen a = opens k t seen (key_at t) refl a
+steps_on (BracedKey k key) t seen a = tt
+steps_on (Keys k r) t seen a = keys k r t seen (key_at t) refl a
+steps_on (Colons k r key) t seen a = colon_at _ _ seen (a.0, ap (λ x. x ++ token.Sign sign.Colon ∷ []) a.1 ∙ simp append_assoc) t tt
+steps_on (Values k r key) t seen a = constants k r key t seen (constant_at t) refl a
+steps_on (Entered k r) t seen a = entereds k r t seen a
+steps_on Fail t seen a = tt
+
+-- a key that began a predicate
+steps_key : (k : List Frame) (key : Key) (t : Token) (seen : List Token) → IsState (BracedKey k key) seen → IsState (step (BracedKey k key) t) (seen ++ t ∷ [])
+steps_key k key t seen a =
+    colon_at _ _ seen (a.0, ap (λ x. x ++ token.Sign sign.Colon ∷ []) a.1 ∙ simp append_assoc) t
+    (steps_on (want (key_token key) (Body Predicate NoLines ∷ k)) t seen
+    (rw (a.1 ∙ sym (append_assoc (before k) (token.Sign sign.BraceOpen ∷ []) (key_token key ∷ []))) (wants (key_token key) (Body Predicate NoLines ∷ k) (before k ++ token.Sign sign.BraceOpen ∷ []) ((tt, tt), a.0) refl)))
+
+steps : (s : State) (t : Token) (seen : List Token) → IsState s seen → IsState (step s t) (seen ++ t ∷ [])
+steps (BracedKey k key) t seen a = steps_key k key t seen a
+steps (Want k) t seen a = steps_on (Want k) t seen a
+steps s t seen a = steps_on s t seen a
+
+-- an answer, after these tokens
+abbrev IsAnswer : Option TreeProgram → List Token → Type 0
+IsAnswer None seen = Unit {0}
+IsAnswer (Some p) seen = (program_tokens p ≡ seen) × Fits p
+
+ends_whole : (k : List Frame) (l : Tree) (seen : List Token) → Holds 0 k l seen → IsAnswer (whole k l) seen
+ends_whole (Body Top ls ∷ []) l seen a = (sym a.spelled, (a.stack.0.1, a.left.fits))
+ends_whole k l seen a = tt
+
+ends : (s : State) (seen : List Token) → IsState s seen → IsAnswer (finish s) seen
+ends (Have k l) seen a = settled (λ k l. Holds 0 k l seen) (λ o. IsAnswer o seen) 0 whole (λ f k l. plugs 0 f k l seen) (λ k l h r. ends_whole k l seen h) k l (a 0)
+ends s seen a = tt
+
+answers : (s : State) (ts seen : List Token) → IsState s seen → IsAnswer (parse s ts) (seen ++ ts)
+unfolding parse
+answers s [] seen a = rw append-nil (ends s seen a)
+answers s (t ∷ ts) seen a = rw append_assoc at (answers (step s t) ts (seen ++ t ∷ []) (steps s t seen a))
+
+pub sound : (p : TreeProgram) (ts : List Token) → tree_of ts ≡ Some p → Spells p ts × Fits p
+sound p ts e = rw e at (answers start ts [] (((tt, tt), tt), refl))

@@ -1,0 +1,21 @@
+//! What holds of the grammar itself.
+
+ghost use Rattle.std.specs.Prelude.{◌≡◌, List, Some};
+ghost use Rattle.expr_token.specs.declared.token.Token.{Token};
+ghost use Rattle.expr_grammar.specs.Grammar.{TreeProgram, Spells, Fits, OneTree, BracketsFit};
+ghost use Rattle.expr_grammar.specs.Machine.{tree_of};
+
+/// Two trees that spell the same tokens and fit are one.
+pub fn one_tree()
+    ensures { OneTree }
+{}
+
+/// Brackets may stand round an expression.
+pub fn brackets_fit()
+    ensures { BracketsFit }
+{}
+
+// The machine answers only a tree that spells the tokens and fits.
+fn sound()
+    ensures { (p : TreeProgram) (ts : List Token) → tree_of ts ≡ Some p → Spells p ts × Fits p }
+{}

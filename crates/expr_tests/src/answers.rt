@@ -1,0 +1,128 @@
+//! Answers that depend on what a host lends, and the calls for one node, operator or call.
+use crate::said::{printed, said};
+use expr::{
+    Context, ContextProvider, Error, Node, Result, Value, compile, eval_expr, eval_func,
+    eval_operator, eval_postfix_operator, eval_unary_operator, run,
+};
+use expr_value::value;
+use std::alloc::Global;
+use std::test::Fail;
+
+type Tested = std::result::Result<(), Fail>;
+
+/// A provider whose function and map may disagree, and which may have no memory for its map where that is asked for.
+#[derive(Drop)]
+struct Odd {
+    names: Context,
+    shown: Context,
+    refuses: bool,
+}
+
+impl ContextProvider for Odd {
+    ghost use Rattle.expr_value.specs.Names.{find};
+
+    ghost value_of = { λ p name. find name p.names };
+
+    ghost map_of = { λ p. p.shown };
+
+    fn get(&self, key: &str) -> Option<&Value> {
+        self.names.get(key)
+    }
+
+    fn to_context(&self, alloc: Global) -> Result<Context> {
+        self.shown.to_context(alloc)
+    }
+
+    fn environment(&self, alloc: Global) -> Result<Context> {
+        if self.refuses {
+            return Err(Error::MemoryError);
+        }
+        self.to_context(alloc)
+    }
+}
+
+fn odd(alloc: Global, refuses: bool) -> Result<Odd> {
+    let names = Context::try_from(alloc, value!(alloc; {"#": {"x": 7}, "$env": 1, "a": 2})?)?;
+    let shown = Context::try_from(alloc, value!(alloc; {"a": 3})?)?;
+    Ok(Odd {
+        names,
+        shown,
+        refuses,
+    })
+}
+
+/// What a text answers under the odd provider.
+fn said_by_odd(alloc: Global, refuses: bool, code: &str) -> Result<String> {
+    let provider = odd(alloc, refuses)?;
+    Ok(said(alloc, &provider, code)?)
+}
+
+/// Texts, whether the odd provider refuses its map, and what they answer under it.
+const UNDER_ODD_PROVIDERS: &[(&str, bool, &str)] = &[
+    ("x", false, "7"),
+    ("#", false, "{x: 7}"),
+    ("a", false, "2"),
+    ("$env", false, "{a: 3}"),
+    (r#"$env["$env"]"#, false, "nil"),
+    ("let a = 1; $env.a", false, "3"),
+    ("let $env = 5; $env.a", false, "3"),
+    ("$env", true, "!memory"),
+    ("a", true, "2"),
+];
+
+#[test]
+fn function_and_map_may_disagree(rt: HostRuntime) -> Tested {
+    for (code, refuses, expected) in UNDER_ODD_PROVIDERS {
+        let answer = said_by_odd(rt.alloc(), *refuses, code)?;
+        assert_eq!(rt; answer.as_str(), *expected, "{code}");
+    }
+    Ok(())
+}
+
+/// What the last node of a text answers, by the call for nodes of its kind.
+fn by_its_parts(alloc: Global, code: &str) -> Result<Value> {
+    let context = Context::new(alloc);
+    let program = compile(alloc, code)?;
+    match &program.expr {
+        Node::Operation {
+            operator,
+            left,
+            right,
+            ..
+        } => eval_operator(alloc, &context, operator, left, right, None),
+        Node::Unary { operator, node } => eval_unary_operator(alloc, &context, operator, node),
+        Node::Postfix { operator, node } => eval_postfix_operator(alloc, &context, operator, node),
+        Node::Func { ident, .. } => eval_func(alloc, &context, ident, Vec::new(alloc), None),
+        other => eval_expr(alloc, &context, other),
+    }
+}
+
+/// Texts and their answers.
+const BY_PARTS: &[(&str, &str)] = &[
+    ("[1, 2]", "[1, 2]"),
+    ("1 + 2 * 3 + 1", "8"),
+    ("false and 1 / 0", "false"),
+    ("not true", "false"),
+    (r#"["a", "b"][-1]"#, "\"b\""),
+    ("nil ?? 4", "4"),
+    ("nope()", "!evaluation"),
+];
+
+#[test]
+fn parts_are_called_alone(rt: HostRuntime) -> Tested {
+    for (code, expected) in BY_PARTS {
+        let answer = printed(rt.alloc(), by_its_parts(rt.alloc(), code))?;
+        assert_eq!(rt; answer.as_str(), *expected, "{code}");
+    }
+    Ok(())
+}
+
+// No clause can say that memory is left: a body that is always out of memory is proved.
+#[test]
+fn programs_run(rt: HostRuntime) -> Tested {
+    let program = compile(rt.alloc(), "[1, \"a\" + b]")?;
+    let context = Context::try_from(rt.alloc(), value!(rt.alloc(); {"b": "c"})?)?;
+    let answer = run(rt.alloc(), &program, &context)?;
+    assert_eq!(rt; answer.to_string(rt.alloc())?.as_str(), "[1, \"ac\"]");
+    Ok(())
+}

@@ -1,0 +1,21 @@
+//! The tests of the libraries: rows from outside, and each public call once with memory to spare.
+#![tactic(auto)]
+
+#[cfg(test)]
+mod answers;
+#[cfg(test)]
+mod macros;
+#[cfg(test)]
+mod page;
+#[cfg(test)]
+mod programs;
+#[cfg(test)]
+mod said;
+#[cfg(test)]
+mod shown;
+#[cfg(test)]
+mod sizes;
+#[cfg(test)]
+mod tokens;
+#[cfg(test)]
+mod values;

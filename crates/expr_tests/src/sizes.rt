@@ -1,0 +1,23 @@
+//! How many bytes the types take.
+use expr::{Context, Error, Node, Result, Value};
+use expr_value::{Key, KeyedMap, ValueMap};
+use std::mem::size_of;
+
+/// Bytes of a type, and how many they may be at most.
+const SIZES: &[(&str, usize, usize)] = &[
+    ("Value", size_of::<Value>(), 32),
+    ("Key", size_of::<Key>(), 32),
+    ("ValueMap", size_of::<ValueMap>(), 16),
+    ("KeyedMap", size_of::<KeyedMap>(), 16),
+    ("Context", size_of::<Context>(), 16),
+    ("Error", size_of::<Error>(), 40),
+    ("Result<Value>", size_of::<Result<Value>>(), 48),
+    ("Node", size_of::<Node>(), 72),
+];
+
+#[test]
+fn types_are_small(rt: HostRuntime) {
+    for (name, bytes, most) in SIZES {
+        assert!(rt; bytes <= most, "{name} has {bytes} bytes");
+    }
+}

@@ -1,0 +1,81 @@
+-- Moments and zones: what they are equal by, and their texts.
+use Rattle.std.specs.Prelude.{ℕ, ℤ, pos, Bool, List, [], ◌++◌, Option, None, Some, ◌+ℤ◌, codes, if◌then◌else◌}
+use Rattle.std.specs.Ordering.{int_eq}
+use Rattle.std.specs.Cmp.{IsEquivalence}
+use Rattle.expr_clock.specs.Moments as clock
+use Rattle.jiff.specs.Words.{plain_zone, nanos_of_seconds}
+unfoldable use Rattle.jiff.specs.Words.{offset_at}
+use Rattle.jiff.specs.Types.{TimeZone as Rules}
+use Rattle.jiff.specs.declared.tz.timezone.TimeZone.{TimeZone}
+use Rattle.expr_value.specs.declared.zone.TimezoneValue.{TimezoneValue}
+use Rattle.expr_value.specs.declared.moment.Place.{Place}
+use Rattle.expr_value.specs.declared.moment.Place.TheVariants.{Fixed, Zone}
+use Rattle.expr_value.specs.declared.moment.DateTimeValue.{DateTimeValue}
+use Rattle.expr_value.specs.contracts.moment.DateTimeValuePartialEq.TheImpl as derived_moment
+use Rattle.expr_value.specs.contracts.moment.DateTimeValueEq.TheImpl.Laws as moment_laws
+use Rattle.expr_value.specs.contracts.zone.TimezoneValuePartialEq.TheImpl as derived_zone
+use Rattle.expr_value.specs.contracts.zone.TimezoneValueEq.TheImpl.Laws as zone_laws
+
+-- the name of a zone, and the rules of its clocks
+abbrev pub zone_name : TimezoneValue → List ℕ
+zone_name z = z.name
+
+abbrev pub plain_rules : TimeZone → Rules
+plain_rules rules = plain_zone rules
+
+abbrev pub rules_of : TimezoneValue → Rules
+rules_of z = plain_rules z.rules
+
+-- the nanoseconds from 1970-01-01T00:00:00Z to a moment
+abbrev pub instant : DateTimeValue → ℤ
+instant t = t.timestamp.nanosecond
+
+abbrev pub place_of : DateTimeValue → Place
+place_of t = t.place
+
+-- the zone of a place, if it is one
+abbrev pub in_zone : Place → Option TimezoneValue
+in_zone (Fixed offset) = None
+in_zone (Zone zone) = Some zone
+
+abbrev pub zone_of : DateTimeValue → Option TimezoneValue
+zone_of t = in_zone t.place
+
+-- the seconds that the clock of a place is ahead of UTC at an instant
+abbrev pub ahead : Place → ℤ → ℤ
+ahead (Fixed offset) n = offset.seconds
+ahead (Zone zone) n = offset_at (rules_of zone) n
+
+abbrev pub offset_of : DateTimeValue → ℤ
+offset_of t = ahead t.place (instant t)
+
+-- what the clock of a place shows at an instant, as nanoseconds from 1970-01-01T00:00:00 on it
+abbrev pub local_nanos : DateTimeValue → ℤ
+local_nanos t = instant t +ℤ nanos_of_seconds (offset_of t)
+
+-- moments are equal when their instants are, wherever they are
+abbrev pub moment_eq : DateTimeValue → DateTimeValue → Bool
+moment_eq = derived_moment.ghosts.eq
+
+pub moment_eq_equiv : IsEquivalence moment_eq
+moment_eq_equiv = moment_laws.laws-law
+
+-- zones are equal when their names are, whatever their rules
+abbrev pub zone_eq : TimezoneValue → TimezoneValue → Bool
+zone_eq = derived_zone.ghosts.eq
+
+pub zone_eq_equiv : IsEquivalence zone_eq
+zone_eq_equiv = zone_laws.laws-law
+
+-- the printed text of a moment
+abbrev pub moment_text : DateTimeValue → List ℕ
+moment_text t = clock.moment_text (local_nanos t) (offset_of t)
+
+-- the text of a place: the name of a zone, `UTC` for no offset, and else the offset
+abbrev pub place_text : Place → List ℕ
+place_text (Fixed offset) = if int_eq offset.seconds (pos 0) then codes "UTC" else clock.offset_text [] offset.seconds
+place_text (Zone zone) = zone_name zone
+
+-- the text of a moment as the method `String` gives it
+abbrev pub plain_moment : DateTimeValue → List ℕ
+plain_moment t = clock.stamp_text (local_nanos t) (offset_of t) ++ codes " " ++ place_text t.place
