@@ -1,5 +1,5 @@
 -- Whether `$env` stands in a tree and what a tree weighs, by the parts right inside it.
-use Rattle.std.proofs.Common.{◌≡◌, ℕ, zero, suc, ◌+◌, ◌<◌, ◌≤◌, Bool, true, false, ◌||◌, List, [], ◌∷◌, ◌++◌, map, length, get_or, Global, String, refl, sym, ap, ◌∙◌, arith}
+use Rattle.std.proofs.Common.{◌≡◌, ℕ, zero, suc, ◌+◌, ◌<◌, ◌≤◌, Bool, true, false, ◌||◌, List, [], ◌∷◌, ◌++◌, length, get_or, Global, String, refl, sym, ap, ◌∙◌, arith}
 use Rattle.expr_tree.specs.Children.{children, block_children, own_name}
 use Rattle.expr_tree.specs.Names.{operands, block_operands, has_env}
 use Rattle.expr_tree.specs.Term.{Term, Block}

@@ -72,9 +72,16 @@ node_uses_env-any_uses_env-requires t c =
     (omega (arith, c.decreases, parts-weight (written c.args.node.now) (maybe_child c.in-Items.first) (map written c.in-Items.items.now) (maybe_children c.in-Items.program) c.in-Items.ensures.children), tt)
 
 pub node_uses_env-program_uses_env-requires : goal.node_uses_env-program_uses_env-requires
-node_uses_env-program_uses_env-requires t c =
-    (omega (arith, c.decreases, parts-weight (written c.args.node.now) (maybe_child c.in-Items.first) (map written c.in-Items.items.now) (maybe_children c.in-Items.program) c.in-Items.ensures.children,
-    ap (λ o. weight_of (maybe_children o)) c.in-Some.is, weight-block (program_written c.in-Some.program.now)), tt)
+node_uses_env-program_uses_env-requires t c = (
+  omega (
+    arith,
+    c.decreases,
+    parts-weight (written c.args.node.now) (maybe_child c.in-Items.first) (map written c.in-Items.items.now) (maybe_children c.in-Items.program) c.in-Items.ensures.children,
+    ap (λ o. weight_of (maybe_children o)) c.in-Some.is,
+    weight-block (program_written c.in-Some.program.now),
+  ),
+  tt,
+)
 
 pub node_uses_env-node_uses_env-requires : goal.node_uses_env-node_uses_env-requires
 node_uses_env-node_uses_env-requires t c =
@@ -97,55 +104,62 @@ program_uses_env-node_uses_env-requires t c = (omega (arith, c.decreases, progra
 pub node_uses_env-returns-then-child_uses_env-2 : goal.node_uses_env-returns-then-child_uses_env-2
 node_uses_env-returns-then-child_uses_env-2 t c =
     let both_first : c.if-child_uses_env.value ≡ (uses (maybe_child c.in-Nodes.first) || uses (maybe_child c.in-Nodes.second)) =
-    elim c.if-child_uses_env.branch
-    [ node_uses_env-then-child_uses_env w ↦ or_then _ (uses (maybe_child c.in-Nodes.first)) (uses (maybe_child c.in-Nodes.second)) (sym c.child_uses_env.ensures ∙ w.if-child_uses_env.true) (w.value-is ∙ w.if-child_uses_env.true)
-    | node_uses_env-else-child_uses_env w ↦ or_else _ (uses (maybe_child c.in-Nodes.first)) (uses (maybe_child c.in-Nodes.second)) (sym c.child_uses_env.ensures ∙ w.if-child_uses_env.false) (w.value-is ∙ w.child_uses_env-else-child_uses_env.ensures) ] in
+    elim c.if-child_uses_env.branch [
+      | node_uses_env-then-child_uses_env w ↦ or_then _ (uses (maybe_child c.in-Nodes.first)) (uses (maybe_child c.in-Nodes.second)) (sym c.child_uses_env.ensures ∙ w.if-child_uses_env.true) (w.value-is ∙ w.if-child_uses_env.true)
+      | node_uses_env-else-child_uses_env w ↦ or_else _ (uses (maybe_child c.in-Nodes.first)) (uses (maybe_child c.in-Nodes.second)) (sym c.child_uses_env.ensures ∙ w.if-child_uses_env.false) (w.value-is ∙ w.child_uses_env-else-child_uses_env.ensures)
+    ] in
     or_then _ (uses (maybe_child c.in-Nodes.first) || uses (maybe_child c.in-Nodes.second)) (uses (maybe_child c.in-Nodes.third)) (sym both_first ∙ c.if-child_uses_env-2.true) c.if-child_uses_env-2.true ∙ sym (parts-env (written c.args.node.now) (maybe_child c.in-Nodes.first) (maybe_child c.in-Nodes.second) (maybe_child c.in-Nodes.third) c.in-Nodes.ensures.name c.in-Nodes.ensures.children)
 
 pub node_uses_env-returns-else-child_uses_env-2 : goal.node_uses_env-returns-else-child_uses_env-2
 node_uses_env-returns-else-child_uses_env-2 t c =
     let both_first : c.if-child_uses_env.value ≡ (uses (maybe_child c.in-Nodes.first) || uses (maybe_child c.in-Nodes.second)) =
-    elim c.if-child_uses_env.branch
-    [ node_uses_env-then-child_uses_env w ↦ or_then _ (uses (maybe_child c.in-Nodes.first)) (uses (maybe_child c.in-Nodes.second)) (sym c.child_uses_env.ensures ∙ w.if-child_uses_env.true) (w.value-is ∙ w.if-child_uses_env.true)
-    | node_uses_env-else-child_uses_env w ↦ or_else _ (uses (maybe_child c.in-Nodes.first)) (uses (maybe_child c.in-Nodes.second)) (sym c.child_uses_env.ensures ∙ w.if-child_uses_env.false) (w.value-is ∙ w.child_uses_env-else-child_uses_env.ensures) ] in
+    elim c.if-child_uses_env.branch [
+      | node_uses_env-then-child_uses_env w ↦ or_then _ (uses (maybe_child c.in-Nodes.first)) (uses (maybe_child c.in-Nodes.second)) (sym c.child_uses_env.ensures ∙ w.if-child_uses_env.true) (w.value-is ∙ w.if-child_uses_env.true)
+      | node_uses_env-else-child_uses_env w ↦ or_else _ (uses (maybe_child c.in-Nodes.first)) (uses (maybe_child c.in-Nodes.second)) (sym c.child_uses_env.ensures ∙ w.if-child_uses_env.false) (w.value-is ∙ w.child_uses_env-else-child_uses_env.ensures)
+    ] in
     or_else _ (uses (maybe_child c.in-Nodes.first) || uses (maybe_child c.in-Nodes.second)) (uses (maybe_child c.in-Nodes.third)) (sym both_first ∙ c.if-child_uses_env-2.false) c.child_uses_env-else-child_uses_env-2.ensures ∙ sym (parts-env (written c.args.node.now) (maybe_child c.in-Nodes.first) (maybe_child c.in-Nodes.second) (maybe_child c.in-Nodes.third) c.in-Nodes.ensures.name c.in-Nodes.ensures.children)
 
 pub node_uses_env-returns-then-any_uses_env : goal.node_uses_env-returns-then-any_uses_env
 node_uses_env-returns-then-any_uses_env t c =
     let both_first : c.if-child_uses_env-3.value ≡ (uses (maybe_child c.in-Items.first) || uses (map written c.in-Items.items.now)) =
-    elim c.if-child_uses_env-3.branch
-    [ node_uses_env-then-child_uses_env-3 w ↦ or_then _ (uses (maybe_child c.in-Items.first)) (uses (map written c.in-Items.items.now)) (sym c.child_uses_env-in-Items.ensures ∙ w.if-child_uses_env-3.true) (w.value-is ∙ w.if-child_uses_env-3.true)
-    | node_uses_env-else-child_uses_env-3 w ↦ or_else _ (uses (maybe_child c.in-Items.first)) (uses (map written c.in-Items.items.now)) (sym c.child_uses_env-in-Items.ensures ∙ w.if-child_uses_env-3.false) (w.value-is ∙ w.any_uses_env.ensures) ] in
+    elim c.if-child_uses_env-3.branch [
+      | node_uses_env-then-child_uses_env-3 w ↦ or_then _ (uses (maybe_child c.in-Items.first)) (uses (map written c.in-Items.items.now)) (sym c.child_uses_env-in-Items.ensures ∙ w.if-child_uses_env-3.true) (w.value-is ∙ w.if-child_uses_env-3.true)
+      | node_uses_env-else-child_uses_env-3 w ↦ or_else _ (uses (maybe_child c.in-Items.first)) (uses (map written c.in-Items.items.now)) (sym c.child_uses_env-in-Items.ensures ∙ w.if-child_uses_env-3.false) (w.value-is ∙ w.any_uses_env.ensures)
+    ] in
     or_then _ (uses (maybe_child c.in-Items.first) || uses (map written c.in-Items.items.now)) (uses (maybe_children c.in-Items.program)) (sym both_first ∙ c.if-any_uses_env.true) c.if-any_uses_env.true ∙ sym (parts-env (written c.args.node.now) (maybe_child c.in-Items.first) (map written c.in-Items.items.now) (maybe_children c.in-Items.program) c.in-Items.ensures.name c.in-Items.ensures.children)
 
 pub node_uses_env-returns-in-None : goal.node_uses_env-returns-in-None
 node_uses_env-returns-in-None t c =
     let both_first : c.if-child_uses_env-3.value ≡ (uses (maybe_child c.in-Items.first) || uses (map written c.in-Items.items.now)) =
-    elim c.if-child_uses_env-3.branch
-    [ node_uses_env-then-child_uses_env-3 w ↦ or_then _ (uses (maybe_child c.in-Items.first)) (uses (map written c.in-Items.items.now)) (sym c.child_uses_env-in-Items.ensures ∙ w.if-child_uses_env-3.true) (w.value-is ∙ w.if-child_uses_env-3.true)
-    | node_uses_env-else-child_uses_env-3 w ↦ or_else _ (uses (maybe_child c.in-Items.first)) (uses (map written c.in-Items.items.now)) (sym c.child_uses_env-in-Items.ensures ∙ w.if-child_uses_env-3.false) (w.value-is ∙ w.any_uses_env.ensures) ] in
+    elim c.if-child_uses_env-3.branch [
+      | node_uses_env-then-child_uses_env-3 w ↦ or_then _ (uses (maybe_child c.in-Items.first)) (uses (map written c.in-Items.items.now)) (sym c.child_uses_env-in-Items.ensures ∙ w.if-child_uses_env-3.true) (w.value-is ∙ w.if-child_uses_env-3.true)
+      | node_uses_env-else-child_uses_env-3 w ↦ or_else _ (uses (maybe_child c.in-Items.first)) (uses (map written c.in-Items.items.now)) (sym c.child_uses_env-in-Items.ensures ∙ w.if-child_uses_env-3.false) (w.value-is ∙ w.any_uses_env.ensures)
+    ] in
     or_else _ (uses (maybe_child c.in-Items.first) || uses (map written c.in-Items.items.now)) (uses (maybe_children c.in-Items.program)) (sym both_first ∙ c.if-any_uses_env.false) (ap (λ o. uses (maybe_children o)) (sym c.in-None.is)) ∙ sym (parts-env (written c.args.node.now) (maybe_child c.in-Items.first) (map written c.in-Items.items.now) (maybe_children c.in-Items.program) c.in-Items.ensures.name c.in-Items.ensures.children)
 
 pub node_uses_env-returns-in-Some : goal.node_uses_env-returns-in-Some
 node_uses_env-returns-in-Some t c =
     let both_first : c.if-child_uses_env-3.value ≡ (uses (maybe_child c.in-Items.first) || uses (map written c.in-Items.items.now)) =
-    elim c.if-child_uses_env-3.branch
-    [ node_uses_env-then-child_uses_env-3 w ↦ or_then _ (uses (maybe_child c.in-Items.first)) (uses (map written c.in-Items.items.now)) (sym c.child_uses_env-in-Items.ensures ∙ w.if-child_uses_env-3.true) (w.value-is ∙ w.if-child_uses_env-3.true)
-    | node_uses_env-else-child_uses_env-3 w ↦ or_else _ (uses (maybe_child c.in-Items.first)) (uses (map written c.in-Items.items.now)) (sym c.child_uses_env-in-Items.ensures ∙ w.if-child_uses_env-3.false) (w.value-is ∙ w.any_uses_env.ensures) ] in
+    elim c.if-child_uses_env-3.branch [
+      | node_uses_env-then-child_uses_env-3 w ↦ or_then _ (uses (maybe_child c.in-Items.first)) (uses (map written c.in-Items.items.now)) (sym c.child_uses_env-in-Items.ensures ∙ w.if-child_uses_env-3.true) (w.value-is ∙ w.if-child_uses_env-3.true)
+      | node_uses_env-else-child_uses_env-3 w ↦ or_else _ (uses (maybe_child c.in-Items.first)) (uses (map written c.in-Items.items.now)) (sym c.child_uses_env-in-Items.ensures ∙ w.if-child_uses_env-3.false) (w.value-is ∙ w.any_uses_env.ensures)
+    ] in
     or_else _ (uses (maybe_child c.in-Items.first) || uses (map written c.in-Items.items.now)) (uses (maybe_children c.in-Items.program)) (sym both_first ∙ c.if-any_uses_env.false) (c.program_uses_env.ensures ∙ block-env (program_written c.in-Some.program.now) ∙ ap (λ o. uses (maybe_children o)) (sym c.in-Some.is)) ∙ sym (parts-env (written c.args.node.now) (maybe_child c.in-Items.first) (map written c.in-Items.items.now) (maybe_children c.in-Items.program) c.in-Items.ensures.name c.in-Items.ensures.children)
 
 pub node_uses_env-returns-then-program_uses_env : goal.node_uses_env-returns-then-program_uses_env
 node_uses_env-returns-then-program_uses_env t c =
     let both_first : c.if-node_uses_env.value ≡ (uses (written c.in-Choice.condition.now ∷ []) || uses (program_children c.in-Choice.consequent.now)) =
-    elim c.if-node_uses_env.branch
-    [ node_uses_env-then-node_uses_env w ↦ or_then _ (uses (written c.in-Choice.condition.now ∷ [])) (uses (program_children c.in-Choice.consequent.now)) (sym (c.node_uses_env.ensures ∙ ap has_env (sym (append-nil (operands (written c.in-Choice.condition.now))))) ∙ w.if-node_uses_env.true) (w.value-is ∙ w.if-node_uses_env.true)
-    | node_uses_env-else-node_uses_env w ↦ or_else _ (uses (written c.in-Choice.condition.now ∷ [])) (uses (program_children c.in-Choice.consequent.now)) (sym (c.node_uses_env.ensures ∙ ap has_env (sym (append-nil (operands (written c.in-Choice.condition.now))))) ∙ w.if-node_uses_env.false) (w.value-is ∙ w.program_uses_env-else-node_uses_env.ensures ∙ block-env (program_written c.in-Choice.consequent.now)) ] in
+    elim c.if-node_uses_env.branch [
+      | node_uses_env-then-node_uses_env w ↦ or_then _ (uses (written c.in-Choice.condition.now ∷ [])) (uses (program_children c.in-Choice.consequent.now)) (sym (c.node_uses_env.ensures ∙ ap has_env (sym (append-nil (operands (written c.in-Choice.condition.now))))) ∙ w.if-node_uses_env.true) (w.value-is ∙ w.if-node_uses_env.true)
+      | node_uses_env-else-node_uses_env w ↦ or_else _ (uses (written c.in-Choice.condition.now ∷ [])) (uses (program_children c.in-Choice.consequent.now)) (sym (c.node_uses_env.ensures ∙ ap has_env (sym (append-nil (operands (written c.in-Choice.condition.now))))) ∙ w.if-node_uses_env.false) (w.value-is ∙ w.program_uses_env-else-node_uses_env.ensures ∙ block-env (program_written c.in-Choice.consequent.now))
+    ] in
     or_then _ (uses (written c.in-Choice.condition.now ∷ []) || uses (program_children c.in-Choice.consequent.now)) (uses (program_children c.in-Choice.alternative.now)) (sym both_first ∙ c.if-program_uses_env.true) c.if-program_uses_env.true ∙ sym (parts-env (written c.args.node.now) (written c.in-Choice.condition.now ∷ []) (program_children c.in-Choice.consequent.now) (program_children c.in-Choice.alternative.now) c.in-Choice.ensures.name c.in-Choice.ensures.children)
 
 pub node_uses_env-returns-else-program_uses_env : goal.node_uses_env-returns-else-program_uses_env
 node_uses_env-returns-else-program_uses_env t c =
     let both_first : c.if-node_uses_env.value ≡ (uses (written c.in-Choice.condition.now ∷ []) || uses (program_children c.in-Choice.consequent.now)) =
-    elim c.if-node_uses_env.branch
-    [ node_uses_env-then-node_uses_env w ↦ or_then _ (uses (written c.in-Choice.condition.now ∷ [])) (uses (program_children c.in-Choice.consequent.now)) (sym (c.node_uses_env.ensures ∙ ap has_env (sym (append-nil (operands (written c.in-Choice.condition.now))))) ∙ w.if-node_uses_env.true) (w.value-is ∙ w.if-node_uses_env.true)
-    | node_uses_env-else-node_uses_env w ↦ or_else _ (uses (written c.in-Choice.condition.now ∷ [])) (uses (program_children c.in-Choice.consequent.now)) (sym (c.node_uses_env.ensures ∙ ap has_env (sym (append-nil (operands (written c.in-Choice.condition.now))))) ∙ w.if-node_uses_env.false) (w.value-is ∙ w.program_uses_env-else-node_uses_env.ensures ∙ block-env (program_written c.in-Choice.consequent.now)) ] in
+    elim c.if-node_uses_env.branch [
+      | node_uses_env-then-node_uses_env w ↦ or_then _ (uses (written c.in-Choice.condition.now ∷ [])) (uses (program_children c.in-Choice.consequent.now)) (sym (c.node_uses_env.ensures ∙ ap has_env (sym (append-nil (operands (written c.in-Choice.condition.now))))) ∙ w.if-node_uses_env.true) (w.value-is ∙ w.if-node_uses_env.true)
+      | node_uses_env-else-node_uses_env w ↦ or_else _ (uses (written c.in-Choice.condition.now ∷ [])) (uses (program_children c.in-Choice.consequent.now)) (sym (c.node_uses_env.ensures ∙ ap has_env (sym (append-nil (operands (written c.in-Choice.condition.now))))) ∙ w.if-node_uses_env.false) (w.value-is ∙ w.program_uses_env-else-node_uses_env.ensures ∙ block-env (program_written c.in-Choice.consequent.now))
+    ] in
     or_else _ (uses (written c.in-Choice.condition.now ∷ []) || uses (program_children c.in-Choice.consequent.now)) (uses (program_children c.in-Choice.alternative.now)) (sym both_first ∙ c.if-program_uses_env.false) (c.program_uses_env-else-program_uses_env.ensures ∙ block-env (program_written c.in-Choice.alternative.now)) ∙ sym (parts-env (written c.args.node.now) (written c.in-Choice.condition.now ∷ []) (program_children c.in-Choice.consequent.now) (program_children c.in-Choice.alternative.now) c.in-Choice.ensures.name c.in-Choice.ensures.children)

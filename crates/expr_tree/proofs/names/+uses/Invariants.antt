@@ -1,4 +1,4 @@
-use Rattle.std.proofs.Common.{◌≡◌, ℕ, ◌+◌, ◌*◌, false, map, take}
+use Rattle.std.proofs.Common.{◌≡◌, ◌+◌, ◌*◌, false, map, take}
 use Rattle.expr_tree.specs.Inside.{maybe_child}
 use Rattle.expr_tree.specs.Names.{all_operands, lines_operands, has_env}
 use Rattle.expr_tree.specs.Weight.{weight, block_weight}
