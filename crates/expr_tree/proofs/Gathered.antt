@@ -29,7 +29,7 @@ lines_operands-push (k ∷ ks) l = ap (λ ns. operands k.1 ++ ns) (lines_operand
 map-next : {X Y : Type 0} (f : X → Y) (xs : List X) (i : ℕ) (x : X) → i < length xs → x ≡ get_or xs i x → map f (take (i + 1) xs) ≡ map f (take i xs) ++ f x ∷ []
 map-next f xs i x within at = ap (map f) (take_more xs i x within ∙ ap (λ y. take i xs ++ y ∷ []) (sym at)) ∙ map-append f (take i xs) (x ∷ [])
 
-has_env-append : (xs ys : Names) → has_env (xs ++ ys) ≡ (has_env xs || has_env ys)
+pub has_env-append : (xs ys : Names) → has_env (xs ++ ys) ≡ (has_env xs || has_env ys)
 has_env-append xs ys = list_any-append (bytes_eq env) xs ys
 
 pub or_true : (a : Bool) → (a || true) ≡ true

@@ -4,5 +4,6 @@ pub mod Gathered
 pub mod Programs
 pub mod Rising
 pub mod Shapes
+pub mod Uses
 pub mod Waiting
 pub mod Weights

@@ -1,5 +1,5 @@
 -- Names gathered from nodes that wait, one after another.
-use Rattle.std.proofs.Common.{◌≡◌, ◌≢◌, ℕ, ◌+◌, ◌<◌, Bool, true, false, ◌||◌, List, [], ◌∷◌, ◌++◌, map, Result, Ok, Err, OnOk, bytes_eq, refl, sym, ap, ◌∙◌, append_assoc, arith}
+use Rattle.std.proofs.Common.{◌≡◌, ◌≢◌, ℕ, ◌<◌, Bool, true, false, ◌||◌, List, [], ◌∷◌, ◌++◌, Result, Ok, Err, OnOk, bytes_eq, refl, sym, ap, ◌∙◌, append_assoc, arith}
 use Rattle.std.specs.Borrow.{Bor}
 use Rattle.std.specs.Cmp.Lexicographic.{slice_cmp}
 use Rattle.std.specs.List.{list_any, Contains}
@@ -13,7 +13,6 @@ use Rattle.expr_tree.specs.Children.{children, block_children, own_name}
 use Rattle.expr_tree.specs.Inside.{lent_terms}
 use Rattle.expr_tree.specs.Names.{env, operands, block_operands, with_names, AreNamesOf}
 use Rattle.expr_tree.specs.Term.{Term, Block}
-use Rattle.expr_tree.specs.Weight.{weight}
 use Rattle.expr_tree.specs.Written.{written}
 use Rattle.expr_tree.specs.declared.node.Node.{Node}
 use Rattle.expr_tree.proofs.Children.{operands_of, weight_of, operands_of-append, weight_of-append, operands-block, operands-inside, weight-inside}

@@ -181,29 +181,20 @@ fn wait_for_program<'a>(
 fn node_uses_env(node: &Node) -> bool
     ensures { result ≡ has_env (operands (written node.now)) }
 {
-    match node {
-        Node::Ident(name) => name.as_str() == "$env",
-        Node::Array(items) => any_uses_env(items),
-        Node::Range(first, last) => node_uses_env(first) || node_uses_env(last),
-        Node::Value(_) => false,
-        Node::Func {
-            ident: _,
-            args,
-            predicate,
-        } => any_uses_env(args) || predicate_uses_env(predicate),
-        Node::Unary { operator: _, node } => node_uses_env(node),
-        Node::Operation {
-            operator: _,
-            left,
-            right,
-            compiled_regex: _,
-        } => node_uses_env(left) || node_uses_env(right),
-        Node::Postfix { operator, node } => node_uses_env(node) || postfix_uses_env(operator),
-        Node::Conditional {
-            condition,
-            consequent,
-            alternative,
-        } => {
+    match look_inside(node) {
+        Inside::Name(name) => name == "$env",
+        Inside::Nodes(first, second, third) => {
+            child_uses_env(first) || child_uses_env(second) || child_uses_env(third)
+        }
+        Inside::Items(first, items, program) => {
+            child_uses_env(first)
+                || any_uses_env(items)
+                || match program {
+                    None => false,
+                    Some(program) => program_uses_env(program),
+                }
+        }
+        Inside::Choice(condition, consequent, alternative) => {
             node_uses_env(condition)
                 || program_uses_env(consequent)
                 || program_uses_env(alternative)
@@ -212,36 +203,12 @@ fn node_uses_env(node: &Node) -> bool
 }
 
 #[cycle(uses)]
-fn postfix_uses_env(operator: &PostfixOperator) -> bool
-    ensures { result ≡ has_env (postfix_operands (postfix_written operator.now)) }
+fn child_uses_env(child: Option<&Node>) -> bool
+    ensures { result ≡ has_env (all_operands (terms_of (maybe_child child.entry))) }
 {
-    match operator {
-        PostfixOperator::Index { idx, optional: _ } => node_uses_env(idx),
-        PostfixOperator::Range { start, end } => bound_uses_env(start) || bound_uses_env(end),
-        PostfixOperator::Default(node) => node_uses_env(node),
-        PostfixOperator::Pipe(node) => node_uses_env(node),
-        PostfixOperator::Ternary { left, right } => node_uses_env(left) || node_uses_env(right),
-        PostfixOperator::Method { ident: _, args } => any_uses_env(args),
-    }
-}
-
-#[cycle(uses)]
-fn bound_uses_env(bound: &Option<Box<Node>>) -> bool
-    ensures { result ≡ has_env (bound_operands (bound_written bound.now)) }
-{
-    match bound {
+    match child {
         None => false,
         Some(node) => node_uses_env(node),
-    }
-}
-
-#[cycle(uses)]
-fn predicate_uses_env(predicate: &Option<Box<Program>>) -> bool
-    ensures { result ≡ has_env (predicate_operands (predicate_written predicate.now)) }
-{
-    match predicate {
-        None => false,
-        Some(program) => program_uses_env(program),
     }
 }
 

@@ -1,0 +1,55 @@
+-- Whether `$env` stands in a tree and what a tree weighs, by the parts right inside it.
+use Rattle.std.proofs.Common.{◌≡◌, ℕ, zero, suc, ◌+◌, ◌<◌, ◌≤◌, Bool, true, false, ◌||◌, List, [], ◌∷◌, ◌++◌, length, get_or, Global, String, refl, sym, ap, ◌∙◌, arith}
+use Rattle.expr_tree.specs.Children.{children, block_children, own_name}
+use Rattle.expr_tree.specs.Names.{operands, block_operands, has_env}
+use Rattle.expr_tree.specs.Term.{Term, Block}
+use Rattle.expr_tree.specs.Weight.{weight, block_weight}
+use Rattle.expr_tree.specs.Written.{written}
+use Rattle.expr_tree.specs.declared.node.Node.{Node}
+use Rattle.expr_tree.proofs.Children.{operands_of, weight_of, operands_of-append, weight_of-append, operands-block, operands-inside, weight-block, weight-inside}
+use Rattle.expr_tree.proofs.Gathered.{both, has_env-append}
+use Rattle.expr_tree.proofs.Weights.{items_weight, named_weight}
+
+abbrev pub uses : List Term → Bool
+uses ts = has_env (operands_of ts)
+
+pub parts-weight : (t : Term) (xs ys zs : List Term) → (xs ++ (ys ++ zs)) ≡ children t → weight t ≡ 1 + (weight_of xs + (weight_of ys + weight_of zs))
+parts-weight t xs ys zs e = omega (arith, weight-inside t, ap weight_of e, weight_of-append xs (ys ++ zs), weight_of-append ys zs)
+
+pub choice-weight : (t a : Term) (p q : Block) → (a ∷ (block_children p ++ block_children q)) ≡ children t → weight t ≡ 1 + (weight a + (block_weight p + block_weight q))
+choice-weight t a p q e = omega (arith, parts-weight t (a ∷ []) (block_children p) (block_children q) e, weight-block p, weight-block q)
+
+pub item-weight : (ns : List Node) (i : ℕ) (n : Node) → i < length ns → n ≡ get_or ns i n → weight (written n) ≤ items_weight ns
+item-weight [] i n within at = absurd (omega (arith, within))
+item-weight (m ∷ ns) zero n within at =
+    let same : weight (written n) ≡ weight (written m) = ap (λ x. weight (written x)) at in
+    omega (arith, same)
+item-weight (m ∷ ns) (suc i) n within at = omega (arith, item-weight ns i n (omega (arith, within)) at)
+
+pub line-weight : (ls : List (String Global × Node)) (i : ℕ) (l : String Global × Node) → i < length ls → l ≡ get_or ls i l → weight (written l.1) ≤ named_weight ls
+line-weight [] i l within at = absurd (omega (arith, within))
+line-weight (m ∷ ls) zero l within at =
+    let same : weight (written l.1) ≡ weight (written m.1) = ap (λ (x : String Global × Node). weight (written x.1)) at in
+    omega (arith, same)
+line-weight (m ∷ ls) (suc i) l within at = omega (arith, line-weight ls i l (omega (arith, within)) at)
+
+pub parts-env : (t : Term) (xs ys zs : List Term) → [] ≡ own_name t → (xs ++ (ys ++ zs)) ≡ children t → has_env (operands t) ≡ ((uses xs || uses ys) || uses zs)
+parts-env t xs ys zs none e =
+    ap has_env (operands-inside t ∙ both (sym none) (ap operands_of (sym e)) ∙ operands_of-append xs (ys ++ zs))
+    ∙ has_env-append (operands_of xs) (operands_of (ys ++ zs))
+    ∙ ap (λ b. uses xs || b) (ap has_env (operands_of-append ys zs) ∙ has_env-append (operands_of ys) (operands_of zs))
+    ∙ regroup (uses xs) (uses ys) (uses zs)
+  where
+    regroup : (a b c : Bool) → (a || (b || c)) ≡ ((a || b) || c)
+    regroup true b c = refl
+    regroup false b c = refl
+
+pub block-env : (b : Block) → has_env (block_operands b) ≡ uses (block_children b)
+block-env b = ap has_env (operands-block b)
+
+-- what `||` comes to
+pub or_then : (v a b : Bool) → a ≡ true → v ≡ true → v ≡ (a || b)
+or_then v a b p q = q ∙ ap (λ x. x || b) (sym p)
+
+pub or_else : (v a b : Bool) → a ≡ false → v ≡ b → v ≡ (a || b)
+or_else v a b p q = q ∙ ap (λ x. x || b) (sym p)
