@@ -5,7 +5,7 @@ use Rattle.std.proofs.lemmas.Option.{slice_get_cases}
 use Rattle.std.specs.List.{All}
 use Rattle.std.specs.Prelude.{slice_get, unwrap_or}
 use Rattle.expr_token.proofs.Lexing.{one_reading}
-use Rattle.expr_token.specs.Reading.{AllFit, Begins, ReadsAt, text_of}
+use Rattle.expr_token.specs.Reading.{ArePieces, Begins, ReadsAt, pieces_text}
 use Rattle.expr_token.specs.declared.token.Token.{Token}
 use Rattle.expr_tree.specs.Written.{program_written}
 use Rattle.expr_tree.specs.declared.node.Program.{Program}
@@ -41,9 +41,9 @@ module _ (text : List ℕ) (ts : List Token) (starts : List ℕ) (reads : ReadsA
       let none : drop (length text) text ≡ [] = drop_all (length text) text (omega arith) in
       record {
         pieces = reads.pieces;
-        whole = ap (λ rest. text_of reads.pieces ++ rest) none ∙ append-nil (text_of reads.pieces) ∙ reads.whole;
+        whole = ap (λ rest. pieces_text reads.pieces ++ rest) none ∙ append-nil (pieces_text reads.pieces) ∙ reads.whole;
         long = ap length reads.whole;
-        fit = subst (AllFit reads.pieces) (sym none) reads.fit;
+        fit = subst (ArePieces reads.pieces) (sym none) reads.fit;
         in_order = reads.in_order;
         placed = reads.placed;
       }

@@ -5,7 +5,7 @@ use Rattle.std.specs.Option.{option_map}
 use Rattle.std.proofs.lemmas.Bool.{cond-true, cond-false, and_parts, and_from, eqb-true, eq-eqb, ne_eqb, cases_Bool, false≢true}
 use Rattle.std.proofs.lemmas.List.{drop_at, drop_all, drop_more, drop-drop}
 use Rattle.std.proofs.lemmas.List.Prefix.{front_fits}
-use Rattle.expr_token.specs.Kinds.{begins}
+use Rattle.expr_token.specs.Kinds.{first_is}
 use Rattle.expr_token.specs.Lexer.{body}
 
 abbrev pub Step : Type 0
@@ -31,7 +31,7 @@ skip step quote (suc k) (b ∷ s) within =
     ∙ map_map (λ r. (suc r.0, r.1)) (moved k []) (moved (suc k) []) (body step quote 0 (drop k s)) (λ r. let e : suc (k + r.0) ≡ suc k + r.0 = omega arith in ap (λ n. (n, r.1)) e)
 
 -- one part more
-pub body_part : (step : Step) (quote n : ℕ) (value s : List ℕ) → begins (λ b. b == quote) s ≡ false → step s ≡ Some (n, value) → 0 < n → n ≤ length s → body step quote 0 s ≡ option_map (moved n value) (body step quote 0 (drop n s))
+pub body_part : (step : Step) (quote n : ℕ) (value s : List ℕ) → first_is (λ b. b == quote) s ≡ false → step s ≡ Some (n, value) → 0 < n → n ≤ length s → body step quote 0 s ≡ option_map (moved n value) (body step quote 0 (drop n s))
 body_part step quote n value [] other e some within = absurd (omega arith)
 body_part step quote zero value (b ∷ s) other e some within = absurd (omega arith)
 body_part step quote (suc n) value (b ∷ s) other e some within =
@@ -40,28 +40,28 @@ body_part step quote (suc n) value (b ∷ s) other e some within =
     ∙ ap (option_map (λ r. (suc r.0, value ++ r.1))) (skip step quote n s (omega arith))
     ∙ map_map (λ r. (suc r.0, value ++ r.1)) (moved n []) (moved (suc n) value) (body step quote 0 (drop n s)) (λ r. let k : suc (n + r.0) ≡ suc n + r.0 = omega arith in ap (λ m. (m, value ++ r.1)) k)
 
-pub body_none : (step : Step) (quote : ℕ) (s : List ℕ) → begins (λ b. b == quote) s ≡ false → step s ≡ None → body step quote 0 s ≡ None
+pub body_none : (step : Step) (quote : ℕ) (s : List ℕ) → first_is (λ b. b == quote) s ≡ false → step s ≡ None → body step quote 0 s ≡ None
 body_none step quote [] other e = refl
 body_none step quote (b ∷ s) other e =
     cond-false _ _ _ other ∙ ap (λ o. elim (let u : Option (ℕ × List ℕ) = o in u) [ None ↦ None | Some part ↦ option_map (λ r. (suc r.0, part.1 ++ r.1)) (body step quote (pred part.0) s) ]) e
 
-pub body_end : (step : Step) (quote : ℕ) (s : List ℕ) → begins (λ b. b == quote) s ≡ true → body step quote 0 s ≡ Some (0, [])
+pub body_end : (step : Step) (quote : ℕ) (s : List ℕ) → first_is (λ b. b == quote) s ≡ true → body step quote 0 s ≡ Some (0, [])
 body_end step quote [] e = absurd (false≢true e)
 body_end step quote (b ∷ s) e = cond-true _ _ _ e
 
 -- the same in a loop that goes over the text
 pub loop_part : (step : Step) (quote i n : ℕ) (value s : List ℕ) → i < length s → (get_or s i 0 ≡ quote → ⊥) → step (drop i s) ≡ Some (n, value) → 0 < n → n ≤ length (drop i s) → body step quote 0 (drop i s) ≡ option_map (moved n value) (body step quote 0 (drop (i + n) s))
 loop_part step quote i n value s below other e some within =
-    let first : begins (λ b. b == quote) (drop i s) ≡ false = ap (begins (λ b. b == quote)) (drop_more s i 0 below) ∙ ne_eqb (get_or s i 0) quote other in
+    let first : first_is (λ b. b == quote) (drop i s) ≡ false = ap (first_is (λ b. b == quote)) (drop_more s i 0 below) ∙ ne_eqb (get_or s i 0) quote other in
     body_part step quote n value (drop i s) first e some within ∙ ap (λ l. option_map (moved n value) (body step quote 0 l)) (drop-drop n i s)
 
 pub loop_none : (step : Step) (quote i : ℕ) (s : List ℕ) → i < length s → (get_or s i 0 ≡ quote → ⊥) → step (drop i s) ≡ None → body step quote 0 (drop i s) ≡ None
 loop_none step quote i s below other e =
-    body_none step quote (drop i s) (ap (begins (λ b. b == quote)) (drop_more s i 0 below) ∙ ne_eqb (get_or s i 0) quote other) e
+    body_none step quote (drop i s) (ap (first_is (λ b. b == quote)) (drop_more s i 0 below) ∙ ne_eqb (get_or s i 0) quote other) e
 
 pub loop_end : (step : Step) (quote i : ℕ) (s : List ℕ) → i < length s → get_or s i 0 ≡ quote → body step quote 0 (drop i s) ≡ Some (0, [])
 loop_end step quote i s below here =
-    body_end step quote (drop i s) (ap (begins (λ b. b == quote)) (drop_more s i 0 below) ∙ eq-eqb (get_or s i 0) quote here)
+    body_end step quote (drop i s) (ap (first_is (λ b. b == quote)) (drop_more s i 0 below) ∙ eq-eqb (get_or s i 0) quote here)
 
 pub loop_all : (step : Step) (quote i : ℕ) (s : List ℕ) → length s ≤ i → body step quote 0 (drop i s) ≡ None
 loop_all step quote i s past = ap (body step quote 0) (drop_all i s past)
@@ -112,7 +112,7 @@ module _ {P : Type 0} (spelled value : P → List ℕ) (fits : ℕ → P → Boo
     pub fit : list_all (fits quote) parts ≡ true
 
   module _ (quote : ℕ) (sound : (b : ℕ) (s : List ℕ) → (b == quote) ≡ false → IfSome (step (b ∷ s)) (λ f. PartAt quote (b ∷ s) f.0 f.1)) where
-    in_none : (s : List ℕ) → begins (λ b. b == quote) s ≡ true → InParts quote s 0 []
+    in_none : (s : List ℕ) → first_is (λ b. b == quote) s ≡ true → InParts quote s 0 []
     in_none [] e = absurd (false≢true e)
     in_none (b ∷ s) e = record { parts = []; split = (λ i. eqb-true b quote e i ∷ s); long = refl; is = refl; fit = refl }
 
@@ -156,7 +156,7 @@ module _ {P : Type 0} (spelled value : P → List ℕ) (fits : ℕ → P → Boo
         (cases_Bool (b == quote))
 
   -- parts before a quote are found
-  pub body_complete : (quote : ℕ) → ((p : P) (rest : List ℕ) → fits quote p ≡ true → (step (spelled p ++ rest) ≡ Some (length (spelled p), value p)) × (begins (λ b. b == quote) (spelled p ++ rest) ≡ false) × (0 < length (spelled p)))
+  pub body_complete : (quote : ℕ) → ((p : P) (rest : List ℕ) → fits quote p ≡ true → (step (spelled p ++ rest) ≡ Some (length (spelled p), value p)) × (first_is (λ b. b == quote) (spelled p ++ rest) ≡ false) × (0 < length (spelled p)))
       → (parts : List P) (rest : List ℕ) → list_all (fits quote) parts ≡ true → body step quote 0 (flat_map spelled parts ++ (quote ∷ rest)) ≡ Some (length (flat_map spelled parts), flat_map value parts)
   body_complete quote complete [] rest all = body_end step quote (quote ∷ rest) (eq-eqb quote quote refl)
   body_complete quote complete (p ∷ ps) rest all =

@@ -7,7 +7,7 @@ use Rattle.std.proofs.lemmas.Bool.Decides.{nat_tests}
 use Rattle.std.proofs.lemmas.List.{take_rest, drop-drop}
 use Rattle.std.proofs.lemmas.List.Sums.{prefix_len_passes, prefix_len_stops, prefix_len-le-length}
 use Rattle.std.proofs.lemmas.Str.{IsCharBoundary-after_ascii, IsCharBoundary-before_ascii}
-use Rattle.expr_token.specs.Kinds.{is_word_byte, begins}
+use Rattle.expr_token.specs.Kinds.{is_word_byte, first_is}
 use Rattle.expr_token.specs.Tokens.{is_quote, is_raw_byte}
 use Rattle.expr_token.proofs.Words.{prefix_yes}
 
@@ -45,25 +45,25 @@ after_word text at (suc m) utf8 some e =
     cut_after text at m utf8 (omega (arith, prefix_len-le-length is_word_byte (drop at text), length-drop at text))
     (word_byte_ascii _ (prefix_len_passes is_word_byte (drop at text) m 0 (omega arith)))
 
-pub word_some : (text : List ℕ) → begins is_word_byte text ≡ true → 0 < prefix_len is_word_byte text
+pub word_some : (text : List ℕ) → first_is is_word_byte text ≡ true → 0 < prefix_len is_word_byte text
 word_some [] e = absurd (false≢true e)
 word_some (b ∷ s) e = subst (λ n. 0 < n) (sym (prefix_yes is_word_byte b s e)) (omega arith)
 
 -- the last byte of a hash name is ASCII
-pub hash_last : (s : List ℕ) (n : ℕ) → begins (λ b. b == 35) s ≡ true → n ≡ prefix_len is_word_byte (drop 1 s) → (get_or s n 0 < 128) × (n < length s)
+pub hash_last : (s : List ℕ) (n : ℕ) → first_is (λ b. b == 35) s ≡ true → n ≡ prefix_len is_word_byte (drop 1 s) → (get_or s n 0 < 128) × (n < length s)
 hash_last [] n first e = absurd (false≢true first)
 hash_last (b ∷ s) zero first e = (subst (λ x. x < 128) (sym (eqb-true b 35 first)) (lit< tt), omega arith)
 hash_last (b ∷ s) (suc m) first e = (word_byte_ascii _ (prefix_len_passes is_word_byte s m 0 (omega arith)), omega (arith, prefix_len-le-length is_word_byte s))
 
 -- the first byte of a text
-pub first_small : (s : List ℕ) (n : ℕ) → begins (λ b. b == n) s ≡ true → n < 128 → (get_or s 0 0 < 128) × (0 < length s)
+pub first_small : (s : List ℕ) (n : ℕ) → first_is (λ b. b == n) s ≡ true → n < 128 → (get_or s 0 0 < 128) × (0 < length s)
 first_small [] n first small = absurd (false≢true first)
 first_small (b ∷ s) n first small = (subst (λ x. x < 128) (sym (eqb-true b n first)) small, omega arith)
 
 quote_ascii : (b : ℕ) → is_quote b ≡ true → b < 128
 quote_ascii b e = grind (arith, nat_tests)
 
-pub quote_small : (s : List ℕ) → begins is_quote s ≡ true → (get_or s 0 0 < 128) × (0 < length s)
+pub quote_small : (s : List ℕ) → first_is is_quote s ≡ true → (get_or s 0 0 < 128) × (0 < length s)
 quote_small [] quoted = absurd (false≢true quoted)
 quote_small (b ∷ s) quoted = (quote_ascii b quoted, omega arith)
 

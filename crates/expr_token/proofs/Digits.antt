@@ -4,7 +4,7 @@ use Rattle.std.proofs.lemmas.Bool.{cond-true, cond-false, cond_both, le-ltb, eqb
 use Rattle.std.proofs.lemmas.Bool.Decides.{nat_tests}
 use Rattle.std.proofs.lemmas.List.{drop_more}
 use Rattle.std.specs.Char.{digit_value, is_digit, is_ascii_alphanumeric}
-use Rattle.expr_token.specs.Kinds.{is_word_byte, begins}
+use Rattle.expr_token.specs.Kinds.{is_word_byte, first_is}
 use Rattle.expr_token.specs.Lexer.{digits_len}
 use Rattle.expr_token.specs.Tokens.{continues, is_digits, with_digit, integer}
 
@@ -62,7 +62,7 @@ continues_cut radix b (c ∷ s) e =
     (λ later.
     let parts = and_parts (b == 95) (is_digit c radix) later in
     let one = digits_len_digit radix c s parts.1 in
-    or_right (is_digit b radix) _ (subst (λ n. (b == 95 && begins (λ d. is_digit d radix) (take n (c ∷ s))) ≡ true) (sym one.1) (and_from _ _ parts.0 parts.1)))
+    or_right (is_digit b radix) _ (subst (λ n. (b == 95 && first_is (λ d. is_digit d radix) (take n (c ∷ s))) ≡ true) (sym one.1) (and_from _ _ parts.0 parts.1)))
     (or_cases (is_digit b radix) (b == 95 && is_digit c radix) e)
 
 pub digits_all : (radix : ℕ) (s : List ℕ) → is_digits radix (take (digits_len radix s) s) ≡ true
@@ -82,7 +82,7 @@ digits_within radix (b ∷ s) =
     (cases_Bool (continues radix (b ∷ s)))
 
 -- what may continue may do so whatever follows
-begins_more : (kind : ℕ → Bool) (s rest : List ℕ) → begins kind s ≡ true → begins kind (s ++ rest) ≡ true
+begins_more : (kind : ℕ → Bool) (s rest : List ℕ) → first_is kind s ≡ true → first_is kind (s ++ rest) ≡ true
 begins_more kind [] rest e = absurd (false≢true e)
 begins_more kind (b ∷ s) rest e = e
 
@@ -91,9 +91,9 @@ continues_more radix b s rest e =
     ⊎_elim
     (λ here. or_left _ _ here)
     (λ later.
-    let parts = and_parts (b == 95) (begins (λ d. is_digit d radix) s) later in
+    let parts = and_parts (b == 95) (first_is (λ d. is_digit d radix) s) later in
     or_right (is_digit b radix) _ (and_from _ _ parts.0 (begins_more (λ d. is_digit d radix) s rest parts.1)))
-    (or_cases (is_digit b radix) (b == 95 && begins (λ d. is_digit d radix) s) e)
+    (or_cases (is_digit b radix) (b == 95 && first_is (λ d. is_digit d radix) s) e)
 
 no_value : (b : ℕ) → is_ascii_alphanumeric b ≡ false → digit_value b ≡ 36
 no_value b e = grind (arith, nat_tests)
@@ -106,13 +106,13 @@ no_digit b radix small e =
     let big = no_value b other.0 in
     (subst (λ v. nat_lt v radix ≡ false) (sym big) (le-ltb 36 radix small), other.1)
 
-stops_before : (radix : ℕ) (rest : List ℕ) → radix ≤ 36 → begins is_word_byte rest ≡ false → digits_len radix rest ≡ 0
+stops_before : (radix : ℕ) (rest : List ℕ) → radix ≤ 36 → first_is is_word_byte rest ≡ false → digits_len radix rest ≡ 0
 stops_before radix [] small e = refl
 stops_before radix (b ∷ s) small e =
     let no = no_digit b radix small e in
     digits_len_stop radix b s (or_from _ _ no.0 (and_left _ _ no.1))
 
-pub digits_end : (radix : ℕ) (s rest : List ℕ) → radix ≤ 36 → is_digits radix s ≡ true → begins is_word_byte rest ≡ false → digits_len radix (s ++ rest) ≡ length s
+pub digits_end : (radix : ℕ) (s rest : List ℕ) → radix ≤ 36 → is_digits radix s ≡ true → first_is is_word_byte rest ≡ false → digits_len radix (s ++ rest) ≡ length s
 digits_end radix [] rest small all other = stops_before radix rest small other
 digits_end radix (b ∷ s) rest small all other =
     let parts = and_parts (continues radix (b ∷ s)) (is_digits radix s) all in

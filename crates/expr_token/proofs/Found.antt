@@ -1,14 +1,14 @@
 -- What it says that a token is found at the front of a text.
 use Rattle.std.proofs.Common.{◌≡◌, ℕ, ◌<◌, ◌≤◌, false, List, length, take, drop, Option, IfSome}
 use Rattle.expr_token.specs.Reading.{IsApart, begins_comment}
-use Rattle.expr_token.specs.Tokens.{Spells}
+use Rattle.expr_token.specs.Tokens.{IsSpelling}
 use Rattle.expr_token.specs.declared.token.Token.{Token}
 
 -- a token that is found at the front of a text, with its length
 pub record Found (text : List ℕ) (n : ℕ) (token : Token) : Type 0 where
   pub within : n ≤ length text
   pub some : 0 < n
-  pub spells : Spells token (take n text)
+  pub spells : IsSpelling token (take n text)
   pub apart : IsApart token (drop n text)
   pub no_comment : begins_comment text ≡ false
 

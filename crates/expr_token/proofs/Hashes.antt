@@ -6,14 +6,14 @@ use Rattle.std.proofs.lemmas.Bool.{cond-true, cond-false, cond_both, and_parts, 
 use Rattle.std.proofs.lemmas.Bool.Decides.{nat_tests}
 use Rattle.std.proofs.lemmas.List.{take_at, take_more}
 use Rattle.std.proofs.lemmas.List.Sums.{prefix_len_stops}
-use Rattle.expr_token.specs.Kinds.{is_word_byte, begins}
+use Rattle.expr_token.specs.Kinds.{is_word_byte, first_is}
 use Rattle.expr_token.specs.Lexer.{hash_at, raw_at}
 use Rattle.expr_token.specs.Tokens.{is_word, is_hash_name, is_raw_byte}
 use Rattle.expr_token.proofs.Found.{Finds, Reaches}
 use Rattle.expr_token.proofs.Words.{run_all, run_stops, run_within, run_ends, run_reaches, no_comment}
 use Rattle.expr_token.specs.declared.token.Token.{Token}
 
-hash_name : (w : List ℕ) → list_all is_word_byte w ≡ true → begins is_ascii_digit w ≡ false → is_hash_name (35 ∷ w) ≡ true
+hash_name : (w : List ℕ) → list_all is_word_byte w ≡ true → first_is is_ascii_digit w ≡ false → is_hash_name (35 ∷ w) ≡ true
 hash_name [] all first = refl
 hash_name (c ∷ w) all first = and_from _ _ (and_parts (is_word_byte c) (list_all is_word_byte w) all).0 (and_from _ _ (not_from_false _ first) all)
 
@@ -22,7 +22,7 @@ pub record HashName (s : List ℕ) : Type 0 where
   pub word : List ℕ
   pub is : s ≡ 35 ∷ word
   pub all : list_all is_word_byte word ≡ true
-  pub first : begins is_ascii_digit word ≡ false
+  pub first : first_is is_ascii_digit word ≡ false
 
 pub hash_shape : (s : List ℕ) → is_hash_name s ≡ true → HashName s
 hash_shape [] e = absurd (false≢true e)
@@ -32,7 +32,7 @@ hash_shape (b ∷ c ∷ s) e =
     let more = and_parts (not (is_ascii_digit c)) (list_all is_word_byte (c ∷ s)) (and_parts (is_word_byte c) _ parts.1).1 in
     record { word = c ∷ s; is = ap (λ x. x ∷ c ∷ s) (eqb-true b 35 parts.0); all = more.1; first = not-true (is_ascii_digit c) more.0 }
 
-begins_cut : (kind : ℕ → Bool) (n : ℕ) (s : List ℕ) → begins kind s ≡ false → begins kind (take n s) ≡ false
+begins_cut : (kind : ℕ → Bool) (n : ℕ) (s : List ℕ) → first_is kind s ≡ false → first_is kind (take n s) ≡ false
 begins_cut kind zero s e = refl
 begins_cut kind (suc n) [] e = refl
 begins_cut kind (suc n) (b ∷ s) e = e
@@ -40,7 +40,7 @@ begins_cut kind (suc n) (b ∷ s) e = e
 pub hash_sound : (s : List ℕ) → Finds (35 ∷ s) (hash_at (35 ∷ s))
 hash_sound s =
     let n = prefix_len is_word_byte s in
-    cond_both (begins is_ascii_digit s) None (Some (suc n, Token.Hash (take (suc n) (35 ∷ s)))) (Finds (35 ∷ s)) (λ _. tt)
+    cond_both (first_is is_ascii_digit s) None (Some (suc n, Token.Hash (take (suc n) (35 ∷ s)))) (Finds (35 ∷ s)) (λ _. tt)
     (λ plain. record {
       within = let h = run_within is_word_byte s in omega arith;
       some = omega arith;
@@ -53,20 +53,20 @@ pub hash_reaches : (word rest : List ℕ) → list_all is_word_byte word ≡ tru
 hash_reaches word rest all =
     let text = word ++ rest in
     let n = prefix_len is_word_byte text in
-    cond_both (begins is_ascii_digit text) None (Some (suc n, Token.Hash (take (suc n) (35 ∷ text)))) (Reaches (suc (length word))) (λ _. tt) (λ _. let h = run_reaches is_word_byte word rest all in omega arith)
+    cond_both (first_is is_ascii_digit text) None (Some (suc n, Token.Hash (take (suc n) (35 ∷ text)))) (Reaches (suc (length word))) (λ _. tt) (λ _. let h = run_reaches is_word_byte word rest all in omega arith)
 
 no_digit_byte : (b : ℕ) → is_word_byte b ≡ false → is_ascii_digit b ≡ false
 no_digit_byte b e = grind (arith, nat_tests)
 
-no_digit_at : (rest : List ℕ) → begins is_word_byte rest ≡ false → begins is_ascii_digit rest ≡ false
+no_digit_at : (rest : List ℕ) → first_is is_word_byte rest ≡ false → first_is is_ascii_digit rest ≡ false
 no_digit_at [] e = refl
 no_digit_at (b ∷ s) e = no_digit_byte b e
 
-no_digit_in : (word rest : List ℕ) → begins is_ascii_digit word ≡ false → begins is_word_byte rest ≡ false → begins is_ascii_digit (word ++ rest) ≡ false
+no_digit_in : (word rest : List ℕ) → first_is is_ascii_digit word ≡ false → first_is is_word_byte rest ≡ false → first_is is_ascii_digit (word ++ rest) ≡ false
 no_digit_in [] rest first other = no_digit_at rest other
 no_digit_in (b ∷ word) rest first other = first
 
-pub hash_complete : (word rest : List ℕ) → list_all is_word_byte word ≡ true → begins is_ascii_digit word ≡ false → begins is_word_byte rest ≡ false → hash_at (35 ∷ (word ++ rest)) ≡ Some (suc (length word), Token.Hash (35 ∷ word))
+pub hash_complete : (word rest : List ℕ) → list_all is_word_byte word ≡ true → first_is is_ascii_digit word ≡ false → first_is is_word_byte rest ≡ false → hash_at (35 ∷ (word ++ rest)) ≡ Some (suc (length word), Token.Hash (35 ∷ word))
 hash_complete word rest all first other =
     cond-false _ _ _ (no_digit_in word rest first other)
     ∙ ap (λ n. Some (suc n, Token.Hash (35 ∷ take n (word ++ rest)))) (run_ends is_word_byte word rest all other)

@@ -4,9 +4,9 @@ use Rattle.std.specs.Char.{is_ascii_digit, is_digit}
 use Rattle.std.proofs.lemmas.Bool.{cond-false, cond_both, and_parts, eqb-true, ne_eqb, or_cases, or_parts, false≢true}
 use Rattle.std.proofs.lemmas.Bool.Decides.{nat_tests}
 use Rattle.std.proofs.lemmas.List.{drop_at, take_at, drop-drop}
-use Rattle.expr_token.specs.Kinds.{is_word_byte, begins}
+use Rattle.expr_token.specs.Kinds.{is_word_byte, first_is}
 use Rattle.expr_token.specs.Lexer.{digits_len, integer_at, integer_from, if_apart, prefix_radix}
-use Rattle.expr_token.specs.Tokens.{Spells, IsDecimal, IsPrefixed, integer, number, is_digits, continues, radix_named}
+use Rattle.expr_token.specs.Tokens.{IsSpelling, IsDecimal, IsPrefixed, integer, number, is_digits, continues, radix_named}
 use Rattle.expr_token.proofs.Digits.{digits_all, digits_within, digits_end, digits_reach, digits_len_digit}
 use Rattle.expr_token.specs.declared.token.Token.{Token}
 
@@ -16,15 +16,15 @@ pub record FoundInteger (text : List ℕ) (n : ℕ) (token : Token) : Type 0 whe
   pub some : 0 < n
   pub value : Option ℤ
   pub is_integer : token ≡ Token.Integer value
-  pub spells : Spells (Token.Integer value) (take n text)
-  pub apart : begins is_word_byte (drop n text) ≡ false
+  pub spells : IsSpelling (Token.Integer value) (take n text)
+  pub apart : first_is is_word_byte (drop n text) ≡ false
 
 abbrev Finds : List ℕ → Option (ℕ × Token) → Type 0
 Finds text o = IfSome o (λ f. FoundInteger text f.0 f.1)
 
 apart_finds : (text : List ℕ) (n v : ℕ) → n ≤ length text → 0 < n → (IsDecimal (take n text) v ⊎ IsPrefixed (take n text) v) → Finds text (if_apart text n (Token.Integer (integer v)))
 apart_finds text n v within some written =
-    cond_both (begins is_word_byte (drop n text)) None (Some (n, Token.Integer (integer v))) (Finds text) (λ _. tt)
+    cond_both (first_is is_word_byte (drop n text)) None (Some (n, Token.Integer (integer v))) (Finds text) (λ _. tt)
     (λ other. record { within = within; some = some; value = integer v; is_integer = refl; spells = (v, written, refl); apart = other })
 
 -- a digit of radix 10 is an ASCII digit
@@ -104,7 +104,7 @@ integer_sound b (c ∷ s) first = by (prefix_radix (b ∷ c ∷ s)) refl
 -- reach: what is found is as long as any integer that is written there
 apart_reaches : (text : List ℕ) (n k : ℕ) (token : Token) → k ≤ n → IfSome (if_apart text n token) (λ f. k ≤ f.0)
 apart_reaches text n k token far =
-    cond_both (begins is_word_byte (drop n text)) None (Some (n, token)) (λ o. IfSome o (λ f. k ≤ f.0)) (λ _. tt) (λ _. far)
+    cond_both (first_is is_word_byte (drop n text)) None (Some (n, token)) (λ o. IfSome o (λ f. k ≤ f.0)) (λ _. tt) (λ _. far)
 
 from_reaches : (start radix k : ℕ) (text : List ℕ) → k ≤ digits_len radix (drop start text) → IfSome (integer_from start radix text) (λ f. start + k ≤ f.0)
 from_reaches start radix k text far = by (digits_len radix (drop start text)) refl
@@ -121,7 +121,7 @@ no_radix c s e = by (radix_named c) refl
     by None h = refl
     by (Some radix) h =
         let no = or_parts (is_digit c 10) (c == 95) (radix_is c radix h).2 in
-        absurd (⊎_elim (λ d. false≢true (sym no.0 ∙ d)) (λ d. false≢true (sym no.1 ∙ (and_parts (c == 95) (begins (λ x. is_digit x 10) s) d).0)) (or_cases (is_digit c 10) (c == 95 && begins (λ x. is_digit x 10) s) e))
+        absurd (⊎_elim (λ d. false≢true (sym no.0 ∙ d)) (λ d. false≢true (sym no.1 ∙ (and_parts (c == 95) (first_is (λ x. is_digit x 10) s) d).0)) (or_cases (is_digit c 10) (c == 95 && first_is (λ x. is_digit x 10) s) e))
 
 -- where the second byte names no radix, the digits are of radix 10
 plain_at : (b c : ℕ) (s : List ℕ) → radix_named c ≡ None → integer_at (b ∷ c ∷ s) ≡ integer_from 0 10 (b ∷ c ∷ s)
@@ -142,7 +142,7 @@ positive_found : (text : List ℕ) (o : Option (ℕ × Token)) → Finds text o 
 positive_found text None h = tt
 positive_found text (Some f) h = h.some
 
-decimal_reaches : (s rest : List ℕ) → begins is_ascii_digit s ≡ true → is_digits 10 s ≡ true → IfSome (integer_at (s ++ rest)) (λ f. length s ≤ f.0)
+decimal_reaches : (s rest : List ℕ) → first_is is_ascii_digit s ≡ true → is_digits 10 s ≡ true → IfSome (integer_at (s ++ rest)) (λ f. length s ≤ f.0)
 decimal_reaches [] rest first digits = absurd (false≢true first)
 decimal_reaches (b ∷ []) rest first digits = positive_found (b ∷ rest) (integer_at (b ∷ rest)) (integer_sound b rest first)
 decimal_reaches (b ∷ c ∷ s) rest first digits =
@@ -156,7 +156,7 @@ prefixed_at letter radix s named =
 two_more : (n : ℕ) → 2 + n ≡ suc (suc n)
 two_more n = omega arith
 
-pub integer_reaches : (value : Option ℤ) (s rest : List ℕ) → Spells (Token.Integer value) s → IfSome (integer_at (s ++ rest)) (λ f. length s ≤ f.0)
+pub integer_reaches : (value : Option ℤ) (s rest : List ℕ) → IsSpelling (Token.Integer value) s → IfSome (integer_at (s ++ rest)) (λ f. length s ≤ f.0)
 integer_reaches value s rest (n, inl d, e) = decimal_reaches s rest d.first d.digits
 integer_reaches value s rest (n, inr p, e) =
     subst (λ l. IfSome (integer_at (l ++ rest)) (λ f. length l ≤ f.0)) (sym p.written)
@@ -164,14 +164,14 @@ integer_reaches value s rest (n, inr p, e) =
     (subst (λ n. IfSome (integer_from 2 p.radix (48 ∷ p.letter ∷ (p.rest ++ rest))) (λ f. n ≤ f.0)) (two_more (length p.rest)) (from_reaches 2 p.radix (length p.rest) (48 ∷ p.letter ∷ (p.rest ++ rest)) (digits_reach p.radix p.rest rest p.digits))))
 
 -- an integer that is written, before no byte of a word, is found
-from_complete : (start radix m : ℕ) (text digits rest : List ℕ) → drop start text ≡ digits ++ rest → length digits ≡ suc m → radix ≤ 36 → is_digits radix digits ≡ true → begins is_word_byte rest ≡ false
+from_complete : (start radix m : ℕ) (text digits rest : List ℕ) → drop start text ≡ digits ++ rest → length digits ≡ suc m → radix ≤ 36 → is_digits radix digits ≡ true → first_is is_word_byte rest ≡ false
     → integer_from start radix text ≡ Some (start + length digits, Token.Integer (integer (number radix digits)))
 from_complete start radix m text digits rest split long small all other =
     let run : digits_len radix (drop start text) ≡ suc m = ap (digits_len radix) split ∙ digits_end radix digits rest small all other ∙ long in
     let after : drop (start + suc m) text ≡ rest = sym (drop-drop (suc m) start text) ∙ ap (drop (suc m)) split ∙ drop_at digits rest (suc m) long in
     let front : take (suc m) (drop start text) ≡ digits = ap (take (suc m)) split ∙ take_at digits rest (suc m) long in
     from_run start radix m text run
-    ∙ cond-false _ _ _ (ap (begins is_word_byte) after ∙ other)
+    ∙ cond-false _ _ _ (ap (first_is is_word_byte) after ∙ other)
     ∙ ap (λ l. Some (start + suc m, Token.Integer (integer (number radix l)))) front
     ∙ ap (λ n. Some (start + n, Token.Integer (integer (number radix digits)))) (sym long)
 
@@ -182,21 +182,21 @@ no_word_no_radix c e = by (radix_named c) refl
     by None h = refl
     by (Some radix) h = absurd (false≢true (sym e ∙ (radix_is c radix h).1))
 
-alone_at : (b : ℕ) (rest : List ℕ) → begins is_word_byte rest ≡ false → integer_at (b ∷ rest) ≡ integer_from 0 10 (b ∷ rest)
+alone_at : (b : ℕ) (rest : List ℕ) → first_is is_word_byte rest ≡ false → integer_at (b ∷ rest) ≡ integer_from 0 10 (b ∷ rest)
 alone_at b [] other = refl
 alone_at b (c ∷ rest) other = plain_at b c rest (no_word_no_radix c other)
 
-whole_decimal : (b : ℕ) (s rest : List ℕ) → is_digits 10 (b ∷ s) ≡ true → begins is_word_byte rest ≡ false → integer_from 0 10 (b ∷ (s ++ rest)) ≡ Some (suc (length s), Token.Integer (integer (number 10 (b ∷ s))))
+whole_decimal : (b : ℕ) (s rest : List ℕ) → is_digits 10 (b ∷ s) ≡ true → first_is is_word_byte rest ≡ false → integer_from 0 10 (b ∷ (s ++ rest)) ≡ Some (suc (length s), Token.Integer (integer (number 10 (b ∷ s))))
 whole_decimal b s rest digits other =
     from_complete 0 10 (length s) (b ∷ (s ++ rest)) (b ∷ s) rest refl refl (lit≤ tt) digits other
     ∙ ap (λ n. Some (n, Token.Integer (integer (number 10 (b ∷ s))))) (zero-add (suc (length s)))
 
-decimal_complete : (s rest : List ℕ) → begins is_ascii_digit s ≡ true → is_digits 10 s ≡ true → begins is_word_byte rest ≡ false → integer_at (s ++ rest) ≡ Some (length s, Token.Integer (integer (number 10 s)))
+decimal_complete : (s rest : List ℕ) → first_is is_ascii_digit s ≡ true → is_digits 10 s ≡ true → first_is is_word_byte rest ≡ false → integer_at (s ++ rest) ≡ Some (length s, Token.Integer (integer (number 10 s)))
 decimal_complete [] rest first digits other = absurd (false≢true first)
 decimal_complete (b ∷ []) rest first digits other = alone_at b rest other ∙ whole_decimal b [] rest digits other
 decimal_complete (b ∷ c ∷ s) rest first digits other = decimal_at b c s rest digits ∙ whole_decimal b (c ∷ s) rest digits other
 
-prefixed_complete : (letter radix : ℕ) (digits rest : List ℕ) → radix_named letter ≡ Some radix → (digits ≡ [] → ⊥) → is_digits radix digits ≡ true → begins is_word_byte rest ≡ false
+prefixed_complete : (letter radix : ℕ) (digits rest : List ℕ) → radix_named letter ≡ Some radix → (digits ≡ [] → ⊥) → is_digits radix digits ≡ true → first_is is_word_byte rest ≡ false
     → integer_at (48 ∷ letter ∷ (digits ++ rest)) ≡ Some (suc (suc (length digits)), Token.Integer (integer (number radix digits)))
 prefixed_complete letter radix [] rest named some all other = absurd (some refl)
 prefixed_complete letter radix (d ∷ digits) rest named some all other =
@@ -204,7 +204,7 @@ prefixed_complete letter radix (d ∷ digits) rest named some all other =
     ∙ from_complete 2 radix (length digits) (48 ∷ letter ∷ ((d ∷ digits) ++ rest)) (d ∷ digits) rest refl refl (radix_is letter radix named).0 all other
     ∙ ap (λ n. Some (n, Token.Integer (integer (number radix (d ∷ digits))))) (two_more (suc (length digits)))
 
-pub integer_complete : (value : Option ℤ) (s rest : List ℕ) → Spells (Token.Integer value) s → begins is_word_byte rest ≡ false → integer_at (s ++ rest) ≡ Some (length s, Token.Integer value)
+pub integer_complete : (value : Option ℤ) (s rest : List ℕ) → IsSpelling (Token.Integer value) s → first_is is_word_byte rest ≡ false → integer_at (s ++ rest) ≡ Some (length s, Token.Integer value)
 integer_complete value s rest (n, inl d, e) other =
     decimal_complete s rest d.first d.digits other ∙ ap (λ v. Some (length s, Token.Integer v)) (sym (e ∙ ap integer d.value))
 integer_complete value s rest (n, inr p, e) other =

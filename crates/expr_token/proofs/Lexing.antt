@@ -3,24 +3,24 @@ use Rattle.std.proofs.Common.{◌≡◌, ℕ, zero, suc, ◌≤◌, List, [], �
 use Rattle.std.specs.Option.{option_map}
 use Rattle.std.proofs.lemmas.List.{drop_at}
 use Rattle.expr_token.specs.Lexer.{piece_at, lex_at_most, lex}
-use Rattle.expr_token.specs.Reading.{Piece, piece_text, text_of, Fits, AllFit, tokens_of, starts_from, Reads}
+use Rattle.expr_token.specs.Reading.{Piece, piece_text, pieces_text, IsPieceBefore, ArePieces, tokens_of, starts_from, Reads}
 use Rattle.expr_token.proofs.Pieces.{Front, piece_sound, piece_complete, piece_some}
 use Rattle.expr_token.proofs.Readings.{no_more}
 use Rattle.expr_token.specs.declared.token.Token.{Token}
 
 -- the pieces that are found make up the text, and are right
 pub record Whole (text : List ℕ) (ps : List Piece) : Type 0 where
-  pub whole : text_of ps ≡ text
-  pub fit : AllFit ps []
+  pub whole : pieces_text ps ≡ text
+  pub fit : ArePieces ps []
 
 more : (text : List ℕ) (p : Piece) (o : Option (List Piece)) → Front text p → IfSome o (Whole (drop (length (piece_text p)) text)) → IfSome (option_map (λ ps. p ∷ ps) o) (Whole text)
 more text p None front h = tt
 more text p (Some ps) front h =
     let rest : drop (length (piece_text p)) text ≡ front.rest = ap (drop (length (piece_text p))) front.split ∙ drop_at (piece_text p) front.rest (length (piece_text p)) refl in
-    let after : text_of ps ≡ front.rest = h.whole ∙ rest in
+    let after : pieces_text ps ≡ front.rest = h.whole ∙ rest in
     record {
       whole = ap (λ l. piece_text p ++ l) after ∙ sym front.split;
-      fit = (subst (Fits p) (sym (append-nil (text_of ps) ∙ after)) front.fits, h.fit);
+      fit = (subst (IsPieceBefore p) (sym (append-nil (pieces_text ps) ∙ after)) front.fits, h.fit);
     }
 
 abbrev first_of_pieces : ℕ → List ℕ → Option Piece → Option (List Piece)
@@ -36,7 +36,7 @@ lex_sound n [] = record { whole = refl; fit = tt }
 lex_sound zero (b ∷ s) = tt
 lex_sound (suc n) (b ∷ s) = first_sound n (b ∷ s) (piece_at (b ∷ s)) (piece_sound (b ∷ s)) (λ k. lex_sound n (drop k (b ∷ s)))
 
-lex_complete : (n : ℕ) (text : List ℕ) (ps : List Piece) → length text ≤ n → text_of ps ≡ text → AllFit ps [] → lex_at_most n text ≡ Some ps
+lex_complete : (n : ℕ) (text : List ℕ) (ps : List Piece) → length text ≤ n → pieces_text ps ≡ text → ArePieces ps [] → lex_at_most n text ≡ Some ps
 unfolding lex_at_most
 lex_complete zero [] ps few whole fit = ap Some (sym (no_more ps whole fit))
 lex_complete (suc n) [] ps few whole fit = ap Some (sym (no_more ps whole fit))
@@ -45,11 +45,11 @@ lex_complete (suc n) (b ∷ s) [] few whole fit = cc
 lex_complete (suc n) (b ∷ s) (p ∷ ps) few whole fit =
     let text = b ∷ s in
     let k = length (piece_text p) in
-    let found : piece_at text ≡ Some p = ap piece_at (sym whole ∙ ap (λ l. piece_text p ++ l) (sym (append-nil (text_of ps)))) ∙ piece_complete p (text_of ps ++ []) fit.0 in
-    let rest : drop k text ≡ text_of ps = ap (drop k) (sym whole) ∙ drop_at (piece_text p) (text_of ps) k refl in
-    let some = piece_some p (text_of ps ++ []) fit.0 in
-    let fewer : length (text_of ps) ≤ n = omega (arith, ap length whole, length-append (piece_text p) (text_of ps)) in
-    ap (λ o. first_of_pieces n text o) found ∙ ap (λ l. option_map (λ qs. p ∷ qs) (lex_at_most n l)) rest ∙ ap (option_map (λ qs. p ∷ qs)) (lex_complete n (text_of ps) ps fewer refl fit.1)
+    let found : piece_at text ≡ Some p = ap piece_at (sym whole ∙ ap (λ l. piece_text p ++ l) (sym (append-nil (pieces_text ps)))) ∙ piece_complete p (pieces_text ps ++ []) fit.0 in
+    let rest : drop k text ≡ pieces_text ps = ap (drop k) (sym whole) ∙ drop_at (piece_text p) (pieces_text ps) k refl in
+    let some = piece_some p (pieces_text ps ++ []) fit.0 in
+    let fewer : length (pieces_text ps) ≤ n = omega (arith, ap length whole, length-append (piece_text p) (pieces_text ps)) in
+    ap (λ o. first_of_pieces n text o) found ∙ ap (λ l. option_map (λ qs. p ∷ qs) (lex_at_most n l)) rest ∙ ap (option_map (λ qs. p ∷ qs)) (lex_complete n (pieces_text ps) ps fewer refl fit.1)
 
 pub lex_reads : (text : List ℕ) (tokens : List Token) → Reads text tokens → lex text ≡ Some tokens
 unfolding lex

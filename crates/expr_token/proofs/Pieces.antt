@@ -3,9 +3,9 @@ use Rattle.std.proofs.Common.{◌≡◌, ℕ, zero, suc, ◌<◌, true, false, �
 use Rattle.std.specs.Option.{option_map, option_or}
 use Rattle.std.proofs.lemmas.Bool.{cond-true, cond-false, cond_both, cases_Bool, and_parts, and_from, and_right, or_cases, or_parts, or_from, or_left, or_right, eqb-true, false≢true}
 use Rattle.std.proofs.lemmas.List.{drop_at, take_at}
-use Rattle.expr_token.specs.Kinds.{is_blank, begins}
+use Rattle.expr_token.specs.Kinds.{is_blank, first_is}
 use Rattle.expr_token.specs.Lexer.{token_at, gap_at, comment_at, block_len, double_sign, single_sign, written, piece_at}
-use Rattle.expr_token.specs.Reading.{begins_comment, closes, holds_close, is_line_byte, Piece, Blank, Line, Block, Written, piece_text, text_of, Fits, AllFit, tokens_of, starts_from}
+use Rattle.expr_token.specs.Reading.{begins_comment, closes, holds_close, is_line_byte, Piece, Blank, Line, Block, Written, piece_text, pieces_text, IsPieceBefore, ArePieces, tokens_of, starts_from}
 use Rattle.std.specs.List.{prefix_len}
 use Rattle.expr_token.specs.Spellings.{sign_text}
 use Rattle.expr_token.proofs.Words.{run_all, run_stops, run_ends}
@@ -16,7 +16,7 @@ use Rattle.expr_token.specs.declared.token.Token.{Token}
 pub record Front (text : List ℕ) (p : Piece) : Type 0 where
   pub rest : List ℕ
   pub split : text ≡ piece_text p ++ rest
-  pub fits : Fits p rest
+  pub fits : IsPieceBefore p rest
   pub some : 0 < length (piece_text p)
 
 token_front : (text : List ℕ) (o : Option (ℕ × Token)) → token_at text ≡ o → IfSome (option_map (written text) o) (Front text)
@@ -133,7 +133,7 @@ after_13 (c ∷ s) = refl
 like : (b n : ℕ) (s : List ℕ) → (b == n) ≡ true → token_at (n ∷ s) ≡ None → token_at (b ∷ s) ≡ None
 like b n s e none = ap (λ x. token_at (x ∷ s)) (eqb-true b n e) ∙ none
 
-blank_no_token : (text : List ℕ) → begins is_blank text ≡ true → token_at text ≡ None
+blank_no_token : (text : List ℕ) → first_is is_blank text ≡ true → token_at text ≡ None
 blank_no_token [] e = refl
 blank_no_token (b ∷ s) e =
     ⊎_elim
@@ -163,7 +163,7 @@ comment_begins (a ∷ b ∷ s) p e =
 
 gap_no_token : (text : List ℕ) (p : Piece) → gap_at text ≡ Some p → token_at text ≡ None
 gap_no_token text p e =
-    ⊎_elim (λ blank. blank_no_token text blank) (λ none. comment_no_token text (comment_begins text p (sym (cond-false _ _ _ none) ∙ e))) (cases_Bool (begins is_blank text))
+    ⊎_elim (λ blank. blank_no_token text blank) (λ none. comment_no_token text (comment_begins text p (sym (cond-false _ _ _ none) ∙ e))) (cases_Bool (first_is is_blank text))
 
 -- where a token stands, no part of a gap does
 token_no_gap : (text : List ℕ) (found : ℕ × Token) → token_at text ≡ Some found → gap_at text ≡ None
@@ -184,7 +184,7 @@ block_complete (a ∷ s) rest h =
     let parts = or_parts (closes (a ∷ s)) (holds_close s) h in
     cond-false _ _ _ (closes_more a s (47 ∷ rest) parts.0) ∙ ap (option_map (λ n. suc n)) (block_complete s rest parts.1)
 
-pub piece_complete : (p : Piece) (rest : List ℕ) → Fits p rest → piece_at (piece_text p ++ rest) ≡ Some p
+pub piece_complete : (p : Piece) (rest : List ℕ) → IsPieceBefore p rest → piece_at (piece_text p ++ rest) ≡ Some p
 piece_complete (Blank b) rest h = ap (λ o. option_or o (option_map (written (b ∷ rest)) (token_at (b ∷ rest)))) (cond-true _ _ _ h)
 piece_complete (Line comment) rest h =
     let n = run_ends is_line_byte comment rest h.0 h.1 in
@@ -203,7 +203,7 @@ piece_complete (Written token s) rest h =
     ∙ ap (option_map (written text)) found ∙ ap (λ l. Some (Written token l)) (take_at s rest (length s) refl)
 
 -- a piece that fits is not empty
-pub piece_some : (p : Piece) (rest : List ℕ) → Fits p rest → 0 < length (piece_text p)
+pub piece_some : (p : Piece) (rest : List ℕ) → IsPieceBefore p rest → 0 < length (piece_text p)
 piece_some p rest h =
     let text = piece_text p ++ rest in
     let front : Front text p = subst (λ o. IfSome o (Front text)) (piece_complete p rest h) (piece_sound text) in
@@ -213,23 +213,23 @@ piece_some p rest h =
 pub record Continues (before : List Piece) (rest : List ℕ) (qs : List Piece) : Type 0 where
   pub after : List Piece
   pub split : qs ≡ before ++ after
-  pub whole : text_of after ≡ rest
-  pub fit : AllFit after []
+  pub whole : pieces_text after ≡ rest
+  pub fit : ArePieces after []
 
-pub same_front : (before : List Piece) (rest : List ℕ) (qs : List Piece) → AllFit before rest → AllFit qs [] → text_of qs ≡ text_of before ++ rest → Continues before rest qs
+pub same_front : (before : List Piece) (rest : List ℕ) (qs : List Piece) → ArePieces before rest → ArePieces qs [] → pieces_text qs ≡ pieces_text before ++ rest → Continues before rest qs
 same_front [] rest qs fit fits e = record { after = qs; split = refl; whole = e; fit = fits }
 same_front (p ∷ ps) rest [] fit fits e =
-    let some = piece_some p (text_of ps ++ rest) fit.0 in
-    absurd (omega (arith, ap length e, length-append (piece_text p ++ text_of ps) rest, length-append (piece_text p) (text_of ps)))
+    let some = piece_some p (pieces_text ps ++ rest) fit.0 in
+    absurd (omega (arith, ap length e, length-append (piece_text p ++ pieces_text ps) rest, length-append (piece_text p) (pieces_text ps)))
 same_front (p ∷ ps) rest (q ∷ qs) fit fits e =
-    let left : piece_at (piece_text q ++ (text_of qs ++ [])) ≡ Some q = piece_complete q (text_of qs ++ []) fits.0 in
-    let right : piece_at (piece_text p ++ (text_of ps ++ rest)) ≡ Some p = piece_complete p (text_of ps ++ rest) fit.0 in
-    let whole : piece_text q ++ (text_of qs ++ []) ≡ piece_text p ++ (text_of ps ++ rest) = ap (λ l. piece_text q ++ l) (append-nil (text_of qs)) ∙ e ∙ append_assoc (piece_text p) (text_of ps) rest in
+    let left : piece_at (piece_text q ++ (pieces_text qs ++ [])) ≡ Some q = piece_complete q (pieces_text qs ++ []) fits.0 in
+    let right : piece_at (piece_text p ++ (pieces_text ps ++ rest)) ≡ Some p = piece_complete p (pieces_text ps ++ rest) fit.0 in
+    let whole : piece_text q ++ (pieces_text qs ++ []) ≡ piece_text p ++ (pieces_text ps ++ rest) = ap (λ l. piece_text q ++ l) (append-nil (pieces_text qs)) ∙ e ∙ append_assoc (piece_text p) (pieces_text ps) rest in
     let same : q ≡ p = let both : Some q ≡ Some p = sym left ∙ ap piece_at whole ∙ right in cc in
-    let tails : text_of qs ≡ text_of ps ++ rest =
-    sym (drop_at (piece_text q) (text_of qs) (length (piece_text q)) refl)
-    ∙ ap (drop (length (piece_text q))) (e ∙ append_assoc (piece_text p) (text_of ps) rest)
-    ∙ ap (λ x. drop (length (piece_text x)) (piece_text p ++ (text_of ps ++ rest))) same
-    ∙ drop_at (piece_text p) (text_of ps ++ rest) (length (piece_text p)) refl in
+    let tails : pieces_text qs ≡ pieces_text ps ++ rest =
+    sym (drop_at (piece_text q) (pieces_text qs) (length (piece_text q)) refl)
+    ∙ ap (drop (length (piece_text q))) (e ∙ append_assoc (piece_text p) (pieces_text ps) rest)
+    ∙ ap (λ x. drop (length (piece_text x)) (piece_text p ++ (pieces_text ps ++ rest))) same
+    ∙ drop_at (piece_text p) (pieces_text ps ++ rest) (length (piece_text p)) refl in
     let more = same_front ps rest qs fit.1 fits.1 tails in
     record { after = more.after; split = (λ i. same i ∷ more.split i); whole = more.whole; fit = more.fit }

@@ -5,7 +5,7 @@ use Rattle.std.specs.List.{list_all, flat_map, cons_option}
 use Rattle.std.specs.Option.{option_map}
 use Rattle.std.proofs.lemmas.Bool.{cond-true, cond-false, cond_both, and_parts, and_from, or_parts, or_cases, or_from, eqb-true, not-true, not_from_false, false_from_ne_true, false≢true}
 use Rattle.std.proofs.lemmas.List.{take_at}
-use Rattle.expr_token.specs.Kinds.{begins}
+use Rattle.expr_token.specs.Kinds.{first_is}
 use Rattle.expr_token.specs.Lexer.{body, text_step, byte_step, escape_step, escaped_by, digits_step, unescaped, quoted_at, bytes_at}
 use Rattle.expr_token.specs.Tokens.{IsQuoted, IsBytes, is_quote, is_line_end, pair_value, TextPart, Plain, Pair, text_part, text_value, text_fits, BytePart, Itself, Escape, Hex, Octal, byte_part, byte_value, byte_fits, escape_value, hex_value, octal_value}
 use Rattle.expr_token.proofs.Bodies.{PartAt, InParts, body_sound, body_complete}
@@ -52,7 +52,7 @@ plain_step : (b : ℕ) (rest : List ℕ) → (b == 92) ≡ false → is_line_end
 plain_step b [] slash end = cond-false _ _ _ (or_from _ _ slash end)
 plain_step b (c ∷ rest) slash end = cond-false _ _ _ slash ∙ cond-false _ _ _ end
 
-text_complete : (quote : ℕ) → is_quote quote ≡ true → (p : TextPart) (rest : List ℕ) → text_fits quote p ≡ true → (text_step (text_part p ++ rest) ≡ Some (length (text_part p), text_value p)) × (begins (λ b. b == quote) (text_part p ++ rest) ≡ false) × (0 < length (text_part p))
+text_complete : (quote : ℕ) → is_quote quote ≡ true → (p : TextPart) (rest : List ℕ) → text_fits quote p ≡ true → (text_step (text_part p ++ rest) ≡ Some (length (text_part p), text_value p)) × (first_is (λ b. b == quote) (text_part p ++ rest) ≡ false) × (0 < length (text_part p))
 text_complete quote quoted (Plain b) rest fit = let h = plain_parts quote b fit in (plain_step b rest h.slash h.end, h.other, lit< tt)
 text_complete quote quoted (Pair b) rest fit = (cond-false _ _ _ (not-true _ fit), slash_no_quote quote quoted, lit< tt)
 
@@ -118,7 +118,7 @@ escape_step_by : (o : Option ℕ) (other : Option (ℕ × List ℕ)) → is_some
 escape_step_by None other e = absurd (false≢true e)
 escape_step_by (Some v) other e = refl
 
-byte_complete : (quote : ℕ) → is_quote quote ≡ true → (p : BytePart) (rest : List ℕ) → byte_fits quote p ≡ true → (byte_step (byte_part p ++ rest) ≡ Some (length (byte_part p), byte_value p)) × (begins (λ b. b == quote) (byte_part p ++ rest) ≡ false) × (0 < length (byte_part p))
+byte_complete : (quote : ℕ) → is_quote quote ≡ true → (p : BytePart) (rest : List ℕ) → byte_fits quote p ≡ true → (byte_step (byte_part p ++ rest) ≡ Some (length (byte_part p), byte_value p)) × (first_is (λ b. b == quote) (byte_part p ++ rest) ≡ false) × (0 < length (byte_part p))
 byte_complete quote quoted (Itself b) rest fit = let h = plain_parts quote b fit in (cond-false _ _ _ h.slash ∙ cond-false _ _ _ h.end, h.other, lit< tt)
 byte_complete quote quoted (Escape b) rest fit = (escape_step_by (escape_value b) (digits_step b rest) fit, slash_no_quote quote quoted, lit< tt)
 byte_complete quote quoted (Hex a b) rest fit = (cond-true _ _ _ fit, slash_no_quote quote quoted, lit< tt)

@@ -6,7 +6,7 @@ use Rattle.std.proofs.lemmas.List.Elements.{All-from_recursion}
 use Rattle.std.specs.List.{All, AllByRecursion}
 use Rattle.std.proofs.lemmas.List.Prefix.{front_fits}
 use Rattle.expr_token.specs.Lexer.{token_at, gap_at, gap_len, written, piece_at}
-use Rattle.expr_token.specs.Reading.{Piece, Blank, Line, Block, Written, piece_text, text_of, Fits, AllFit, tokens_of, starts_from, Begins, NoPiece, ReadsAt, Reads}
+use Rattle.expr_token.specs.Reading.{Piece, Blank, Line, Block, Written, piece_text, pieces_text, IsPieceBefore, ArePieces, tokens_of, starts_from, Begins, NoPiece, ReadsAt, Reads}
 use Rattle.expr_token.proofs.Pieces.{Front, GapFront, gap_sound, Continues, piece_sound, piece_complete, piece_some, same_front}
 use Rattle.expr_token.proofs.Tokens.{token_stands}
 use Rattle.expr_token.specs.declared.token.Token.{Token}
@@ -14,9 +14,9 @@ use Rattle.expr_token.specs.declared.token.Token.{Token}
 pub begun_none : (text : List ℕ) → Begins text 0 [] []
 begun_none text = record { pieces = []; whole = refl; long = refl; fit = tt; in_order = refl; placed = refl }
 
-text_of-append : (ps qs : List Piece) → text_of (ps ++ qs) ≡ text_of ps ++ text_of qs
-text_of-append [] qs = refl
-text_of-append (p ∷ ps) qs = ap (λ l. piece_text p ++ l) (text_of-append ps qs) ∙ sym (append_assoc (piece_text p) (text_of ps) (text_of qs))
+pieces_text-append : (ps qs : List Piece) → pieces_text (ps ++ qs) ≡ pieces_text ps ++ pieces_text qs
+pieces_text-append [] qs = refl
+pieces_text-append (p ∷ ps) qs = ap (λ l. piece_text p ++ l) (pieces_text-append ps qs) ∙ sym (append_assoc (piece_text p) (pieces_text ps) (pieces_text qs))
 
 tokens_of-append : (ps qs : List Piece) → tokens_of (ps ++ qs) ≡ tokens_of ps ++ tokens_of qs
 tokens_of-append [] qs = refl
@@ -25,21 +25,21 @@ tokens_of-append (Line c ∷ ps) qs = tokens_of-append ps qs
 tokens_of-append (Block c ∷ ps) qs = tokens_of-append ps qs
 tokens_of-append (Written t s ∷ ps) qs = ap (λ l. t ∷ l) (tokens_of-append ps qs)
 
-starts_on : (k : ℕ) (p : Piece) (ps qs : List Piece) → {starts : List ℕ} → starts ≡ starts_from (k + length (piece_text p)) ps ++ starts_from (k + length (piece_text p) + length (text_of ps)) qs → starts ≡ starts_from (k + length (piece_text p)) ps ++ starts_from (k + length (piece_text p ++ text_of ps)) qs
-starts_on k p ps qs e = e ∙ ap (λ n. starts_from (k + length (piece_text p)) ps ++ starts_from n qs) (omega (arith, length-append (piece_text p) (text_of ps)))
+starts_on : (k : ℕ) (p : Piece) (ps qs : List Piece) → {starts : List ℕ} → starts ≡ starts_from (k + length (piece_text p)) ps ++ starts_from (k + length (piece_text p) + length (pieces_text ps)) qs → starts ≡ starts_from (k + length (piece_text p)) ps ++ starts_from (k + length (piece_text p ++ pieces_text ps)) qs
+starts_on k p ps qs e = e ∙ ap (λ n. starts_from (k + length (piece_text p)) ps ++ starts_from n qs) (omega (arith, length-append (piece_text p) (pieces_text ps)))
 
-starts_from-append : (k : ℕ) (ps qs : List Piece) → starts_from k (ps ++ qs) ≡ starts_from k ps ++ starts_from (k + length (text_of ps)) qs
+starts_from-append : (k : ℕ) (ps qs : List Piece) → starts_from k (ps ++ qs) ≡ starts_from k ps ++ starts_from (k + length (pieces_text ps)) qs
 starts_from-append k [] qs = ap (λ n. starts_from n qs) (omega arith)
 starts_from-append k (Blank b ∷ ps) qs = starts_on k (Blank b) ps qs (starts_from-append (k + length (piece_text (Blank b))) ps qs)
 starts_from-append k (Line c ∷ ps) qs = starts_on k (Line c) ps qs (starts_from-append (k + length (piece_text (Line c))) ps qs)
 starts_from-append k (Block c ∷ ps) qs = starts_on k (Block c) ps qs (starts_from-append (k + length (piece_text (Block c))) ps qs)
 starts_from-append k (Written t s ∷ ps) qs =
-    ap (λ l. k ∷ l) (starts_from-append (k + length s) ps qs ∙ ap (λ n. starts_from (k + length s) ps ++ starts_from n qs) (omega (arith, length-append s (text_of ps))))
+    ap (λ l. k ∷ l) (starts_from-append (k + length s) ps qs ∙ ap (λ n. starts_from (k + length s) ps ++ starts_from n qs) (omega (arith, length-append s (pieces_text ps))))
 
-AllFit-push : (ps : List Piece) (p : Piece) (rest : List ℕ) → AllFit ps (piece_text p ++ rest) → Fits p rest → AllFit (ps ++ p ∷ []) rest
-AllFit-push [] p rest fit fits = (fits, tt)
-AllFit-push (q ∷ ps) p rest fit fits =
-    (subst (Fits q) (sym (ap (λ l. l ++ rest) (text_of-append ps (p ∷ []) ∙ ap (λ l. text_of ps ++ l) (append-nil (piece_text p))) ∙ append_assoc (text_of ps) (piece_text p) rest)) fit.0, AllFit-push ps p rest fit.1 fits)
+ArePieces-push : (ps : List Piece) (p : Piece) (rest : List ℕ) → ArePieces ps (piece_text p ++ rest) → IsPieceBefore p rest → ArePieces (ps ++ p ∷ []) rest
+ArePieces-push [] p rest fit fits = (fits, tt)
+ArePieces-push (q ∷ ps) p rest fit fits =
+    (subst (IsPieceBefore q) (sym (ap (λ l. l ++ rest) (pieces_text-append ps (p ∷ []) ∙ ap (λ l. pieces_text ps ++ l) (append-nil (piece_text p))) ∙ append_assoc (pieces_text ps) (piece_text p) rest)) fit.0, ArePieces-push ps p rest fit.1 fits)
 
 -- one more piece
 pub begun_piece : (text : List ℕ) (at n : ℕ) (tokens : List Token) (starts : List ℕ) (p : Piece) → Begins text at tokens starts → piece_at (drop at text) ≡ Some p → length (piece_text p) ≡ n
@@ -47,14 +47,14 @@ pub begun_piece : (text : List ℕ) (at n : ℕ) (tokens : List Token) (starts :
 begun_piece text at n tokens starts p begun e long =
     let front : Front (drop at text) p = subst (λ o. IfSome o (Front (drop at text))) e (piece_sound (drop at text)) in
     let rest : drop (at + n) text ≡ front.rest = sym (drop-drop n at text) ∙ ap (drop n) front.split ∙ drop_at (piece_text p) front.rest n long in
-    let written : text_of (begun.pieces ++ p ∷ []) ≡ text_of begun.pieces ++ piece_text p = text_of-append begun.pieces (p ∷ []) ∙ ap (λ l. text_of begun.pieces ++ l) (append-nil (piece_text p)) in
+    let written : pieces_text (begun.pieces ++ p ∷ []) ≡ pieces_text begun.pieces ++ piece_text p = pieces_text-append begun.pieces (p ∷ []) ∙ ap (λ l. pieces_text begun.pieces ++ l) (append-nil (piece_text p)) in
     record {
       pieces = begun.pieces ++ p ∷ [];
-      whole = (λ i. written i ++ rest i) ∙ append_assoc (text_of begun.pieces) (piece_text p) front.rest ∙ ap (λ l. text_of begun.pieces ++ l) (sym front.split) ∙ begun.whole;
-      long = ap length written ∙ length-append (text_of begun.pieces) (piece_text p) ∙ (λ i. begun.long i + long i);
-      fit = subst (AllFit (begun.pieces ++ p ∷ [])) (sym rest) (AllFit-push begun.pieces p front.rest (subst (AllFit begun.pieces) front.split begun.fit) front.fits);
+      whole = (λ i. written i ++ rest i) ∙ append_assoc (pieces_text begun.pieces) (piece_text p) front.rest ∙ ap (λ l. pieces_text begun.pieces ++ l) (sym front.split) ∙ begun.whole;
+      long = ap length written ∙ length-append (pieces_text begun.pieces) (piece_text p) ∙ (λ i. begun.long i + long i);
+      fit = subst (ArePieces (begun.pieces ++ p ∷ [])) (sym rest) (ArePieces-push begun.pieces p front.rest (subst (ArePieces begun.pieces) front.split begun.fit) front.fits);
       in_order = tokens_of-append begun.pieces (p ∷ []) ∙ ap (λ l. l ++ tokens_of (p ∷ [])) begun.in_order;
-      placed = starts_from-append 0 begun.pieces (p ∷ []) ∙ (λ i. begun.placed i ++ starts_from ((zero-add (length (text_of begun.pieces)) ∙ begun.long) i) (p ∷ []));
+      placed = starts_from-append 0 begun.pieces (p ∷ []) ∙ (λ i. begun.placed i ++ starts_from ((zero-add (length (pieces_text begun.pieces)) ∙ begun.long) i) (p ∷ []));
     }
 
 -- at the end of the text the tokens are its reading
@@ -63,17 +63,17 @@ begun_ended text at tokens starts begun ended =
     let none : drop at text ≡ [] = drop_all at text ended in
     record {
       pieces = begun.pieces;
-      whole = sym (append-nil (text_of begun.pieces)) ∙ ap (λ l. text_of begun.pieces ++ l) (sym none) ∙ begun.whole;
-      fit = subst (AllFit begun.pieces) none begun.fit;
+      whole = sym (append-nil (pieces_text begun.pieces)) ∙ ap (λ l. pieces_text begun.pieces ++ l) (sym none) ∙ begun.whole;
+      fit = subst (ArePieces begun.pieces) none begun.fit;
       in_order = begun.in_order;
       placed = begun.placed;
     }
 
-pub no_more : (qs : List Piece) → text_of qs ≡ [] → AllFit qs [] → qs ≡ []
+pub no_more : (qs : List Piece) → pieces_text qs ≡ [] → ArePieces qs [] → qs ≡ []
 no_more [] e fit = refl
 no_more (q ∷ qs) e fit =
-    let some = piece_some q (text_of qs ++ []) fit.0 in
-    absurd (omega (arith, ap length e, length-append (piece_text q) (text_of qs)))
+    let some = piece_some q (pieces_text qs ++ []) fit.0 in
+    absurd (omega (arith, ap length e, length-append (piece_text q) (pieces_text qs)))
 
 others : (text : List ℕ) (at : ℕ) (tokens : List Token) (starts : List ℕ) → (begun : Begins text at tokens starts) → (other : List Token) → (r : Reads text other) → Continues begun.pieces (drop at text) r.1.pieces
 others text at tokens starts begun other r = same_front begun.pieces (drop at text) r.1.pieces begun.fit r.1.fit (r.1.whole ∙ sym begun.whole)
@@ -91,11 +91,11 @@ begun_stuck text at tokens starts begun below none other r =
     let more = others text at tokens starts begun other r in
     stuck more.after more.whole more.fit
   where
-    stuck : (qs : List Piece) → text_of qs ≡ drop at text → AllFit qs [] → ⊥
+    stuck : (qs : List Piece) → pieces_text qs ≡ drop at text → ArePieces qs [] → ⊥
     stuck [] e fit = omega (arith, ap length e, length-drop at text)
     stuck (q ∷ qs) e fit =
-        let found : piece_at (piece_text q ++ (text_of qs ++ [])) ≡ Some q = piece_complete q (text_of qs ++ []) fit.0 in
-        let same : piece_at (drop at text) ≡ Some q = ap piece_at (sym e ∙ ap (λ l. piece_text q ++ l) (sym (append-nil (text_of qs)))) ∙ found in
+        let found : piece_at (piece_text q ++ (pieces_text qs ++ [])) ≡ Some q = piece_complete q (pieces_text qs ++ []) fit.0 in
+        let same : piece_at (drop at text) ≡ Some q = ap piece_at (sym e ∙ ap (λ l. piece_text q ++ l) (sym (append-nil (pieces_text qs)))) ∙ found in
         cc
 
 gap_piece : (text : List ℕ) (p : Piece) → gap_at text ≡ Some p → piece_at text ≡ Some p
@@ -161,17 +161,17 @@ begun_paired text at tokens starts begun = ap length (sym begun.placed) ∙ star
 abbrev AllBelow : ℕ → List ℕ → Type 0
 AllBelow n starts = AllByRecursion (λ start. start < n) starts
 
-more_below : (k : ℕ) (p : Piece) (ps : List Piece) (n : ℕ) → (k + length (piece_text p ++ text_of ps) ≤ n) → k + length (piece_text p) + length (text_of ps) ≤ n
-more_below k p ps n within = omega (arith, length-append (piece_text p) (text_of ps))
+more_below : (k : ℕ) (p : Piece) (ps : List Piece) (n : ℕ) → (k + length (piece_text p ++ pieces_text ps) ≤ n) → k + length (piece_text p) + length (pieces_text ps) ≤ n
+more_below k p ps n within = omega (arith, length-append (piece_text p) (pieces_text ps))
 
-starts_below : (k n : ℕ) (ps : List Piece) (rest : List ℕ) → AllFit ps rest → k + length (text_of ps) ≤ n → AllBelow n (starts_from k ps)
+starts_below : (k n : ℕ) (ps : List Piece) (rest : List ℕ) → ArePieces ps rest → k + length (pieces_text ps) ≤ n → AllBelow n (starts_from k ps)
 starts_below k n [] rest fit within = tt
 starts_below k n (Blank b ∷ ps) rest fit within = starts_below (k + length (piece_text (Blank b))) n ps rest fit.1 (more_below k (Blank b) ps n within)
 starts_below k n (Line c ∷ ps) rest fit within = starts_below (k + length (piece_text (Line c))) n ps rest fit.1 (more_below k (Line c) ps n within)
 starts_below k n (Block c ∷ ps) rest fit within = starts_below (k + length (piece_text (Block c))) n ps rest fit.1 (more_below k (Block c) ps n within)
 starts_below k n (Written t s ∷ ps) rest fit within =
-    let some = piece_some (Written t s) (text_of ps ++ rest) fit.0 in
-    (omega (arith, length-append s (text_of ps)), starts_below (k + length s) n ps rest fit.1 (more_below k (Written t s) ps n within))
+    let some = piece_some (Written t s) (pieces_text ps ++ rest) fit.0 in
+    (omega (arith, length-append s (pieces_text ps)), starts_below (k + length s) n ps rest fit.1 (more_below k (Written t s) ps n within))
 
 pub begun_below : (text : List ℕ) (at : ℕ) (tokens : List Token) (starts : List ℕ) → Begins text at tokens starts → at ≤ length text → All (λ start. start < length text) starts
 begun_below text at tokens starts begun within =

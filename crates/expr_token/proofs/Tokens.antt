@@ -6,11 +6,11 @@ use Rattle.std.specs.Option.{option_map}
 use Rattle.std.proofs.lemmas.Bool.{cond-true, cond-false, cond_both, and_parts, and_from, not-true, and_right, or_cases, cases_Bool, eqb-true, false_from_ne_true, false≢true}
 use Rattle.std.proofs.lemmas.List.{take_at}
 use Rattle.std.proofs.lemmas.List.Prefix.{front_fits}
-use Rattle.expr_token.specs.Kinds.{is_word_byte, begins}
+use Rattle.expr_token.specs.Kinds.{is_word_byte, first_is}
 use Rattle.expr_token.specs.Lexer.{token_at, hash_at, raw_at, quoted_at, bytes_at, begins_bytes, word_at, word_token, integer_at, sign_at}
 use Rattle.expr_token.specs.Reading.{Stands, IsLongest, IsApart, begins_comment}
 use Rattle.expr_token.specs.Spellings.{sign_text}
-use Rattle.expr_token.specs.Tokens.{Spells, is_word, is_quote}
+use Rattle.expr_token.specs.Tokens.{IsSpelling, is_word, is_quote}
 use Rattle.expr_token.proofs.Found.{Found, Finds, Reaches}
 use Rattle.expr_token.proofs.Hashes.{hash_shape, hash_sound, hash_reaches, hash_complete, raw_sound, raw_complete}
 use Rattle.expr_token.proofs.Integers.{FoundInteger, integer_sound, integer_reaches, integer_complete}
@@ -38,12 +38,12 @@ at_literal : (quote : ℕ) (s : List ℕ) → is_quote quote ≡ true → token_
 at_literal quote s quoted = at_bytes 98 (quote ∷ s) refl quoted
 
 -- a word b that is found touches no quote
-b_alone : (b m : ℕ) (s : List ℕ) → begins_bytes (b ∷ s) ≡ false → take (suc m) (b ∷ s) ≡ codes "b" → begins is_quote (drop (suc m) (b ∷ s)) ≡ false
+b_alone : (b m : ℕ) (s : List ℕ) → begins_bytes (b ∷ s) ≡ false → take (suc m) (b ∷ s) ≡ codes "b" → first_is is_quote (drop (suc m) (b ∷ s)) ≡ false
 b_alone b m s bytes e =
     let head : b ≡ 98 = cc in
     let none : take m s ≡ [] = cc in
     let same : drop m s ≡ s = ap (λ l. l ++ drop m s) (sym none) ∙ take-append-drop m s in
-    ap (begins is_quote) same ∙ (let t : (98 == 98 && begins is_quote s) ≡ false = ap (λ x. x == 98 && begins is_quote s) (sym head) ∙ bytes in t)
+    ap (first_is is_quote) same ∙ (let t : (98 == 98 && first_is is_quote s) ≡ false = ap (λ x. x == 98 && first_is is_quote s) (sym head) ∙ bytes in t)
 
 quote_no_word : (b : ℕ) → is_quote b ≡ true → is_word_byte b ≡ true → ⊥
 quote_no_word b quoted word =
@@ -59,12 +59,12 @@ word_found b s digit bytes word =
     let text = b ∷ s in
     let n = prefix_len is_word_byte text in
     let more : n ≡ suc (prefix_len is_word_byte s) = prefix_yes is_word_byte b s word in
-    let is : is_word (take n text) ≡ true = and_from _ _ (subst (λ k. begins is_word_byte (take k text) ≡ true) (sym more) word) (and_from _ _ (subst (λ k. not (begins is_ascii_digit (take k text)) ≡ true) (sym more) (ap not digit)) (run_all is_word_byte text)) in
+    let is : is_word (take n text) ≡ true = and_from _ _ (subst (λ k. first_is is_word_byte (take k text) ≡ true) (sym more) word) (and_from _ _ (subst (λ k. not (first_is is_ascii_digit (take k text)) ≡ true) (sym more) (ap not digit)) (run_all is_word_byte text)) in
     record {
       within = run_within is_word_byte text;
       some = omega arith;
       spells = word_token-spells (take n text) is;
-      apart = word_token-apart (take n text) (drop n text) (run_stops is_word_byte text) (subst (λ k. take k text ≡ codes "b" → begins is_quote (drop k text) ≡ false) (sym more) (b_alone b (prefix_len is_word_byte s) s bytes));
+      apart = word_token-apart (take n text) (drop n text) (run_stops is_word_byte text) (subst (λ k. take k text ≡ codes "b" → first_is is_quote (drop k text) ≡ false) (sym more) (b_alone b (prefix_len is_word_byte s) s bytes));
       no_comment = no_comment is_word_byte text refl word;
     }
 
@@ -111,11 +111,11 @@ positive text None h = tt
 positive text (Some f) h = h.some
 
 -- what integers and words begin with
-integer_begins : (i : Option ℤ) (s : List ℕ) → Spells (Token.Integer i) s → begins is_ascii_digit s ≡ true
+integer_begins : (i : Option ℤ) (s : List ℕ) → IsSpelling (Token.Integer i) s → first_is is_ascii_digit s ≡ true
 integer_begins i s (n, inl d, e) = d.first
-integer_begins i s (n, inr p, e) = ap (begins is_ascii_digit) p.written
+integer_begins i s (n, inr p, e) = ap (first_is is_ascii_digit) p.written
 
-digit_at : (s rest : List ℕ) → begins is_ascii_digit s ≡ true → token_at (s ++ rest) ≡ integer_at (s ++ rest)
+digit_at : (s rest : List ℕ) → first_is is_ascii_digit s ≡ true → token_at (s ++ rest) ≡ integer_at (s ++ rest)
 digit_at [] rest first = absurd (false≢true first)
 digit_at (b ∷ s) rest first = at_digit b (s ++ rest) first
 
@@ -143,16 +143,16 @@ run_at s rest word bytes =
     ap token_at same ∙ at_word w.head (w.tail ++ rest) w.no_digit (ap begins_bytes (sym same) ∙ bytes) w.first ∙ ap (λ l. Some (word_at l)) (sym same)
 
 -- a word that begins as bytes do is b alone
-only_b : (tail rest : List ℕ) → list_all is_word_byte tail ≡ true → begins is_quote (tail ++ rest) ≡ true → tail ≡ []
+only_b : (tail rest : List ℕ) → list_all is_word_byte tail ≡ true → first_is is_quote (tail ++ rest) ≡ true → tail ≡ []
 only_b [] rest all e = refl
 only_b (c ∷ tail) rest all e = absurd (quote_no_word c e (and_parts (is_word_byte c) (list_all is_word_byte tail) all).0)
 
-word_is_b : (s rest : List ℕ) → is_word s ≡ true → begins_bytes (s ++ rest) ≡ true → (s ≡ codes "b") × (begins is_quote rest ≡ true)
+word_is_b : (s rest : List ℕ) → is_word s ≡ true → begins_bytes (s ++ rest) ≡ true → (s ≡ codes "b") × (first_is is_quote rest ≡ true)
 word_is_b s rest word bytes =
     let w = word_shape s word in
-    let parts = and_parts (w.head == 98) (begins is_quote (w.tail ++ rest)) (ap (λ l. begins_bytes (l ++ rest)) (sym w.is) ∙ bytes) in
+    let parts = and_parts (w.head == 98) (first_is is_quote (w.tail ++ rest)) (ap (λ l. begins_bytes (l ++ rest)) (sym w.is) ∙ bytes) in
     let none = only_b w.tail rest w.others parts.1 in
-    (w.is ∙ (λ i. eqb-true w.head 98 parts.0 i ∷ none i), ap (λ l. begins is_quote (l ++ rest)) (sym none) ∙ parts.1)
+    (w.is ∙ (λ i. eqb-true w.head 98 parts.0 i ∷ none i), ap (λ l. first_is is_quote (l ++ rest)) (sym none) ∙ parts.1)
 
 word_reaches : (s rest : List ℕ) → is_word s ≡ true → Reaches (length s) (token_at (s ++ rest))
 word_reaches s rest word =
@@ -166,7 +166,7 @@ sign_at_reaches None k h = tt
 sign_at_reaches (Some y) k h = h
 
 -- what is found is as long as any token that is written there
-pub token_reaches : (token : Token) (s rest : List ℕ) → Spells token s → IfSome (token_at (s ++ rest)) (λ f. length s ≤ f.0)
+pub token_reaches : (token : Token) (s rest : List ℕ) → IsSpelling token s → IfSome (token_at (s ++ rest)) (λ f. length s ≤ f.0)
 token_reaches (Token.Integer i) s rest h =
     subst (λ o. IfSome o (λ f. length s ≤ f.0)) (sym (digit_at s rest (integer_begins i s h))) (integer_reaches i s rest h)
 token_reaches (Token.Word w) s rest h = word_reaches s rest h.1
@@ -184,18 +184,18 @@ token_reaches (Token.Sign x) s rest h =
     subst (λ l. IfSome (token_at (l ++ rest)) (λ f. length l ≤ f.0)) (sym h)
     (subst (λ o. IfSome o (λ f. length (sign_text x) ≤ f.0)) (sym (token_at-sign x rest)) (sign_at_reaches (sign_at (sign_text x ++ rest)) (length (sign_text x)) (sign_reaches x rest)))
 
-word_is : (s rest : List ℕ) → list_all is_word_byte s ≡ true → begins is_word_byte rest ≡ false → word_at (s ++ rest) ≡ (length s, word_token s)
+word_is : (s rest : List ℕ) → list_all is_word_byte s ≡ true → first_is is_word_byte rest ≡ false → word_at (s ++ rest) ≡ (length s, word_token s)
 word_is s rest all other =
     let n = run_ends is_word_byte s rest all other in
     ap (λ k. (k, word_token (take k (s ++ rest)))) n ∙ ap (λ l. (length s, word_token l)) (take_at s rest (length s) refl)
 
-word_complete : (s rest : List ℕ) → is_word s ≡ true → begins is_word_byte rest ≡ false → begins_bytes (s ++ rest) ≡ false → token_at (s ++ rest) ≡ Some (length s, word_token s)
+word_complete : (s rest : List ℕ) → is_word s ≡ true → first_is is_word_byte rest ≡ false → begins_bytes (s ++ rest) ≡ false → token_at (s ++ rest) ≡ Some (length s, word_token s)
 word_complete s rest word other bytes = run_at s rest word bytes ∙ ap Some (word_is s rest (word_shape s word).all other)
 
 sign_stands : (x : Sign) (rest : List ℕ) → IsLongest (sign_text x) rest → begins_comment (sign_text x ++ rest) ≡ false → token_at (sign_text x ++ rest) ≡ Some (length (sign_text x), Token.Sign x)
 sign_stands x rest longest plain = token_at-sign x rest ∙ ap (option_map (λ y. (length (sign_text y), Token.Sign y))) (sign_complete x rest longest plain)
 
-complete_by : (token : Token) (s rest : List ℕ) → Spells token s → IsLongest s rest → IsApart token rest → begins_comment (s ++ rest) ≡ false → token_at (s ++ rest) ≡ Some (length s, token)
+complete_by : (token : Token) (s rest : List ℕ) → IsSpelling token s → IsLongest s rest → IsApart token rest → begins_comment (s ++ rest) ≡ false → token_at (s ++ rest) ≡ Some (length s, token)
 complete_by (Token.Integer i) s rest h longest apart plain = digit_at s rest (integer_begins i s h) ∙ integer_complete i s rest h apart
 complete_by (Token.Word w) s rest h longest apart plain =
     let no_bytes : begins_bytes (s ++ rest) ≡ false = false_from_ne_true _ (λ e. let b = word_is_b s rest h.1 e in false≢true (sym (apart.1 (sym h.0 ∙ b.0)) ∙ b.1)) in

@@ -3,11 +3,11 @@ use Rattle.std.proofs.Common.{◌≡◌, ℕ, suc, ◌≤◌, Bool, true, false,
 use Rattle.std.specs.List.{prefix_len, list_all, find}
 use Rattle.std.proofs.lemmas.Bool.{cond-true, cond-false, and_parts, and_from, eqb-true, cases_Bool, false≢true}
 use Rattle.std.proofs.lemmas.Slice.Eq.{bytes_eq-Decides}
-use Rattle.expr_token.specs.Kinds.{is_word_byte, begins}
+use Rattle.expr_token.specs.Kinds.{is_word_byte, first_is}
 use Rattle.expr_token.specs.Lexer.{reserved_of, word_token, begins_bytes}
 use Rattle.expr_token.specs.Reading.{begins_comment, IsApart}
 use Rattle.expr_token.specs.Spellings.{reserved_text, all_reserved}
-use Rattle.expr_token.specs.Tokens.{Spells, is_word, is_quote}
+use Rattle.expr_token.specs.Tokens.{IsSpelling, is_word, is_quote}
 use Rattle.expr_token.specs.declared.reserved.Reserved.{Reserved}
 use Rattle.expr_token.specs.declared.token.Token.{Token}
 
@@ -26,12 +26,12 @@ run_all p (b ∷ s) =
     (λ e. subst (λ n. list_all p (take n (b ∷ s)) ≡ true) (sym (prefix_no p b s e)) refl)
     (cases_Bool (p b))
 
-pub run_stops : (p : ℕ → Bool) (s : List ℕ) → begins p (drop (prefix_len p s) s) ≡ false
+pub run_stops : (p : ℕ → Bool) (s : List ℕ) → first_is p (drop (prefix_len p s) s) ≡ false
 run_stops p [] = refl
 run_stops p (b ∷ s) =
     ⊎_elim
-    (λ e. subst (λ n. begins p (drop n (b ∷ s)) ≡ false) (sym (prefix_yes p b s e)) (run_stops p s))
-    (λ e. subst (λ n. begins p (drop n (b ∷ s)) ≡ false) (sym (prefix_no p b s e)) e)
+    (λ e. subst (λ n. first_is p (drop n (b ∷ s)) ≡ false) (sym (prefix_yes p b s e)) (run_stops p s))
+    (λ e. subst (λ n. first_is p (drop n (b ∷ s)) ≡ false) (sym (prefix_no p b s e)) e)
     (cases_Bool (p b))
 
 pub run_within : (p : ℕ → Bool) (s : List ℕ) → prefix_len p s ≤ length s
@@ -42,12 +42,12 @@ run_within p (b ∷ s) =
     (λ e. subst (λ n. n ≤ suc (length s)) (sym (prefix_no p b s e)) (omega arith))
     (cases_Bool (p b))
 
-stops_at : (p : ℕ → Bool) (rest : List ℕ) → begins p rest ≡ false → prefix_len p rest ≡ 0
+stops_at : (p : ℕ → Bool) (rest : List ℕ) → first_is p rest ≡ false → prefix_len p rest ≡ 0
 stops_at p [] e = refl
 stops_at p (b ∷ s) e = prefix_no p b s e
 
 -- a run before a byte of another kind is whole, and no run stops before such bytes end
-pub run_ends : (p : ℕ → Bool) (s rest : List ℕ) → list_all p s ≡ true → begins p rest ≡ false → prefix_len p (s ++ rest) ≡ length s
+pub run_ends : (p : ℕ → Bool) (s rest : List ℕ) → list_all p s ≡ true → first_is p rest ≡ false → prefix_len p (s ++ rest) ≡ length s
 run_ends p [] rest all other = stops_at p rest other
 run_ends p (b ∷ s) rest all other =
     let parts = and_parts (p b) (list_all p s) all in
@@ -105,18 +105,18 @@ reserved_is_word Reserved.EndsWith = refl
 reserved_is_word Reserved.Matches = refl
 
 -- the token of a word is written as the word
-word_token_by : (w : List ℕ) (o : Option Reserved) → reserved_of w ≡ o → is_word w ≡ true → Spells (elim o [ Some r ↦ Token.Reserved r | None ↦ Token.Word w ]) w
+word_token_by : (w : List ℕ) (o : Option Reserved) → reserved_of w ≡ o → is_word w ≡ true → IsSpelling (elim o [ Some r ↦ Token.Reserved r | None ↦ Token.Word w ]) w
 word_token_by w (Some r) e word = sym (reserved_sound w r e)
 word_token_by w None e word = (refl, word, λ r same. cc (reserved_complete r, ap reserved_of same, e))
 
-pub word_token-spells : (w : List ℕ) → is_word w ≡ true → Spells (word_token w) w
+pub word_token-spells : (w : List ℕ) → is_word w ≡ true → IsSpelling (word_token w) w
 word_token-spells w word = word_token_by w (reserved_of w) refl word
 
-word_token_apart_by : (w rest : List ℕ) (o : Option Reserved) → begins is_word_byte rest ≡ false → (w ≡ codes "b" → begins is_quote rest ≡ false) → IsApart (elim o [ Some r ↦ Token.Reserved r | None ↦ Token.Word w ]) rest
+word_token_apart_by : (w rest : List ℕ) (o : Option Reserved) → first_is is_word_byte rest ≡ false → (w ≡ codes "b" → first_is is_quote rest ≡ false) → IsApart (elim o [ Some r ↦ Token.Reserved r | None ↦ Token.Word w ]) rest
 word_token_apart_by w rest (Some r) other bytes = other
 word_token_apart_by w rest None other bytes = (other, bytes)
 
-pub word_token-apart : (w rest : List ℕ) → begins is_word_byte rest ≡ false → (w ≡ codes "b" → begins is_quote rest ≡ false) → IsApart (word_token w) rest
+pub word_token-apart : (w rest : List ℕ) → first_is is_word_byte rest ≡ false → (w ≡ codes "b" → first_is is_quote rest ≡ false) → IsApart (word_token w) rest
 word_token-apart w rest other bytes = word_token_apart_by w rest (reserved_of w) other bytes
 
 word_token_free_by : (w : List ℕ) (o : Option Reserved) → reserved_of w ≡ o → ((r : Reserved) → reserved_text r ≡ w → ⊥) → elim o [ Some r ↦ Token.Reserved r | None ↦ Token.Word w ] ≡ Token.Word w
@@ -143,7 +143,7 @@ word_token-reserved Reserved.EndsWith = refl
 word_token-reserved Reserved.Matches = refl
 
 -- a text that begins with a byte of a kind that has no / begins no comment
-pub no_comment : (kind : ℕ → Bool) (text : List ℕ) → kind 47 ≡ false → begins kind text ≡ true → begins_comment text ≡ false
+pub no_comment : (kind : ℕ → Bool) (text : List ℕ) → kind 47 ≡ false → first_is kind text ≡ true → begins_comment text ≡ false
 no_comment kind [] slash first = refl
 no_comment kind (a ∷ []) slash first = refl
 no_comment kind (a ∷ b ∷ s) slash first =

@@ -11,6 +11,6 @@ abbrev pub is_word_byte : ℕ → Bool
 is_word_byte b = is_ascii_alphanumeric b || b == 95 || b == 36
 
 -- whether a text begins with a byte of a kind
-abbrev pub begins : (ℕ → Bool) → List ℕ → Bool
-begins kind [] = false
-begins kind (b ∷ s) = kind b
+abbrev pub first_is : (ℕ → Bool) → List ℕ → Bool
+first_is kind [] = false
+first_is kind (b ∷ s) = kind b

@@ -3,7 +3,7 @@ use Rattle.std.specs.Prelude.{ℕ, Bool, false, zero, suc, pred, nat_lt, ◌++�
 use Rattle.std.specs.Char.{is_digit, is_ascii_digit}
 use Rattle.std.specs.List.{prefix_len, find}
 use Rattle.std.specs.Option.{option_map, option_map_or, option_or}
-use Rattle.expr_token.specs.Kinds.{is_blank, is_word_byte, begins}
+use Rattle.expr_token.specs.Kinds.{is_blank, is_word_byte, first_is}
 use Rattle.expr_token.specs.Reading.{begins_comment, is_line_byte, closes, Piece, Blank, Line, Block, Written, piece_text, tokens_of}
 use Rattle.expr_token.specs.Spellings.{sign_text, reserved_text, all_reserved}
 use Rattle.expr_token.specs.Tokens.{is_raw_byte, is_quote, is_line_end, pair_value, escape_value, hex_value, octal_value, number, integer, continues, radix_named}
@@ -77,7 +77,7 @@ word_at text = let n = prefix_len is_word_byte text in (n, word_token (take n te
 
 -- the token, if no letter, digit, _ or $ follows it
 abbrev pub if_apart : List ℕ → ℕ → Token → Option (ℕ × Token)
-if_apart text n token = if begins is_word_byte (drop n text) then None else Some (n, token)
+if_apart text n token = if first_is is_word_byte (drop n text) then None else Some (n, token)
 
 -- the radix that 0 and a letter at the front name
 abbrev pub prefix_radix : List ℕ → Option ℕ
@@ -98,7 +98,7 @@ integer_at text = elim (prefix_radix text) [ Some radix ↦ integer_from 2 radix
 abbrev pub hash_at : List ℕ → Option (ℕ × Token)
 hash_at text =
     let n = suc (prefix_len is_word_byte (drop 1 text)) in
-    if begins is_ascii_digit (drop 1 text) then None else Some (n, Token.Hash (take n text))
+    if first_is is_ascii_digit (drop 1 text) then None else Some (n, Token.Hash (take n text))
 
 -- a text between backquotes
 abbrev pub raw_at : List ℕ → Option (ℕ × Token)
@@ -160,7 +160,7 @@ byte_step (b ∷ s) = if b == 92 then escape_step s else (if is_line_end b then 
 -- b and at once a quote
 abbrev pub begins_bytes : List ℕ → Bool
 begins_bytes [] = false
-begins_bytes (b ∷ s) = b == 98 && begins is_quote s
+begins_bytes (b ∷ s) = b == 98 && first_is is_quote s
 
 -- a bytes literal
 abbrev pub bytes_at : List ℕ → Option (ℕ × Token)
@@ -196,7 +196,7 @@ comment_at (a ∷ b ∷ s) =
 
 -- the part of a gap that begins the text
 abbrev pub gap_at : List ℕ → Option Piece
-gap_at text = if begins is_blank text then Some (Blank (get_or text 0 0)) else comment_at text
+gap_at text = if first_is is_blank text then Some (Blank (get_or text 0 0)) else comment_at text
 
 -- its length, or 0 where there is none
 abbrev pub gap_len : List ℕ → ℕ

@@ -2,19 +2,19 @@
 use Rattle.std.specs.Prelude.{◌≡◌, ℕ, ◌+◌, ◌*◌, ◌^◌, nat_lt, ℤ, pos, Bool, true, false, ◌&&◌, ◌||◌, not, ◌==◌, ◌⊎◌, List, [], ◌∷◌, ◌++◌, Option, Some, None, is_some, IsTrue, codes, ◌≢◌, if◌then◌else◌}
 use Rattle.std.specs.Char.{is_digit, digit_value, is_ascii_digit}
 use Rattle.std.specs.List.{list_all, flat_map, fold, cons_option}
-use Rattle.expr_token.specs.Kinds.{is_word_byte, begins}
+use Rattle.expr_token.specs.Kinds.{is_word_byte, first_is}
 use Rattle.expr_token.specs.Spellings.{sign_text, reserved_text}
 use Rattle.expr_token.specs.declared.reserved.Reserved.{Reserved}
 use Rattle.expr_token.specs.declared.token.Token.{Token}
 
 -- letters, digits, _ and $, of which the first is no digit
 abbrev pub is_word : List ℕ → Bool
-is_word s = begins is_word_byte s && (not (begins is_ascii_digit s) && list_all is_word_byte s)
+is_word s = first_is is_word_byte s && (not (first_is is_ascii_digit s) && list_all is_word_byte s)
 
 -- a digit of the radix, or _ with a digit at once after it, begins the text
 abbrev pub continues : ℕ → List ℕ → Bool
 continues radix [] = false
-continues radix (b ∷ s) = is_digit b radix || (b == 95 && begins (λ d. is_digit d radix) s)
+continues radix (b ∷ s) = is_digit b radix || (b == 95 && first_is (λ d. is_digit d radix) s)
 
 -- each byte is a digit of the radix, or _ with a digit at once after it
 abbrev pub is_digits : ℕ → List ℕ → Bool
@@ -42,7 +42,7 @@ radix_named b =
 
 -- s writes the number n in digits of radix 10, of which the first is no _
 pub record IsDecimal (s : List ℕ) (n : ℕ) : Type 0 where
-  pub first : IsTrue (begins is_ascii_digit s)
+  pub first : IsTrue (first_is is_ascii_digit s)
   pub digits : IsTrue (is_digits 10 s)
   pub value : n ≡ number 10 s
 
@@ -169,12 +169,12 @@ pub record IsBytes (s bytes : List ℕ) : Type 0 where
   pub value : bytes ≡ flat_map byte_value parts
 
 -- the token is written so
-abbrev pub Spells : Token → List ℕ → Type 0
-Spells (Token.Integer i) s = (n : ℕ) × (IsDecimal s n ⊎ IsPrefixed s n) × (i ≡ integer n)
-Spells (Token.Word w) s = (s ≡ w) × IsTrue (is_word s) × ((r : Reserved) → reserved_text r ≢ s)
-Spells (Token.Reserved r) s = s ≡ reserved_text r
-Spells (Token.Hash h) s = (s ≡ h) × IsTrue (is_hash_name s)
-Spells (Token.Quoted t) s = IsQuoted s t
-Spells (Token.Raw t) s = (s ≡ codes "`" ++ (t ++ codes "`")) × IsTrue (list_all is_raw_byte t)
-Spells (Token.Bytes bs) s = IsBytes s bs
-Spells (Token.Sign x) s = s ≡ sign_text x
+abbrev pub IsSpelling : Token → List ℕ → Type 0
+IsSpelling (Token.Integer i) s = (n : ℕ) × (IsDecimal s n ⊎ IsPrefixed s n) × (i ≡ integer n)
+IsSpelling (Token.Word w) s = (s ≡ w) × IsTrue (is_word s) × ((r : Reserved) → reserved_text r ≢ s)
+IsSpelling (Token.Reserved r) s = s ≡ reserved_text r
+IsSpelling (Token.Hash h) s = (s ≡ h) × IsTrue (is_hash_name s)
+IsSpelling (Token.Quoted t) s = IsQuoted s t
+IsSpelling (Token.Raw t) s = (s ≡ codes "`" ++ (t ++ codes "`")) × IsTrue (list_all is_raw_byte t)
+IsSpelling (Token.Bytes bs) s = IsBytes s bs
+IsSpelling (Token.Sign x) s = s ≡ sign_text x

@@ -1,7 +1,7 @@
 //! The reading of a text.
 ghost use Rattle.std.specs.Prelude.{◌≡◌, ◌<◌, ◌==◌, ◌≤◌, List, IfOk, IfSome, IsSome, IsTrue, length, drop};
 ghost use Rattle.std.specs.List.{All};
-ghost use Rattle.expr_token.specs.Kinds.{begins, is_word_byte};
+ghost use Rattle.expr_token.specs.Kinds.{first_is, is_word_byte};
 ghost use Rattle.expr_token.specs.Lexer.{begins_bytes, bytes_at, hash_at, quoted_at, raw_at, sign_at, token_at, word_at, word_token};
 ghost use Rattle.expr_token.specs.Tokens.{is_quote};
 ghost use Rattle.expr_token.specs.Reading.{Begins, NoPiece, Reads, ReadsAt};
@@ -55,7 +55,7 @@ fn word_token(alloc: Global, word: &str) -> Result<Token, AllocError>
 
 /// The word that begins at a place, with its length.
 fn word_at(alloc: Global, text: &str, at: usize) -> Result<(usize, Token), AllocError>
-    requires { IsTrue (begins is_word_byte (drop at text.now)) }
+    requires { IsTrue (first_is is_word_byte (drop at text.now)) }
     ensures { IfOk result (λ found. found ≡ word_at (drop at text.now)) }
 {
     let len = word_len(&text.as_bytes()[at..]);
@@ -65,7 +65,7 @@ fn word_at(alloc: Global, text: &str, at: usize) -> Result<(usize, Token), Alloc
 
 /// The hash name that begins at a place, with its length.
 fn hash_at(alloc: Global, text: &str, at: usize) -> Result<Option<(usize, Token)>, AllocError>
-    requires { IsTrue (begins (λ b. b == 35) (drop at text.now)) }
+    requires { IsTrue (first_is (λ b. b == 35) (drop at text.now)) }
     ensures { IfOk result (λ found. found ≡ hash_at (drop at text.now)) }
 {
     let rest = &text.as_bytes()[at + 1..];
@@ -79,7 +79,7 @@ fn hash_at(alloc: Global, text: &str, at: usize) -> Result<Option<(usize, Token)
 
 /// The text between backquotes that begins at a place, with its length.
 fn raw_at(alloc: Global, text: &str, at: usize) -> Result<Option<(usize, Token)>, AllocError>
-    requires { IsTrue (begins (λ b. b == 96) (drop at text.now)) }
+    requires { IsTrue (first_is (λ b. b == 96) (drop at text.now)) }
     ensures { IfOk result (λ found. found ≡ raw_at (drop at text.now)) }
 {
     let start = at + 1;
@@ -94,7 +94,7 @@ fn raw_at(alloc: Global, text: &str, at: usize) -> Result<Option<(usize, Token)>
 
 /// The text in quotes that begins at a place, with its length.
 fn quoted_at(alloc: Global, text: &str, at: usize) -> Result<Option<(usize, Token)>, AllocError>
-    requires { IsTrue (begins is_quote (drop at text.now)) }
+    requires { IsTrue (first_is is_quote (drop at text.now)) }
     ensures { IfOk result (λ found. found ≡ quoted_at (drop at text.now)) }
 {
     let start = at + 1;

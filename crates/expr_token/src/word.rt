@@ -2,7 +2,7 @@
 ghost use Rattle.std.specs.Prelude.{◌≡◌, ◌≤◌, length};
 ghost use Rattle.std.specs.Char.{is_ascii_digit};
 ghost use Rattle.std.specs.List.{prefix_len};
-ghost use Rattle.expr_token.specs.Kinds.{begins, is_word_byte};
+ghost use Rattle.expr_token.specs.Kinds.{first_is, is_word_byte};
 ghost use Rattle.expr_token.specs.Tokens.{is_raw_byte};
 
 /// Whether a byte may stand in a word: an ASCII letter, a digit, `_` or `$`.
@@ -14,7 +14,7 @@ pub(crate) fn is_word_byte(byte: u8) -> bool
 
 /// Whether a byte that may stand in a word is at the front.
 pub(crate) fn begins_with_word_byte(bytes: &[u8]) -> bool
-    ensures { result ≡ begins is_word_byte bytes.now }
+    ensures { result ≡ first_is is_word_byte bytes.now }
 {
     match bytes.first() {
         Some(byte) => is_word_byte(*byte),
@@ -24,7 +24,7 @@ pub(crate) fn begins_with_word_byte(bytes: &[u8]) -> bool
 
 /// Whether a decimal digit is at the front.
 pub(crate) fn begins_with_digit(bytes: &[u8]) -> bool
-    ensures { result ≡ begins is_ascii_digit bytes.now }
+    ensures { result ≡ first_is is_ascii_digit bytes.now }
 {
     match bytes.first() {
         Some(byte) => byte.is_ascii_digit(),

@@ -77,5 +77,5 @@ place_text (Fixed offset) = if int_eq offset.seconds (pos 0) then codes "UTC" el
 place_text (Zone zone) = zone_name zone
 
 -- the text of a moment as the method `String` gives it
-abbrev pub plain_moment : DateTimeValue → List ℕ
-plain_moment t = clock.stamp_text (local_nanos t) (offset_of t) ++ codes " " ++ place_text t.place
+abbrev pub moment_string : DateTimeValue → List ℕ
+moment_string t = clock.stamp_text (local_nanos t) (offset_of t) ++ codes " " ++ place_text t.place

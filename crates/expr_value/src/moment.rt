@@ -5,7 +5,7 @@ ghost use Rattle.std.specs.Option.{option_copied};
 ghost use Rattle.std.specs.Fmt.{WritesOnOk};
 ghost use Rattle.jiff.specs.Words.{IsTimestampNanos, civil_nanos};
 ghost use Rattle.expr_value.specs.Moved.{moved, moved_back};
-ghost use Rattle.expr_value.specs.Times.{instant, local_nanos, moment_text, offset_of, place_of, place_text, plain_moment, zone_of};
+ghost use Rattle.expr_value.specs.Times.{instant, local_nanos, moment_text, offset_of, place_of, place_text, moment_string, zone_of};
 
 use crate::zone::TimezoneValue;
 use expr_clock::{show_moment, show_offset, show_stamp};
@@ -162,8 +162,8 @@ impl fmt::Display for DateTimeValue {
 }
 
 /// Prints a moment as the method `String` does.
-pub(crate) fn show_plain<W: Write>(moment: &DateTimeValue, f: &mut Formatter<W>) -> fmt::Result
-    ensures { WritesOnOk W.write_str_gives f.old result (plain_moment moment.now) f.new }
+pub(crate) fn show_stamp_of<W: Write>(moment: &DateTimeValue, f: &mut Formatter<W>) -> fmt::Result
+    ensures { WritesOnOk W.write_str_gives f.old result (moment_string moment.now) f.new }
 {
     show_stamp(moment.civil(), moment.offset(), f)?;
     f.write_str(" ")?;

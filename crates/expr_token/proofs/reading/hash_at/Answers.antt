@@ -2,7 +2,7 @@ use Rattle.std.proofs.Common.{◌≡◌, ◌+◌, ◌<◌, suc, length, drop, sy
 use Rattle.std.specs.Char.{is_ascii_digit}
 use Rattle.std.specs.List.{prefix_len}
 use Rattle.std.specs.Str.{IsCharBoundary}
-use Rattle.expr_token.specs.Kinds.{begins, is_word_byte}
+use Rattle.expr_token.specs.Kinds.{first_is, is_word_byte}
 use Rattle.expr_token.proofs.Cuts.{rest_after, front_at, cut_after, hash_last}
 use Rattle.expr_token.proofs.Returns.{hash_none, hash_some}
 use Rattle.expr_token.proofs.reading.hash_at.Goals as goal
@@ -11,7 +11,7 @@ pub returns-then-begins_with_digit : goal.returns-then-begins_with_digit
 returns-then-begins_with_digit c =
     let s = drop c.args.at c.args.text.now in
     let rest = rest_after c.args.text.now _ c.args.at 1 c.as_bytes.ensures.value in
-    hash_none s (ap (begins is_ascii_digit) (sym rest) ∙ sym c.begins_with_digit.ensures ∙ c.if-begins_with_digit.true)
+    hash_none s (ap (first_is is_ascii_digit) (sym rest) ∙ sym c.begins_with_digit.ensures ∙ c.if-begins_with_digit.true)
 
 pub range-requires-clause-end_boundary : goal.range-requires-clause-end_boundary
 range-requires-clause-end_boundary c =
@@ -28,4 +28,4 @@ returns c =
     let text = c.args.text.now in
     let s = drop c.args.at text in
     let rest = rest_after text _ c.args.at 1 c.as_bytes.ensures.value in
-    hash_some s _ c.word_len-len.result (ap (begins is_ascii_digit) (sym rest) ∙ sym c.begins_with_digit.ensures ∙ c.if-begins_with_digit.false) (c.word_len-len.ensures.value ∙ ap (prefix_len is_word_byte) rest) (c.in_ok-name.ensures ∙ c.range.ensures.value ∙ front_at text c.args.at (1 + c.word_len-len.result))
+    hash_some s _ c.word_len-len.result (ap (first_is is_ascii_digit) (sym rest) ∙ sym c.begins_with_digit.ensures ∙ c.if-begins_with_digit.false) (c.word_len-len.ensures.value ∙ ap (prefix_len is_word_byte) rest) (c.in_ok-name.ensures ∙ c.range.ensures.value ∙ front_at text c.args.at (1 + c.word_len-len.result))
