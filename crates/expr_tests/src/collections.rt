@@ -1,104 +1,156 @@
-//! What collections, texts and contexts give to who walks, copies and prints them.
-use expr::{Context, Items, Key, KeyedMap, Result, Text, Value, ValueMap, value};
+//! What collections and texts give to who walks, copies and prints them, and what refusals are.
+use crate::page::Page;
+use crate::rows::Rows;
+use expr::{Context, Error, Items, Key, KeyedMap, Result, Text, Value, ValueMap, bail, value};
+use expr_value::{Boxed, refusal};
 use std::alloc::Global;
-use std::test::Fail;
 
-type Tested = std::result::Result<(), Fail>;
-
-/// What the loops over some values print, then their copy, and whether that is the same.
-fn said(alloc: Global, walked: &str, copied: &str, is_same: bool) -> Result<String> {
-    Ok(format!(in alloc; "{walked}{copied} {is_same}")?)
+/// Ends a page with whether all is as it should be.
+fn judged(mut page: Page, is_well: bool) -> Result<String> {
+    page.put(if is_well { " well" } else { " not well" });
+    Ok(page.finished()?)
 }
 
-fn items_said(alloc: Global) -> Result<String> {
+fn items(alloc: Global) -> Result<String> {
     let items = Items::from_vec(vec![in alloc; Value::from(1_i64), Value::from(2_i64)]?);
-    let mut walked = String::new(alloc);
-    for item in items.iter() {
-        walked.push_str(format!(in alloc; "{item};")?.as_str())?;
-    }
     let copies = items.clone()?;
+    let mut page = Page::new(alloc);
+    for item in items.iter() {
+        page.put_made(format!(in alloc; "{item};"));
+    }
+    page.put_made(format!(in alloc; "{copies:?}"));
+    let is_whole = items.len() == 2 && !items.is_empty() && items.get(2).is_none();
     let is_same = copies == items && items.get(1) == Some(&Value::Integer(2));
-    let is_whole = !items.is_empty() && items.get(2).is_none();
-    let copied = format!(in alloc; "{copies:?}")?;
-    said(alloc, &walked, &copied, is_same && is_whole)
+    judged(page, is_whole && is_same)
 }
 
-fn names_said(alloc: Global) -> Result<String> {
+fn names(alloc: Global) -> Result<String> {
     let mut map = ValueMap::new(alloc);
     let was_empty = map.is_empty();
-    map.insert(Text::copy(alloc, "a")?, Value::from(1_i64))?;
-    let mut walked = String::new(alloc);
-    for (name, value) in map.iter() {
-        walked.push_str(format!(in alloc; "{name}={value};")?.as_str())?;
-    }
+    map.insert(Text::copy(alloc, "ab")?, Value::Nil)?;
     let copies = map.clone()?;
-    let is_same = copies == map && map.get_by_key(&Text::copy(alloc, "a")?).is_some();
-    let copied = format!(in alloc; "{copies:?}")?;
-    said(
-        alloc,
-        &walked,
-        &copied,
-        is_same && was_empty && !map.is_empty(),
+    let mut page = Page::new(alloc);
+    for (name, value) in map.iter() {
+        page.put_made(format!(in alloc; "{name}={value};"));
+    }
+    page.put_made(format!(in alloc; "{copies:?}"));
+    let is_found = map.get("ab").is_some() && map.get("a").is_none();
+    let is_whole = map.get_index(0).is_some() && map.get_index(1).is_none();
+    let is_one = map.len() == 1 && map.keys().len() == map.values().len();
+    judged(
+        page,
+        was_empty && !map.is_empty() && copies == map && is_found && is_whole,
     )
 }
 
-fn keys_said(alloc: Global) -> Result<String> {
+fn keys(alloc: Global) -> Result<String> {
     let mut map = KeyedMap::new(alloc);
     let was_empty = map.is_empty();
     map.insert(Key::Integer(2), Value::Nil)?;
-    map.insert(Key::String(Text::copy(alloc, "x")?), Value::from(true))?;
-    let mut walked = String::new(alloc);
-    for (key, value) in map.iter() {
-        walked.push_str(format!(in alloc; "{key:?}={value};")?.as_str())?;
-    }
     let copies = map.clone()?;
-    let is_same = copies == map && map.get_by_key(&Key::Integer(2)).is_some();
-    let copied = format!(in alloc; "{copies:?}")?;
-    said(
-        alloc,
-        &walked,
-        &copied,
-        is_same && was_empty && !map.is_empty(),
-    )
-}
-
-fn texts_said(alloc: Global) -> Result<String> {
-    let text = Text::copy(alloc, "a\"b")?;
-    let walked = format!(in alloc; "{text};")?;
-    let copied = format!(in alloc; "{text:?}")?;
-    said(alloc, &walked, &copied, text.len() == 3 && !text.is_empty())
-}
-
-fn contexts_said(alloc: Global) -> Result<String> {
-    let context = Context::try_from(alloc, value!(in alloc; {"a": 1, "b": nil})?)?;
-    let mut walked = String::new(alloc);
-    for (name, value) in context.iter() {
-        walked.push_str(format!(in alloc; "{name}={value};")?.as_str())?;
+    let mut page = Page::new(alloc);
+    for (key, value) in map.iter() {
+        page.put_made(format!(in alloc; "{key:?}={value};"));
     }
-    let copies = context.clone()?;
-    let is_same = copies == context && context.len() == 2 && !context.is_empty();
-    let copied = format!(in alloc; "{copies:?}")?;
-    said(
-        alloc,
-        &walked,
-        &copied,
-        is_same && Context::new(alloc).is_empty(),
+    page.put_made(format!(in alloc; "{copies:?}"));
+    let is_found = map.get(&Value::Integer(2)).is_some() && map.get_by_key(&Key::Nil).is_none();
+    let is_whole = map.get_index(0).is_some() && map.get_index(1).is_none();
+    let is_one = map.len() == 1 && map.keys().len() == map.values().len();
+    judged(
+        page,
+        was_empty && !map.is_empty() && copies == map && is_found && is_whole,
     )
 }
 
-#[test]
-fn collections_are_walked_and_copied(rt: HostRuntime) -> Tested {
-    let alloc = rt.alloc();
-    assert_eq!(rt; items_said(alloc)?.as_str(), "1;2;[1, 2] true");
-    assert_eq!(rt; names_said(alloc)?.as_str(), "a=1;{a: 1} true");
-    assert_eq!(rt;
-        keys_said(alloc)?.as_str(),
-        "2=nil;\"x\"=true;{2: nil, \"x\": true} true"
-    );
-    assert_eq!(rt; texts_said(alloc)?.as_str(), "a\"b;\"a\\\"b\" true");
-    assert_eq!(rt;
-        contexts_said(alloc)?.as_str(),
-        "a=1;b=nil;{a: 1, b: nil} true"
-    );
-    Ok(())
+fn contexts(alloc: Global) -> Result<String> {
+    let context = Context::try_from(alloc, value!(in alloc; {"a": 1, "b": nil})?)?;
+    let copies = context.clone()?;
+    let mut page = Page::new(alloc);
+    for (name, value) in context.iter() {
+        page.put_made(format!(in alloc; "{name}={value};"));
+    }
+    page.put_made(format!(in alloc; "{copies:?}"));
+    let is_whole = context.len() == 2 && !context.is_empty() && context.get("c").is_none();
+    judged(
+        page,
+        copies == context && is_whole && Context::new(alloc).is_empty(),
+    )
 }
+
+fn texts(alloc: Global) -> Result<String> {
+    let text = Text::copy(alloc, "a\"b")?;
+    let mut page = Page::new(alloc);
+    page.put_made(format!(in alloc; "{text} {text:?}"));
+    let is_whole = text.len() == 3 && !text.is_empty();
+    judged(page, is_whole && text.into_string().as_str() == "a\"b")
+}
+
+/// Whether a key is the same again, as a value and as a key.
+fn scalars(alloc: Global) -> Result<String> {
+    let key = Key::String(Text::copy(alloc, "x")?);
+    let value = key.clone()?.to_value(alloc)?;
+    let mut page = Page::new(alloc);
+    page.put_made(value.to_string(alloc));
+    let is_lent = value.as_string() == Some("x");
+    judged(page, is_lent && value.into_key() == Some(key))
+}
+
+/// Whether bytes and a box give back what they are made of.
+fn held(alloc: Global) -> Result<String> {
+    let items = Items::from_vec(vec![in alloc; 1_u8, 2]?);
+    let held = Boxed::new(alloc, 7_i64)?;
+    let is_held = *held.get() == 7 && held.into_inner() == 7;
+    let value = Value::Bytes(items.clone()?);
+    let is_lent = value.as_bytes() == Some(items.as_slice());
+    let is_same = items.into_vec().as_slice() == [1_u8, 2].as_slice();
+    judged(Page::new(alloc), is_held && is_lent && is_same)
+}
+
+/// What a collection prints.
+pub fn collection(alloc: Global, name: &str) -> Result<String> {
+    match name {
+        "items" => items(alloc),
+        "names" => names(alloc),
+        "keys" => keys(alloc),
+        "contexts" => contexts(alloc),
+        "texts" => texts(alloc),
+        "scalars" => scalars(alloc),
+        _ => held(alloc),
+    }
+}
+
+pub const COLLECTIONS: Rows = &[
+    ("items", "1;2;[1, 2] well"),
+    ("names", "ab=nil;{ab: nil} well"),
+    ("keys", "2=nil;{2: nil} well"),
+    ("contexts", "a=1;b=nil;{a: 1, b: nil} well"),
+    ("texts", r#"a"b "a\"b" well"#),
+    ("scalars", r#""x" well"#),
+    ("held", " well"),
+];
+
+fn quotient(alloc: Global, a: i64, b: i64) -> Result<String> {
+    if b == 0 {
+        bail!(in alloc; "{a} divided by zero");
+    }
+    Ok(a.wrapping_div(b).to_string(alloc)?)
+}
+
+/// A refusal.
+pub fn refused(alloc: Global, name: &str) -> Result<String> {
+    match name {
+        "by bail" => quotient(alloc, 7, 0),
+        "with a text" => Err(refusal(alloc, "no")),
+        "of a text" => Err(Error::from(String::from_str(alloc, "no")?)),
+        "of memory" => Err(Error::from(regex::Error::OutOfMemory)),
+        _ => Err(Error::from(regex::Error::CompiledTooBig)),
+    }
+}
+
+pub const REFUSALS: Rows = &[
+    ("by bail", "!evaluation"),
+    ("with a text", "!evaluation"),
+    ("of a text", "!evaluation"),
+    ("of memory", "!memory"),
+    ("of a pattern", "!pattern"),
+];
