@@ -1,20 +1,17 @@
 //! Answers that depend on what a host lends, and the calls for one node, operator or call.
-use crate::said::{printed, said};
+use crate::rows::Rows;
 use expr::{
     Context, ContextProvider, Error, Node, Result, Value, compile, eval_expr, eval_func,
     eval_operator, eval_postfix_operator, eval_unary_operator, run, value,
 };
 use std::alloc::Global;
-use std::test::Fail;
 
-type Tested = std::result::Result<(), Fail>;
-
-/// A provider whose function and map may disagree, and which may have no memory for its map where that is asked for.
+/// A provider whose function and map disagree, and which may have no memory for its map where `$env` asks for it.
 #[derive(Drop)]
 struct Odd {
     names: Context,
     shown: Context,
-    refuses: bool,
+    is_shy: bool,
 }
 
 impl ContextProvider for Odd {
@@ -31,53 +28,40 @@ impl ContextProvider for Odd {
     }
 
     fn environment(&self, alloc: Global) -> Result<Context> {
-        if self.refuses {
+        if self.is_shy {
             return Err(Error::MemoryError);
         }
         self.to_context(alloc)
     }
 }
 
-fn made(alloc: Global, refuses: bool) -> Result<Odd> {
+/// What the program of a text answers under the odd provider.
+pub fn under_odd(alloc: Global, code: &str, is_shy: bool) -> Result<String> {
     let names = Context::try_from(alloc, value!(in alloc; {"#": {"x": 7}, "$env": 1, "a": 2})?)?;
     let shown = Context::try_from(alloc, value!(in alloc; {"a": 3})?)?;
-    Ok(Odd {
+    let provider = Odd {
         names,
         shown,
-        refuses,
-    })
+        is_shy,
+    };
+    let program = compile(alloc, code)?;
+    Ok(run(alloc, &program, &provider)?.to_string(alloc)?)
 }
 
-/// What a text answers under the odd provider.
-fn said_by_odd(alloc: Global, refuses: bool, code: &str) -> Result<String> {
-    let provider = made(alloc, refuses)?;
-    Ok(said(alloc, &provider, code)?)
-}
-
-/// Texts, whether the odd provider refuses its map, and what they answer under it.
-const UNDER_ODD_PROVIDERS: &[(&str, bool, &str)] = &[
-    ("x", false, "7"),
-    ("#", false, "{x: 7}"),
-    ("a", false, "2"),
-    ("$env", false, "{a: 3}"),
-    (r#"$env["$env"]"#, false, "nil"),
-    ("let a = 1; $env.a", false, "3"),
-    ("let $env = 5; $env.a", false, "3"),
-    ("$env", true, "!memory"),
-    ("a", true, "2"),
+pub const UNDER_ODD: Rows = &[
+    ("x", "7"),
+    ("#", "{x: 7}"),
+    ("a", "2"),
+    ("$env", "{a: 3}"),
+    (r#"$env["$env"]"#, "nil"),
+    ("let a = 1; $env.a", "3"),
+    ("let $env = 5; $env.a", "3"),
 ];
 
-#[test]
-fn function_and_map_may_disagree(rt: HostRuntime) -> Tested {
-    for (code, refuses, expected) in UNDER_ODD_PROVIDERS {
-        let answer = said_by_odd(rt.alloc(), *refuses, code)?;
-        assert_eq!(rt; answer.as_str(), *expected, "{code}");
-    }
-    Ok(())
-}
+pub const UNDER_SHY: Rows = &[("$env", "!memory"), ("a", "2")];
 
 /// What the last node of a text answers, by the call for nodes of its kind.
-fn by_its_parts(alloc: Global, code: &str) -> Result<Value> {
+fn by_its_part(alloc: Global, code: &str) -> Result<Value> {
     let context = Context::new(alloc);
     let program = compile(alloc, code)?;
     match &program.expr {
@@ -94,32 +78,17 @@ fn by_its_parts(alloc: Global, code: &str) -> Result<Value> {
     }
 }
 
-/// Texts and their answers.
-const BY_PARTS: &[(&str, &str)] = &[
+/// That answer, printed.
+pub fn part(alloc: Global, code: &str) -> Result<String> {
+    Ok(by_its_part(alloc, code)?.to_string(alloc)?)
+}
+
+pub const PARTS: Rows = &[
     ("[1, 2]", "[1, 2]"),
     ("1 + 2 * 3 + 1", "8"),
     ("false and 1 / 0", "false"),
     ("not true", "false"),
-    (r#"["a", "b"][-1]"#, "\"b\""),
+    (r#"["a", "b"][-1]"#, r#""b""#),
     ("nil ?? 4", "4"),
     ("nope()", "!evaluation"),
 ];
-
-#[test]
-fn parts_are_called_alone(rt: HostRuntime) -> Tested {
-    for (code, expected) in BY_PARTS {
-        let answer = printed(rt.alloc(), by_its_parts(rt.alloc(), code))?;
-        assert_eq!(rt; answer.as_str(), *expected, "{code}");
-    }
-    Ok(())
-}
-
-// No clause can say that memory is left: a body that is always out of memory is proved.
-#[test]
-fn programs_run(rt: HostRuntime) -> Tested {
-    let program = compile(rt.alloc(), "[1, \"a\" + b]")?;
-    let context = Context::try_from(rt.alloc(), value!(in rt.alloc(); {"b": "c"})?)?;
-    let answer = run(rt.alloc(), &program, &context)?;
-    assert_eq!(rt; answer.to_string(rt.alloc())?.as_str(), "[1, \"ac\"]");
-    Ok(())
-}

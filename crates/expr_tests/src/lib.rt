@@ -1,4 +1,4 @@
-//! The tests of the libraries: rows from outside, and each public call once with memory to spare.
+//! The tests of the libraries: rows from outside, each asked of the public surface with memory to spare.
 #![tactic(auto)]
 
 #[cfg(test)]
@@ -6,15 +6,13 @@ mod answers;
 #[cfg(test)]
 mod collections;
 #[cfg(test)]
-mod macros;
-#[cfg(test)]
-mod moments;
+mod made;
 #[cfg(test)]
 mod page;
 #[cfg(test)]
 mod programs;
 #[cfg(test)]
-mod said;
+mod rows;
 #[cfg(test)]
 mod shown;
 #[cfg(test)]
