@@ -1,0 +1,6 @@
+use Rattle.std.proofs.Common.{◌≡◌, map, take}
+use Rattle.expr_builtins.specs.Collections.{keyed_pair}
+use Rattle.expr_builtins.proofs.collection.keyed_pairs.Given as goal
+
+abbrev pub invariant-loop-i : goal.invariant-loop-i
+invariant-loop-i l = l.items.items ≡ map keyed_pair (take l.i l.pairs)

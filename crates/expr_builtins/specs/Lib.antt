@@ -1,0 +1,10 @@
+pub mod Arguments
+pub mod Bits
+pub mod Calls
+pub mod Collections
+pub mod Conversions
+pub mod Indices
+pub mod Numbers
+pub mod Places
+pub mod Text
+pub mod Texts

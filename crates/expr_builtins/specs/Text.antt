@@ -1,0 +1,58 @@
+-- What the calls on texts give.
+use Rattle.std.specs.Prelude.{◌≡◌, ℕ, ◌-◌, ◌*◌, ◌^◌, nat_eq, nat_lt, ℤ, pos, negsuc, List, length, take, drop, map, Option, Some, None, Ok, Err, if◌then◌else◌}
+use Rattle.std.specs.Char.{to_ascii_lowercase, to_ascii_uppercase}
+use Rattle.std.specs.List.{starts_with, ends_with, repeat}
+use Rattle.std.specs.Str.{IsAscii}
+use Rattle.expr_value.specs.Fault.{evaluation}
+use Rattle.expr_value.specs.declared.value.Value as value
+use Rattle.expr_value.specs.declared.value.Value.{Value}
+use Rattle.expr_value.specs.Answers.{Answer}
+use Rattle.expr_builtins.specs.Arguments.{asked, one_text, two_texts, two_texts_and_limit, one_or_two_texts, text_and_integer, three_texts_and_limit}
+use Rattle.expr_builtins.specs.Texts.{parts, replaced}
+
+abbrev pub has_prefix : List Value → Answer
+has_prefix arguments = asked (two_texts arguments) (λ a. Ok (value.Bool (starts_with nat_eq a.0 a.1)))
+
+abbrev pub has_suffix : List Value → Answer
+has_suffix arguments = asked (two_texts arguments) (λ a. Ok (value.Bool (ends_with nat_eq a.0 a.1)))
+
+-- a text without another at its front, or at its back, once, if it is there
+abbrev pub without_front : List ℕ → List ℕ → List ℕ
+without_front s t = if starts_with nat_eq s t then drop (length t) s else s
+
+abbrev pub without_back : List ℕ → List ℕ → List ℕ
+without_back s t = if ends_with nat_eq s t then take (length s - length t) s else s
+
+abbrev pub trim_prefix : List Value → Answer
+trim_prefix arguments = asked (one_or_two_texts arguments) (λ a. Ok (value.String (without_front a.0 a.1)))
+
+abbrev pub trim_suffix : List Value → Answer
+trim_suffix arguments = asked (one_or_two_texts arguments) (λ a. Ok (value.String (without_back a.0 a.1)))
+
+abbrev pub split : List Value → Answer
+split arguments = asked (two_texts_and_limit arguments) (λ a. Ok (value.Array (map value.String (parts a.0 a.1 a.2))))
+
+abbrev pub replace : List Value → Answer
+replace arguments = asked (three_texts_and_limit arguments) (λ a. Ok (value.String (replaced a.0.0 a.0.1 a.1.0 a.1.1)))
+
+-- so many copies: at most a million, of less than 2^64 bytes
+abbrev pub repeated : List ℕ → ℤ → Answer
+repeated s (pos n) = if nat_lt 1000000 n then Err evaluation else (if nat_lt (n * length s) (2 ^ 64) then Ok (value.String (repeat n s)) else Err evaluation)
+repeated s (negsuc n) = Err evaluation
+
+abbrev pub repeat_text : List Value → Answer
+repeat_text arguments = asked (text_and_integer arguments) (λ a. repeated a.0 a.1)
+
+-- byte by byte where the text is ASCII, and elsewhere any text
+abbrev pub Cased : (ℕ → ℕ) → List ℕ → Answer → Type 0
+Cased changed s answer = (t : List ℕ) × (answer ≡ Ok (value.String t)) × (IsAscii s → t ≡ map changed s)
+
+abbrev pub CasedOne : (ℕ → ℕ) → Option (List ℕ) → Answer → Type 0
+CasedOne changed None answer = answer ≡ Err evaluation
+CasedOne changed (Some s) answer = Cased changed s answer
+
+abbrev pub Upper : List Value → Answer → Type 0
+Upper arguments = CasedOne to_ascii_uppercase (one_text arguments)
+
+abbrev pub Lower : List Value → Answer → Type 0
+Lower arguments = CasedOne to_ascii_lowercase (one_text arguments)

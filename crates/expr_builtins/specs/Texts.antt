@@ -1,0 +1,35 @@
+-- What the calls on texts give.
+use Rattle.std.specs.Prelude.{ℕ, zero, suc, ℤ, pos, negsuc, List, [], ◌∷◌, ◌++◌, length, take, drop}
+use Rattle.expr_value.specs.Values.{joined}
+use Rattle.expr_builtins.specs.Places.{places, cut}
+
+-- the pieces of a text between all matches, and between the first n of them
+abbrev pub pieces : List ℕ → List ℕ → List (List ℕ)
+pieces t s = cut (length t) 0 (places t s) s
+
+abbrev pub first_pieces : ℕ → List ℕ → List ℕ → List (List ℕ)
+first_pieces n t s = cut (length t) 0 (take n (places t s)) s
+
+-- the parts of s at t, as `split` gives them: at most n pieces, or all where n is below zero
+abbrev pub parts : List ℕ → List ℕ → ℤ → List (List ℕ)
+parts s t (pos zero) = []
+parts s t (pos (suc n)) = first_pieces n t s
+parts s t (negsuc n) = pieces t s
+
+-- s with matches replaced: the first n matches, or all where n is below zero
+abbrev pub replaced : List ℕ → List ℕ → List ℕ → ℤ → List ℕ
+replaced s from to (pos n) = joined to (first_pieces n from s)
+replaced s from to (negsuc n) = joined to (pieces from s)
+
+-- pieces cut after each match; an empty last piece is dropped
+abbrev pub after_each : List ℕ → List (List ℕ) → List (List ℕ)
+after_each t [] = []
+after_each t ([] ∷ []) = []
+after_each t ((b ∷ s) ∷ []) = (b ∷ s) ∷ []
+after_each t (s ∷ u ∷ rest) = (s ++ t) ∷ after_each t (u ∷ rest)
+
+-- the parts of s after each match of t, as `splitAfter` gives them: the first n - 1 pieces and then the rest joined, even if empty
+abbrev pub parts_after : List ℕ → List ℕ → ℤ → List (List ℕ)
+parts_after s t (pos zero) = []
+parts_after s t (pos (suc n)) = take n (after_each t (pieces t s)) ++ joined [] (drop n (after_each t (pieces t s))) ∷ []
+parts_after s t (negsuc n) = after_each t (pieces t s)

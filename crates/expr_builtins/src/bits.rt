@@ -1,0 +1,129 @@
+//! The calls on bits.
+ghost use Rattle.std.specs.Prelude.{◌≡◌};
+ghost use Rattle.expr_value.specs.Answers.{Gives};
+ghost use Rattle.expr_builtins.specs.Bits.{bitand, bitor, bitxor, bitnand, bitnot, bitshl, bitshr, bitushr, shifted_left, shifted_right, shifted_unsigned};
+
+use crate::arguments::{one_integer, two_integers};
+use expr_value::{Result, Value, refusal};
+use std::alloc::Global;
+
+/// The bits that are set in both integers.
+pub(crate) fn bitand(alloc: Global, arguments: &[Value]) -> Result<Value>
+    ensures { Gives result (λ answer. answer ≡ bitand arguments.now) }
+{
+    let Some((a, b)) = two_integers(arguments) else {
+        return Err(refusal(alloc, "bitand takes two integers"));
+    };
+    Ok(Value::Integer(a & b))
+}
+
+/// The bits that are set in either integer.
+pub(crate) fn bitor(alloc: Global, arguments: &[Value]) -> Result<Value>
+    ensures { Gives result (λ answer. answer ≡ bitor arguments.now) }
+{
+    let Some((a, b)) = two_integers(arguments) else {
+        return Err(refusal(alloc, "bitor takes two integers"));
+    };
+    Ok(Value::Integer(a | b))
+}
+
+/// The bits that are set in one integer alone.
+pub(crate) fn bitxor(alloc: Global, arguments: &[Value]) -> Result<Value>
+    ensures { Gives result (λ answer. answer ≡ bitxor arguments.now) }
+{
+    let Some((a, b)) = two_integers(arguments) else {
+        return Err(refusal(alloc, "bitxor takes two integers"));
+    };
+    Ok(Value::Integer(a ^ b))
+}
+
+/// The first integer with the bits of the second cleared.
+pub(crate) fn bitnand(alloc: Global, arguments: &[Value]) -> Result<Value>
+    ensures { Gives result (λ answer. answer ≡ bitnand arguments.now) }
+{
+    let Some((a, b)) = two_integers(arguments) else {
+        return Err(refusal(alloc, "bitnand takes two integers"));
+    };
+    Ok(Value::Integer(a & !b))
+}
+
+/// The bits that are not set in an integer.
+pub(crate) fn bitnot(alloc: Global, arguments: &[Value]) -> Result<Value>
+    ensures { Gives result (λ answer. answer ≡ bitnot arguments.now) }
+{
+    let Some(a) = one_integer(arguments) else {
+        return Err(refusal(alloc, "bitnot takes an integer"));
+    };
+    Ok(Value::Integer(!a))
+}
+
+fn shifted_left(a: i64, count: u64) -> i64
+    ensures { result ≡ shifted_left a count }
+{
+    if count < 64 {
+        a.wrapping_shl(count as u32)
+    } else {
+        0
+    }
+}
+
+fn shifted_right(a: i64, count: u64) -> i64
+    ensures { result ≡ shifted_right a count }
+{
+    if count < 64 {
+        a.wrapping_shr(count as u32)
+    } else if a < 0 {
+        -1
+    } else {
+        0
+    }
+}
+
+fn shifted_unsigned(a: i64, count: u64) -> i64
+    ensures { result ≡ shifted_unsigned a count }
+{
+    if count < 64 {
+        a.cast_unsigned().wrapping_shr(count as u32).cast_signed()
+    } else {
+        0
+    }
+}
+
+/// An integer shifted to the left. A count below 0 is refused; bits shifted out are lost.
+pub(crate) fn bitshl(alloc: Global, arguments: &[Value]) -> Result<Value>
+    ensures { Gives result (λ answer. answer ≡ bitshl arguments.now) }
+{
+    let Some((a, count)) = two_integers(arguments) else {
+        return Err(refusal(alloc, "bitshl takes two integers"));
+    };
+    if count < 0 {
+        return Err(refusal(alloc, "bitshl takes no count below 0"));
+    }
+    Ok(Value::Integer(shifted_left(a, count as u64)))
+}
+
+/// An integer shifted to the right, with its sign kept. A count below 0 is refused.
+pub(crate) fn bitshr(alloc: Global, arguments: &[Value]) -> Result<Value>
+    ensures { Gives result (λ answer. answer ≡ bitshr arguments.now) }
+{
+    let Some((a, count)) = two_integers(arguments) else {
+        return Err(refusal(alloc, "bitshr takes two integers"));
+    };
+    if count < 0 {
+        return Err(refusal(alloc, "bitshr takes no count below 0"));
+    }
+    Ok(Value::Integer(shifted_right(a, count as u64)))
+}
+
+/// An integer shifted to the right, with zeros from the left. A count below 0 is refused.
+pub(crate) fn bitushr(alloc: Global, arguments: &[Value]) -> Result<Value>
+    ensures { Gives result (λ answer. answer ≡ bitushr arguments.now) }
+{
+    let Some((a, count)) = two_integers(arguments) else {
+        return Err(refusal(alloc, "bitushr takes two integers"));
+    };
+    if count < 0 {
+        return Err(refusal(alloc, "bitushr takes no count below 0"));
+    }
+    Ok(Value::Integer(shifted_unsigned(a, count as u64)))
+}

@@ -1,0 +1,355 @@
+//! The calls on arrays and maps.
+ghost use Rattle.std.specs.Prelude.{◌≡◌, ◌≢◌, ◌-◌, None, Some, Ok, map, length, unwrap_or, IfOk, IfErr};
+ghost use Rattle.std.specs.Option.{option_copied, option_map};
+ghost use Rattle.std.specs.Str.{chars};
+ghost use Rattle.expr_value.specs.Fault.{fault_of, memory, evaluation};
+ghost use Rattle.expr_value.specs.Values.{of_key, string_of, items_of};
+ghost use Rattle.expr_value.specs.Answers.{Gives};
+ghost use Rattle.expr_builtins.specs.Arguments.{all_of};
+ghost use Rattle.expr_builtins.specs.Collections.{len, size_of, first, last, item_or_nil, take_items, taken, reversed, keys, values, to_pairs, from_pairs, get, join, concat, pair_of, two_items, in_a_row, item_from, or_nil, pair, named_pair, keyed_pair};
+
+use crate::arguments::{
+    array_and_integer, array_and_text, into_items, one_array, one_value, two_values,
+};
+use crate::cuts::joined;
+use expr_value::{Error, Items, Key, KeyedMap, Result, Text, Value, ValueMap, refusal};
+use std::alloc::Global;
+
+/// How many items, characters, bytes or pairs there are.
+pub(crate) fn len(alloc: Global, arguments: &[Value]) -> Result<Value>
+    ensures { Gives result (λ answer. answer ≡ len arguments.now) }
+{
+    let Some(value) = one_value(arguments) else {
+        return Err(refusal(alloc, "len takes one value"));
+    };
+    let Some(count) = size(value) else {
+        return Err(refusal(alloc, "len takes an array, a text, bytes or a map"));
+    };
+    Ok(Value::from(count))
+}
+
+fn size(value: &Value) -> Option<usize>
+    ensures { result ≡ size_of value.now }
+{
+    match value {
+        Value::String(text) => Some(characters(text.as_str())),
+        Value::Array(items) => Some(items.len()),
+        Value::Bytes(bytes) => Some(bytes.len()),
+        Value::Map(map) => Some(map.len()),
+        Value::KeyedMap(map) => Some(map.len()),
+        _ => None,
+    }
+}
+
+fn characters(text: &str) -> usize
+    ensures { result ≡ length (chars text.now) }
+{
+    text.chars().count()
+}
+
+/// The first item of an array, or nil.
+pub(crate) fn first(alloc: Global, arguments: &mut [Value]) -> Result<Value>
+    ensures { Gives result (λ answer. answer ≡ first arguments.old) }
+{
+    let Some(mut items) = one_array(arguments) else {
+        return Err(refusal(alloc, "first takes an array"));
+    };
+    if items.is_empty() {
+        return Ok(Value::Nil);
+    }
+    Ok(std::mem::take(&mut items[0]))
+}
+
+/// The last item of an array, or nil.
+pub(crate) fn last(alloc: Global, arguments: &mut [Value]) -> Result<Value>
+    ensures { Gives result (λ answer. answer ≡ last arguments.old) }
+{
+    let Some(mut items) = one_array(arguments) else {
+        return Err(refusal(alloc, "last takes an array"));
+    };
+    if items.is_empty() {
+        return Ok(Value::Nil);
+    }
+    let last = items.len() - 1;
+    Ok(std::mem::take(&mut items[last]))
+}
+
+/// The first items of an array, so many.
+pub(crate) fn take_items(alloc: Global, arguments: &mut [Value]) -> Result<Value>
+    ensures { Gives result (λ answer. answer ≡ take_items arguments.old) }
+{
+    let Some((mut items, count)) = array_and_integer(arguments) else {
+        return Err(refusal(alloc, "take takes an array and an integer"));
+    };
+    if count < 0 {
+        return Err(refusal(alloc, "take takes no count below 0"));
+    }
+    items.truncate(count as usize);
+    Ok(Value::Array(Items::from_vec(items)))
+}
+
+/// The items of an array, the last first.
+pub(crate) fn reversed(alloc: Global, arguments: &mut [Value]) -> Result<Value>
+    ensures { Gives result (λ answer. answer ≡ reversed arguments.old) }
+{
+    let Some(mut items) = one_array(arguments) else {
+        return Err(refusal(alloc, "reverse takes an array"));
+    };
+    items.reverse();
+    Ok(Value::Array(Items::from_vec(items)))
+}
+
+/// The keys of a map, in its order.
+pub(crate) fn keys(alloc: Global, arguments: &[Value]) -> Result<Value>
+    ensures { Gives result (λ answer. answer ≡ keys arguments.now) }
+{
+    let Some(value) = one_value(arguments) else {
+        return Err(refusal(alloc, "keys takes a map"));
+    };
+    match value {
+        Value::Map(map) => names(alloc, map.keys()),
+        Value::KeyedMap(map) => scalars(alloc, map.keys()),
+        _ => Err(refusal(alloc, "keys takes a map")),
+    }
+}
+
+fn names(alloc: Global, names: &[Text]) -> Result<Value>
+    ensures ok { IfOk result (λ v. v ≡ Value.Array (map Value.String names.now)) }
+    ensures err { IfErr result (λ e. e ≡ Error.MemoryError) }
+{
+    let mut items = Vec::with_capacity(alloc, names.len())?;
+    for i in 0..names.len() {
+        items.push(Value::text(alloc, names[i].as_str())?)?;
+    }
+    Ok(Value::Array(Items::from_vec(items)))
+}
+
+fn scalars(alloc: Global, keys: &[Key]) -> Result<Value>
+    ensures ok { IfOk result (λ v. v ≡ Value.Array (map of_key keys.now)) }
+    ensures err { IfErr result (λ e. e ≡ Error.MemoryError) }
+{
+    let mut items = Vec::with_capacity(alloc, keys.len())?;
+    for i in 0..keys.len() {
+        items.push(keys[i].to_value(alloc)?)?;
+    }
+    Ok(Value::Array(Items::from_vec(items)))
+}
+
+/// The values of a map, in its order.
+pub(crate) fn values(alloc: Global, arguments: &[Value]) -> Result<Value>
+    ensures { Gives result (λ answer. answer ≡ values arguments.now) }
+{
+    let Some(value) = one_value(arguments) else {
+        return Err(refusal(alloc, "values takes a map"));
+    };
+    match value {
+        Value::Map(map) => {
+            let values = map.values().to_vec(alloc)?;
+            Ok(Value::Array(Items::from_vec(values)))
+        }
+        Value::KeyedMap(map) => {
+            let values = map.values().to_vec(alloc)?;
+            Ok(Value::Array(Items::from_vec(values)))
+        }
+        _ => Err(refusal(alloc, "values takes a map")),
+    }
+}
+
+/// What a value has at a key, or nil.
+pub(crate) fn get(alloc: Global, arguments: &[Value]) -> Result<Value>
+    ensures { Gives result (λ answer. answer ≡ get arguments.now) }
+{
+    let Some((value, key)) = two_values(arguments) else {
+        return Err(refusal(alloc, "get takes a value and a key"));
+    };
+    match (value, key) {
+        (Value::Array(items), Value::Integer(place)) => {
+            copied_or_nil(item(items.as_slice(), *place))
+        }
+        (Value::Bytes(bytes), Value::Integer(place)) => match item(bytes.as_slice(), *place) {
+            Some(byte) => Ok(Value::Integer(i64::from(*byte))),
+            None => Ok(Value::Nil),
+        },
+        (Value::Map(map), Value::String(name)) => copied_or_nil(map.get(name.as_str())),
+        (Value::KeyedMap(map), _) => copied_or_nil(map.get(key)),
+        _ => Err(refusal(
+            alloc,
+            "get takes an array or bytes and an integer, or a map and a key",
+        )),
+    }
+}
+
+fn copied_or_nil(found: Option<&Value>) -> Result<Value>
+    ensures ok { IfOk result (λ v. Ok v ≡ or_nil (option_copied found.entry)) }
+    ensures err { IfErr result (λ e. e ≡ Error.MemoryError) }
+{
+    match found {
+        Some(value) => Ok(value.clone()?),
+        None => Ok(Value::Nil),
+    }
+}
+
+// The item at a place, from the end if the place is negative.
+fn item<T>(items: &[T], place: i64) -> Option<&T>
+    ensures { option_copied result ≡ item_from items.now place }
+{
+    if place >= 0 {
+        return items.get(place as usize);
+    }
+    let place = items.len().checked_sub(place.unsigned_abs() as usize)?;
+    items.get(place)
+}
+
+/// The texts of an array, with a separator between.
+pub(crate) fn join(alloc: Global, arguments: &[Value]) -> Result<Value>
+    ensures { Gives result (λ answer. answer ≡ join arguments.now) }
+{
+    let Some((items, separator)) = array_and_text(arguments) else {
+        return Err(refusal(alloc, "join takes an array, and perhaps a text"));
+    };
+    let Some(parts) = texts(alloc, items)? else {
+        return Err(refusal(alloc, "join takes an array of texts"));
+    };
+    let text = joined(alloc, &parts, separator)?;
+    Ok(Value::String(Text::from_string(text)))
+}
+
+// The texts that some values are, if each is one.
+fn texts(alloc: Global, items: &[Value]) -> Result<Option<Vec<&str>>>
+    ensures ok { IfOk result (λ found. option_map (λ v. map (λ t. t.now) v.items) found ≡ all_of string_of items.now) }
+    ensures err { IfErr result (λ e. e ≡ Error.MemoryError) }
+{
+    let mut parts = Vec::with_capacity(alloc, items.len())?;
+    for i in 0..items.len() {
+        let Some(text) = items[i].as_string() else {
+            return Ok(None);
+        };
+        parts.push(text)?;
+    }
+    Ok(Some(parts))
+}
+
+/// The pairs of a map, in its order, as arrays of two.
+pub(crate) fn to_pairs(alloc: Global, arguments: &[Value]) -> Result<Value>
+    ensures { Gives result (λ answer. answer ≡ to_pairs arguments.now) }
+{
+    let Some(value) = one_value(arguments) else {
+        return Err(refusal(alloc, "toPairs takes a map"));
+    };
+    match value {
+        Value::Map(map) => named_pairs(alloc, map),
+        Value::KeyedMap(map) => keyed_pairs(alloc, map),
+        _ => Err(refusal(alloc, "toPairs takes a map")),
+    }
+}
+
+fn named_pairs(alloc: Global, pairs: &ValueMap) -> Result<Value>
+    ensures ok { IfOk result (λ v. v ≡ Value.Array (map named_pair pairs.now)) }
+    ensures err { IfErr result (λ e. e ≡ Error.MemoryError) }
+{
+    let mut items = Vec::with_capacity(alloc, pairs.len())?;
+    for i in 0..pairs.len() {
+        let Some((name, value)) = pairs.get_index(i) else {
+            break;
+        };
+        let name = Value::text(alloc, name.as_str())?;
+        items.push(pair(alloc, name, value)?)?;
+    }
+    Ok(Value::Array(Items::from_vec(items)))
+}
+
+fn keyed_pairs(alloc: Global, pairs: &KeyedMap) -> Result<Value>
+    ensures ok { IfOk result (λ v. v ≡ Value.Array (map keyed_pair pairs.now)) }
+    ensures err { IfErr result (λ e. e ≡ Error.MemoryError) }
+{
+    let mut items = Vec::with_capacity(alloc, pairs.len())?;
+    for i in 0..pairs.len() {
+        let Some((key, value)) = pairs.get_index(i) else {
+            break;
+        };
+        let key = key.to_value(alloc)?;
+        items.push(pair(alloc, key, value)?)?;
+    }
+    Ok(Value::Array(Items::from_vec(items)))
+}
+
+fn pair(alloc: Global, key: Value, value: &Value) -> Result<Value>
+    ensures ok { IfOk result (λ v. v ≡ pair key value.now) }
+    ensures err { IfErr result (λ e. e ≡ Error.MemoryError) }
+{
+    let mut items = Vec::with_capacity(alloc, 2)?;
+    items.push(key)?;
+    items.push(value.clone()?)?;
+    Ok(Value::Array(Items::from_vec(items)))
+}
+
+/// A map of arrays of two. A repeated key stays as first given, in its place, and takes the later value.
+pub(crate) fn from_pairs(alloc: Global, arguments: &mut [Value]) -> Result<Value>
+    ensures { Gives result (λ answer. answer ≡ from_pairs arguments.old) }
+{
+    let Some(items) = one_array(arguments) else {
+        return Err(refusal(alloc, "fromPairs takes an array"));
+    };
+    let Some(pairs) = pairs_moved(alloc, items)? else {
+        return Err(refusal(alloc, "fromPairs takes an array of arrays of two"));
+    };
+    let map = KeyedMap::from_pairs(alloc, pairs)?;
+    Ok(Value::KeyedMap(map))
+}
+
+fn pairs_moved(alloc: Global, items: Vec<Value>) -> Result<Option<Vec<(Value, Value)>>>
+    ensures ok { IfOk result (λ found. option_map (λ v. v.items) found ≡ all_of pair_of items.items) }
+    ensures err { IfErr result (λ e. e ≡ Error.MemoryError) }
+{
+    let mut pairs = Vec::with_capacity(alloc, items.len())?;
+    for item in items {
+        let Some(pair) = pair_moved(item) else {
+            return Ok(None);
+        };
+        pairs.push(pair)?;
+    }
+    Ok(Some(pairs))
+}
+
+fn pair_moved(value: Value) -> Option<(Value, Value)>
+    ensures { result ≡ pair_of value }
+{
+    let mut items = into_items(value)?;
+    both_moved(&mut items)
+}
+
+fn both_moved(items: &mut [Value]) -> Option<(Value, Value)>
+    ensures { result ≡ two_items items.old }
+{
+    if items.len() != 2 {
+        return None;
+    }
+    Some((std::mem::take(&mut items[0]), std::mem::take(&mut items[1])))
+}
+
+/// The items of some arrays, one array after the other.
+pub(crate) fn concat(alloc: Global, arguments: Vec<Value>) -> Result<Value>
+    ensures { Gives result (λ answer. answer ≡ concat arguments.items) }
+{
+    if arguments.is_empty() {
+        return Err(refusal(alloc, "concat takes at least one array"));
+    }
+    let Some(items) = appended(alloc, arguments)? else {
+        return Err(refusal(alloc, "concat takes arrays"));
+    };
+    Ok(Value::Array(Items::from_vec(items)))
+}
+
+fn appended(alloc: Global, arrays: Vec<Value>) -> Result<Option<Vec<Value>>>
+    ensures ok { IfOk result (λ found. option_map (λ v. v.items) found ≡ option_map in_a_row (all_of items_of arrays.items)) }
+    ensures err { IfErr result (λ e. e ≡ Error.MemoryError) }
+{
+    let mut all = Vec::new(alloc);
+    for array in arrays {
+        let Some(mut items) = into_items(array) else {
+            return Ok(None);
+        };
+        all.append(&mut items)?;
+    }
+    Ok(Some(all))
+}

@@ -1,0 +1,66 @@
+//! Texts cut at the matches of another, and put together.
+ghost use Rattle.std.specs.Prelude.{◌≡◌, ◌≢◌, ℕ, ℤ, List, negsuc, map, ◌+◌, string_bytes, IfOk, pos, suc, take, length, bytes_eq};
+ghost use Rattle.expr_value.specs.Values.{joined};
+ghost use Rattle.expr_builtins.specs.Texts.{pieces, parts, replaced};
+
+use crate::places::pieces;
+use std::alloc::{AllocError, Global};
+
+#[tactic(auto, using(crate::proofs::Rejoined::parts_all))]
+/// The parts of a text at a separator: at most `limit`, or all where that is below zero.
+pub(crate) fn parts<'a>(
+    alloc: Global,
+    text: &'a str,
+    separator: &str,
+    limit: i64,
+) -> Result<Vec<&'a str>, AllocError>
+    ensures { IfOk result (λ found. map (λ p. p.now) found.items ≡ parts text.now separator.now limit) }
+{
+    if limit == 0 {
+        return Ok(Vec::new(alloc));
+    }
+    if limit < 0 {
+        let found = pieces(alloc, text, separator, text.len() + 1)?;
+        return Ok(found);
+    }
+    pieces(alloc, text, separator, (limit - 1) as usize)
+}
+
+#[tactic(auto, using(crate::proofs::Rejoined::replaced_all))]
+/// A text with the first `limit` matches replaced, or all where that is below zero.
+pub(crate) fn replaced(
+    alloc: Global,
+    text: &str,
+    from: &str,
+    to: &str,
+    limit: i64,
+) -> Result<String, AllocError>
+    ensures { IfOk result (λ s. string_bytes s ≡ replaced text.now from.now to.now limit) }
+{
+    if limit < 0 {
+        let parts = pieces(alloc, text, from, text.len() + 1)?;
+        let replaced = joined(alloc, &parts, to)?;
+        return Ok(replaced);
+    }
+    let parts = pieces(alloc, text, from, limit as usize)?;
+    joined(alloc, &parts, to)
+}
+
+/// Texts with a separator between.
+pub(crate) fn joined(alloc: Global, parts: &[&str], separator: &str) -> Result<String, AllocError>
+    ensures { IfOk result (λ s. string_bytes s ≡ joined separator.now (map (λ p. p.now) parts.now)) }
+{
+    let mut text = String::new(alloc);
+    for i in 0..parts.len() {
+        if i > 0 {
+            text.push_str(separator)?;
+        }
+        text.push_str(parts[i])?;
+    }
+    Ok(text)
+}
+
+/// The parts of a text at a separator, joined by it, are the text again.
+pub fn parts_joined_are_the_text()
+    ensures { (t s : List ℕ) (n : ℕ) → (joined t (parts s t (negsuc n)) ≡ s) × (joined t (parts s t (pos (suc n))) ≡ s) }
+{}

@@ -1,0 +1,162 @@
+//! The calls on texts.
+ghost use Rattle.std.specs.Prelude.{◌≡◌, nat_eq, map, IfOk, IfErr};
+ghost use Rattle.std.specs.List.{starts_with, ends_with};
+ghost use Rattle.expr_value.specs.Answers.{Gives};
+ghost use Rattle.expr_builtins.specs.Text.{has_prefix, has_suffix, trim_prefix, trim_suffix, without_front, without_back, split, replace, repeat_text, repeated, Upper, Lower};
+
+use crate::arguments::{
+    one_or_two_texts, one_text, text_and_integer, three_texts_and_limit, two_texts,
+    two_texts_and_limit,
+};
+use crate::cuts::{parts, replaced};
+use expr_value::{Error, Items, Result, Text, Value, refusal};
+use std::alloc::Global;
+
+/// Whether a text begins with another.
+pub(crate) fn has_prefix(alloc: Global, arguments: &[Value]) -> Result<Value>
+    ensures { Gives result (λ answer. answer ≡ has_prefix arguments.now) }
+{
+    let Some((text, front)) = two_texts(arguments) else {
+        return Err(refusal(alloc, "hasPrefix takes two texts"));
+    };
+    Ok(Value::Bool(begins_with(text, front)))
+}
+
+/// Whether a text ends with another.
+pub(crate) fn has_suffix(alloc: Global, arguments: &[Value]) -> Result<Value>
+    ensures { Gives result (λ answer. answer ≡ has_suffix arguments.now) }
+{
+    let Some((text, back)) = two_texts(arguments) else {
+        return Err(refusal(alloc, "hasSuffix takes two texts"));
+    };
+    Ok(Value::Bool(ends_in(text, back)))
+}
+
+fn begins_with(text: &str, front: &str) -> bool
+    ensures { result ≡ starts_with nat_eq text.now front.now }
+{
+    text.starts_with(front)
+}
+
+fn ends_in(text: &str, back: &str) -> bool
+    ensures { result ≡ ends_with nat_eq text.now back.now }
+{
+    text.ends_with(back)
+}
+
+/// A text without another at its front, once, if it is there.
+pub(crate) fn trim_prefix(alloc: Global, arguments: &[Value]) -> Result<Value>
+    ensures { Gives result (λ answer. answer ≡ trim_prefix arguments.now) }
+{
+    let Some((text, front)) = one_or_two_texts(arguments) else {
+        return Err(refusal(alloc, "trimPrefix takes one or two texts"));
+    };
+    Value::text(alloc, without_front(text, front))
+}
+
+/// A text without another at its back, once, if it is there.
+pub(crate) fn trim_suffix(alloc: Global, arguments: &[Value]) -> Result<Value>
+    ensures { Gives result (λ answer. answer ≡ trim_suffix arguments.now) }
+{
+    let Some((text, back)) = one_or_two_texts(arguments) else {
+        return Err(refusal(alloc, "trimSuffix takes one or two texts"));
+    };
+    Value::text(alloc, without_back(text, back))
+}
+
+fn without_front<'a>(text: &'a str, front: &str) -> &'a str
+    ensures { result.now ≡ without_front text.now front.now }
+{
+    match text.strip_prefix(front) {
+        Some(rest) => rest,
+        None => text,
+    }
+}
+
+fn without_back<'a>(text: &'a str, back: &str) -> &'a str
+    ensures { result.now ≡ without_back text.now back.now }
+{
+    match text.strip_suffix(back) {
+        Some(rest) => rest,
+        None => text,
+    }
+}
+
+/// The parts of a text at a separator, at most so many if a limit is given.
+pub(crate) fn split(alloc: Global, arguments: &[Value]) -> Result<Value>
+    ensures { Gives result (λ answer. answer ≡ split arguments.now) }
+{
+    let Some((text, separator, limit)) = two_texts_and_limit(arguments) else {
+        return Err(refusal(alloc, "split takes two texts, and perhaps a limit"));
+    };
+    let found = parts(alloc, text, separator, limit)?;
+    array_of_texts(alloc, &found)
+}
+
+fn array_of_texts(alloc: Global, texts: &[&str]) -> Result<Value>
+    ensures ok { IfOk result (λ v. v ≡ Value.Array (map Value.String (map (λ t. t.now) texts.now))) }
+    ensures err { IfErr result (λ e. e ≡ Error.MemoryError) }
+{
+    let mut items = Vec::with_capacity(alloc, texts.len())?;
+    for i in 0..texts.len() {
+        items.push(Value::text(alloc, texts[i])?)?;
+    }
+    Ok(Value::Array(Items::from_vec(items)))
+}
+
+/// A text with matches replaced, the first so many if a limit is given.
+pub(crate) fn replace(alloc: Global, arguments: &[Value]) -> Result<Value>
+    ensures { Gives result (λ answer. answer ≡ replace arguments.now) }
+{
+    let Some((text, from, to, limit)) = three_texts_and_limit(arguments) else {
+        return Err(refusal(alloc, "replace takes three texts, and perhaps a limit"));
+    };
+    let text = replaced(alloc, text, from, to, limit)?;
+    Ok(Value::String(Text::from_string(text)))
+}
+
+/// So many copies of a text: at most a million, of less than 2^64 bytes.
+pub(crate) fn repeat_text(alloc: Global, arguments: &[Value]) -> Result<Value>
+    ensures { Gives result (λ answer. answer ≡ repeat_text arguments.now) }
+{
+    let Some((text, count)) = text_and_integer(arguments) else {
+        return Err(refusal(alloc, "repeat takes a text and an integer"));
+    };
+    repeated(alloc, text, count)
+}
+
+fn repeated(alloc: Global, text: &str, count: i64) -> Result<Value>
+    ensures { Gives result (λ answer. answer ≡ repeated text.now count) }
+{
+    if count < 0 {
+        return Err(refusal(alloc, "repeat takes no count below 0"));
+    }
+    let count = count as usize;
+    if count > 1_000_000 {
+        return Err(refusal(alloc, "repeat takes no count above 1000000"));
+    }
+    if count.checked_mul(text.len()).is_none() {
+        return Err(refusal(alloc, "repeat makes no text of 2^64 bytes"));
+    }
+    Ok(Value::String(Text::from_string(text.repeat(alloc, count)?)))
+}
+
+/// A text in upper case.
+pub(crate) fn upper(alloc: Global, arguments: &[Value]) -> Result<Value>
+    ensures { Gives result (Upper arguments.now) }
+{
+    let Some(text) = one_text(arguments) else {
+        return Err(refusal(alloc, "upper takes a text"));
+    };
+    Ok(Value::String(Text::from_string(text.to_uppercase(alloc)?)))
+}
+
+/// A text in lower case.
+pub(crate) fn lower(alloc: Global, arguments: &[Value]) -> Result<Value>
+    ensures { Gives result (Lower arguments.now) }
+{
+    let Some(text) = one_text(arguments) else {
+        return Err(refusal(alloc, "lower takes a text"));
+    };
+    Ok(Value::String(Text::from_string(text.to_lowercase(alloc)?)))
+}
