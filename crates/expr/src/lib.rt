@@ -7,11 +7,11 @@ pub use expr_evaluation::{
     eval_expr, eval_func, eval_operator, eval_postfix_operator, eval_unary_operator,
     left_side_decides, run,
 };
+pub use expr_frames::laws::brackets_leave_program;
+pub use expr_grammar::laws::{brackets_fit, one_tree};
 pub use expr_operators::{
     outside_is_not_within, part_stands_between_front_and_back, unequal_is_not_equal,
 };
-pub use expr_frames::laws::brackets_leave_program;
-pub use expr_grammar::laws::{brackets_fit, one_tree};
 pub use expr_syntax::compile;
 pub use expr_syntax::laws::one_tree_of_text;
 pub use expr_token::{lexer_gives_the_reading, one_reading};

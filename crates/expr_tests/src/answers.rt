@@ -1,17 +1,20 @@
 //! Answers that depend on what a host lends, and the calls for one node, operator or call.
-use crate::rows::Rows;
+use crate::said::{printed, said};
 use expr::{
     Context, ContextProvider, Error, Node, Result, Value, compile, eval_expr, eval_func,
     eval_operator, eval_postfix_operator, eval_unary_operator, run, value,
 };
 use std::alloc::Global;
+use std::test::Fail;
 
-/// A provider whose function and map disagree, and which may have no memory for its map where `$env` asks for it.
+type Tested = std::result::Result<(), Fail>;
+
+/// A provider whose function and map may disagree, and which may have no memory for its map where that is asked for.
 #[derive(Drop)]
 struct Odd {
     names: Context,
     shown: Context,
-    is_shy: bool,
+    refuses: bool,
 }
 
 impl ContextProvider for Odd {
@@ -28,40 +31,53 @@ impl ContextProvider for Odd {
     }
 
     fn environment(&self, alloc: Global) -> Result<Context> {
-        if self.is_shy {
+        if self.refuses {
             return Err(Error::MemoryError);
         }
         self.to_context(alloc)
     }
 }
 
-/// What the program of a text answers under the odd provider.
-pub fn under_odd(alloc: Global, code: &str, is_shy: bool) -> Result<String> {
+fn made(alloc: Global, refuses: bool) -> Result<Odd> {
     let names = Context::try_from(alloc, value!(in alloc; {"#": {"x": 7}, "$env": 1, "a": 2})?)?;
     let shown = Context::try_from(alloc, value!(in alloc; {"a": 3})?)?;
-    let provider = Odd {
+    Ok(Odd {
         names,
         shown,
-        is_shy,
-    };
-    let program = compile(alloc, code)?;
-    Ok(run(alloc, &program, &provider)?.to_string(alloc)?)
+        refuses,
+    })
 }
 
-pub const UNDER_ODD: Rows = &[
-    ("x", "7"),
-    ("#", "{x: 7}"),
-    ("a", "2"),
-    ("$env", "{a: 3}"),
-    (r#"$env["$env"]"#, "nil"),
-    ("let a = 1; $env.a", "3"),
-    ("let $env = 5; $env.a", "3"),
+/// What a text answers under the odd provider.
+fn said_by_odd(alloc: Global, refuses: bool, code: &str) -> Result<String> {
+    let provider = made(alloc, refuses)?;
+    Ok(said(alloc, &provider, code)?)
+}
+
+/// Texts, whether the odd provider refuses its map, and what they answer under it.
+const UNDER_ODD_PROVIDERS: &[(&str, bool, &str)] = &[
+    ("x", false, "7"),
+    ("#", false, "{x: 7}"),
+    ("a", false, "2"),
+    ("$env", false, "{a: 3}"),
+    (r#"$env["$env"]"#, false, "nil"),
+    ("let a = 1; $env.a", false, "3"),
+    ("let $env = 5; $env.a", false, "3"),
+    ("$env", true, "!memory"),
+    ("a", true, "2"),
 ];
 
-pub const UNDER_SHY: Rows = &[("$env", "!memory"), ("a", "2")];
+#[test]
+fn function_and_map_may_disagree(rt: HostRuntime) -> Tested {
+    for (code, refuses, expected) in UNDER_ODD_PROVIDERS {
+        let answer = said_by_odd(rt.alloc(), *refuses, code)?;
+        assert_eq!(rt; answer.as_str(), *expected, "{code}");
+    }
+    Ok(())
+}
 
 /// What the last node of a text answers, by the call for nodes of its kind.
-fn by_its_part(alloc: Global, code: &str) -> Result<Value> {
+fn by_its_parts(alloc: Global, code: &str) -> Result<Value> {
     let context = Context::new(alloc);
     let program = compile(alloc, code)?;
     match &program.expr {
@@ -78,17 +94,32 @@ fn by_its_part(alloc: Global, code: &str) -> Result<Value> {
     }
 }
 
-/// That answer, printed.
-pub fn part(alloc: Global, code: &str) -> Result<String> {
-    Ok(by_its_part(alloc, code)?.to_string(alloc)?)
-}
-
-pub const PARTS: Rows = &[
+/// Texts and their answers.
+const BY_PARTS: &[(&str, &str)] = &[
     ("[1, 2]", "[1, 2]"),
     ("1 + 2 * 3 + 1", "8"),
     ("false and 1 / 0", "false"),
     ("not true", "false"),
-    (r#"["a", "b"][-1]"#, r#""b""#),
+    (r#"["a", "b"][-1]"#, "\"b\""),
     ("nil ?? 4", "4"),
     ("nope()", "!evaluation"),
 ];
+
+#[test]
+fn parts_are_called_alone(rt: HostRuntime) -> Tested {
+    for (code, expected) in BY_PARTS {
+        let answer = printed(rt.alloc(), by_its_parts(rt.alloc(), code))?;
+        assert_eq!(rt; answer.as_str(), *expected, "{code}");
+    }
+    Ok(())
+}
+
+// No clause can say that memory is left: a body that is always out of memory is proved.
+#[test]
+fn programs_run(rt: HostRuntime) -> Tested {
+    let program = compile(rt.alloc(), "[1, \"a\" + b]")?;
+    let context = Context::try_from(rt.alloc(), value!(in rt.alloc(); {"b": "c"})?)?;
+    let answer = run(rt.alloc(), &program, &context)?;
+    assert_eq!(rt; answer.to_string(rt.alloc())?.as_str(), "[1, \"ac\"]");
+    Ok(())
+}

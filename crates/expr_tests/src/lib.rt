@@ -1,4 +1,4 @@
-//! The tests of the libraries: rows from outside, each asked of the public surface with memory to spare.
+//! The tests of the libraries: rows from outside, and each public call once with memory to spare.
 #![tactic(auto)]
 
 #[cfg(test)]
@@ -6,13 +6,15 @@ mod answers;
 #[cfg(test)]
 mod collections;
 #[cfg(test)]
-mod made;
+mod macros;
+#[cfg(test)]
+mod moments;
 #[cfg(test)]
 mod page;
 #[cfg(test)]
 mod programs;
 #[cfg(test)]
-mod rows;
+mod said;
 #[cfg(test)]
 mod shown;
 #[cfg(test)]

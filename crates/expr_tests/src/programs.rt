@@ -1,86 +1,95 @@
 //! Programs of texts, their refusals and their names.
 use crate::page::Page;
-use crate::rows::Rows;
 use crate::shown::show_program;
-use expr::{Result, compile};
+use expr::{Error, Result, compile};
 use std::alloc::Global;
 use std::test::Fail;
 
-/// The program of a text with each of its brackets.
-pub fn program(alloc: Global, text: &str) -> Result<String> {
-    let program = compile(alloc, text)?;
+type Tested = std::result::Result<(), Fail>;
+
+/// The program of a text with each of its brackets, or its refusal.
+fn shown(alloc: Global, text: &str) -> Result<String> {
     let mut page = Page::new(alloc);
-    show_program(&program, &mut page);
+    match compile(alloc, text) {
+        Ok(program) => show_program(&program, &mut page),
+        Err(Error::PestError(place)) => {
+            page.put("syntax fault at ");
+            page.put_made(place.to_string(alloc));
+        }
+        Err(Error::ParseError(_message)) => page.put("literal out of range"),
+        Err(other) => return Err(other),
+    }
     Ok(page.finished()?)
 }
 
-pub const PROGRAMS: Rows = &[
-    ("a | f() * 2", "((a | f[]) * 2)"),
-    ("(a | f()) * 2", "((a | f[]) * 2)"),
-    ("2 ^ not a * b", "(2 ^ not (a * b))"),
-    ("2 ^ (not (a * b))", "(2 ^ not (a * b))"),
-    ("a ^ -b ^ c", "(a ^ -(b ^ c))"),
-    ("a ^ (-(b ^ c))", "(a ^ -(b ^ c))"),
-    ("a * not b + c", "((a * not b) + c)"),
-    ("(a * (not b)) + c", "((a * not b) + c)"),
-    ("not a in b", "(not a in b)"),
-    ("(not a) in b", "(not a in b)"),
-    ("a ? b : c | f()", "(a ? b : (c | f[]))"),
-    ("a ? b : (c | f())", "(a ? b : (c | f[]))"),
-    ("a == b | f()", "((a == b) | f[])"),
-    ("(a == b) | f()", "((a == b) | f[])"),
-    ("a | f().m", r#"((a | f[])["m"])"#),
-    ("(a | f()).m", r#"((a | f[])["m"])"#),
-    ("a .. b + c", "(a .. (b + c))"),
-    ("a .. (b + c)", "(a .. (b + c))"),
-    ("-a.b", r#"-(a["b"])"#),
-    ("-(a.b)", r#"-(a["b"])"#),
-    ("x[a ? b : c : d]", "(x[(a ? b : c):d])"),
-    ("x[(a ? b : c):d]", "(x[(a ? b : c):d])"),
-    ("a ** b && !c", "((a ^ b) and not c)"),
-    ("a ^ b and not c", "((a ^ b) and not c)"),
-    ("a - b - c", "((a - b) - c)"),
-    ("(a - b) - c", "((a - b) - c)"),
-    ("a ?? b ?? c", "((a ?? b) ?? c)"),
-    ("(a ?? b) ?? c", "((a ?? b) ?? c)"),
-    ("a not in b or c", "((a not in b) or c)"),
-    ("(a not in b) || c", "((a not in b) or c)"),
-    ("map(xs, # + 1)", "map[xs,]{(# + 1)}"),
-    ("map(xs, {# + 1})", "map[xs,]{(# + 1)}"),
-    ("map(xs, {a}, {b})", "map[xs,]{b}"),
-    ("map({b}, xs)", "map[xs,]{b}"),
-    ("map(xs, .v)", "map[xs,]{v}"),
-    ("map(xs, {v},)", "map[xs,]{v}"),
+/// Texts of one program, and that program, or their refusal.
+const PROGRAMS: &[(&[&str], &str)] = &[
+    (&["a | f() * 2", "(a | f()) * 2"], "((a | f[]) * 2)"),
+    (&["2 ^ not a * b", "2 ^ (not (a * b))"], "(2 ^ not (a * b))"),
+    (&["a ^ -b ^ c", "a ^ (-(b ^ c))"], "(a ^ -(b ^ c))"),
+    (&["a * not b + c", "(a * (not b)) + c"], "((a * not b) + c)"),
+    (&["not a in b", "(not a) in b"], "(not a in b)"),
     (
-        "if a { let b = 1; b } else if c { 2 } else { 3 }",
+        &["a ? b : c | f()", "a ? b : (c | f())"],
+        "(a ? b : (c | f[]))",
+    ),
+    (&["a == b | f()", "(a == b) | f()"], "((a == b) | f[])"),
+    (&["a | f().m", "(a | f()).m"], r#"((a | f[])["m"])"#),
+    (&["a .. b + c", "a .. (b + c)"], "(a .. (b + c))"),
+    (&["-a.b", "-(a.b)"], r#"-(a["b"])"#),
+    (
+        &["x[a ? b : c : d]", "x[(a ? b : c):d]"],
+        "(x[(a ? b : c):d])",
+    ),
+    (&["a ** b && !c", "a ^ b and not c"], "((a ^ b) and not c)"),
+    (&["a - b - c", "(a - b) - c"], "((a - b) - c)"),
+    (&["a ?? b ?? c", "(a ?? b) ?? c"], "((a ?? b) ?? c)"),
+    (
+        &["a not in b or c", "(a not in b) || c"],
+        "((a not in b) or c)",
+    ),
+    (&["map(xs, # + 1)", "map(xs, {# + 1})"], "map[xs,]{(# + 1)}"),
+    (&["map(xs, {a}, {b})", "map({b}, xs)"], "map[xs,]{b}"),
+    (&["map(xs, .v)", "map(xs, {v},)"], "map[xs,]{v}"),
+    (
+        &[
+            "if a { let b = 1; b } else if c { 2 } else { 3 }",
+            "if a { let b = 1; (b) } else { if c { 2 } else { 3 } }",
+        ],
         "if a {b = 1; b} {if c {2} {3}}",
     ),
-    (
-        "if a { let b = 1; (b) } else { if c { 2 } else { 3 } }",
-        "if a {b = 1; b} {if c {2} {3}}",
-    ),
-    ("ifx { 1 } else { 2 }", "!syntax at 4"),
-    ("[1, 2", "!syntax at 5"),
-    ("[,]", "!syntax at 1"),
-    ("{a: -1}", "!syntax at 4"),
-    ("{a: [1]}", "!syntax at 4"),
-    ("if true { 1 }", "!syntax at 13"),
-    ("if true { 1 } elseif { 2 }", "!syntax at 14"),
-    ("let x = 1 x", "!syntax at 10"),
-    ("f(,)", "!syntax at 2"),
-    ("a?.b()", "!syntax at 4"),
-    ("1 + ", "!syntax at 4"),
-    (".5", "!syntax at 0"),
-    ("a b", "!syntax at 2"),
-    ("f(1 + .x)", "!syntax at 6"),
-    ("a b \"", "!syntax at 2"),
-    ("a + \"", "!syntax at 4"),
-    ("-9223372036854775808", "!literal"),
-    ("-9223372036854775808 +", "!syntax at 22"),
+    (&["ifx { 1 } else { 2 }"], "syntax fault at 4"),
+    (&["[1, 2"], "syntax fault at 5"),
+    (&["[,]"], "syntax fault at 1"),
+    (&["{a: -1}"], "syntax fault at 4"),
+    (&["{a: [1]}"], "syntax fault at 4"),
+    (&["if true { 1 }"], "syntax fault at 13"),
+    (&["if true { 1 } elseif { 2 }"], "syntax fault at 14"),
+    (&["let x = 1 x"], "syntax fault at 10"),
+    (&["f(,)"], "syntax fault at 2"),
+    (&["a?.b()"], "syntax fault at 4"),
+    (&["1 + "], "syntax fault at 4"),
+    (&[".5"], "syntax fault at 0"),
+    (&["a b"], "syntax fault at 2"),
+    (&["f(1 + .x)"], "syntax fault at 6"),
+    (&["a b \""], "syntax fault at 2"),
+    (&["a + \""], "syntax fault at 4"),
+    (&["-9223372036854775808"], "literal out of range"),
+    (&["-9223372036854775808 +"], "syntax fault at 22"),
 ];
 
+#[test]
+fn texts_have_their_programs(rt: HostRuntime) -> Tested {
+    for (texts, program) in PROGRAMS {
+        for text in *texts {
+            assert_eq!(rt; shown(rt.alloc(), text)?.as_str(), *program, "{text}");
+        }
+    }
+    Ok(())
+}
+
 /// The names of a text's program, and whether it uses `$env`.
-pub fn names(alloc: Global, text: &str) -> Result<String> {
+fn names(alloc: Global, text: &str) -> Result<String> {
     let program = compile(alloc, text)?;
     let mut names = program.names(alloc)?.join(alloc, " ")?;
     if program.uses_env() {
@@ -89,7 +98,8 @@ pub fn names(alloc: Global, text: &str) -> Result<String> {
     Ok(names)
 }
 
-pub const NAMES: Rows = &[
+/// Texts, and the names of their programs.
+const NAMES: &[(&str, &str)] = &[
     (
         "let a = b; xs | map(a + #) | f(c.d, {k: 1}, $env)",
         "# a b c xs with $env",
@@ -101,6 +111,14 @@ pub const NAMES: Rows = &[
     ("map(xs, .v)", "v xs"),
 ];
 
+#[test]
+fn programs_have_their_names(rt: HostRuntime) -> Tested {
+    for (text, expected) in NAMES {
+        assert_eq!(rt; names(rt.alloc(), text)?.as_str(), *expected, "{text}");
+    }
+    Ok(())
+}
+
 /// Whether a text of 200,000 fronts, a middle and as many backs has a program without lines.
 fn is_compiled(alloc: Global, front: &str, middle: &str, back: &str) -> Result<bool> {
     let mut text = front.repeat(alloc, 200_000)?;
@@ -110,13 +128,13 @@ fn is_compiled(alloc: Global, front: &str, middle: &str, back: &str) -> Result<b
 }
 
 #[test]
-fn brackets_take_no_stack(rt: HostRuntime) -> std::result::Result<(), Fail> {
+fn brackets_take_no_stack(rt: HostRuntime) -> Tested {
     assert!(rt; is_compiled(rt.alloc(), "(", "1", ")")?);
     Ok(())
 }
 
 #[test]
-fn prefixes_take_no_stack(rt: HostRuntime) -> std::result::Result<(), Fail> {
+fn prefixes_take_no_stack(rt: HostRuntime) -> Tested {
     assert!(rt; is_compiled(rt.alloc(), "not ", "true", "")?);
     Ok(())
 }

@@ -1,12 +1,13 @@
-//! Tokens of texts.
+//! Readings of texts.
 use crate::page::Page;
-use crate::rows::Rows;
 use expr::Result;
 use expr_token::{Token, read};
 use std::alloc::Global;
+use std::test::Fail;
 
-/// Shows a token in a form of its own: large integers as `large`, contents in angle brackets after the first letter of
-/// their kind.
+type Tested = std::result::Result<(), Fail>;
+
+/// A token in a form of its own: large integers as `large`, contents in angle brackets after the first letter of their kind.
 fn show(token: &Token, page: &mut Page) {
     match token {
         Token::Integer(Some(value)) => page.put_made(value.to_string(page.allocator())),
@@ -16,9 +17,10 @@ fn show(token: &Token, page: &mut Page) {
         Token::Hash(name) => page.put(name.as_str()),
         Token::Quoted(content) => put_between("q<", content.as_str(), ">", page),
         Token::Raw(content) => put_between("r<", content.as_str(), ">", page),
-        Token::Bytes(bytes) => {
-            page.put_made(format!(in page.allocator(); "b<{:?}>", bytes.as_slice()))
-        }
+        Token::Bytes(bytes) => page.put_made(format!(in page.allocator();
+            "b<{:?}>",
+            bytes.as_slice()
+        )),
         Token::Sign(sign) => page.put(sign.spelling()),
     }
     page.put(" ");
@@ -31,7 +33,7 @@ fn put_between(front: &str, middle: &str, back: &str, page: &mut Page) {
 }
 
 /// The tokens of a text, each with a space after it, and the place of the fault, after `?`.
-pub fn tokens(alloc: Global, text: &str) -> Result<String> {
+fn shown(alloc: Global, text: &str) -> Result<String> {
     let reading = read(alloc, text)?;
     let mut page = Page::new(alloc);
     for token in &reading.tokens {
@@ -44,15 +46,8 @@ pub fn tokens(alloc: Global, text: &str) -> Result<String> {
     Ok(page.finished()?)
 }
 
-/// Where the tokens of a text start, in bytes.
-pub fn starts(alloc: Global, text: &str) -> Result<String> {
-    let reading = read(alloc, text)?;
-    Ok(format!(in alloc; "{:?}", reading.starts.as_slice())?)
-}
-
-pub const STARTS: Rows = &[("'é' /* é */ ab+1", "[0, 14, 16, 17]")];
-
-pub const TOKENS: Rows = &[
+/// Texts and their readings.
+const READINGS: &[(&str, &str)] = &[
     ("0x_2A 0B101 0o17 1_000 007", "42 5 15 1000 7 "),
     ("0x7FFF_FFFF_FFFF_FFFF", "9223372036854775807 "),
     ("0x8000000000000000 9223372036854775808", "large large "),
@@ -106,3 +101,18 @@ pub const TOKENS: Rows = &[
     ("ä", "?0"),
     ("é'é' /* é */ ab+1", "?0"),
 ];
+
+#[test]
+fn texts_have_their_readings(rt: HostRuntime) -> Tested {
+    for (text, tokens) in READINGS {
+        assert_eq!(rt; shown(rt.alloc(), text)?.as_str(), *tokens, "{text}");
+    }
+    Ok(())
+}
+
+#[test]
+fn tokens_have_their_starts(rt: HostRuntime) -> Tested {
+    let reading = read(rt.alloc(), "'é' /* é */ ab+1")?;
+    assert_eq!(rt; reading.starts.as_slice(), [0, 14, 16, 17].as_slice());
+    Ok(())
+}

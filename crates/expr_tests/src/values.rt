@@ -1,143 +1,255 @@
-//! Answers among values that no text makes, their texts, and maps made of them.
-use crate::made::{keyed, made};
-use crate::rows::Rows;
-use expr::{Context, ContextProvider, Key, Result, Value, eval};
+//! Values that no text makes, and each public call on values once with memory to spare.
+use crate::said::said;
+use expr::{
+    Context, ContextProvider, Error, Items, Key, KeyedMap, Result, Text, Value, ValueMap, eval,
+    value,
+};
+use expr_value::Boxed;
 use std::alloc::Global;
+use std::test::Fail;
 
-/// The answer of a text, printed.
-pub fn answer(alloc: Global, code: &str) -> Result<String> {
-    let names = made(alloc)?;
-    Ok(eval(alloc, code, &names)?.to_string(alloc)?)
+type Tested = std::result::Result<(), Fail>;
+
+/// The keyed map of an array, in which each key stands before its value.
+fn keyed(alloc: Global, listed: Result<Value>) -> Result<Value> {
+    let mut pairs = Vec::new(alloc);
+    for pair in listed?.as_array().unwrap_or(&[]).chunks(2) {
+        if let [key, value] = pair {
+            pairs.push((key.clone()?, value.clone()?))?;
+        }
+    }
+    Ok(Value::from(KeyedMap::from_pairs(alloc, pairs)?))
 }
 
-pub const ANSWERS: Rows = &[
+fn string(alloc: Global, text: &str) -> Result<String> {
+    Ok(String::from_str(alloc, text)?)
+}
+
+/// ("b", 1), ("a", 2), ("b", 3)
+fn named(alloc: Global) -> Result<Vec<(String, Value)>> {
+    let mut pairs = Vec::new(alloc);
+    for (name, number) in [("b", 1_i64), ("a", 2), ("b", 3)] {
+        pairs.push((string(alloc, name)?, Value::from(number)))?;
+    }
+    Ok(pairs)
+}
+
+/// Values that no text makes, by name.
+fn made(alloc: Global) -> Result<Context> {
+    let repeated = keyed(alloc, value!(in alloc; [2, "a", "x", 1, 2, "b"]))?;
+    let kinds = keyed(alloc, value!(in alloc; ["1x", 1, 10, 2, 2, 3, nil, 4]))?;
+    let named = Value::from_pairs(alloc, named(alloc)?)?;
+    Context::try_from(
+        alloc,
+        value!(in alloc; {
+            "default": Value::default(),
+            "largest": usize::MAX,
+            "span": Value::Duration(-5),
+            "two": Value::Duration(2),
+            "three": Value::Duration(3),
+            "five": Value::Duration(5),
+            "first": Value::Month(1),
+            "last": Value::Month(12),
+            "none": Value::Month(13),
+            "no_day": Value::Weekday(7),
+            "repeated": repeated,
+            "kinds": kinds,
+            "named": named,
+            "owned": string(alloc, "x")?,
+            "bytes": vec![in alloc; 1_u8, 2]?,
+            "nested": {"b": [1, "x"], "a": {"c": nil}},
+        })?,
+    )
+}
+
+/// Texts and their answers.
+const ANSWERS: &[(&str, &str)] = &[
     ("default", "nil"),
     ("largest", "-1"),
-    ("-5 * nanosecond", "-5ns"),
-    ("3 * nanosecond - 5 * nanosecond", "-2ns"),
-    ("2 * (5 * nanosecond)", "10ns"),
-    ("january == 1", "!evaluation"),
-    ("no_month", "13"),
-    ("owned", r#""x""#),
-    ("bytes", "[1 2]"),
+    ("span", "-5ns"),
+    ("none", "13"),
     ("repeated", r#"{2: "b", "x": 1}"#),
+    ("named", "{b: 3, a: 2}"),
+    ("owned", "\"x\""),
+    ("bytes", "[1 2]"),
     ("repeated[2]", r#""b""#),
     (r#"repeated["x"]"#, "1"),
-    ("repeated[2 * nanosecond]", "nil"),
-    ("[by_key] == [{a: 1}]", "false"),
-    ("[by_key] == [by_key]", "true"),
-    ("by_name", "{b: 3, a: 2}"),
-    ("named", "{b: 3, a: 2}"),
-    ("lent", "{b: 3, a: 2}"),
-    ("with_commas", r#"{a: [1, nil, {b: true}], c: "x"}"#),
-    ("with_expressions", "{key: 42, d: {}, e: [[]]}"),
-    ("with_made_names", r#"{name: true, keys: "x"}"#),
-    ("array_first", "[[1], 2]"),
-    ("map_first", "[{a: 1}, 2]"),
-    ("nil_first", "{a: nil, b: 1}"),
-    ("epoch", "1970-01-01T00:00:00+00:00"),
-    ("half_past", "2024-03-02T12:00:00.500+02:00"),
-    ("behind", "2024-03-02T08:29:30-01:31"),
-    ("before_year_0", "-0001-12-31T23:59:59+00:00"),
-    ("zoned", "2024-07-01T08:00:00-04:00"),
+    ("repeated[two]", "nil"),
+    ("[repeated] == [{x: 1}]", "false"),
+    ("[repeated] == [repeated]", "true"),
+    ("three - five", "-2ns"),
+    ("2 * five", "10ns"),
+    ("first == 1", "!evaluation"),
 ];
 
-/// The `string` text of a text's answer, if its copy is equal to it.
-pub fn text(alloc: Global, code: &str) -> Result<String> {
-    let names = made(alloc)?;
-    let value = eval(alloc, code, &names)?;
-    if value.clone()? == value {
-        value.string_text(alloc)
-    } else {
-        Ok(String::from_str(alloc, "another copy")?)
+#[test]
+fn made_values_answer(rt: HostRuntime) -> Tested {
+    let names = made(rt.alloc())?;
+    for (code, answer) in ANSWERS {
+        assert_eq!(rt; said(rt.alloc(), &names, code)?.as_str(), *answer, "{code}");
     }
+    Ok(())
 }
 
-// Lengths of time are as Go's `time.Duration` prints them.
-pub const TEXTS: Rows = &[
+/// The `string` text of what a text answers, and whether a copy of that is equal to it.
+fn string_of(alloc: Global, names: &Context, code: &str) -> Result<(String, bool)> {
+    let value = eval(alloc, code, names)?;
+    Ok((value.string_text(alloc)?, value.clone()? == value))
+}
+
+/// Texts and the `string` texts of their answers.
+const STRINGS: &[(&str, &str)] = &[
     ("kinds", "map[<nil>:4 2:3 10:2 1x:1]"),
     ("nested", "map[a:map[c:<nil>] b:[1 x]]"),
-    ("december", "December"),
+    ("last", "December"),
     ("no_day", ""),
     (r#"[1, {a: "x"}]"#, "[1 map[a:x]]"),
-    ("bytes", "[1 2]"),
-    ("0 * nanosecond", "0s"),
-    ("nanosecond", "1ns"),
-    ("1100 * nanosecond", "1.1\u{b5}s"),
-    ("2200000 * nanosecond", "2.2ms"),
-    ("3300000000 * nanosecond", "3.3s"),
-    ("245000000000 * nanosecond", "4m5s"),
-    ("245001000000 * nanosecond", "4m5.001s"),
-    ("18367001000000 * nanosecond", "5h6m7.001s"),
-    ("480000000001 * nanosecond", "8m0.000000001s"),
-    (
-        "9223372036854775807 * nanosecond",
-        "2562047h47m16.854775807s",
-    ),
-    (
-        "(-9223372036854775807 - 1) * nanosecond",
-        "-2562047h47m16.854775808s",
-    ),
-    ("epoch", "1970-01-01 00:00:00 +0000 UTC"),
-    ("half_past", "2024-03-02 12:00:00.5 +0200 +0200"),
-    ("behind", "2024-03-02 08:29:30 -0131 -0131"),
-    ("before_year_0", "-0001-12-31 23:59:59 +0000 UTC"),
-    ("zoned", "2024-07-01 08:00:00 -0400 E"),
+    (r#"b"\x01\x02""#, "[1 2]"),
 ];
 
-/// The keyed map of the array that a text answers, printed.
-pub fn keyed_map(alloc: Global, code: &str) -> Result<String> {
-    let names = made(alloc)?;
-    Ok(keyed(alloc, &names, code)?.to_string(alloc)?)
+#[test]
+fn made_values_have_strings(rt: HostRuntime) -> Tested {
+    let names = made(rt.alloc())?;
+    for (code, expected) in STRINGS {
+        let (text, has_equal_copy) = string_of(rt.alloc(), &names, code)?;
+        assert_eq!(rt; text.as_str(), *expected, "{code}");
+        assert!(rt; has_equal_copy, "{code}");
+    }
+    Ok(())
 }
 
-pub const KEYED_MAPS: Rows = &[
-    ("[noon, 1, ten, 2]", "{2024-01-01T12:00:00+02:00: 2}"),
-    ("[zoned, 1, summer, 2]", "{2024-07-01T08:00:00-04:00: 2}"),
-    ("[[], 1]", "!evaluation"),
-    ("[repeated, 1]", "!evaluation"),
+/// Lengths of time, in nanoseconds, as Go's `time.Duration` prints them.
+const DURATIONS: &[(i64, &str)] = &[
+    (0, "0s"),
+    (1, "1ns"),
+    (1_100, "1.1\u{b5}s"),
+    (2_200_000, "2.2ms"),
+    (3_300_000_000, "3.3s"),
+    (245_000_000_000, "4m5s"),
+    (245_001_000_000, "4m5.001s"),
+    (18_367_001_000_000, "5h6m7.001s"),
+    (480_000_000_001, "8m0.000000001s"),
+    (9_223_372_036_854_775_807, "2562047h47m16.854775807s"),
+    (-9_223_372_036_854_775_808, "-2562047h47m16.854775808s"),
 ];
 
-/// Whether a provider of any kind shows the same map by both of its calls, and has a name.
-fn is_one_map<P: ContextProvider>(alloc: Global, provider: &P, name: &str) -> Result<bool> {
+#[test]
+fn durations_have_strings(rt: HostRuntime) -> Tested {
+    for (nanoseconds, expected) in DURATIONS {
+        let text = Value::Duration(*nanoseconds).string_text(rt.alloc())?;
+        assert_eq!(rt; text.as_str(), *expected);
+    }
+    Ok(())
+}
+
+/// Whether a keyed map of a value with this key is refused.
+fn is_no_key(alloc: Global, key: Result<Value>) -> Result<bool> {
+    let pairs = vec![in alloc; (key?, Value::Nil)]?;
+    Ok(matches!(KeyedMap::from_pairs(alloc, pairs), Err(Error::ExprError(_))))
+}
+
+/// Whether a value makes no context.
+fn is_no_context(alloc: Global, value: Result<Value>) -> Result<bool> {
+    Ok(matches!(Context::try_from(alloc, value?), Err(Error::ExprError(_))))
+}
+
+#[test]
+fn collections_are_refused_as_keys(rt: HostRuntime) -> Tested {
+    let alloc = rt.alloc();
+    assert!(rt; is_no_key(alloc, value!(in alloc; []))?);
+    assert!(rt; is_no_key(alloc, keyed(alloc, value!(in alloc; [1, 2])))?);
+    assert!(rt; is_no_context(alloc, value!(in alloc; 1))?);
+    assert!(rt; is_no_context(alloc, keyed(alloc, value!(in alloc; [1, 2])))?);
+    Ok(())
+}
+
+/// A context with one name more.
+fn inserted(alloc: Global, context: Result<Context>, name: &str) -> Result<Context> {
+    let mut context = context?;
+    context.insert(string(alloc, name)?, Value::Nil)?;
+    Ok(context)
+}
+
+/// Whether both maps of a provider of any kind are the same, and it has a name.
+fn has_name<P: ContextProvider>(alloc: Global, provider: &P, name: &str) -> Result<bool> {
     let map = Value::from(provider.to_context(alloc)?.into_map());
     let shown = Value::from(provider.environment(alloc)?.into_map());
     Ok(map == shown && provider.get(name).is_some())
 }
 
-/// The context of the map that a text answers, with one name more.
-pub fn context(alloc: Global, code: &str) -> Result<String> {
-    let names = made(alloc)?;
-    let mut context = Context::try_from(alloc, eval(alloc, code, &names)?)?;
-    context.insert(String::from_str(alloc, "b")?, Value::Nil)?;
+#[test]
+fn contexts_are_maps(rt: HostRuntime) -> Tested {
+    let alloc = rt.alloc();
+    let literal = Context::try_from(alloc, value!(in alloc; {"b": 1, "a": 2})?);
+    let context = inserted(alloc, literal, "b")?;
+    assert_eq!(rt; said(alloc, &context, "$env")?.as_str(), "{b: nil, a: 2}");
+    let context = inserted(alloc, Context::from_pairs(alloc, named(alloc)?), "c")?;
+    assert_eq!(rt;
+        said(alloc, &context, "$env")?.as_str(),
+        "{b: 3, a: 2, c: nil}"
+    );
+    assert!(rt; Context::new(alloc).get("b").is_none());
     let lent: &dyn ContextProvider = &context;
-    if is_one_map(alloc, &context, "b")? && is_one_map(alloc, &lent, "b")? {
-        Ok(eval(alloc, "$env", lent)?.to_string(alloc)?)
-    } else {
-        Ok(String::from_str(alloc, "two maps")?)
-    }
+    assert!(rt; has_name(alloc, &context, "a")?);
+    assert!(rt; has_name(alloc, &lent, "a")?);
+    Ok(())
 }
 
-pub const CONTEXTS: Rows = &[
-    ("{b: 1, a: 2}", "{b: nil, a: 2}"),
-    ("{a: 2}", "{a: 2, b: nil}"),
-    ("lent", "{b: nil, a: 2}"),
-    ("1", "!evaluation"),
-    ("repeated", "!evaluation"),
-];
+/// Whether a keyed map of one key has that pair, and no other.
+fn has_key(alloc: Global, key: Key) -> Result<bool> {
+    let mut map = KeyedMap::new(alloc);
+    let value = key.to_value(alloc)?;
+    map.insert(key.clone()?, Value::Nil)?;
+    let is_there = map.get(&value).is_some() && map.get_by_key(&key).is_some();
+    let is_first = map.get_index(0).is_some() && map.get_index(1).is_none();
+    Ok(
+        is_there
+            && is_first
+            && map.keys().len() == map.values().len()
+            && value.into_key() == Some(key),
+    )
+}
 
-#[test]
-fn scalars_are_lent(rt: HostRuntime) {
-    let number = Value::from(7_i32);
-    assert!(rt; number.as_integer() == Some(7) && number.as_array().is_none());
-    let truth = Value::from(true);
-    assert!(rt; truth.as_bool() == Some(true) && truth.as_string().is_none());
-    let span = Value::Duration(7);
-    assert!(rt; span.as_duration() == Some(7) && !span.is_nil() && Value::Nil.is_nil());
+/// Whether a map of one name has that pair, and no other, and so has its copy.
+fn has_text(alloc: Global, name: &str) -> Result<bool> {
+    let mut map = ValueMap::new(alloc);
+    map.insert(Text::copy(alloc, name)?, Value::Nil)?;
+    let is_there = map.get(name).is_some() && map.get("").is_none();
+    let is_first = map.get_index(0).is_some() && map.get_index(1).is_none();
+    Ok(is_there && is_first && map.keys().len() == map.values().len() && map.clone()?.len() == 1)
+}
+
+/// Whether texts, items and boxes give back what they are made of.
+fn gives_back(alloc: Global, text: &str) -> Result<bool> {
+    let items = Items::from_vec(text.as_bytes().to_vec(alloc)?);
+    let lent = items.len() == text.len() && items.as_slice() == text.as_bytes();
+    let held = Boxed::new(alloc, Text::copy(alloc, text)?)?;
+    let is_held = held.get().as_str() == text && held.into_inner().into_string().as_str() == text;
+    Ok(lent && is_held && items.clone()?.into_vec().as_slice() == text.as_bytes())
 }
 
 #[test]
-fn keys_are_in_order(rt: HostRuntime) {
+fn keys_and_texts_are_held(rt: HostRuntime) -> Tested {
+    let alloc = rt.alloc();
+    assert!(rt; has_key(alloc, Key::Integer(1))?);
+    assert!(rt; has_key(alloc, Key::String(Text::copy(alloc, "x")?))?);
+    assert!(rt; has_text(alloc, "ab")?);
+    assert!(rt; gives_back(alloc, "x")?);
+    Ok(())
+}
+
+#[test]
+fn values_lend_what_they_hold(rt: HostRuntime) {
+    assert!(rt;
+        Value::from(7_i32).as_integer() == Some(7) && Value::from(true).as_bool() == Some(true)
+    );
+    assert!(rt; Value::Duration(7).as_duration() == Some(7) && Value::Nil.is_nil());
+    assert!(rt;
+        Value::Bytes(Items::from_vec(Vec::new(rt.alloc())))
+            .as_bytes()
+            .is_some()
+    );
+    assert!(rt; Value::Month(7).as_string().is_none() && Value::Month(7).as_array().is_none());
     assert!(rt; Key::Nil < Key::Bool(false) && Key::Bool(false) < Key::Bool(true));
     assert!(rt; Key::Integer(10) > Key::Integer(-10) && Key::Integer(10) < Key::Duration(-10));
 }
