@@ -12,10 +12,13 @@ type Tested = std::result::Result<(), Fail>;
 
 /// The keyed map of an array, in which each key stands before its value.
 fn keyed(alloc: Global, listed: Result<Value>) -> Result<Value> {
+    let listed = listed?;
     let mut pairs = Vec::new(alloc);
-    for pair in listed?.as_array().unwrap_or(&[]).chunks(2) {
-        if let [key, value] = pair {
-            pairs.push((key.clone()?, value.clone()?))?;
+    if let Some(items) = listed.as_array() {
+        for pair in items.chunks(2) {
+            if let [key, value] = pair {
+                pairs.push((key.clone()?, value.clone()?))?;
+            }
         }
     }
     Ok(Value::from(KeyedMap::from_pairs(alloc, pairs)?))
