@@ -5,6 +5,8 @@ use Rattle.expr_value.specs.Answers.{Answer}
 use Rattle.expr_builtins.specs.Bits as bits
 use Rattle.expr_builtins.specs.Numbers as numbers
 use Rattle.expr_builtins.specs.Text as text
+use Rattle.expr_builtins.specs.Nested as nested
+use Rattle.expr_builtins.specs.Distinct as distinct
 use Rattle.expr_builtins.specs.Collections as collections
 use Rattle.expr_builtins.specs.Indices as indices
 use Rattle.expr_builtins.specs.Conversions as conversions
@@ -22,6 +24,8 @@ Called is.Bitshl arguments answer = answer ≡ bits.bitshl arguments
 Called is.Bitshr arguments answer = answer ≡ bits.bitshr arguments
 Called is.Bitushr arguments answer = answer ≡ bits.bitushr arguments
 Called is.Abs arguments answer = answer ≡ numbers.abs arguments
+Called is.Max arguments answer = answer ≡ numbers.greatest arguments
+Called is.Min arguments answer = answer ≡ numbers.least arguments
 Called is.Float arguments answer = answer ≡ numbers.of_fractions arguments
 Called is.Mean arguments answer = answer ≡ numbers.of_fractions arguments
 Called is.Median arguments answer = answer ≡ numbers.of_fractions arguments
@@ -42,6 +46,8 @@ Called is.First arguments answer = answer ≡ collections.first arguments
 Called is.Last arguments answer = answer ≡ collections.last arguments
 Called is.Take arguments answer = answer ≡ collections.take_items arguments
 Called is.Reverse arguments answer = answer ≡ collections.reversed arguments
+Called is.Uniq arguments answer = answer ≡ distinct.uniq arguments
+Called is.Flatten arguments answer = answer ≡ nested.flatten arguments
 Called is.Concat arguments answer = answer ≡ collections.concat arguments
 Called is.Keys arguments answer = answer ≡ collections.keys arguments
 Called is.Values arguments answer = answer ≡ collections.values arguments
@@ -66,6 +72,8 @@ name_of is.Bitshl = codes "bitshl"
 name_of is.Bitshr = codes "bitshr"
 name_of is.Bitushr = codes "bitushr"
 name_of is.Abs = codes "abs"
+name_of is.Max = codes "max"
+name_of is.Min = codes "min"
 name_of is.Float = codes "float"
 name_of is.Mean = codes "mean"
 name_of is.Median = codes "median"
@@ -86,6 +94,8 @@ name_of is.First = codes "first"
 name_of is.Last = codes "last"
 name_of is.Take = codes "take"
 name_of is.Reverse = codes "reverse"
+name_of is.Uniq = codes "uniq"
+name_of is.Flatten = codes "flatten"
 name_of is.Concat = codes "concat"
 name_of is.Keys = codes "keys"
 name_of is.Values = codes "values"

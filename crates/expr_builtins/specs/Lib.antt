@@ -3,7 +3,9 @@ pub mod Bits
 pub mod Calls
 pub mod Collections
 pub mod Conversions
+pub mod Distinct
 pub mod Indices
+pub mod Nested
 pub mod Numbers
 pub mod Places
 pub mod Text

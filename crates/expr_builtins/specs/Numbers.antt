@@ -1,11 +1,14 @@
 -- What the calls on numbers give.
-use Rattle.std.specs.Prelude.{unsigned_abs, List, Ok, Err}
-use Rattle.std.specs.Int.{w64, cast_signed}
+use Rattle.std.specs.Prelude.{ℤ, ◌==◌, if◌then◌else◌, unsigned_abs, List, [], ◌∷◌, length, Ok, Err}
+use Rattle.std.specs.Int.{w64, cast_signed, int_max, int_min}
+use Rattle.std.specs.List.{fold}
 use Rattle.expr_value.specs.Fault.{evaluation}
 use Rattle.expr_value.specs.declared.value.Value as value
 use Rattle.expr_value.specs.declared.value.Value.{Value}
 use Rattle.expr_value.specs.Answers.{Answer}
-use Rattle.expr_builtins.specs.Arguments.{asked, one_integer}
+use Rattle.expr_value.specs.Values.{integer_of}
+use Rattle.expr_builtins.specs.Arguments.{asked, one_integer, all_of}
+use Rattle.expr_builtins.specs.Nested.{all_opened}
 
 -- without its sign; the least integer is its own
 abbrev pub abs : List Value → Answer
@@ -14,3 +17,18 @@ abs arguments = asked (one_integer arguments) (λ a. Ok (value.Integer (cast_sig
 -- of numbers with fractions, which there aren't: always refused
 abbrev pub of_fractions : List Value → Answer
 of_fractions arguments = Err evaluation
+
+-- one of some integers by the choice between two, or nil where there are none
+abbrev pub chosen : (ℤ → ℤ → ℤ) → List ℤ → Value
+chosen choice [] = value.Nil
+chosen choice (n ∷ ns) = value.Integer (fold choice n ns)
+
+-- of integers and of arrays of them, at every depth; at least one argument
+abbrev pub chosen_among : (ℤ → ℤ → ℤ) → List Value → Answer
+chosen_among choice arguments = if length arguments == 0 then Err evaluation else asked (all_of integer_of (all_opened arguments)) (λ ns. Ok (chosen choice ns))
+
+abbrev pub greatest : List Value → Answer
+greatest = chosen_among int_max
+
+abbrev pub least : List Value → Answer
+least = chosen_among int_min

@@ -3,7 +3,7 @@ ghost use Rattle.std.specs.Prelude.{◌≡◌, ◌≢◌, MatchOption};
 ghost use Rattle.expr_value.specs.Answers.{Gives};
 ghost use Rattle.expr_builtins.specs.Calls.{Called, name_of};
 
-use crate::{bits, collection, convert, indices, number, text};
+use crate::{bits, collection, convert, distinct, indices, nested, number, text};
 use expr_value::{Result, Value};
 use std::alloc::Global;
 
@@ -19,6 +19,8 @@ pub enum Builtin {
     Bitshr,
     Bitushr,
     Abs,
+    Max,
+    Min,
     Float,
     Mean,
     Median,
@@ -39,6 +41,8 @@ pub enum Builtin {
     Last,
     Take,
     Reverse,
+    Uniq,
+    Flatten,
     Concat,
     Keys,
     Values,
@@ -68,6 +72,8 @@ impl Builtin {
             "bitshr" => Some(Builtin::Bitshr),
             "bitushr" => Some(Builtin::Bitushr),
             "abs" => Some(Builtin::Abs),
+            "max" => Some(Builtin::Max),
+            "min" => Some(Builtin::Min),
             "float" => Some(Builtin::Float),
             "mean" => Some(Builtin::Mean),
             "median" => Some(Builtin::Median),
@@ -88,6 +94,8 @@ impl Builtin {
             "last" => Some(Builtin::Last),
             "take" => Some(Builtin::Take),
             "reverse" => Some(Builtin::Reverse),
+            "uniq" => Some(Builtin::Uniq),
+            "flatten" => Some(Builtin::Flatten),
             "concat" => Some(Builtin::Concat),
             "keys" => Some(Builtin::Keys),
             "values" => Some(Builtin::Values),
@@ -119,6 +127,8 @@ impl Builtin {
             Builtin::Bitshr => bits::bitshr(alloc, &arguments),
             Builtin::Bitushr => bits::bitushr(alloc, &arguments),
             Builtin::Abs => number::abs(alloc, &arguments),
+            Builtin::Max => number::greatest(alloc, arguments),
+            Builtin::Min => number::least(alloc, arguments),
             Builtin::Float => number::of_fractions(alloc),
             Builtin::Mean => number::of_fractions(alloc),
             Builtin::Median => number::of_fractions(alloc),
@@ -139,6 +149,8 @@ impl Builtin {
             Builtin::Last => collection::last(alloc, &mut arguments),
             Builtin::Take => collection::take_items(alloc, &mut arguments),
             Builtin::Reverse => collection::reversed(alloc, &mut arguments),
+            Builtin::Uniq => distinct::uniq(alloc, &mut arguments),
+            Builtin::Flatten => nested::flatten(alloc, &mut arguments),
             Builtin::Concat => collection::concat(alloc, arguments),
             Builtin::Keys => collection::keys(alloc, &arguments),
             Builtin::Values => collection::values(alloc, &arguments),

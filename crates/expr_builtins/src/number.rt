@@ -1,11 +1,17 @@
 //! The calls on numbers.
-ghost use Rattle.std.specs.Prelude.{◌≡◌, Err};
+ghost use Rattle.std.specs.Prelude.{◌≡◌, Err, IfOk, IfErr};
+ghost use Rattle.std.specs.Int.{int_max, int_min};
+ghost use Rattle.std.specs.Option.{option_map};
 ghost use Rattle.expr_value.specs.Answers.{Gives};
-ghost use Rattle.expr_builtins.specs.Numbers.{abs};
 ghost use Rattle.expr_value.specs.Fault.{evaluation};
+ghost use Rattle.expr_value.specs.Values.{integer_of};
+ghost use Rattle.expr_builtins.specs.Arguments.{all_of};
+ghost use Rattle.expr_builtins.specs.Nested.{all_opened};
+ghost use Rattle.expr_builtins.specs.Numbers.{abs, chosen, greatest, least};
 
 use crate::arguments::one_integer;
-use expr_value::{Result, Value, refusal};
+use crate::nested::all_opened;
+use expr_value::{Error, Result, Value, refusal};
 use std::alloc::Global;
 
 /// An integer without its sign. The least integer is its own.
@@ -23,4 +29,73 @@ pub(crate) fn of_fractions(alloc: Global) -> Result<Value>
     ensures { Gives result (λ answer. answer ≡ Err evaluation) }
 {
     Err(refusal(alloc, "there are no numbers with fractions"))
+}
+
+/// The greatest of integers and of arrays of them, at every depth, or nil where there are none.
+pub(crate) fn greatest(alloc: Global, arguments: Vec<Value>) -> Result<Value>
+    ensures { Gives result (λ answer. answer ≡ greatest arguments.items) }
+{
+    if arguments.is_empty() {
+        return Err(refusal(alloc, "max takes at least one argument"));
+    }
+    let values = all_opened(alloc, arguments)?;
+    let Some(numbers) = integers(alloc, &values)? else {
+        return Err(refusal(alloc, "max takes integers and arrays of them"));
+    };
+    Ok(greatest_of(&numbers))
+}
+
+/// The least of integers and of arrays of them, at every depth, or nil where there are none.
+pub(crate) fn least(alloc: Global, arguments: Vec<Value>) -> Result<Value>
+    ensures { Gives result (λ answer. answer ≡ least arguments.items) }
+{
+    if arguments.is_empty() {
+        return Err(refusal(alloc, "min takes at least one argument"));
+    }
+    let values = all_opened(alloc, arguments)?;
+    let Some(numbers) = integers(alloc, &values)? else {
+        return Err(refusal(alloc, "min takes integers and arrays of them"));
+    };
+    Ok(least_of(&numbers))
+}
+
+// The integers that some values are, if each is one.
+fn integers(alloc: Global, values: &[Value]) -> Result<Option<Vec<i64>>>
+    ensures ok { IfOk result (λ found. option_map (λ v. v.items) found ≡ all_of integer_of values.now) }
+    ensures err { IfErr result (λ e. e ≡ Error.MemoryError) }
+{
+    let mut numbers = Vec::with_capacity(alloc, values.len())?;
+    for i in 0..values.len() {
+        let Some(number) = values[i].as_integer() else {
+            return Ok(None);
+        };
+        numbers.push(number)?;
+    }
+    Ok(Some(numbers))
+}
+
+fn greatest_of(numbers: &[i64]) -> Value
+    ensures { result ≡ chosen int_max numbers.now }
+{
+    let [first, rest @ ..] = numbers else {
+        return Value::Nil;
+    };
+    let mut greatest = *first;
+    for i in 0..rest.len() {
+        greatest = greatest.max(rest[i]);
+    }
+    Value::Integer(greatest)
+}
+
+fn least_of(numbers: &[i64]) -> Value
+    ensures { result ≡ chosen int_min numbers.now }
+{
+    let [first, rest @ ..] = numbers else {
+        return Value::Nil;
+    };
+    let mut least = *first;
+    for i in 0..rest.len() {
+        least = least.min(rest[i]);
+    }
+    Value::Integer(least)
 }

@@ -1,0 +1,20 @@
+-- Items without those that equal an earlier one.
+use Rattle.std.specs.Prelude.{if◌then◌else◌, not, List, [], ◌∷◌, ◌++◌, Ok}
+use Rattle.std.specs.List.{filter, list_any}
+use Rattle.expr_value.specs.Values.{items_of, equals}
+use Rattle.expr_value.specs.declared.value.Value as value
+use Rattle.expr_value.specs.declared.value.Value.{Value}
+use Rattle.expr_value.specs.Answers.{Answer}
+use Rattle.expr_builtins.specs.Arguments.{asked, one_of}
+
+-- the first, and of the others those that don't equal it
+abbrev pub distinct : List Value → List Value
+distinct [] = []
+distinct (v ∷ vs) = v ∷ filter (λ w. not (equals v w)) (distinct vs)
+
+-- one value more, unless it equals one that is there
+abbrev pub with_new : List Value → Value → List Value
+with_new vs x = if list_any (λ v. equals v x) vs then vs else vs ++ x ∷ []
+
+abbrev pub uniq : List Value → Answer
+uniq arguments = asked (one_of items_of arguments) (λ xs. Ok (value.Array (distinct xs)))
