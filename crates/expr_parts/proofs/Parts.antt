@@ -1,13 +1,8 @@
 -- What is free in parts.
 use Rattle.std.proofs.Common.{◌≡◌, ℕ, zero, suc, Bool, true, false, ◌||◌, List, [], ◌∷◌, map, refl, sym, ap, ◌∙◌}
-use Rattle.std.specs.List.{list_any, remove}
+use Rattle.std.specs.List.{remove}
 use Rattle.expr_tree.specs.Term.{Term, LineTerms, block_with}
-use Rattle.expr_tree.specs.Written.{terms_of}
-use Rattle.expr_parts.specs.Promotion.{has_free_hash, any_free_hash, block_has_free_hash, lines_have_free_hash}
-
-pub any-terms : (ts : List Term) → any_free_hash (terms_of ts) ≡ list_any (λ b. b) (map has_free_hash ts)
-any-terms [] = refl
-any-terms (t ∷ ts) = ap (λ b. has_free_hash t || b) (any-terms ts)
+use Rattle.expr_parts.specs.Promotion.{has_free_hash, block_has_free_hash, lines_have_free_hash}
 
 pub or_assoc : (a b c : Bool) → (a || b || c) ≡ (a || (b || c))
 or_assoc true b c = refl

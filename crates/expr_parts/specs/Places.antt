@@ -1,17 +1,26 @@
--- Which argument is promoted, by whether a hash name is free in each.
-use Rattle.std.specs.Prelude.{ℕ, ◌-◌, Bool, false, bytes_eq, codes, List, length, Option, Some, None, slice_index_or, if◌then◌else◌}
-use Rattle.std.specs.List.{remove}
-use Rattle.expr_parts.specs.Promotion.{Promoted, takes_predicate}
+-- Which argument is promoted, by what is kept of the arguments as they are read.
+use Rattle.std.specs.Prelude.{ℕ, ◌-◌, Bool, false, bytes_eq, codes, List, length, map, Option, Some, None, slice_index_or, if◌then◌else◌}
+use Rattle.std.specs.List.{count_by, remove}
 use Rattle.expr_tree.specs.Term.{Term, list, no_terms, no_predicate, predicate, answers}
+use Rattle.expr_parts.specs.Promotion.{Promoted, has_free_hash, takes_predicate}
+use Rattle.expr_parts.specs.declared.promotion.Marks.{Marks}
 
--- the place, if what stands there is free
-abbrev pub free_place : List Bool → ℕ → Option ℕ
-free_place free i = if slice_index_or free i false then Some i else None
+-- whether a hash name is free in the argument at a place, if there is one
+abbrev pub is_free_at : List Term → ℕ → Bool
+is_free_at ts i = slice_index_or (map has_free_hash ts) i false
 
-abbrev pub promoted_place : List ℕ → List Bool → Option ℕ
-promoted_place key free =
-    if bytes_eq key (codes "reduce") then (if slice_index_or free 1 false then Some 1 else free_place free 0)
-    else (if takes_predicate key then free_place free (length free - 1) else None)
+abbrev pub marks_of : List Term → Marks
+marks_of ts = record { free = count_by has_free_hash ts; first = is_free_at ts 0; second = is_free_at ts 1; last = is_free_at ts (length ts - 1) }
+
+-- the place, if a hash name is free there
+abbrev pub place_if : Bool → ℕ → Option ℕ
+place_if is_free i = if is_free then Some i else None
+
+-- where the argument stands that is promoted, of so many
+abbrev pub promoted_place : List ℕ → Marks → ℕ → Option ℕ
+promoted_place key marks count =
+    if bytes_eq key (codes "reduce") then (if marks.second then Some 1 else place_if marks.first 0)
+    else (if takes_predicate key then place_if marks.last (count - 1) else None)
 
 -- the arguments but the one at a place, and that one as the program of the call
 abbrev pub taken_out : Option ℕ → List Term → Promoted

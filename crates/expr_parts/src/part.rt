@@ -2,7 +2,7 @@
 ghost use Rattle.std.specs.Prelude.{◌≡◌, IfOk, string_bytes};
 ghost use Rattle.expr_tree.specs.Term.{name, literal, range, unary, operation, postfix, choice, index, slice, coalesce, pipe, ternary, method};
 ghost use Rattle.expr_tree.specs.Written.{written, postfix_written, bound_written, terms_of};
-ghost use Rattle.expr_parts.specs.Promotion.{postfix_has_free_hash};
+ghost use Rattle.expr_parts.specs.Promotion.{bound_has_free_hash, postfix_has_free_hash};
 ghost use Rattle.expr_parts.specs.Parts.{bound_with};
 
 use crate::arguments::Arguments;
@@ -175,14 +175,10 @@ impl Part {
     ) -> Result<Part, AllocError>
         ensures { IfOk result (λ p. p ≡ postfix (slice (bound_with start) (bound_with end)) operand) }
     {
-        let start = Bound::of(alloc, start)?;
-        let end = Bound::of(alloc, end)?;
-        let in_bounds = start.has_free_hash || end.has_free_hash;
-        let bounds = PostfixOperator::Range {
-            start: start.into_node(),
-            end: end.into_node(),
-        };
-        operand.followed(alloc, bounds, in_bounds)
+        let in_bounds = is_free_in(&start) || is_free_in(&end);
+        let start = boxed(alloc, start)?;
+        let end = boxed(alloc, end)?;
+        operand.followed(alloc, PostfixOperator::Range { start, end }, in_bounds)
     }
 
     /// An operand, and what stands in for it where it is nil.
@@ -227,9 +223,8 @@ impl Part {
     ) -> Result<Part, AllocError>
         ensures { IfOk result (λ p. p ≡ postfix (method (string_bytes ident) (terms_of arguments.terms)) receiver) }
     {
-        let listed = arguments.into_listed();
-        let in_arguments = listed.has_free_hash();
-        let args = listed.into_nodes();
+        let in_arguments = arguments.has_free_hash();
+        let args = arguments.into_nodes();
         receiver.followed(alloc, PostfixOperator::Method { ident, args }, in_arguments)
     }
 
@@ -252,57 +247,22 @@ impl Part {
     }
 }
 
-// A bound of a slice, and whether a hash name is free in it.
-#[derive(Drop)]
-struct Bound {
-    node: Option<Box<Node>>,
-    has_free_hash: bool,
-}
-
-impl Model for Bound {
-    ghost use Rattle.expr_tree.specs.Term.{Bound as BoundTerm};
-    ghost use Rattle.expr_tree.specs.Codes.{bound_code};
-
-    ghost Value = { BoundTerm };
-
-    ghost coded = { bound_code };
-
-    ghost use Rattle.std.specs.Prelude.{◌≡◌};
-    ghost use Rattle.expr_tree.specs.Written.{bound_written};
-    ghost use Rattle.expr_parts.specs.Promotion.{bound_has_free_hash};
-
-    ghost view = { λ b. bound_written b.node };
-
-    ghost invariant = { λ b. b.has_free_hash ≡ bound_has_free_hash (bound_written b.node) };
-}
-
-impl Bound {
-    fn of(alloc: Global, part: Option<Part>) -> Result<Bound, AllocError>
-        ensures { IfOk result (λ b. b ≡ bound_with part) }
-    {
-        match part {
-            None => Ok(Bound {
-                node: None,
-                has_free_hash: false,
-            }),
-            Some(part) => {
-                let has_free_hash = part.has_free_hash;
-                let node = Box::new(alloc, part.into_node())?;
-                Ok(Bound {
-                    node: Some(node),
-                    has_free_hash,
-                })
-            }
-        }
+// Whether a hash name is free in a bound of a slice.
+fn is_free_in(bound: &Option<Part>) -> bool
+    ensures { result ≡ bound_has_free_hash (bound_with bound.now) }
+{
+    match bound {
+        None => false,
+        Some(part) => part.has_free_hash,
     }
+}
 
-    fn into_node(self) -> Option<Box<Node>>
-        ensures { bound_written result ≡ self }
-    {
-        let Bound {
-            node,
-            has_free_hash: _,
-        } = self;
-        node
+// A bound of a slice, in its own memory.
+fn boxed(alloc: Global, bound: Option<Part>) -> Result<Option<Box<Node>>, AllocError>
+    ensures { IfOk result (λ n. bound_written n ≡ bound_with bound) }
+{
+    match bound {
+        None => Ok(None),
+        Some(part) => Ok(Some(Box::new(alloc, part.into_node())?)),
     }
 }

@@ -1,46 +1,69 @@
-//! Which argument of a call is promoted to its program, by whether a hash name is free in each.
-ghost use Rattle.std.specs.Prelude.{◌≡◌, false, slice_index_or};
-ghost use Rattle.std.specs.List.{list_any};
+//! Which argument of a call is promoted to its program, by what is kept of the arguments as they are read.
+ghost use Rattle.std.specs.Prelude.{◌≡◌, ◌+◌, ◌<◌, ◌^◌, ◌∷◌, ◌++◌, [], List, length};
+ghost use Rattle.expr_tree.specs.Term.{Term};
+ghost use Rattle.expr_parts.specs.Promotion.{has_free_hash};
 ghost use Rattle.expr_parts.specs.Promotion as promotion;
+ghost use Rattle.expr_parts.specs.Places.{marks_of};
 ghost use Rattle.expr_parts.specs.Places as places;
 
-pub(crate) fn any_set(flags: &[bool]) -> bool
-    ensures { result ≡ list_any (λ b. b) flags.now }
-{
-    flags.iter().any(|is_set| *is_set)
+/// In how many arguments a hash name is free, and whether it is in those that a call may promote. One that is missing
+/// has none.
+#[derive(Clone, Copy)]
+pub(crate) struct Marks {
+    pub(crate) free: usize,
+    first: bool,
+    second: bool,
+    last: bool,
 }
 
-// Where the argument stands that is promoted, by whether a hash name is free in each.
-pub(crate) fn promoted_place(ident: &str, free: &[bool]) -> Option<usize>
-    ensures { result ≡ places.promoted_place ident.now free.now }
-{
-    if ident == "reduce" {
-        return if is_set_at(free, 1) {
-            Some(1)
-        } else {
-            free_place(free, 0)
+impl Marks {
+    // The marks of no arguments.
+    pub(crate) fn none() -> Marks
+        ensures { result ≡ marks_of [] }
+    {
+        Marks {
+            free: 0,
+            first: false,
+            second: false,
+            last: false,
+        }
+    }
+
+    // Marks one more, which follows so many.
+    pub(crate) fn add(&mut self, count: usize, is_free: bool)
+        requires { self.old.free + 1 < 2 ^ 64 }
+        ensures { (ts : List Term) (t : Term) → self.old ≡ marks_of ts → count ≡ length ts → is_free ≡ has_free_hash t → self.new ≡ marks_of (ts ++ t ∷ []) }
+    {
+        *self = Marks {
+            free: self.free + usize::from(is_free),
+            first: self.first || (count == 0 && is_free),
+            second: self.second || (count == 1 && is_free),
+            last: is_free,
         };
     }
-    if takes_predicate(ident) {
-        return free_place(free, free.len().saturating_sub(1));
-    }
-    None
-}
 
-fn free_place(free: &[bool], place: usize) -> Option<usize>
-    ensures { result ≡ places.free_place free.now place }
-{
-    if is_set_at(free, place) {
-        Some(place)
-    } else {
+    // Where the argument stands that is promoted, of so many.
+    pub(crate) fn promoted_place(self, ident: &str, count: usize) -> Option<usize>
+        ensures { result ≡ places.promoted_place ident.now self count }
+    {
+        if ident == "reduce" {
+            return if self.second {
+                Some(1)
+            } else {
+                place_if(self.first, 0)
+            };
+        }
+        if takes_predicate(ident) {
+            return place_if(self.last, count.saturating_sub(1));
+        }
         None
     }
 }
 
-fn is_set_at(flags: &[bool], place: usize) -> bool
-    ensures { result ≡ slice_index_or flags.now place false }
+fn place_if(is_free: bool, place: usize) -> Option<usize>
+    ensures { result ≡ places.place_if is_free place }
 {
-    place < flags.len() && flags[place]
+    if is_free { Some(place) } else { None }
 }
 
 // Whether a function's last argument may be its program.

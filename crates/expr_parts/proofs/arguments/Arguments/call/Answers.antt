@@ -1,0 +1,72 @@
+use Rattle.std.proofs.Common.{◌≡◌, ◌<◌, Some, None, IfOk, length, map, get_or, subst, sym, ap, ◌∙◌, arith, rules, string_bytes}
+use Rattle.std.specs.List.{remove}
+use Rattle.std.proofs.lemmas.List.{get_or-map, length-map}
+use Rattle.expr_tree.specs.Term.{call, list, no_terms, predicate, block_with}
+use Rattle.expr_tree.specs.Written.{written, line_written, terms_of}
+use Rattle.expr_tree.proofs.Programs.{written-program}
+use Rattle.expr_tree.proofs.Shapes.{written-Func}
+use Rattle.expr_parts.specs.Parts.{Given, predicate_with}
+use Rattle.expr_parts.specs.Promotion.{any_free_hash, call_of, has_free_hash}
+use Rattle.expr_parts.proofs.Parts.{map-remove}
+use Rattle.expr_parts.proofs.Places.{any_marked, call_found, found_free, free_within, rest_marked}
+use Rattle.expr_parts.proofs.arguments.Arguments.call.Goals as goal
+
+pub call_with-requires : goal.call_with-requires
+call_with-requires c = any_marked c.self.inside.marks (map written c.self.inside.nodes.items) c.self.invariant
+
+pub invariant_of-result : goal.invariant_of-result
+invariant_of-result c =
+    any_marked c.self.inside.marks (map written c.self.inside.nodes.items) c.self.invariant
+    ∙ sym (ap has_free_hash (written-Func c.args.ident c.self.inside.nodes None))
+
+pub remove-expr-requires : goal.remove-expr-requires
+remove-expr-requires c =
+    let ns = c.self.inside.nodes in
+    let ts = map written ns.items in
+    let count = c.len.ensures ∙ ns.ok.0 ∙ sym (length-map ns.items written) in
+    let free = found_free c.as_str.result.now ts c.self.inside.marks c.len.result c.promoted_place.result c.in-Some-promoted_place.place c.self.invariant count c.promoted_place.ensures c.in-Some-promoted_place.is in
+    omega (arith, free_within ts c.in-Some-promoted_place.place free, length-map ns.items written, ns.ok.0)
+
+pub call_with-requires-in-Some-promoted_place : goal.call_with-requires-in-Some-promoted_place
+call_with-requires-in-Some-promoted_place c =
+    let ns = c.self.inside.nodes in
+    let ts = map written ns.items in
+    let place = c.in-Some-promoted_place.place in
+    let count = c.len.ensures ∙ ns.ok.0 ∙ sym (length-map ns.items written) in
+    let free = found_free c.as_str.result.now ts c.self.inside.marks c.len.result c.promoted_place.result place c.self.invariant count c.promoted_place.ensures c.in-Some-promoted_place.is in
+    rest_marked c.self.inside.marks ts place c.self.invariant free
+    ∙ ap (λ l. any_free_hash (terms_of l)) (sym (ap (map written) c.remove-expr.ensures.items ∙ map-remove written ns.items place))
+
+pub returns-in-None : goal.returns-in-None
+returns-in-None c =
+    let ns = c.self.inside.nodes in
+    let ts = map written ns.items in
+    let key = string_bytes c.args.ident in
+    let count = c.len.ensures ∙ ns.ok.0 ∙ sym (length-map ns.items written) in
+    let none : c.self.inside.program ≡ None = search rules in
+    written-Func c.args.ident ns None
+    ∙ call_found key ts c.self.inside.marks c.len.result c.promoted_place.result None c.self.invariant count (rw c.as_str.ensures.value at c.promoted_place.ensures) c.in-None.is
+    ∙ ap (λ o. call_of key ts (predicate_with o)) (sym none)
+    ∙ ap (λ (g : Given). call_of key g.terms g.program) c.self.view_is
+
+pub returns-in-Some-promoted_place : goal.returns-in-Some-promoted_place
+returns-in-Some-promoted_place c =
+    let ns = c.self.inside.nodes in
+    let ts = map written ns.items in
+    let key = string_bytes c.args.ident in
+    let place = c.in-Some-promoted_place.place in
+    let expr = c.remove-expr.result in
+    let count = c.len.ensures ∙ ns.ok.0 ∙ sym (length-map ns.items written) in
+    let found = rw c.as_str.ensures.value at c.promoted_place.ensures in
+    let free = found_free key ts c.self.inside.marks c.len.result c.promoted_place.result place c.self.invariant count found c.in-Some-promoted_place.is in
+    let below : place < length ns.items = omega (arith, free_within ts place free, length-map ns.items written) in
+    let none : c.self.inside.program ≡ None = search rules in
+    let rest = ap (map written) c.remove-expr.ensures.items ∙ map-remove written ns.items place in
+    let taken = ap written c.remove-expr.ensures.value ∙ sym (get_or-map written ns.items place expr (list no_terms) below) in
+    let program = written-program c.new-lines.result expr ∙ (λ i. block_with (map line_written (c.new-lines.ensures.items i)) (taken i)) in
+    let same =
+    (λ i. call key (terms_of (rest i)) (predicate (program i)))
+    ∙ call_found key ts c.self.inside.marks c.len.result c.promoted_place.result (Some place) c.self.invariant count found c.in-Some-promoted_place.is
+    ∙ ap (λ o. call_of key ts (predicate_with o)) (sym none)
+    ∙ ap (λ (g : Given). call_of key g.terms g.program) c.self.view_is in
+    subst (λ t. IfOk c.call_with-in-Some-promoted_place.result (λ p. p ≡ t)) same c.call_with-in-Some-promoted_place.ensures
