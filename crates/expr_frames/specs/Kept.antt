@@ -17,6 +17,7 @@ use Rattle.expr_grammar.specs.declared.sign.InfixSign.{InfixSign}
 use Rattle.expr_grammar.specs.declared.sign.InfixSign.TheVariants as infixed
 use Rattle.expr_frames.specs.declared.frame.Meaning.{Meaning}
 use Rattle.expr_frames.specs.declared.frame.Meaning.TheVariants as meaning
+use Rattle.expr_grammar.specs.Brackets.{program_with, SomeInBrackets}
 use Rattle.expr_grammar.specs.Grammar.{Word, Usual, Kept, Constant, True, False, Nil, Integer, Quoted, Raw, Bytes, Key, WordKey, QuotedKey, EntryRow, OneEntry, MoreEntries, Entries, NoEntries, SomeEntries, Tree, Literal, Name, HashName, Paren, Array, Map, Call, If, Prefix, Infix, Member, Method, Index, Slice, Pipe, Ternary, Items, NoItems, SomeItems, Row, One, More, Arguments, NoArguments, SomeArguments, ArgumentRow, OneArgument, MoreArguments, Argument, Expression, MemberAlone, Braces, Bound, LeftOut, At, ElsePart, Else, ElseIf, TreeProgram, Program, Lines, NoLines, MoreLines}
 
 abbrev pub word_text : Word → List ℕ
@@ -168,6 +169,10 @@ BracketsLeaveExpression = (t : Tree) → term_of (Paren t) ≡ term_of t
 
 abbrev pub BracketsLeaveProgram : Type 0
 BracketsLeaveProgram = (ls : Lines) (t : Tree) → program_of (Program ls (Paren t)) ≡ program_of (Program ls t)
+
+-- Brackets round expressions inside a program leave it.
+abbrev pub BracketsLeaveInside : Type 0
+BracketsLeaveInside = (p : TreeProgram) (at bracketed : List ℕ → Tree) → SomeInBrackets at bracketed → program_of (program_with bracketed p) ≡ program_of (program_with at p)
 
 -- the program of a tree, if there is one
 abbrev pub kept : Option TreeProgram → Option Block

@@ -3,13 +3,14 @@
 ghost use Rattle.std.specs.Prelude.{◌≡◌, List};
 ghost use Rattle.expr_token.specs.declared.token.Token.{Token};
 ghost use Rattle.expr_grammar.specs.Machine.{tree_of};
-ghost use Rattle.expr_frames.specs.Kept.{kept, BracketsLeaveExpression, BracketsLeaveProgram};
+ghost use Rattle.expr_frames.specs.Kept.{kept, BracketsLeaveExpression, BracketsLeaveInside, BracketsLeaveProgram};
 ghost use Rattle.expr_frames.specs.Nodes.{block_of_tokens};
 
-/// Brackets round an expression leave its program.
+/// Brackets round an expression leave its program, also round expressions inside a program.
 pub fn brackets_leave_program()
     ensures expression { BracketsLeaveExpression }
     ensures program { BracketsLeaveProgram }
+    ensures inside { BracketsLeaveInside }
 {}
 
 // The machine over what is kept answers the program of that tree.

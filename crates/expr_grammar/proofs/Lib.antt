@@ -1,3 +1,4 @@
+pub mod Inside
 pub mod Measures
 pub mod Complete
 pub mod Sound

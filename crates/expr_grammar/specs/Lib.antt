@@ -1,3 +1,4 @@
+pub mod Brackets
 pub mod Grammar
 pub mod Machine
 pub mod Prefixes

@@ -3,6 +3,7 @@
 ghost use Rattle.std.specs.Prelude.{◌≡◌, List, Some};
 ghost use Rattle.expr_token.specs.declared.token.Token.{Token};
 ghost use Rattle.expr_grammar.specs.Grammar.{TreeProgram, Spells, Fits, OneTree, BracketsFit};
+ghost use Rattle.expr_grammar.specs.Brackets.{BracketsFitInside};
 ghost use Rattle.expr_grammar.specs.Machine.{tree_of};
 
 /// Two trees that spell the same tokens and fit are one.
@@ -10,9 +11,10 @@ pub fn one_tree()
     ensures { OneTree }
 {}
 
-/// Brackets may stand round an expression.
+/// Brackets may stand round the expression of a program, and round any expressions inside it.
 pub fn brackets_fit()
-    ensures { BracketsFit }
+    ensures whole { BracketsFit }
+    ensures inside { BracketsFitInside }
 {}
 
 // The machine answers only a tree that spells the tokens and fits.

@@ -60,7 +60,7 @@ pub first_small : (s : List ℕ) (n : ℕ) → first_is (λ b. b == n) s ≡ tru
 first_small [] n first small = absurd (false≢true first)
 first_small (b ∷ s) n first small = (subst (λ x. x < 128) (sym (eqb-true b n first)) small, omega arith)
 
-quote_ascii : (b : ℕ) → is_quote b ≡ true → b < 128
+pub quote_ascii : (b : ℕ) → is_quote b ≡ true → b < 128
 quote_ascii b e = grind (arith, nat_tests)
 
 pub quote_small : (s : List ℕ) → first_is is_quote s ≡ true → (get_or s 0 0 < 128) × (0 < length s)

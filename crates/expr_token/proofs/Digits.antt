@@ -99,7 +99,7 @@ no_value : (b : ℕ) → is_ascii_alphanumeric b ≡ false → digit_value b ≡
 no_value b e = grind (arith, nat_tests)
 
 -- a byte that stands in no word is no digit
-no_digit : (b radix : ℕ) → radix ≤ 36 → is_word_byte b ≡ false → (is_digit b radix ≡ false) × ((b == 95) ≡ false)
+pub no_digit : (b radix : ℕ) → radix ≤ 36 → is_word_byte b ≡ false → (is_digit b radix ≡ false) × ((b == 95) ≡ false)
 no_digit b radix small e =
     let parts = or_parts (is_ascii_alphanumeric b || b == 95) (b == 36) e in
     let other = or_parts (is_ascii_alphanumeric b) (b == 95) parts.0 in

@@ -67,7 +67,7 @@ is_radix b =
     (λ _. cond_both (b == 111 || b == 79) _ _ (IsRadix b) (λ e. (lit≤ tt, one_of is_word_byte true b 111 79 e refl refl, one_of goes_on false b 111 79 e refl refl))
     (λ _. cond_both (b == 98 || b == 66) _ _ (IsRadix b) (λ e. (lit≤ tt, one_of is_word_byte true b 98 66 e refl refl, one_of goes_on false b 98 66 e refl refl)) (λ _. tt)))
 
-radix_is : (b radix : ℕ) → radix_named b ≡ Some radix → (radix ≤ 36) × (is_word_byte b ≡ true) × (goes_on b ≡ false)
+pub radix_is : (b radix : ℕ) → radix_named b ≡ Some radix → (radix ≤ 36) × (is_word_byte b ≡ true) × (goes_on b ≡ false)
 radix_is b radix e = subst (IsRadix b) e (is_radix b)
 
 nonempty : (s : List ℕ) (m : ℕ) → suc m ≤ length s → take (suc m) s ≡ [] → ⊥

@@ -1,5 +1,6 @@
 pub mod Blocks
 pub mod Bodies
+pub mod Boundaries
 pub mod Cuts
 pub mod Digits
 pub mod Found

@@ -1,0 +1,71 @@
+-- Brackets round expressions inside a program leave what it is kept as.
+use Rattle.std.proofs.Common.{◌≡◌, ℕ, List, [], ◌∷◌, ◌++◌, inl, inr, ◌⊎◌, refl, ap}
+use Rattle.expr_tree.specs.Term.{list, unary, postfix, choice, index, slice, pipe, ternary, method, bound, answers, block_with}
+use Rattle.expr_tree.specs.Written.{terms_of}
+use Rattle.expr_parts.specs.Parts.{Given}
+use Rattle.expr_grammar.specs.Brackets.{tree_with, items_with, row_with, arguments_with, argument_row_with, argument_with, bound_with, else_with, program_with, lines_with, SomeInBrackets}
+use Rattle.expr_grammar.specs.Grammar.{Tree, Literal, Name, HashName, Paren, Array, Map, Call, If, Prefix, Infix, Member, Method, Index, Slice, Pipe, Ternary, Items, NoItems, SomeItems, Row, One, More, Arguments, NoArguments, SomeArguments, ArgumentRow, OneArgument, MoreArguments, Argument, Expression, MemberAlone, Braces, Bound, LeftOut, At, ElsePart, Else, ElseIf, TreeProgram, Program, Lines, NoLines, MoreLines}
+use Rattle.expr_frames.specs.Kept.{term_of, items_terms, row_terms, arguments_given, argument_row_given, with_argument, bound_term, else_block, program_of, line_terms, word_text, prefix_operator, infix_meaning, joined, member_term, none_given, given_more, given_program, call_given}
+
+module _ (at bracketed : List ℕ → Tree) (some : SomeInBrackets at bracketed) where
+  same_name : (w : List ℕ) → term_of (bracketed w) ≡ term_of (at w)
+  same_name w = by (some w)
+    where
+      by : (bracketed w ≡ at w) ⊎ (bracketed w ≡ Paren (at w)) → term_of (bracketed w) ≡ term_of (at w)
+      by (inl e) = ap term_of e
+      by (inr e) = ap term_of e
+
+  mutual
+    same_tree : (t : Tree) → term_of (tree_with bracketed t) ≡ term_of (tree_with at t)
+    same_tree (Literal c) = refl
+    same_tree (Name w) = same_name w
+    same_tree (HashName w) = refl
+    same_tree (Paren t) = same_tree t
+    same_tree (Array xs) = λ i. list (terms_of (same_items xs i))
+    same_tree (Map es) = refl
+    same_tree (Call w xs) = λ i. call_given w (same_arguments xs i)
+    same_tree (If c a e) = λ i. choice (same_tree c i) (same_program a i) (same_else e i)
+    same_tree (Prefix o t) = λ i. unary (prefix_operator o) (same_tree t i)
+    same_tree (Infix o l r) = λ i. joined (infix_meaning o) (same_tree l i) (same_tree r i)
+    same_tree (Member l optional w) = λ i. member_term (same_tree l i) optional (word_text w)
+    same_tree (Method l w xs) = λ i. postfix (method (word_text w) (terms_of (same_items xs i))) (same_tree l i)
+    same_tree (Index l optional x) = λ i. postfix (index (same_tree x i) optional) (same_tree l i)
+    same_tree (Slice l a b) = λ i. postfix (slice (same_bound a i) (same_bound b i)) (same_tree l i)
+    same_tree (Pipe l w xs) = λ i. postfix (pipe (call_given w (same_arguments xs i))) (same_tree l i)
+    same_tree (Ternary c a b) = λ i. postfix (ternary (same_tree a i) (same_tree b i)) (same_tree c i)
+
+    same_items : (xs : Items) → items_terms (items_with bracketed xs) ≡ items_terms (items_with at xs)
+    same_items NoItems = refl
+    same_items (SomeItems r comma) = same_row r
+
+    same_row : (r : Row) → row_terms (row_with bracketed r) ≡ row_terms (row_with at r)
+    same_row (One t) = λ i. same_tree t i ∷ []
+    same_row (More r t) = λ i. same_row r i ++ same_tree t i ∷ []
+
+    same_arguments : (xs : Arguments) → arguments_given (arguments_with bracketed xs) ≡ arguments_given (arguments_with at xs)
+    same_arguments NoArguments = refl
+    same_arguments (SomeArguments r comma) = same_argument_row r
+
+    same_argument_row : (r : ArgumentRow) → argument_row_given (argument_row_with bracketed r) ≡ argument_row_given (argument_row_with at r)
+    same_argument_row (OneArgument a) = same_argument a none_given none_given refl
+    same_argument_row (MoreArguments r a) = same_argument a (argument_row_given (argument_row_with bracketed r)) (argument_row_given (argument_row_with at r)) (same_argument_row r)
+
+    same_argument : (a : Argument) (g h : Given) → g ≡ h → with_argument (argument_with bracketed a) g ≡ with_argument (argument_with at a) h
+    same_argument (Expression t) g h e = λ i. given_more (e i) (same_tree t i)
+    same_argument (MemberAlone w) g h e = ap (with_argument (MemberAlone w)) e
+    same_argument (Braces p) g h e = λ i. given_program (e i) (same_program p i)
+
+    same_bound : (b : Bound) → bound_term (bound_with bracketed b) ≡ bound_term (bound_with at b)
+    same_bound LeftOut = refl
+    same_bound (At t) = λ i. bound (same_tree t i)
+
+    same_else : (e : ElsePart) → else_block (else_with bracketed e) ≡ else_block (else_with at e)
+    same_else (Else b) = same_program b
+    same_else (ElseIf c a e) = λ i. answers (choice (same_tree c i) (same_program a i) (same_else e i))
+
+    pub same_program : (p : TreeProgram) → program_of (program_with bracketed p) ≡ program_of (program_with at p)
+    same_program (Program ls t) = λ i. block_with (same_lines ls i) (same_tree t i)
+
+    same_lines : (ls : Lines) → line_terms (lines_with bracketed ls) ≡ line_terms (lines_with at ls)
+    same_lines NoLines = refl
+    same_lines (MoreLines ls w t) = λ i. same_lines ls i ++ (w, same_tree t i) ∷ []
