@@ -1,9 +1,12 @@
 -- What the answers of the parser say of a text.
-use Rattle.std.proofs.Common.{◌≡◌, ℕ, ◌<◌, ◌≤◌, List, [], ◌++◌, Some, None, Err, ◌⊎◌, inl, inr, length, take, drop, get_or, append-nil, sym, ap, ◌∙◌, subst, arith}
+use Rattle.std.proofs.Common.{◌≡◌, ℕ, ◌<◌, ◌≤◌, List, [], ◌++◌, Some, None, Err, ◌⊎◌, inl, inr, length, take, drop, get_or, Result, append-nil, sym, ap, ◌∙◌, subst, arith, IsUtf8}
 use Rattle.std.proofs.lemmas.List.{drop_all, take_all}
 use Rattle.std.proofs.lemmas.Option.{slice_get_cases}
 use Rattle.std.specs.List.{All}
+use Rattle.std.specs.Str.{IsCharBoundary}
+use Rattle.std.proofs.lemmas.Str.{IsCharBoundary-end}
 use Rattle.std.specs.Prelude.{slice_get, unwrap_or}
+use Rattle.expr_token.proofs.Boundaries.{begun_boundary}
 use Rattle.expr_token.proofs.Lexing.{one_reading}
 use Rattle.expr_token.specs.Reading.{ArePieces, Begins, ReadsAt, pieces_text}
 use Rattle.expr_token.specs.declared.token.Token.{Token}
@@ -14,7 +17,7 @@ use Rattle.expr_value.specs.declared.error.Error.TheVariants.{PestError, ParseEr
 use Rattle.expr_grammar.specs.Grammar.{TreeProgram, Spells, LiteralsFit}
 use Rattle.expr_grammar.specs.Prefixes.{SomeBegins, StopsAt}
 use Rattle.expr_syntax.specs.Reading.{IsParse, IsTooLarge}
-use Rattle.expr_syntax.specs.Texts.{IsTreeOf, IsProgramOf, HasLargeLiteral, IsCompiled, IsAnswerFor, IsLiteralRefusal, FaultPlace, AtToken}
+use Rattle.expr_syntax.specs.Texts.{IsTreeOf, IsProgramOf, HasLargeLiteral, IsCompiled, IsAnswerFor, IsLiteralRefusal, IsPlaced, FaultPlace, AtToken, AtEnd, AtUnreadable}
 
 -- a text that reads as the tokens
 module _ (text : List ℕ) (ts : List Token) (starts : List ℕ) (reads : ReadsAt text ts starts) where
@@ -82,3 +85,18 @@ module _ (text : List ℕ) (ts : List Token) (starts : List ℕ) (upto : ℕ) (b
 
   pub placed : (place : ℕ) → place ≡ unwrap_or (slice_get starts index) end → (place ≤ length text) × FaultPlace text place
   placed place e = found (slice_get_cases starts index).1 place e
+
+-- a fault stands at the beginning of a character or at the end of the text
+fault_boundary : (text : List ℕ) (place : ℕ) → IsUtf8 text → FaultPlace text place → IsCharBoundary text place
+fault_boundary text place utf8 (AtToken upto tokens starts k begins is some none) = at (slice_get_cases starts k).1
+  where
+    at : ((x : ℕ) × (k < length starts) × (slice_get starts k ≡ Some x) × (get_or starts k x ≡ x)) ⊎ ((length starts ≤ k) × (slice_get starts k ≡ None)) → IsCharBoundary text place
+    at (inl (x, inside, found, same)) =
+        let here : x ≡ place = cc in
+        subst (IsCharBoundary text) (same ∙ here) ((begun_boundary text upto tokens starts utf8 begins).1 k x inside)
+    at (inr (outside, found)) = let no : ⊥ = cc in absurd no
+fault_boundary text place utf8 (AtEnd tokens reads some end) = subst (IsCharBoundary text) (sym end) (IsCharBoundary-end text)
+fault_boundary text place utf8 (AtUnreadable tokens starts begins some stuck) = (begun_boundary text place tokens starts utf8 begins).0
+
+pub placed_boundary : (text : List ℕ) (result : Result Program Error) → IsUtf8 text → IsPlaced text result → (place : ℕ) → result ≡ Err (PestError place) → IsCharBoundary text place
+placed_boundary text result utf8 placed place e = fault_boundary text place utf8 (subst (IsPlaced text) e placed).1

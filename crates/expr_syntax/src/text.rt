@@ -1,11 +1,13 @@
 //! From a text to its program.
-ghost use Rattle.std.specs.Prelude.{◌≡◌, ◌≤◌, List, length, drop, slice_get, unwrap_or, IfOk, IfErr, MatchOption};
+ghost use Rattle.std.specs.Prelude.{◌≡◌, ◌≤◌, ℕ, List, Err, length, drop, slice_get, unwrap_or, IfOk, IfErr, MatchOption};
 ghost use Rattle.expr_grammar.specs.Grammar.{TreeProgram};
 ghost use Rattle.expr_grammar.specs.Prefixes.{SomeBegins, StopsAt};
 ghost use Rattle.expr_syntax.specs.Texts.{IsAnswerFor, IsCompiled, IsLiteralRefusal, IsPlaced, IsTreeOf};
 ghost use Rattle.expr_token.specs.Reading.{Begins, NoPiece, Reads, ReadsAt};
 ghost use Rattle.expr_token.specs.declared.token.Token.{Token};
 ghost use Rattle.std.specs.List.{All};
+ghost use Rattle.std.specs.Str.{IsCharBoundary};
+ghost use Rattle.expr_value.specs.declared.error.Error.{Error};
 ghost use Rattle.std.specs.Prelude.{◌<◌};
 
 use crate::parser::{ParseError, parse};
@@ -29,6 +31,8 @@ pub fn compile(alloc: Global, code: &str) -> Result<Program>
     ensures only { (t : TreeProgram) → IsTreeOf code.now t → IsAnswerFor t result }
     // A syntax fault's place is that of the first: some program begins with the tokens before it, and none goes on there.
     ensures place { IsPlaced code.now result }
+    // The text may be cut at that place: a character begins there, or the text ends.
+    ensures boundary { (place : ℕ) → result ≡ Err (Error.PestError place) → IsCharBoundary code.now place }
 {
     let Reading {
         tokens,
