@@ -1,5 +1,5 @@
 //! What an evaluation does with the values of parts.
-ghost use Rattle.std.specs.Prelude.{◌≡◌, ◌≢◌, Err, IfErr, IfOk, IsTrue, false};
+ghost use Rattle.std.specs.Prelude.{◌≡◌, ◌≢◌, Err, IfErr, IfOk, IsTrue, false, true};
 ghost use Rattle.expr_evaluation.specs.Allows.{AllowsCall, given_bound, listed};
 ghost use Rattle.expr_evaluation.specs.Calls.{AllowsMethod, AsksItself};
 ghost use Rattle.expr_evaluation.specs.Context.{looked_up};
@@ -13,6 +13,7 @@ ghost use Rattle.expr_value.specs.Fault.{fault_of, memory};
 use crate::environment::{ExprCall, Functions};
 use crate::messages::{unknown_function, unknown_method, unknown_name};
 use crate::scope::{Binding, look_up};
+use expr_builtins::Builtin;
 use expr_operators::{
     Held, apply, as_condition, as_truth, match_pattern, prefix, range, slice_bound,
 };
@@ -142,7 +143,7 @@ pub fn bound_at(alloc: Global, value: &Held<'_>) -> Result<Option<i64>>
     Ok(Some(bound))
 }
 
-/// What a call on these values answers.
+/// What a call on these values answers: the host's function of the name, else the built-in.
 #[inline(never)]
 pub fn call<'s, H: Functions>(
     alloc: Global,
@@ -152,9 +153,26 @@ pub fn call<'s, H: Functions>(
 ) -> Result<Held<'s>>
     ensures { Gives result (AllowsCall (H.host host.now) ident.now args.entry false AsksItself) }
 {
-    if !host.has(ident) {
-        return Err(unknown_function(alloc, ident));
+    if host.has(ident) {
+        return call_added(alloc, host, ident, args);
     }
+    let Some(builtin) = Builtin::named(ident) else {
+        return Err(unknown_function(alloc, ident));
+    };
+    let args = values_of(alloc, args)?;
+    let answer = builtin.call(alloc, args)?;
+    Ok(Held::own(answer))
+}
+
+/// What a function answers on these values that the host has added.
+fn call_added<'s, H: Functions>(
+    alloc: Global,
+    host: &H,
+    ident: &str,
+    args: Items<Held<'_>>,
+) -> Result<Held<'s>>
+    ensures { (H.host host.now).is_added ident.now ≡ true → Gives result ((H.host host.now).calls ident.now args.entry) }
+{
     let ident = String::from_str(alloc, ident)?;
     let args = values_of(alloc, args)?;
     let answer = host.ask(ExprCall { ident, args })?;

@@ -1,13 +1,14 @@
-use Rattle.std.proofs.Common.{◌≡◌, ◌&&◌, IsTrue, ◌+◌, ◌≤◌, List, ◌∷◌, length, map, drop, rules, sym, ap, ◌∙◌, subst, refl, Ok, Err, String, Global, string_bytes}
+use Rattle.std.proofs.Common.{◌≡◌, ◌&&◌, IsTrue, ◌+◌, ◌≤◌, List, [], ◌∷◌, length, map, drop, rules, false, sym, ap, ◌∙◌, subst, refl, Ok, Err, String, Global, string_bytes}
 use Rattle.std.proofs.lemmas.List.{drop_all}
-use Rattle.expr_tree.proofs.Shapes.{written-Slice}
-use Rattle.expr_tree.specs.Term.{operation, slice}
-use Rattle.expr_tree.specs.Written.{written, bound_written, postfix_written, program_written, block_of}
+use Rattle.expr_tree.proofs.Shapes.{written-Func, written-Slice}
+use Rattle.expr_tree.specs.Term.{call, operation, slice}
+use Rattle.expr_tree.specs.Written.{written, bound_written, postfix_written, predicate_written, program_written, block_of}
 use Rattle.expr_tree.specs.declared.node.Node.{Node}
 use Rattle.expr_value.specs.Fault.{fault_of}
 use Rattle.expr_value.specs.declared.value.Value.{Value}
-use Rattle.expr_evaluation.specs.Allows.{Allows, AllowsAll, AllowsBlock, AllowsBound, AllowsMore, AllowsPostfix, Continued, ContinuedAs, listed}
+use Rattle.expr_evaluation.specs.Allows.{Allows, AllowsAll, AllowsBlock, AllowsBound, AllowsCall, AllowsMore, AllowsPiped, AllowsPostfix, Continued, ContinuedAs, listed}
 use Rattle.expr_value.specs.Answers.{After, Answer, Gives}
+use Rattle.expr_evaluation.specs.Calls.{AsksItself}
 use Rattle.expr_evaluation.specs.Context.{Context}
 use Rattle.expr_evaluation.specs.Host.{Host}
 use Rattle.expr_operators.specs.Asking.{asking_of}
@@ -19,7 +20,7 @@ use Rattle.expr_operators.specs.Plain.{is_plain_operator, is_plain_value}
 use Rattle.expr_evaluation.specs.Scope.{overridden}
 use Rattle.expr_evaluation.specs.Several.{terms_written}
 use Rattle.expr_evaluation.specs.declared.scope.Binding.{Binding}
-use Rattle.expr_evaluation.proofs.Allowed.{prepended, drop-at, loop-step, loop-failed, loop-done, AllowsAll-first, AllowsBlock-line, AllowsMore-all}
+use Rattle.expr_evaluation.proofs.Allowed.{prepended, drop-at, loop-step, loop-failed, loop-done, AllowsAll-first, AllowsBlock-line, AllowsMore-all, AllowsMore-rest}
 use Rattle.expr_value.proofs.Answered.{Gives-of-Is, Gives-passed, Gives-under, first_of-After}
 use Rattle.expr_operators.proofs.Plainly.{Surely-at}
 use Rattle.expr_evaluation.proofs.Plainly.{Ident-plain, Array-plain, Range-plain, Func-plain, Postfix-plain, Conditional-plain, Allows-plain, left-true, right-true, written-Operation}
@@ -345,3 +346,39 @@ evaluate-returns-then-branch-clause-plain g t c = λ v p h. Conditional-plain _ 
 
 pub evaluate-returns-clause-plain : goal.evaluate-returns-clause-plain
 evaluate-returns-clause-plain g t c = λ v p h. Conditional-plain _ _ _ c.args.node.now c.in-Conditional.is p
+
+-- what a call allows is what the call on its arguments' values allows
+pub evaluate-returns-in-Func-clause-answer : goal.evaluate-returns-in-Func-clause-answer
+evaluate-returns-in-Func-clause-answer g t c =
+    let host : Host = g.H.Functions.host c.args.self.now.host.now in
+    let ctx : Context = overridden c.args.scope.now (g.P.ContextProvider.context c.args.self.now.provider) in
+    let key = string_bytes c.in-Func.ident in
+    let ts = terms_written c.in-Func.args.items in
+    let p = predicate_written c.in-Func.predicate in
+    let is : written c.args.node.now ≡ call key ts p = ap written c.in-Func.is ∙ written-Func c.in-Func.ident c.in-Func.args c.in-Func.predicate in
+    let vs = c.in_ok-args-in-Func.args in
+    let more = subst (λ ns. AllowsMore host ctx [] (terms_written ns) (Ok vs)) c.deref-in-Func.ensures.value c.in_ok-args-in-Func.ensures in
+    let found = AllowsMore-rest host ctx [] ts vs more in
+    subst (λ n. Gives c.call.result (Allows host ctx n)) (sym is) (
+    Gives-under c.call.result (AllowsCall host key vs false AsksItself) (Allows host ctx (call key ts p)) (
+    λ a q. (Ok found.0, found.1, subst (λ xs. AllowsCall host key xs false AsksItself a) found.2 q)
+    ) (subst (λ k. Gives c.call.result (AllowsCall host k vs false AsksItself)) c.deref-in-Func-2.ensures c.call.ensures)
+    )
+
+pub pipe-returns : goal.pipe-returns
+pipe-returns g t c =
+    let host : Host = g.H.Functions.host c.args.self.now.host.now in
+    let ctx : Context = overridden c.args.scope.now (g.P.ContextProvider.context c.args.self.now.provider) in
+    let key = string_bytes c.in-Func.ident in
+    let ts = terms_written c.in-Func.args.items in
+    let p = predicate_written c.in-Func.predicate in
+    let v = c.args.value in
+    let is : written c.args.node.now ≡ call key ts p = ap written c.in-Func.is ∙ written-Func c.in-Func.ident c.in-Func.args c.in-Func.predicate in
+    let vs = c.in_ok-args.args in
+    let more = subst (λ ns. AllowsMore host ctx (v ∷ []) (terms_written ns) (Ok vs)) c.deref.ensures.value c.in_ok-args.ensures in
+    let found = AllowsMore-rest host ctx (v ∷ []) ts vs more in
+    subst (λ n. Gives c.call.result (AllowsPiped host ctx n v)) (sym is) (
+    Gives-under c.call.result (AllowsCall host key vs false AsksItself) (AllowsPiped host ctx (call key ts p) v) (
+    λ a q. (Ok found.0, found.1, subst (λ xs. AllowsCall host key xs false AsksItself a) found.2 q)
+    ) (subst (λ k. Gives c.call.result (AllowsCall host k vs false AsksItself)) c.deref-2.ensures c.call.ensures)
+    )
