@@ -2,7 +2,7 @@
 use Rattle.std.specs.Prelude.{◌≡◌, ◌⊎◌, ℕ, List}
 use Rattle.expr_grammar.specs.Grammar.{Tree, Literal, Name, HashName, Paren, Array, Map, Call, If, Prefix, Infix, Member, Method, Index, Slice, Pipe, Ternary, Items, NoItems, SomeItems, Row, One, More, Arguments, NoArguments, SomeArguments, ArgumentRow, OneArgument, MoreArguments, Argument, Expression, MemberAlone, Braces, Bound, LeftOut, At, ElsePart, Else, ElseIf, TreeProgram, Program, Lines, NoLines, MoreLines, Fits}
 
--- Expressions in place of names: of those that stand where an expression may, and so not of calls, members and lines.
+-- Expressions in place of names: of those that are expressions themselves, and so not those of calls, members and lines.
 abbrev mutual
   pub tree_with : (List ℕ → Tree) → Tree → Tree
   tree_with at (Literal c) = Literal c
@@ -62,6 +62,6 @@ abbrev mutual
 abbrev pub SomeInBrackets : (List ℕ → Tree) → (List ℕ → Tree) → Type 0
 SomeInBrackets at bracketed = (w : List ℕ) → (bracketed w ≡ at w) ⊎ (bracketed w ≡ Paren (at w))
 
--- Brackets may stand round any expressions inside a program.
+-- Brackets may stand round any expressions inside a program: each stands in place of a name of the program that has a name there.
 abbrev pub BracketsFitInside : Type 0
 BracketsFitInside = (p : TreeProgram) (at bracketed : List ℕ → Tree) → SomeInBrackets at bracketed → Fits (program_with at p) → Fits (program_with bracketed p)

@@ -1,5 +1,5 @@
 -- Tokens begin where characters of the text do, and so does what can't be read.
-use Rattle.std.proofs.Common.{◌≡◌, ℕ, suc, ◌+◌, ◌<◌, ◌≤◌, Bool, true, false, ◌==◌, ◌&&◌, ◌||◌, not, codes, lit<, lit≤, List, [], ◌∷◌, ◌++◌, length, drop, get_or, IsUtf8, inl, inr, refl, sym, ap, ◌∙◌, subst, arith, ⊎_elim, length-append, append_assoc}
+use Rattle.std.proofs.Common.{◌≡◌, ℕ, ◌+◌, ◌<◌, ◌≤◌, Bool, true, false, ◌==◌, ◌&&◌, not, codes, lit<, lit≤, List, [], ◌∷◌, ◌++◌, length, drop, get_or, IsUtf8, inl, inr, refl, sym, ap, ◌∙◌, subst, arith, ⊎_elim, length-append, append_assoc}
 use Rattle.std.specs.Char.{is_digit, is_ascii_digit}
 use Rattle.std.specs.List.{All, AllByRecursion, list_all, flat_map}
 use Rattle.std.specs.Str.{IsCharBoundary}
