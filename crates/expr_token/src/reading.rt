@@ -18,6 +18,9 @@ use crate::word::{begins_with_digit, is_word_byte, raw_len, word_len};
 use expr_value::Text;
 use std::alloc::{AllocError, Global};
 
+/// The most tokens that a text's lists have room for at first.
+const ROOM: usize = 32;
+
 /// What a text was read as.
 #[derive(Drop)]
 pub struct Reading {
@@ -156,6 +159,11 @@ fn token_at(alloc: Global, text: &str, at: usize) -> Result<Option<(usize, Token
     Ok(sign_at(bytes).map(|sign| (sign.spelling().len(), Token::Sign(sign))))
 }
 
+/// How many tokens there is room for at first: a text that has no more of them grows no list.
+fn first_room(len: usize) -> usize {
+    if len < ROOM { len } else { ROOM }
+}
+
 /// Reads a text: its tokens, or those before the first place where nothing can be read.
 pub fn read(alloc: Global, text: &str) -> Result<Reading, AllocError>
     ensures reads { IfOk result (λ r. r.fault ≡ None → ReadsAt text.now r.tokens.items r.starts.items) }
@@ -168,8 +176,9 @@ pub fn read(alloc: Global, text: &str) -> Result<Reading, AllocError>
     ensures within { IfOk result (λ r. All (λ start. start < length text.now) r.starts.items) }
 {
     let bytes = text.as_bytes();
-    let mut tokens = Vec::new(alloc);
-    let mut starts = Vec::new(alloc);
+    let room = first_room(bytes.len());
+    let mut tokens = Vec::with_capacity(alloc, room)?;
+    let mut starts = Vec::with_capacity(alloc, room)?;
     let mut at = 0;
     while at < bytes.len() {
         let gap = gap_len(&bytes[at..]);
