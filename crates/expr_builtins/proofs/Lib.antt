@@ -1,7 +1,10 @@
+pub mod Afters
 pub mod Each
+pub mod Ending
 pub mod Ends
 pub mod Extremes
 pub mod Opening
+pub mod PairsBack
 pub mod Standing
 pub mod Rejoined
 pub mod Unlike

@@ -7,11 +7,11 @@ use Rattle.expr_builtins.specs.Texts.{first_pieces, pieces, parts, replaced}
 use Rattle.expr_builtins.proofs.Standing.{at_head, begins, all_places}
 
 -- where the first of the places is
-record First (t s : List ℕ) (at p : ℕ) (ps : List ℕ) : Type 0 where
-  on : ℕ
-  is : p ≡ at + on
-  here : drop on s ≡ t ++ drop (length t) (drop on s)
-  rest : places_from t (p + length t) (after_match t) (drop (length t) (drop on s)) ≡ ps
+pub record First (t s : List ℕ) (at p : ℕ) (ps : List ℕ) : Type 0 where
+  pub on : ℕ
+  pub is : p ≡ at + on
+  pub here : drop on s ≡ t ++ drop (length t) (drop on s)
+  pub rest : places_from t (p + length t) (after_match t) (drop (length t) (drop on s)) ≡ ps
 
 cons-nil : (p : ℕ) (ps : List ℕ) → [] ≡ p ∷ ps → ⊥
 cons-nil p ps h = absurd (omega (arith, ap length h))
@@ -40,7 +40,7 @@ at_end : (t : List ℕ) (at p : ℕ) (ps : List ℕ) (b : Bool) → stands t [] 
 at_end t at p ps true e h = at_once t [] at p ps e h
 at_end t at p ps false e h = absurd (cons-nil p ps (sym (ap (λ (d : Bool). if d then at ∷ [] else []) e) ∙ h))
 
-first : (t s : List ℕ) (at k p : ℕ) (ps : List ℕ) → places_from t at k s ≡ p ∷ ps → First t s at p ps
+pub first : (t s : List ℕ) (at k p : ℕ) (ps : List ℕ) → places_from t at k s ≡ p ∷ ps → First t s at p ps
 first t [] at zero p ps h = at_end t at p ps (stands t []) refl h
 first t [] at (suc k) p ps h = absurd (cons-nil p ps h)
 first t (c ∷ s) at zero p ps h = here_or_on t s c at p ps (stands t (c ∷ s)) refl (first t s (suc at) 0 p ps) h
@@ -50,7 +50,7 @@ joined_cut : (x t s : List ℕ) (w at : ℕ) (ps : List ℕ) → joined t (x ∷
 joined_cut x t s w at [] = ap (λ l. x ++ l) (append_assoc t s [])
 joined_cut x t s w at (p ∷ ps) = ap (λ l. x ++ l) (append_assoc t (take (p - at) s) (flat_map (λ u. t ++ u) (cut w (p + w) ps (drop w (drop (p - at) s)))))
 
-rejoined : (t : List ℕ) (n : ℕ) (ps s : List ℕ) (at k : ℕ) → places_from t at k s ≡ ps → joined t (cut (length t) at (take n ps) s) ≡ s
+pub rejoined : (t : List ℕ) (n : ℕ) (ps s : List ℕ) (at k : ℕ) → places_from t at k s ≡ ps → joined t (cut (length t) at (take n ps) s) ≡ s
 rejoined t zero ps s at k h = append-nil s
 rejoined t (suc n) [] s at k h = append-nil s
 rejoined t (suc n) (p ∷ ps) s at k h =

@@ -5,6 +5,7 @@ use Rattle.expr_value.specs.Answers.{Answer}
 use Rattle.expr_builtins.specs.Bits as bits
 use Rattle.expr_builtins.specs.Numbers as numbers
 use Rattle.expr_builtins.specs.Text as text
+use Rattle.expr_builtins.specs.Trimmed as trimmed
 use Rattle.expr_builtins.specs.Nested as nested
 use Rattle.expr_builtins.specs.Distinct as distinct
 use Rattle.expr_builtins.specs.Collections as collections
@@ -34,11 +35,13 @@ Called is.Floor arguments answer = answer ≡ numbers.of_fractions arguments
 Called is.Round arguments answer = answer ≡ numbers.of_fractions arguments
 Called is.HasPrefix arguments answer = answer ≡ text.has_prefix arguments
 Called is.HasSuffix arguments answer = answer ≡ text.has_suffix arguments
+Called is.Trim arguments answer = trimmed.Trim arguments answer
 Called is.TrimPrefix arguments answer = answer ≡ text.trim_prefix arguments
 Called is.TrimSuffix arguments answer = answer ≡ text.trim_suffix arguments
 Called is.Upper arguments answer = text.Upper arguments answer
 Called is.Lower arguments answer = text.Lower arguments answer
 Called is.Split arguments answer = answer ≡ text.split arguments
+Called is.SplitAfter arguments answer = answer ≡ text.split_after arguments
 Called is.Replace arguments answer = answer ≡ text.replace arguments
 Called is.Repeat arguments answer = answer ≡ text.repeat_text arguments
 Called is.Len arguments answer = answer ≡ collections.len arguments
@@ -82,11 +85,13 @@ name_of is.Floor = codes "floor"
 name_of is.Round = codes "round"
 name_of is.HasPrefix = codes "hasPrefix"
 name_of is.HasSuffix = codes "hasSuffix"
+name_of is.Trim = codes "trim"
 name_of is.TrimPrefix = codes "trimPrefix"
 name_of is.TrimSuffix = codes "trimSuffix"
 name_of is.Upper = codes "upper"
 name_of is.Lower = codes "lower"
 name_of is.Split = codes "split"
+name_of is.SplitAfter = codes "splitAfter"
 name_of is.Replace = codes "replace"
 name_of is.Repeat = codes "repeat"
 name_of is.Len = codes "len"

@@ -10,3 +10,4 @@ pub mod Numbers
 pub mod Places
 pub mod Text
 pub mod Texts
+pub mod Trimmed

@@ -8,7 +8,7 @@ use Rattle.expr_value.specs.declared.value.Value as value
 use Rattle.expr_value.specs.declared.value.Value.{Value}
 use Rattle.expr_value.specs.Answers.{Answer}
 use Rattle.expr_builtins.specs.Arguments.{asked, one_text, two_texts, two_texts_and_limit, one_or_two_texts, text_and_integer, three_texts_and_limit}
-use Rattle.expr_builtins.specs.Texts.{parts, replaced}
+use Rattle.expr_builtins.specs.Texts.{parts, parts_after, replaced}
 
 abbrev pub has_prefix : List Value → Answer
 has_prefix arguments = asked (two_texts arguments) (λ a. Ok (value.Bool (starts_with nat_eq a.0 a.1)))
@@ -31,6 +31,9 @@ trim_suffix arguments = asked (one_or_two_texts arguments) (λ a. Ok (value.Stri
 
 abbrev pub split : List Value → Answer
 split arguments = asked (two_texts_and_limit arguments) (λ a. Ok (value.Array (map value.String (parts a.0 a.1 a.2))))
+
+abbrev pub split_after : List Value → Answer
+split_after arguments = asked (two_texts_and_limit arguments) (λ a. Ok (value.Array (map value.String (parts_after a.0 a.1 a.2))))
 
 abbrev pub replace : List Value → Answer
 replace arguments = asked (three_texts_and_limit arguments) (λ a. Ok (value.String (replaced a.0.0 a.0.1 a.1.0 a.1.1)))

@@ -21,12 +21,22 @@ abbrev pub replaced : List ℕ → List ℕ → List ℕ → ℤ → List ℕ
 replaced s from to (pos n) = joined to (first_pieces n from s)
 replaced s from to (negsuc n) = joined to (pieces from s)
 
+-- a piece, unless it is empty
+abbrev pub unless_empty : List ℕ → List (List ℕ)
+unless_empty [] = []
+unless_empty (b ∷ s) = (b ∷ s) ∷ []
+
 -- pieces cut after each match; an empty last piece is dropped
 abbrev pub after_each : List ℕ → List (List ℕ) → List (List ℕ)
 after_each t [] = []
-after_each t ([] ∷ []) = []
-after_each t ((b ∷ s) ∷ []) = (b ∷ s) ∷ []
+after_each t (s ∷ []) = unless_empty s
 after_each t (s ∷ u ∷ rest) = (s ++ t) ∷ after_each t (u ∷ rest)
+
+-- the same, with the last piece kept as it is
+abbrev pub closed : List ℕ → List (List ℕ) → List (List ℕ)
+closed t [] = []
+closed t (s ∷ []) = s ∷ []
+closed t (s ∷ u ∷ rest) = (s ++ t) ∷ closed t (u ∷ rest)
 
 -- the parts of s after each match of t, as `splitAfter` gives them: the first n - 1 pieces and then the rest joined, even if empty
 abbrev pub parts_after : List ℕ → List ℕ → ℤ → List (List ℕ)

@@ -3,7 +3,7 @@ ghost use Rattle.std.specs.Prelude.{◌≡◌, ◌≢◌, MatchOption};
 ghost use Rattle.expr_value.specs.Answers.{Gives};
 ghost use Rattle.expr_builtins.specs.Calls.{Called, name_of};
 
-use crate::{bits, collection, convert, distinct, indices, nested, number, text};
+use crate::{bits, collection, convert, distinct, indices, nested, number, text, trimmed};
 use expr_value::{Result, Value};
 use std::alloc::Global;
 
@@ -29,11 +29,13 @@ pub enum Builtin {
     Round,
     HasPrefix,
     HasSuffix,
+    Trim,
     TrimPrefix,
     TrimSuffix,
     Upper,
     Lower,
     Split,
+    SplitAfter,
     Replace,
     Repeat,
     Len,
@@ -82,11 +84,13 @@ impl Builtin {
             "round" => Some(Builtin::Round),
             "hasPrefix" => Some(Builtin::HasPrefix),
             "hasSuffix" => Some(Builtin::HasSuffix),
+            "trim" => Some(Builtin::Trim),
             "trimPrefix" => Some(Builtin::TrimPrefix),
             "trimSuffix" => Some(Builtin::TrimSuffix),
             "upper" => Some(Builtin::Upper),
             "lower" => Some(Builtin::Lower),
             "split" => Some(Builtin::Split),
+            "splitAfter" => Some(Builtin::SplitAfter),
             "replace" => Some(Builtin::Replace),
             "repeat" => Some(Builtin::Repeat),
             "len" => Some(Builtin::Len),
@@ -137,11 +141,13 @@ impl Builtin {
             Builtin::Round => number::of_fractions(alloc),
             Builtin::HasPrefix => text::has_prefix(alloc, &arguments),
             Builtin::HasSuffix => text::has_suffix(alloc, &arguments),
+            Builtin::Trim => trimmed::trim(alloc, &arguments),
             Builtin::TrimPrefix => text::trim_prefix(alloc, &arguments),
             Builtin::TrimSuffix => text::trim_suffix(alloc, &arguments),
             Builtin::Upper => text::upper(alloc, &arguments),
             Builtin::Lower => text::lower(alloc, &arguments),
             Builtin::Split => text::split(alloc, &arguments),
+            Builtin::SplitAfter => text::split_after(alloc, &arguments),
             Builtin::Replace => text::replace(alloc, &arguments),
             Builtin::Repeat => text::repeat_text(alloc, &arguments),
             Builtin::Len => collection::len(alloc, &arguments),

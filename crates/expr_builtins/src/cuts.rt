@@ -1,7 +1,7 @@
 //! Texts cut at the matches of another, and put together.
-ghost use Rattle.std.specs.Prelude.{◌≡◌, ◌≢◌, ℕ, ℤ, List, negsuc, map, ◌+◌, string_bytes, IfOk, pos, suc, take, length, bytes_eq};
+ghost use Rattle.std.specs.Prelude.{◌≡◌, map, string_bytes, IfOk};
 ghost use Rattle.expr_value.specs.Values.{joined};
-ghost use Rattle.expr_builtins.specs.Texts.{pieces, parts, replaced};
+ghost use Rattle.expr_builtins.specs.Texts.{parts, replaced};
 
 use crate::places::pieces;
 use std::alloc::{AllocError, Global};
@@ -59,8 +59,3 @@ pub(crate) fn joined(alloc: Global, parts: &[&str], separator: &str) -> Result<S
     }
     Ok(text)
 }
-
-/// The parts of a text at a separator, joined by it, are the text again.
-pub fn parts_joined_are_the_text()
-    ensures { (t s : List ℕ) (n : ℕ) → (joined t (parts s t (negsuc n)) ≡ s) × (joined t (parts s t (pos (suc n))) ≡ s) }
-{}

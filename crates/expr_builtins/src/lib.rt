@@ -1,6 +1,7 @@
 //! The built-in calls of the expression language, on values.
 #![tactic(auto)]
 
+mod after;
 mod arguments;
 mod bits;
 mod builtin;
@@ -9,10 +10,14 @@ mod convert;
 mod cuts;
 mod distinct;
 mod indices;
+mod laws;
 mod nested;
 mod number;
 mod places;
 mod text;
+mod trimmed;
 
 pub use builtin::Builtin;
-pub use cuts::parts_joined_are_the_text;
+pub use laws::{
+    pairs_of_a_map_make_it_again, parts_after_joined_are_the_text, parts_joined_are_the_text,
+};

@@ -2,8 +2,9 @@
 ghost use Rattle.std.specs.Prelude.{◌≡◌, nat_eq, map, IfOk, IfErr};
 ghost use Rattle.std.specs.List.{starts_with, ends_with};
 ghost use Rattle.expr_value.specs.Answers.{Gives};
-ghost use Rattle.expr_builtins.specs.Text.{has_prefix, has_suffix, trim_prefix, trim_suffix, without_front, without_back, split, replace, repeat_text, repeated, Upper, Lower};
+ghost use Rattle.expr_builtins.specs.Text.{has_prefix, has_suffix, trim_prefix, trim_suffix, without_front, without_back, split, split_after, replace, repeat_text, repeated, Upper, Lower};
 
+use crate::after::parts_after;
 use crate::arguments::{
     one_or_two_texts, one_text, text_and_integer, three_texts_and_limit, two_texts,
     two_texts_and_limit,
@@ -91,6 +92,17 @@ pub(crate) fn split(alloc: Global, arguments: &[Value]) -> Result<Value>
     };
     let found = parts(alloc, text, separator, limit)?;
     array_of_texts(alloc, &found)
+}
+
+/// The parts of a text, cut after each match of a separator, at most so many if a limit is given.
+pub(crate) fn split_after(alloc: Global, arguments: &[Value]) -> Result<Value>
+    ensures { Gives result (λ answer. answer ≡ split_after arguments.now) }
+{
+    let Some((text, separator, limit)) = two_texts_and_limit(arguments) else {
+        return Err(refusal(alloc, "splitAfter takes two texts, and perhaps a limit"));
+    };
+    let parts = parts_after(alloc, text, separator, limit)?;
+    Ok(Value::Array(Items::from_vec(parts)))
 }
 
 fn array_of_texts(alloc: Global, texts: &[&str]) -> Result<Value>
