@@ -1,4 +1,5 @@
 pub mod Texts
+pub use Rattle.expr_builtins.specs.Calls as Builtins
 pub use Rattle.expr_evaluation.specs.Allows
 pub use Rattle.expr_evaluation.specs.Calls
 pub use Rattle.expr_evaluation.specs.Host
