@@ -8,7 +8,7 @@ use Rattle.expr_value.specs.declared.error.Error.{Error}
 use Rattle.expr_value.specs.declared.value.Value as value
 use Rattle.expr_value.specs.declared.value.Value.{Value}
 use Rattle.expr_builtins.specs.Places.{after_match, places_from, places, cut}
-use Rattle.expr_builtins.specs.Texts.{pieces, first_pieces, after_each, closed, unless_empty, parts_after}
+use Rattle.expr_builtins.specs.Texts.{pieces, after_each, closed, unless_empty, parts_after}
 use Rattle.expr_builtins.proofs.Rejoined.{first, rejoined, rejoined_all}
 use Rattle.expr_builtins.proofs.Standing.{all_places}
 

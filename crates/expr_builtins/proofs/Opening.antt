@@ -1,10 +1,10 @@
 -- Values opened one after another, and how much is left to open.
-use Rattle.std.proofs.Common.{◌≡◌, ℕ, suc, ◌+◌, ◌<◌, List, [], ◌∷◌, ◌++◌, map, reverse, Option, Some, None, refl, sym, ap, ◌∙◌, arith, append_assoc, flat_map, rules}
-use Rattle.std.proofs.lemmas.List.{reverse-append, reverse-reverse, append-nil}
+use Rattle.std.proofs.Common.{◌≡◌, ℕ, suc, ◌+◌, ◌<◌, List, [], ◌∷◌, ◌++◌, map, reverse, Option, Some, None, refl, sym, ap, ◌∙◌, arith, append_assoc, rules}
+use Rattle.std.proofs.lemmas.List.{reverse-append, reverse-reverse}
 use Rattle.std.proofs.lemmas.Grind.{flat_map-append}
 use Rattle.expr_value.specs.Values.{items_of}
 use Rattle.expr_value.specs.declared.value.Value as value
-use Rattle.expr_value.specs.declared.value.Value.{Value, fold-Value, out-Value, roll-Value, map-Value, fold_out-Value, the_lemmas}
+use Rattle.expr_value.specs.declared.value.Value.{Value, fold-Value, out-Value, map-Value, fold_out-Value, the_lemmas}
 use Rattle.expr_value.specs.declared.value.Value.TheOpen.{Value-F}
 use Rattle.expr_builtins.specs.Nested.{given_by_each, opened_layer, opened, all_opened}
 

@@ -1,13 +1,14 @@
 //! What follows from the definitions of the built-ins alone.
-ghost use Rattle.std.specs.Prelude.{◌≡◌, ℕ, List, Ok, [], ◌∷◌, negsuc, pos, suc};
+ghost use Rattle.std.specs.Prelude.{◌≡◌, ℕ, List, None, Ok, [], ◌∷◌, negsuc, pos, suc};
 ghost use Rattle.std.specs.List.{IsDistinct};
 ghost use Rattle.std.specs.Map.{keys_of};
 ghost use Rattle.expr_value.specs.Answers.{After};
 ghost use Rattle.expr_value.specs.Keys.{key_eq};
-ghost use Rattle.expr_value.specs.Values.{joined};
+ghost use Rattle.expr_value.specs.Values.{items_of, joined};
 ghost use Rattle.expr_value.specs.declared.key.Key.{Key as key};
-ghost use Rattle.expr_value.specs.declared.value.Value.{Value as value, KeyedMap as by_keys};
+ghost use Rattle.expr_value.specs.declared.value.Value.{Value as value, Array as array, KeyedMap as by_keys};
 ghost use Rattle.expr_builtins.specs.Collections.{from_pairs, to_pairs};
+ghost use Rattle.expr_builtins.specs.Nested.{all_opened, opened};
 ghost use Rattle.expr_builtins.specs.Texts.{parts, parts_after};
 
 /// The parts of a text at a separator, joined by it, are the text again.
@@ -18,6 +19,12 @@ pub fn parts_joined_are_the_text()
 /// The parts of a text after each match of a separator, joined by nothing, are the text again.
 pub fn parts_after_joined_are_the_text()
     ensures { (t s : List ℕ) (n : ℕ) → (joined [] (parts_after s t (negsuc n)) ≡ s) × (joined [] (parts_after s t (pos (suc n))) ≡ s) }
+{}
+
+/// An array gives what its items give, one after the other, and any other value gives itself.
+pub fn arrays_are_opened()
+    ensures array { (xs : List value) → opened (array xs) ≡ all_opened xs }
+    ensures other { (v : value) → items_of v ≡ None → opened v ≡ v ∷ [] }
 {}
 
 /// The map of the pairs of a keyed map is that map.

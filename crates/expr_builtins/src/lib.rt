@@ -19,5 +19,6 @@ mod trimmed;
 
 pub use builtin::Builtin;
 pub use laws::{
-    pairs_of_a_map_make_it_again, parts_after_joined_are_the_text, parts_joined_are_the_text,
+    arrays_are_opened, pairs_of_a_map_make_it_again, parts_after_joined_are_the_text,
+    parts_joined_are_the_text,
 };

@@ -1,7 +1,5 @@
-use Rattle.std.proofs.Common.{◌≡◌, List, ℕ, [], ◌∷◌, ◌++◌, map, ap, ◌∙◌, sym, rules}
-use Rattle.std.proofs.lemmas.List.{append-nil}
+use Rattle.std.proofs.Common.{[], ◌∷◌, ◌++◌, ap, ◌∙◌, rules}
 use Rattle.expr_value.specs.declared.value.Value as value
-use Rattle.expr_builtins.specs.Texts.{unless_empty}
 use Rattle.expr_builtins.proofs.Afters.{made, after_is, none_kept, one_kept}
 use Rattle.expr_builtins.proofs.after.after_each.Goals as goal
 

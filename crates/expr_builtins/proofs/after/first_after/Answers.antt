@@ -1,5 +1,4 @@
-use Rattle.std.proofs.Common.{◌≡◌, ◌<◌, ◌≤◌, ℕ, [], ◌∷◌, ◌++◌, ap, ◌∙◌, arith, length, rules}
-use Rattle.std.specs.Prelude.{IfOk}
+use Rattle.std.proofs.Common.{◌≤◌, [], ◌∷◌, ◌++◌, ap, ◌∙◌, arith, length}
 use Rattle.expr_value.specs.declared.value.Value as value
 use Rattle.expr_builtins.proofs.Afters.{enough_found, few_found, ok_then}
 use Rattle.expr_builtins.proofs.after.first_after.Goals as goal
