@@ -29,7 +29,7 @@ use expr_parts::{Arguments, Lines, Part, ProgramPart};
 use expr_token::{Reserved, Sign, Token};
 use expr_tree::node::Program;
 use expr_value::{Items, Text, Value, ValueMap};
-use std::alloc::{AllocError, AllocFailed, Global};
+use std::alloc::{AllocError, Global};
 
 /// Why no program was made.
 #[derive(Clone, Copy, Debug, PartialEq, Eq)]
@@ -42,6 +42,9 @@ pub enum ParseError {
     Memory,
 }
 
+/// How many open frames there is room for at first: a frame is large, and most texts open no more.
+const DEPTH: usize = 3;
+
 #[derive(Drop)]
 struct Parser {
     alloc: Global,
@@ -49,10 +52,10 @@ struct Parser {
 }
 
 impl Parser {
-    fn new(alloc: Global) -> Result<Parser, AllocFailed<Frame>>
+    fn new(alloc: Global) -> Result<Parser, Fault>
         ensures { IfOk result (λ p. stack p.frames.items ≡ frame.Body section.Top [] ∷ []) }
     {
-        let mut frames = Vec::new(alloc);
+        let mut frames = Vec::with_capacity(alloc, DEPTH)?;
         frames.push(Frame::Body(Section::Top, Lines::new(alloc)))?;
         Ok(Parser { alloc, frames })
     }
