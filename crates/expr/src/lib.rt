@@ -4,7 +4,8 @@
 mod text;
 
 pub use expr_builtins::{
-    pairs_of_a_map_make_it_again, parts_after_joined_are_the_text, parts_joined_are_the_text,
+    arrays_are_opened, pairs_of_a_map_make_it_again, parts_after_joined_are_the_text,
+    parts_joined_are_the_text,
 };
 pub use expr_evaluation::{
     eval_expr, eval_func, eval_operator, eval_postfix_operator, eval_unary_operator,
