@@ -1,5 +1,4 @@
-use Rattle.std.proofs.Common.{◌≡◌, ◌<◌, Some, None, IfOk, length, map, get_or, subst, sym, ap, ◌∙◌, arith, rules, string_bytes}
-use Rattle.std.specs.List.{remove}
+use Rattle.std.proofs.Common.{◌≡◌, ◌<◌, Some, None, IfOk, length, map, subst, sym, ap, ◌∙◌, arith, rules, string_bytes}
 use Rattle.std.proofs.lemmas.List.{get_or-map, length-map}
 use Rattle.expr_tree.specs.Term.{call, list, no_terms, predicate, block_with}
 use Rattle.expr_tree.specs.Written.{written, line_written, terms_of}
