@@ -1,12 +1,12 @@
 -- The machine over what is kept does as the machine over trees.
-use Rattle.std.proofs.Common.{◌≡◌, ℕ, List, [], ◌∷◌, ◌++◌, Bool, true, false, cond, nat_lt, Option, Some, None, arith, sym, ap, ◌∙◌, refl, fold}
+use Rattle.std.proofs.Common.{◌≡◌, ℕ, List, [], ◌∷◌, ◌++◌, append-nil, Bool, true, false, cond, nat_lt, Option, Some, None, arith, sym, ap, ◌∙◌, refl, fold}
 use Rattle.expr_value.specs.declared.value.Value.TheVariants as value
 use Rattle.expr_value.specs.declared.value.Value.{Value}
 use Rattle.expr_token.specs.declared.token.Token.{Token}
 use Rattle.expr_token.specs.declared.token.Token.TheVariants as token
 use Rattle.expr_token.specs.declared.sign.Sign.TheVariants as sign
 use Rattle.expr_token.specs.declared.reserved.Reserved.TheVariants as reserved
-use Rattle.expr_tree.specs.Term.{Term, literal, list, postfix, choice, index, slice, method, pipe, Block, answers}
+use Rattle.expr_tree.specs.Term.{Term, literal, list, postfix, choice, index, slice, method, pipe, predicate, Block, answers}
 use Rattle.expr_tree.specs.Written.{terms_of}
 use Rattle.expr_parts.specs.Parts.{Given, bound_with}
 use Rattle.expr_grammar.specs.declared.role.Role.{Role}
@@ -26,9 +26,9 @@ use Rattle.expr_frames.specs.declared.frame.Place.TheVariants as place
 use Rattle.expr_grammar.specs.Grammar.{Word, Usual, Kept, Constant, Key, WordKey, QuotedKey, EntryRow, Tree, Name, Paren, Map, Member, Index, Slice, Row, NoEntries, SomeEntries, SomeItems, SomeArguments, ArgumentRow, Argument, Expression, MemberAlone, Braces, Bound, LeftOut, At, Else, ElseIf, TreeProgram, Program, NoLines, key_token}
 use Rattle.expr_grammar.specs.Machine as tree
 use Rattle.expr_grammar.specs.Machine.{role, role_level, word_at, key_at, constant_at, push, push_argument, push_entry, items_end, arguments_end, entries_end, Shape, InArray, InMethod, shape_tree, InCall, InPipe, caller_tree, Chain, NoBranch, Branch, chosen, Part, Top, ThenPart, LastPart, Predicate, tree_of}
-use Rattle.expr_frames.specs.Kept.{word_text, key_text, constant_value, entry_row_pairs, entries_pairs, none_given, given_more, call_given, term_of, items_terms, row_terms, arguments_given, argument_row_given, with_argument, bound_term, else_block, program_of, line_terms, kept}
+use Rattle.expr_frames.specs.Kept.{word_text, key_text, constant_value, entry_row_pairs, entries_pairs, term_of, items_terms, row_terms, argument_terms, argument_row_terms, last_predicate, last_predicate_in_row, bound_term, else_block, program_of, line_terms, kept}
 use Rattle.expr_frames.specs.Nodes as node
-use Rattle.expr_frames.specs.Nodes.{nest}
+use Rattle.expr_frames.specs.Nodes.{nest, none_given, given_more, given_program, call_given}
 use Rattle.expr_frames.proofs.Chains.{nest_more}
 use Rattle.expr_grammar.proofs.Complete.{stays}
 use Rattle.expr_grammar.proofs.Measures.{tight}
@@ -48,7 +48,21 @@ items_given (Some r) = record { terms = row_terms r; program = none_given.progra
 
 abbrev row_given : Option ArgumentRow → Given
 row_given None = none_given
-row_given (Some r) = argument_row_given r
+row_given (Some r) = record { terms = argument_row_terms r; program = last_predicate_in_row r }
+
+abbrev arguments_given : Rattle.expr_grammar.specs.Grammar.Arguments → Given
+arguments_given xs = record { terms = argument_terms xs; program = last_predicate xs }
+
+-- what is left of an argument that isn't an expression
+abbrev argument_program : Argument → Block
+argument_program (Expression t) = answers (term_of t)
+argument_program (MemberAlone w) = answers (Rattle.expr_tree.specs.Term.name (word_text w))
+argument_program (Braces p) = program_of p
+
+-- the arguments with one more
+abbrev with_argument : Argument → Given → Given
+with_argument (Expression t) g = given_more g (term_of t)
+with_argument a g = given_program g (argument_program a)
 
 abbrev pairs : Option EntryRow → List (List ℕ × Value)
 pairs None = []
@@ -91,12 +105,6 @@ head (Name w) = operand.Name w
 head (Member l false w) = operand.Member (term_of l) (word_text w)
 head t = operand.Whole (term_of t)
 
--- what is left of an argument that isn't an expression
-abbrev argument_program : Argument → Block
-argument_program (Expression t) = answers (term_of t)
-argument_program (MemberAlone w) = answers (Rattle.expr_tree.specs.Term.name (word_text w))
-argument_program (Braces p) = program_of p
-
 abbrev pub state : tree.State → node.State
 state (tree.Want k) = node.On (frames k) place.Want
 state (tree.Have k l) = node.On (frames k) (place.Have (head l))
@@ -132,8 +140,12 @@ more_items None l = refl
 more_items (Some r) l = refl
 
 more_arguments : (r : Option ArgumentRow) (a : Argument) → with_argument a (row_given r) ≡ row_given (Some (push_argument r a))
-more_arguments None a = refl
-more_arguments (Some r) a = refl
+more_arguments None (Expression t) = refl
+more_arguments None (MemberAlone w) = refl
+more_arguments None (Braces p) = refl
+more_arguments (Some r) (Expression t) = refl
+more_arguments (Some r) (MemberAlone w) = ap (λ ts. record { terms = ts; program = predicate (argument_program (MemberAlone w)) }) (sym (append-nil (argument_row_terms r)))
+more_arguments (Some r) (Braces p) = ap (λ ts. record { terms = ts; program = predicate (argument_program (Braces p)) }) (sym (append-nil (argument_row_terms r)))
 
 end_items : (r : Option Row) → (items_given r).terms ≡ items_terms (items_end r)
 end_items None = refl

@@ -7,10 +7,9 @@ use Rattle.expr_token.specs.Spellings.{reserved_text}
 use Rattle.expr_tree.specs.declared.operator.UnaryOperator.{UnaryOperator}
 use Rattle.expr_tree.specs.declared.operator.UnaryOperator.TheVariants as prefixed
 use Rattle.expr_tree.specs.declared.operator.Operator.TheVariants as operator
-use Rattle.expr_tree.specs.Term.{Term, name, literal, list, range, unary, operation, postfix, choice, index, slice, coalesce, pipe, ternary, method, Bound as BoundTerm, unbounded, bound, no_predicate, predicate, Block, answers, LineTerms, block_with}
+use Rattle.expr_tree.specs.Term.{Term, name, literal, list, range, unary, operation, postfix, choice, index, slice, coalesce, pipe, ternary, method, Bound as BoundTerm, unbounded, bound, Predicate, no_predicate, predicate, Block, answers, LineTerms, block_with}
 use Rattle.expr_tree.specs.Written.{terms_of}
 use Rattle.expr_parts.specs.Promotion.{call_of}
-use Rattle.expr_parts.specs.Parts.{Given}
 use Rattle.expr_grammar.specs.declared.sign.PrefixSign.{PrefixSign}
 use Rattle.expr_grammar.specs.declared.sign.PrefixSign.TheVariants as prefix
 use Rattle.expr_grammar.specs.declared.sign.InfixSign.{InfixSign}
@@ -94,18 +93,10 @@ joined meaning.Default l r = postfix (coalesce r) l
 abbrev pub member_term : Term → Bool → List ℕ → Term
 member_term l optional w = postfix (index (literal (value.String w)) optional) l
 
--- arguments so far: an expression is one more, a predicate takes the place of the one before
-abbrev pub none_given : Given
-none_given = record { terms = []; program = no_predicate }
-
-abbrev pub given_more : Given → Term → Given
-given_more g t = record { terms = g.terms ++ t ∷ []; program = g.program }
-
-abbrev pub given_program : Given → Block → Given
-given_program g b = record { terms = g.terms; program = predicate b }
-
-abbrev pub call_given : List ℕ → Given → Term
-call_given w g = call_of w g.terms g.program
+-- the predicate of an argument, else the one before it
+abbrev pub else_before : Predicate → Predicate → Predicate
+else_before no_predicate before = before
+else_before (predicate b) before = predicate b
 
 abbrev mutual
   pub term_of : Tree → Term
@@ -115,7 +106,7 @@ abbrev mutual
   term_of (Paren t) = term_of t
   term_of (Array xs) = list (terms_of (items_terms xs))
   term_of (Map es) = literal (value.Map (entries_pairs es))
-  term_of (Call w xs) = call_given w (arguments_given xs)
+  term_of (Call w xs) = call_of w (argument_terms xs) (last_predicate xs)
   term_of (If c a e) = choice (term_of c) (program_of a) (else_block e)
   term_of (Prefix o t) = unary (prefix_operator o) (term_of t)
   term_of (Infix o l r) = joined (infix_meaning o) (term_of l) (term_of r)
@@ -123,7 +114,7 @@ abbrev mutual
   term_of (Method l w xs) = postfix (method (word_text w) (terms_of (items_terms xs))) (term_of l)
   term_of (Index l optional i) = postfix (index (term_of i) optional) (term_of l)
   term_of (Slice l a b) = postfix (slice (bound_term a) (bound_term b)) (term_of l)
-  term_of (Pipe l w xs) = postfix (pipe (call_given w (arguments_given xs))) (term_of l)
+  term_of (Pipe l w xs) = postfix (pipe (call_of w (argument_terms xs) (last_predicate xs))) (term_of l)
   term_of (Ternary c a b) = postfix (ternary (term_of a) (term_of b)) (term_of c)
 
   pub items_terms : Items → List Term
@@ -134,18 +125,33 @@ abbrev mutual
   row_terms (One t) = term_of t ∷ []
   row_terms (More r t) = row_terms r ++ term_of t ∷ []
 
-  pub arguments_given : Arguments → Given
-  arguments_given NoArguments = none_given
-  arguments_given (SomeArguments r comma) = argument_row_given r
+  -- the expressions among a call's arguments, in order
+  pub argument_terms : Arguments → List Term
+  argument_terms NoArguments = []
+  argument_terms (SomeArguments r comma) = argument_row_terms r
 
-  pub argument_row_given : ArgumentRow → Given
-  argument_row_given (OneArgument a) = with_argument a none_given
-  argument_row_given (MoreArguments r a) = with_argument a (argument_row_given r)
+  pub argument_row_terms : ArgumentRow → List Term
+  argument_row_terms (OneArgument a) = expression_terms a
+  argument_row_terms (MoreArguments r a) = argument_row_terms r ++ expression_terms a
 
-  pub with_argument : Argument → Given → Given
-  with_argument (Expression t) g = given_more g (term_of t)
-  with_argument (MemberAlone w) g = given_program g (answers (name (word_text w)))
-  with_argument (Braces p) g = given_program g (program_of p)
+  pub expression_terms : Argument → List Term
+  expression_terms (Expression t) = term_of t ∷ []
+  expression_terms (MemberAlone w) = []
+  expression_terms (Braces p) = []
+
+  -- the last predicate among a call's arguments, if there is one
+  pub last_predicate : Arguments → Predicate
+  last_predicate NoArguments = no_predicate
+  last_predicate (SomeArguments r comma) = last_predicate_in_row r
+
+  pub last_predicate_in_row : ArgumentRow → Predicate
+  last_predicate_in_row (OneArgument a) = argument_predicate a
+  last_predicate_in_row (MoreArguments r a) = else_before (argument_predicate a) (last_predicate_in_row r)
+
+  pub argument_predicate : Argument → Predicate
+  argument_predicate (Expression t) = no_predicate
+  argument_predicate (MemberAlone w) = predicate (answers (name (word_text w)))
+  argument_predicate (Braces p) = predicate (program_of p)
 
   pub bound_term : Bound → BoundTerm
   bound_term LeftOut = unbounded

@@ -10,9 +10,10 @@ use Rattle.expr_token.specs.declared.sign.Sign.TheVariants as sign
 use Rattle.expr_token.specs.declared.reserved.Reserved.{Reserved}
 use Rattle.expr_token.specs.declared.reserved.Reserved.TheVariants as reserved
 use Rattle.expr_token.specs.Spellings.{reserved_text}
-use Rattle.expr_tree.specs.Term.{Term, name, literal, list, unary, postfix, choice, index, slice, pipe, ternary, method, bound, unbounded, Block, answers, block_with}
+use Rattle.expr_tree.specs.Term.{Term, name, literal, list, unary, postfix, choice, index, slice, pipe, ternary, method, bound, unbounded, no_predicate, predicate, Block, answers, block_with}
 use Rattle.expr_tree.specs.Written.{terms_of}
 use Rattle.expr_parts.specs.Parts.{Given, bound_with}
+use Rattle.expr_parts.specs.Promotion.{call_of}
 use Rattle.expr_grammar.specs.declared.sign.PrefixSign.TheVariants as prefix
 use Rattle.expr_grammar.specs.declared.sign.InfixSign.TheVariants as infixed
 use Rattle.expr_grammar.specs.declared.role.Role.{Role}
@@ -35,7 +36,7 @@ use Rattle.expr_frames.specs.declared.frame.Place.{Place}
 use Rattle.expr_frames.specs.declared.frame.Place.TheVariants as place
 use Rattle.expr_grammar.specs.Grammar.{prefix_level}
 use Rattle.expr_grammar.specs.Machine.{infix_reach, role, role_level}
-use Rattle.expr_frames.specs.Kept.{integer_value, prefix_operator, infix_meaning, joined, member_term, none_given, given_more, given_program, call_given}
+use Rattle.expr_frames.specs.Kept.{integer_value, prefix_operator, infix_meaning, joined, member_term}
 
 -- what a token is where an operand is wanted
 abbrev pub sign_start : Sign → Start
@@ -161,6 +162,19 @@ at_dot t s r = r
 abbrev pub at_square_open : Token → State → State → State
 at_square_open (token.Sign sign.SquareOpen) s r = s
 at_square_open t s r = r
+
+-- arguments so far: an expression is one more, a predicate takes the place of the one before
+abbrev pub none_given : Given
+none_given = record { terms = []; program = no_predicate }
+
+abbrev pub given_more : Given → Term → Given
+given_more g t = record { terms = g.terms ++ t ∷ []; program = g.program }
+
+abbrev pub given_program : Given → Block → Given
+given_program g b = record { terms = g.terms; program = predicate b }
+
+abbrev pub call_given : List ℕ → Given → Term
+call_given w g = call_of w g.terms g.program
 
 -- a list at a token that isn't a comma
 abbrev pub list_end : Holder → Token → Given → List Frame → State

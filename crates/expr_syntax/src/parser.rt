@@ -10,7 +10,7 @@ ghost use Rattle.expr_frames.specs.declared.frame.Operand.TheVariants as operand
 ghost use Rattle.expr_value.specs.declared.value.Value.TheVariants as value;
 ghost use Rattle.expr_grammar.specs.Machine.{role as role_of, role_level};
 ghost use Rattle.expr_grammar.specs.Grammar.{TreeProgram, Spells, Fits};
-ghost use Rattle.expr_frames.specs.Kept.{given_more, given_program};
+ghost use Rattle.expr_frames.specs.Nodes.{given_more, given_program};
 ghost use Rattle.expr_frames.specs.Nodes as machine;
 ghost use Rattle.expr_frames.specs.Faults.{Gives};
 ghost use Rattle.expr_syntax.specs.Reading.{stack, IsBodyOnTop, IsCallOnTop, Stands, PopsAbove, IsParse, IsAnswer, IsLiteralFault, IsAtFault};
