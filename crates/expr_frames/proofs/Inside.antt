@@ -1,11 +1,11 @@
 -- Brackets round expressions inside a program leave what it is kept as.
 use Rattle.std.proofs.Common.{◌≡◌, ℕ, List, [], ◌∷◌, ◌++◌, inl, inr, ◌⊎◌, refl, ap}
-use Rattle.expr_tree.specs.Term.{list, unary, postfix, choice, index, slice, pipe, ternary, method, bound, answers, block_with}
+use Rattle.expr_tree.specs.Term.{list, unary, postfix, choice, index, slice, pipe, ternary, method, bound, predicate, answers, block_with}
 use Rattle.expr_tree.specs.Written.{terms_of}
-use Rattle.expr_parts.specs.Parts.{Given}
+use Rattle.expr_parts.specs.Promotion.{call_of}
 use Rattle.expr_grammar.specs.Brackets.{tree_with, items_with, row_with, arguments_with, argument_row_with, argument_with, bound_with, else_with, program_with, lines_with, SomeInBrackets}
 use Rattle.expr_grammar.specs.Grammar.{Tree, Literal, Name, HashName, Paren, Array, Map, Call, If, Prefix, Infix, Member, Method, Index, Slice, Pipe, Ternary, Items, NoItems, SomeItems, Row, One, More, Arguments, NoArguments, SomeArguments, ArgumentRow, OneArgument, MoreArguments, Argument, Expression, MemberAlone, Braces, Bound, LeftOut, At, ElsePart, Else, ElseIf, TreeProgram, Program, Lines, NoLines, MoreLines}
-use Rattle.expr_frames.specs.Kept.{term_of, items_terms, row_terms, arguments_given, argument_row_given, with_argument, bound_term, else_block, program_of, line_terms, word_text, prefix_operator, infix_meaning, joined, member_term, none_given, given_more, given_program, call_given}
+use Rattle.expr_frames.specs.Kept.{term_of, items_terms, row_terms, argument_terms, argument_row_terms, expression_terms, last_predicate, last_predicate_in_row, argument_predicate, else_before, bound_term, else_block, program_of, line_terms, word_text, prefix_operator, infix_meaning, joined, member_term}
 
 module _ (at bracketed : List ℕ → Tree) (some : SomeInBrackets at bracketed) where
   same_name : (w : List ℕ) → term_of (bracketed w) ≡ term_of (at w)
@@ -23,7 +23,7 @@ module _ (at bracketed : List ℕ → Tree) (some : SomeInBrackets at bracketed)
     same_tree (Paren t) = same_tree t
     same_tree (Array xs) = λ i. list (terms_of (same_items xs i))
     same_tree (Map es) = refl
-    same_tree (Call w xs) = λ i. call_given w (same_arguments xs i)
+    same_tree (Call w xs) = λ i. call_of w (same_terms xs i) (same_predicate xs i)
     same_tree (If c a e) = λ i. choice (same_tree c i) (same_program a i) (same_else e i)
     same_tree (Prefix o t) = λ i. unary (prefix_operator o) (same_tree t i)
     same_tree (Infix o l r) = λ i. joined (infix_meaning o) (same_tree l i) (same_tree r i)
@@ -31,7 +31,7 @@ module _ (at bracketed : List ℕ → Tree) (some : SomeInBrackets at bracketed)
     same_tree (Method l w xs) = λ i. postfix (method (word_text w) (terms_of (same_items xs i))) (same_tree l i)
     same_tree (Index l optional x) = λ i. postfix (index (same_tree x i) optional) (same_tree l i)
     same_tree (Slice l a b) = λ i. postfix (slice (same_bound a i) (same_bound b i)) (same_tree l i)
-    same_tree (Pipe l w xs) = λ i. postfix (pipe (call_given w (same_arguments xs i))) (same_tree l i)
+    same_tree (Pipe l w xs) = λ i. postfix (pipe (call_of w (same_terms xs i) (same_predicate xs i))) (same_tree l i)
     same_tree (Ternary c a b) = λ i. postfix (ternary (same_tree a i) (same_tree b i)) (same_tree c i)
 
     same_items : (xs : Items) → items_terms (items_with bracketed xs) ≡ items_terms (items_with at xs)
@@ -42,18 +42,31 @@ module _ (at bracketed : List ℕ → Tree) (some : SomeInBrackets at bracketed)
     same_row (One t) = λ i. same_tree t i ∷ []
     same_row (More r t) = λ i. same_row r i ++ same_tree t i ∷ []
 
-    same_arguments : (xs : Arguments) → arguments_given (arguments_with bracketed xs) ≡ arguments_given (arguments_with at xs)
-    same_arguments NoArguments = refl
-    same_arguments (SomeArguments r comma) = same_argument_row r
+    same_terms : (xs : Arguments) → argument_terms (arguments_with bracketed xs) ≡ argument_terms (arguments_with at xs)
+    same_terms NoArguments = refl
+    same_terms (SomeArguments r comma) = same_row_terms r
 
-    same_argument_row : (r : ArgumentRow) → argument_row_given (argument_row_with bracketed r) ≡ argument_row_given (argument_row_with at r)
-    same_argument_row (OneArgument a) = same_argument a none_given none_given refl
-    same_argument_row (MoreArguments r a) = same_argument a (argument_row_given (argument_row_with bracketed r)) (argument_row_given (argument_row_with at r)) (same_argument_row r)
+    same_row_terms : (r : ArgumentRow) → argument_row_terms (argument_row_with bracketed r) ≡ argument_row_terms (argument_row_with at r)
+    same_row_terms (OneArgument a) = same_expression a
+    same_row_terms (MoreArguments r a) = λ i. same_row_terms r i ++ same_expression a i
 
-    same_argument : (a : Argument) (g h : Given) → g ≡ h → with_argument (argument_with bracketed a) g ≡ with_argument (argument_with at a) h
-    same_argument (Expression t) g h e = λ i. given_more (e i) (same_tree t i)
-    same_argument (MemberAlone w) g h e = ap (with_argument (MemberAlone w)) e
-    same_argument (Braces p) g h e = λ i. given_program (e i) (same_program p i)
+    same_expression : (a : Argument) → expression_terms (argument_with bracketed a) ≡ expression_terms (argument_with at a)
+    same_expression (Expression t) = λ i. same_tree t i ∷ []
+    same_expression (MemberAlone w) = refl
+    same_expression (Braces p) = refl
+
+    same_predicate : (xs : Arguments) → last_predicate (arguments_with bracketed xs) ≡ last_predicate (arguments_with at xs)
+    same_predicate NoArguments = refl
+    same_predicate (SomeArguments r comma) = same_row_predicate r
+
+    same_row_predicate : (r : ArgumentRow) → last_predicate_in_row (argument_row_with bracketed r) ≡ last_predicate_in_row (argument_row_with at r)
+    same_row_predicate (OneArgument a) = same_argument a
+    same_row_predicate (MoreArguments r a) = λ i. else_before (same_argument a i) (same_row_predicate r i)
+
+    same_argument : (a : Argument) → argument_predicate (argument_with bracketed a) ≡ argument_predicate (argument_with at a)
+    same_argument (Expression t) = refl
+    same_argument (MemberAlone w) = refl
+    same_argument (Braces p) = λ i. predicate (same_program p i)
 
     same_bound : (b : Bound) → bound_term (bound_with bracketed b) ≡ bound_term (bound_with at b)
     same_bound LeftOut = refl
