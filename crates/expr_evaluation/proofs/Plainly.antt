@@ -1,11 +1,12 @@
 -- What plain nodes answer is plain, and how it follows from what their parts answer.
-use Rattle.std.proofs.Common.{◌≡◌, Bool, true, ◌&&◌, IsTrue, Option, Ok, refl, subst, rules, Global, false, ap, ◌∙◌, String, string_bytes, map, Vec}
+use Rattle.std.proofs.Common.{◌≡◌, Bool, true, ◌&&◌, IsTrue, Option, Ok, refl, subst, rules, Global, false, ap, ◌∙◌, String, string_bytes, map, Vec, List, [], ◌∷◌}
+use Rattle.expr_tree.proofs.Programs.{written-parts}
 use Rattle.expr_tree.proofs.Shapes.{written-Ident, written-Array, written-Range, written-Func, written-Postfix, written-Conditional}
 use Rattle.expr_tree.specs.declared.node.PostfixOperator.{PostfixOperator}
 use Rattle.expr_tree.specs.declared.node.Program.{Program}
-use Rattle.expr_tree.specs.Term.{Term, name, literal, list, range, call, unary, operation, postfix, choice}
+use Rattle.expr_tree.specs.Term.{Term, name, literal, list, range, call, unary, operation, postfix, choice, block_with, Block, answers, line}
 use Rattle.expr_tree.specs.declared.operator.Operator.{Operator}
-use Rattle.expr_tree.specs.Written.{written, postfix_written, program_written, predicate_written, terms_of}
+use Rattle.expr_tree.specs.Written.{written, line_written, postfix_written, program_written, predicate_written, terms_of}
 use Rattle.expr_tree.specs.declared.node.Node as node
 use Rattle.expr_tree.specs.declared.node.Node.{Node, the_lemmas as node_lemmas}
 use Rattle.expr_tree.specs.declared.node.Pattern.{Pattern as Kept}
@@ -13,7 +14,7 @@ use Rattle.std.specs.declared.boxed.Box.{Box}
 use Rattle.expr_value.specs.declared.value.Value as value
 use Rattle.expr_value.specs.declared.value.Value.{Value, out-Value}
 use Rattle.expr_value.specs.declared.value.Value.TheOpen.{Value-F}
-use Rattle.expr_evaluation.specs.Allows.{Allows, AndThenLayer, ContinuedAs, OrElseLayer, Continued}
+use Rattle.expr_evaluation.specs.Allows.{Allows, AllowsBlock, AndThenLayer, ContinuedAs, OrElseLayer, Continued}
 use Rattle.expr_operators.proofs.Plainly.{plain-Bool, plain-at, applied-plain, prefixed-plain, bool-plain}
 use Rattle.expr_value.specs.Answers.{Answer, After}
 use Rattle.expr_evaluation.specs.Context.{Context}
@@ -23,7 +24,7 @@ use Rattle.expr_operators.specs.Operators.{Matched, applied, truth, prefixed}
 use Rattle.expr_operators.specs.declared.asking.Asking.{Asking}
 use Rattle.expr_operators.specs.declared.asking.Asking.TheVariants.{Both, EndsAtFalse, EndsAtTrue, Pattern}
 use Rattle.expr_value.proofs.Answered.{first_of-After}
-use Rattle.expr_evaluation.specs.Plain.{is_plain}
+use Rattle.expr_evaluation.specs.Plain.{is_plain, is_plain_program}
 use Rattle.expr_operators.specs.Plain.{is_plain_operator, is_plain_value}
 
 pub written-Operation : (op : Operator) (l r : Box Node Global) (k : Option Kept) → written (node.Operation op l r k) ≡ operation op (written l.value) (written r.value)
@@ -105,3 +106,15 @@ Postfix-plain {o = o} {m = m} n e p = not-plain (written n) (postfix (postfix_wr
 
 pub Conditional-plain : {A : Type 0} (q : Box Node Global) (a b : Box Program Global) (n : Node) → n ≡ node.Conditional q a b → IsTrue (is_plain (written n)) → A
 Conditional-plain q a b n e p = not-plain (written n) (choice (written q.value) (program_written a.value) (program_written b.value)) (ap written e ∙ written-Conditional q a b) refl p
+
+-- a plain program has no lines
+none-before : (ls : List (String Global × Node)) (t : Term) → IsTrue (is_plain_program (block_with (map line_written ls) t)) → ls ≡ []
+none-before [] t p = refl
+none-before (l ∷ ls) t p = cc
+
+pub no-lines : (p : Program) → IsTrue (is_plain_program (program_written p)) → p.lines.items ≡ []
+no-lines p plain = none-before p.lines.items (written p.expr) (subst (λ b. IsTrue (is_plain_program b)) (written-parts p) plain)
+
+pub AllowsBlock-plain : (host : Host) (base : Context) (b : Block) (v : Value) → IsTrue (is_plain_program b) → AllowsBlock host base b (Ok v) → IsTrue (is_plain_value v)
+AllowsBlock-plain host base (answers t) v p h = Allows-plain host base t v p h
+AllowsBlock-plain host base (line key t b) v p h = cc

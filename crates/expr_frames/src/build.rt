@@ -105,7 +105,9 @@ impl Reaching {
         match self {
             Reaching::Under(sign) => Part::unary(alloc, operator(sign), last),
             Reaching::After(left, sign) => join(alloc, sign, left, last),
-            Reaching::Otherwise(condition, then) => Part::ternary(alloc, condition, then, last),
+            Reaching::Otherwise(condition, then) => {
+                Part::ternary(alloc, condition.into_inner(), then, last)
+            }
         }
     }
 }
@@ -186,7 +188,7 @@ impl Caller {
             Caller::Function(name) => arguments.call(name.into_string()),
             Caller::Pipe(left, name) => {
                 let call = arguments.call(name.into_string())?;
-                Part::pipe(alloc, left, call)
+                Part::pipe(alloc, left.into_inner(), call)
             }
         }
     }

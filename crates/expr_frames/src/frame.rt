@@ -1,10 +1,11 @@
-//! What the parser keeps of what it has read.
+//! What the parser keeps of what it has read. Frames and places are moved at each token, so what only waits in one
+//! stands in a box.
 
 use expr_grammar::sign::{InfixSign, PrefixSign};
 use expr_parts::{Arguments, Lines, Part, ProgramPart};
 use expr_token::Token;
 use expr_tree::operator::Operator;
-use expr_value::{Items, Text, Value, ValueMap};
+use expr_value::{Boxed, Items, Text, Value, ValueMap};
 
 /// The branches of a choice before its last one.
 pub type Chain = Items<(Part, ProgramPart)>;
@@ -13,22 +14,22 @@ pub type Chain = Items<(Part, ProgramPart)>;
 #[derive(Drop)]
 pub enum Holder {
     Array,
-    Method(Part, Text),
+    Method(Boxed<Part>, Text),
 }
 
 /// What arguments are for.
 #[derive(Drop)]
 pub enum Caller {
     Function(Text),
-    Pipe(Part, Text),
+    Pipe(Boxed<Part>, Text),
 }
 
 /// What a program between braces is for.
 #[derive(Drop)]
 pub enum Section {
     Top,
-    Then(Chain, Part),
-    Last(Chain, Part, ProgramPart),
+    Then(Chain, Boxed<Part>),
+    Last(Chain, Boxed<Part>, Boxed<ProgramPart>),
     Predicate,
 }
 
@@ -37,7 +38,7 @@ pub enum Section {
 pub enum Reaching {
     Under(PrefixSign),
     After(Part, InfixSign),
-    Otherwise(Part, Part),
+    Otherwise(Boxed<Part>, Part),
 }
 
 /// What is open to the left of the reading point.
@@ -49,7 +50,7 @@ pub enum Frame {
     List(Holder, Arguments),
     Call(Caller, Arguments),
     Index(Part, bool),
-    Cut(Part, Option<Part>),
+    Cut(Boxed<Part>, Option<Part>),
     Condition(Chain),
     Body(Section, Lines),
     Value(Text),
@@ -73,8 +74,8 @@ pub enum Place {
     Negated(Part),
     Barred(Part),
     Piped(Part, Text),
-    Chosen(Chain, Part, ProgramPart),
-    Alternate(Chain, Part, ProgramPart),
+    Chosen(Chain, Boxed<Part>, Boxed<ProgramPart>),
+    Alternate(Chain, Boxed<Part>, Boxed<ProgramPart>),
     NamesLine,
     Named(Text),
     Argued(ProgramPart),

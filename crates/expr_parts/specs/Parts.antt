@@ -2,7 +2,7 @@
 use Rattle.std.specs.Prelude.{List, Option, Some, None, refl}
 use Rattle.std.specs.Coded.{Coded, code_by, coded×, coded_ℕ, coded_list}
 use Rattle.expr_tree.specs.Codes.{term_code, predicate_code}
-use Rattle.expr_tree.specs.Term.{Term, Bound, unbounded, bound, Predicate, no_predicate, predicate, Block, LineTerms}
+use Rattle.expr_tree.specs.Term.{Term, Bound, unbounded, bound, Predicate, LineTerms}
 
 -- the arguments of a call, and the program that was last given in braces
 pub record Given : Type 0 where
@@ -19,8 +19,3 @@ lines_code = coded_list (coded× (coded_list coded_ℕ) term_code)
 abbrev pub bound_with : Option Term → Bound
 bound_with None = unbounded
 bound_with (Some t) = bound t
-
--- the program that a call is given, if it is given one
-abbrev pub predicate_with : Option Block → Predicate
-predicate_with None = no_predicate
-predicate_with (Some b) = predicate b

@@ -15,7 +15,7 @@ use std::marker::Model;
 pub struct Arguments {
     nodes: Vec<Node>,
     marks: Marks,
-    program: Option<ProgramPart>,
+    program: Option<Box<Program>>,
 }
 
 // Written out so that letting go of one is a single step in the proofs above.
@@ -31,15 +31,15 @@ impl Drop for Arguments {
 
 impl Model for Arguments {
     ghost use Rattle.std.specs.Prelude.{◌≡◌, map};
-    ghost use Rattle.expr_tree.specs.Written.{written};
-    ghost use Rattle.expr_parts.specs.Parts.{Given, given_code, predicate_with};
+    ghost use Rattle.expr_tree.specs.Written.{predicate_written, written};
+    ghost use Rattle.expr_parts.specs.Parts.{Given, given_code};
     ghost use Rattle.expr_parts.specs.Places.{marks_of};
 
     ghost Value = { Given };
 
     ghost coded = { given_code };
 
-    ghost view = { λ a. record { terms = map written a.nodes.items; program = predicate_with a.program } };
+    ghost view = { λ a. record { terms = map written a.nodes.items; program = predicate_written a.program } };
 
     ghost invariant = { λ a. a.marks ≡ marks_of (map written a.nodes.items) };
 }
@@ -69,10 +69,13 @@ impl Arguments {
     }
 
     /// Gives the call a program, in place of one given before.
-    pub fn give(&mut self, program: ProgramPart)
-        ensures { self.new ≡ record self.old { program = predicate program } }
+    pub fn give(&mut self, program: ProgramPart) -> Result<(), AllocError>
+        ensures ok { OnOk result (self.new ≡ record self.old { program = predicate program }) }
+        ensures err { OnErr result (self.new ≡ self.old) }
     {
-        self.program = Some(program);
+        let alloc = *self.nodes.allocator();
+        self.program = Some(Box::new(alloc, program.into_program())?);
+        Ok(())
     }
 
     // Whether a hash name is free in one of them.
@@ -114,7 +117,7 @@ impl Arguments {
             program,
         } = self;
         if let Some(program) = program {
-            return call_with(ident, nodes, marks.free > 0, program.into_program());
+            return Ok(call_with(ident, nodes, marks.free > 0, program));
         }
         match marks.promoted_place(ident.as_str(), nodes.len()) {
             None => Ok(Part {
@@ -126,31 +129,27 @@ impl Arguments {
                 has_free_hash: marks.free > 0,
             }),
             Some(place) => {
+                let alloc = *nodes.allocator();
                 let expr = nodes.remove(place);
-                let lines = Vec::new(*nodes.allocator());
-                call_with(ident, nodes, marks.free > 1, Program { lines, expr })
+                let lines = Vec::new(alloc);
+                let program = Box::new(alloc, Program { lines, expr })?;
+                Ok(call_with(ident, nodes, marks.free > 1, program))
             }
         }
     }
 }
 
 // The call with these arguments and this program.
-fn call_with(
-    ident: String,
-    args: Vec<Node>,
-    has_free_hash: bool,
-    program: Program,
-) -> Result<Part, AllocError>
+fn call_with(ident: String, args: Vec<Node>, has_free_hash: bool, program: Box<Program>) -> Part
     requires { has_free_hash ≡ any_free_hash (terms_of (map written args.items)) }
-    ensures { IfOk result (λ p. p ≡ call (string_bytes ident) (terms_of (map written args.items)) (predicate (program_written program))) }
+    ensures { result ≡ call (string_bytes ident) (terms_of (map written args.items)) (predicate (program_written program.value)) }
 {
-    let predicate = Some(Box::new(*args.allocator(), program)?);
-    Ok(Part {
+    Part {
         node: Node::Func {
             ident,
             args,
-            predicate,
+            predicate: Some(program),
         },
         has_free_hash,
-    })
+    }
 }

@@ -28,7 +28,7 @@ use expr_grammar::sign::InfixSign;
 use expr_parts::{Arguments, Lines, Part, ProgramPart};
 use expr_token::{Reserved, Sign, Token};
 use expr_tree::node::Program;
-use expr_value::{Items, Text, Value, ValueMap};
+use expr_value::{Boxed, Items, Text, Value, ValueMap};
 use std::alloc::{AllocError, Global};
 
 /// Why no program was made.
@@ -42,8 +42,8 @@ pub enum ParseError {
     Memory,
 }
 
-/// How many open frames there is room for at first: a frame is large, and most texts open no more.
-const DEPTH: usize = 3;
+/// How many open frames there is room for at first; most texts open no more.
+const DEPTH: usize = 8;
 
 #[derive(Drop)]
 struct Parser {
@@ -176,9 +176,9 @@ impl Parser {
                 let Token::Sign(Sign::Colon) = token else {
                     return Err(Fault::Syntax);
                 };
-                self.enter(Frame::Cut(left, None))
+                self.enter(Frame::Cut(Boxed::new(self.alloc, left)?, None))
             }
-            Frame::Cut(left, from) => self.slice(left, from, None, token),
+            Frame::Cut(left, from) => self.slice(left.into_inner(), from, None, token),
             _ => Err(Fault::Syntax),
         }
     }
@@ -244,6 +244,7 @@ impl Parser {
         match left {
             Operand::Name(name) => self.enter(Frame::Call(Caller::Function(name), arguments)),
             Operand::Member(left, name) => {
+                let left = Boxed::new(self.alloc, left)?;
                 self.enter(Frame::List(Holder::Method(left, name), arguments))
             }
             Operand::Whole(_) => Err(Fault::Syntax),
@@ -274,17 +275,19 @@ impl Parser {
                 let Token::Sign(Sign::Colon) = token else {
                     return Err(Fault::Syntax);
                 };
+                let condition = Boxed::new(self.alloc, condition)?;
                 self.enter(Frame::Reaching(Reaching::Otherwise(condition, last)))
             }
             Frame::List(holder, items) => self.element(holder, items, last, token),
             Frame::Call(caller, arguments) => self.argument(caller, arguments, last, token),
             Frame::Index(left, optional) => self.index(left, optional, last, token),
-            Frame::Cut(left, from) => self.slice(left, from, Some(last), token),
+            Frame::Cut(left, from) => self.slice(left.into_inner(), from, Some(last), token),
             Frame::Condition(chain) => {
                 let Token::Sign(Sign::BraceOpen) = token else {
                     return Err(Fault::Syntax);
                 };
-                self.enter(Frame::Body(Section::Then(chain, last), Lines::new(self.alloc)))
+                let condition = Boxed::new(self.alloc, last)?;
+                self.enter(Frame::Body(Section::Then(chain, condition), Lines::new(self.alloc)))
             }
             Frame::Body(section, lines) => {
                 let Token::Sign(Sign::BraceClose) = token else {
@@ -333,6 +336,7 @@ impl Parser {
                 let Token::Sign(Sign::ParenClose) = token else {
                     return Err(Fault::Syntax);
                 };
+                let left = left.into_inner();
                 let method = Part::method(self.alloc, left, name.into_string(), items)?;
                 Ok(whole(method))
             }
@@ -385,7 +389,7 @@ impl Parser {
         let Some((caller, arguments)) = self.pop_call() else {
             return Err(Fault::Syntax);
         };
-        self.called(caller, with_program(arguments, program), token)
+        self.called(caller, with_program(arguments, program)?, token)
     }
 
     fn index(
@@ -402,7 +406,10 @@ impl Parser {
                 let part = Part::index(self.alloc, left, index, optional)?;
                 Ok(whole(part))
             }
-            Token::Sign(Sign::Colon) if !optional => self.enter(Frame::Cut(left, Some(index))),
+            Token::Sign(Sign::Colon) if !optional => {
+                let left = Boxed::new(self.alloc, left)?;
+                self.enter(Frame::Cut(left, Some(index)))
+            }
             _ => Err(Fault::Syntax),
         }
     }
@@ -429,8 +436,12 @@ impl Parser {
     {
         match section {
             Section::Top => Err(Fault::Syntax),
-            Section::Then(chain, condition) => Ok(Place::Chosen(chain, condition, body)),
+            Section::Then(chain, condition) => {
+                let then = Boxed::new(self.alloc, body)?;
+                Ok(Place::Chosen(chain, condition, then))
+            }
             Section::Last(chain, condition, then) => {
+                let (condition, then) = (condition.into_inner(), then.into_inner());
                 let choice = nested(self.alloc, chain, condition, then, body)?;
                 Ok(whole(choice))
             }
@@ -513,6 +524,7 @@ impl Parser {
         match token {
             Token::Sign(Sign::ParenOpen) => {
                 let arguments = Arguments::new(self.alloc);
+                let left = Boxed::new(self.alloc, left)?;
                 self.enter(Frame::Call(Caller::Pipe(left, name), arguments))
             }
             _ => Err(Fault::Syntax),
@@ -522,8 +534,8 @@ impl Parser {
     fn otherwise(
         &self,
         chain: Chain,
-        condition: Part,
-        then: ProgramPart,
+        condition: Boxed<Part>,
+        then: Boxed<ProgramPart>,
         token: &Token,
     ) -> Result<Place, Fault>
         ensures { Stands (machine.else_after (stack self.now.frames.items) chain condition then token.now) self.now.frames.items result }
@@ -537,8 +549,8 @@ impl Parser {
     fn alternative(
         &mut self,
         chain: Chain,
-        condition: Part,
-        then: ProgramPart,
+        condition: Boxed<Part>,
+        then: Boxed<ProgramPart>,
         token: &Token,
     ) -> Result<Place, Fault>
         ensures { Stands (machine.alternative (stack self.old.frames.items) chain condition then token.now) self.new.frames.items result }
@@ -549,7 +561,7 @@ impl Parser {
                 self.enter(Frame::Body(Section::Last(chain, condition, then), lines))
             }
             Token::Reserved(Reserved::If) => {
-                let chain = branched(chain, condition, then)?;
+                let chain = branched(chain, condition.into_inner(), then.into_inner())?;
                 self.enter(Frame::Condition(chain))
             }
             _ => Err(Fault::Syntax),
@@ -728,11 +740,11 @@ fn whole(part: Part) -> Place
     Place::Have(Operand::Whole(part))
 }
 
-fn with_program(mut arguments: Arguments, program: ProgramPart) -> Arguments
-    ensures { result ≡ given_program arguments program }
+fn with_program(mut arguments: Arguments, program: ProgramPart) -> Result<Arguments, AllocError>
+    ensures { IfOk result (λ a. a ≡ given_program arguments program) }
 {
-    arguments.give(program);
-    arguments
+    arguments.give(program)?;
+    Ok(arguments)
 }
 
 fn map_literal(map: ValueMap) -> Place

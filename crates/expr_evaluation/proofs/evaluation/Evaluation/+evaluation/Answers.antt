@@ -23,7 +23,7 @@ use Rattle.expr_evaluation.specs.declared.scope.Binding.{Binding}
 use Rattle.expr_evaluation.proofs.Allowed.{prepended, drop-at, loop-step, loop-failed, loop-done, AllowsAll-first, AllowsBlock-line, AllowsMore-all, AllowsMore-rest}
 use Rattle.expr_value.proofs.Answered.{Gives-of-Is, Gives-passed, Gives-under, first_of-After}
 use Rattle.expr_operators.proofs.Plainly.{Surely-at}
-use Rattle.expr_evaluation.proofs.Plainly.{Ident-plain, Array-plain, Range-plain, Func-plain, Postfix-plain, Conditional-plain, Allows-plain, left-true, right-true, written-Operation}
+use Rattle.expr_evaluation.proofs.Plainly.{Ident-plain, Array-plain, Range-plain, Func-plain, Postfix-plain, Conditional-plain, Allows-plain, left-true, no-lines, right-true, written-Operation}
 use Rattle.expr_evaluation.proofs.evaluation.Evaluation.+evaluation.Goals as goal
 
 pub evaluate-returns-in_err-first-in-Operation-clause-plain : goal.evaluate-returns-in_err-first-in-Operation-clause-plain
@@ -382,3 +382,9 @@ pipe-returns g t c =
     λ a q. (Ok found.0, found.1, subst (λ xs. AllowsCall host key xs false AsksItself a) found.2 q)
     ) (subst (λ k. Gives c.call.result (AllowsCall host k vs false AsksItself)) c.deref-2.ensures c.call.ensures)
     )
+
+pub run_within-returns-in_err-answer-clause-plain : goal.run_within-returns-in_err-answer-clause-plain
+run_within-returns-in_err-answer-clause-plain g t c = λ v plain h. let none = no-lines c.args.program.now plain in search rules
+
+pub run_within-returns-clause-plain : goal.run_within-returns-clause-plain
+run_within-returns-clause-plain g t c = λ v plain h. let none = no-lines c.args.program.now plain in search rules
