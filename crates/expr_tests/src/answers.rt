@@ -114,12 +114,21 @@ fn parts_are_called_alone(rt: HostRuntime) -> Tested {
     Ok(())
 }
 
+/// What the program of a text answers in the context of a map.
+fn answered(alloc: Global, code: &str, names: Result<Value>) -> Result<Value> {
+    let program = compile(alloc, code)?;
+    let context = Context::try_from(alloc, names?)?;
+    run(alloc, &program, &context)
+}
+
 // No clause can say that memory is left: a body that is always out of memory is proved.
 #[test]
 fn programs_run(rt: HostRuntime) -> Tested {
-    let program = compile(rt.alloc(), "[1, \"a\" + b]")?;
-    let context = Context::try_from(rt.alloc(), value!(in rt.alloc(); {"b": "c"})?)?;
-    let answer = run(rt.alloc(), &program, &context)?;
-    assert_eq!(rt; answer.to_string(rt.alloc())?.as_str(), "[1, \"ac\"]");
+    let answer = answered(
+        rt.alloc(),
+        "[1, \"a\" + b]",
+        value!(in rt.alloc(); {"b": "c"}),
+    );
+    assert_eq!(rt; printed(rt.alloc(), answer)?.as_str(), "[1, \"ac\"]");
     Ok(())
 }

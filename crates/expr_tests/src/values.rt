@@ -10,18 +10,9 @@ use std::test::Fail;
 
 type Tested = std::result::Result<(), Fail>;
 
-/// The keyed map of an array, in which each key stands before its value.
-fn keyed(alloc: Global, listed: Result<Value>) -> Result<Value> {
-    let listed = listed?;
-    let mut pairs = Vec::new(alloc);
-    if let Some(items) = listed.as_array() {
-        for pair in items.chunks(2) {
-            if let [key, value] = pair {
-                pairs.push((key.clone()?, value.clone()?))?;
-            }
-        }
-    }
-    Ok(Value::from(KeyedMap::from_pairs(alloc, pairs)?))
+/// A keyed map of one key.
+fn keyed(alloc: Global) -> Result<Value> {
+    eval(alloc, "fromPairs([[1, 2]])", &Context::new(alloc))
 }
 
 fn string(alloc: Global, text: &str) -> Result<String> {
@@ -39,30 +30,29 @@ fn named(alloc: Global) -> Result<Vec<(String, Value)>> {
 
 /// Values that no text makes, by name.
 fn made(alloc: Global) -> Result<Context> {
-    let repeated = keyed(alloc, value!(in alloc; [2, "a", "x", 1, 2, "b"]))?;
-    let kinds = keyed(alloc, value!(in alloc; ["1x", 1, 10, 2, 2, 3, nil, 4]))?;
+    let mut context = Context::new(alloc);
+    for (name, nanoseconds) in [("span", -5), ("two", 2), ("three", 3), ("five", 5)] {
+        context.insert(string(alloc, name)?, Value::Duration(nanoseconds))?;
+    }
+    for (name, number) in [("first", 1), ("last", 12), ("none", 13)] {
+        context.insert(string(alloc, name)?, Value::Month(number))?;
+    }
+    context.insert(string(alloc, "no_day")?, Value::Weekday(7))?;
+    with_converted(alloc, context)
+}
+
+/// A context with values that were converted.
+fn with_converted(alloc: Global, mut context: Context) -> Result<Context> {
+    context.insert(string(alloc, "default")?, Value::default())?;
+    context.insert(string(alloc, "largest")?, Value::from(usize::MAX))?;
+    context.insert(string(alloc, "owned")?, Value::from(string(alloc, "x")?))?;
+    let bytes = vec![in alloc; 1_u8, 2]?;
+    context.insert(string(alloc, "bytes")?, Value::from(bytes))?;
     let named = Value::from_pairs(alloc, named(alloc)?)?;
-    Context::try_from(
-        alloc,
-        value!(in alloc; {
-            "default": Value::default(),
-            "largest": usize::MAX,
-            "span": Value::Duration(-5),
-            "two": Value::Duration(2),
-            "three": Value::Duration(3),
-            "five": Value::Duration(5),
-            "first": Value::Month(1),
-            "last": Value::Month(12),
-            "none": Value::Month(13),
-            "no_day": Value::Weekday(7),
-            "repeated": repeated,
-            "kinds": kinds,
-            "named": named,
-            "owned": string(alloc, "x")?,
-            "bytes": vec![in alloc; 1_u8, 2]?,
-            "nested": {"b": [1, "x"], "a": {"c": nil}},
-        })?,
-    )
+    context.insert(string(alloc, "named")?, named)?;
+    let nested = value!(in alloc; {"b": [1, "x"], "a": {"c": nil}})?;
+    context.insert(string(alloc, "nested")?, nested)?;
+    Ok(context)
 }
 
 /// Texts and their answers.
@@ -71,15 +61,10 @@ const ANSWERS: &[(&str, &str)] = &[
     ("largest", "-1"),
     ("span", "-5ns"),
     ("none", "13"),
-    ("repeated", r#"{2: "b", "x": 1}"#),
     ("named", "{b: 3, a: 2}"),
     ("owned", "\"x\""),
     ("bytes", "[1 2]"),
-    ("repeated[2]", r#""b""#),
-    (r#"repeated["x"]"#, "1"),
-    ("repeated[two]", "nil"),
-    ("[repeated] == [{x: 1}]", "false"),
-    ("[repeated] == [repeated]", "true"),
+    ("fromPairs([[2, 1]])[two]", "nil"),
     ("three - five", "-2ns"),
     ("2 * five", "10ns"),
     ("first == 1", "!evaluation"),
@@ -102,8 +87,14 @@ fn string_of(alloc: Global, names: &Context, code: &str) -> Result<(String, bool
 
 /// Texts and the `string` texts of their answers.
 const STRINGS: &[(&str, &str)] = &[
-    ("kinds", "map[<nil>:4 2:3 10:2 1x:1]"),
-    ("nested", "map[a:map[c:<nil>] b:[1 x]]"),
+    (
+        r#"fromPairs([["1x", 1], [10, 2], [2, 3], [nil, 4]])"#,
+        "map[<nil>:4 2:3 10:2 1x:1]",
+    ),
+    (
+        "{b: [1, \"x\"], a: {c: nil}}",
+        "map[a:map[c:<nil>] b:[1 x]]",
+    ),
     ("last", "December"),
     ("no_day", ""),
     (r#"[1, {a: "x"}]"#, "[1 map[a:x]]"),
@@ -160,9 +151,9 @@ fn is_no_context(alloc: Global, value: Result<Value>) -> Result<bool> {
 fn collections_are_refused_as_keys(rt: HostRuntime) -> Tested {
     let alloc = rt.alloc();
     assert!(rt; is_no_key(alloc, value!(in alloc; []))?);
-    assert!(rt; is_no_key(alloc, keyed(alloc, value!(in alloc; [1, 2])))?);
+    assert!(rt; is_no_key(alloc, keyed(alloc))?);
     assert!(rt; is_no_context(alloc, value!(in alloc; 1))?);
-    assert!(rt; is_no_context(alloc, keyed(alloc, value!(in alloc; [1, 2])))?);
+    assert!(rt; is_no_context(alloc, keyed(alloc))?);
     Ok(())
 }
 
@@ -241,18 +232,52 @@ fn keys_and_texts_are_held(rt: HostRuntime) -> Tested {
     Ok(())
 }
 
+/// What a value lends to each of the calls that ask for one kind.
+fn lent(alloc: Global, value: &Value) -> Result<String> {
+    let of_one_word = (value.as_integer(), value.as_bool(), value.as_duration());
+    let of_many = (
+        value.as_string().is_some(),
+        value.as_array().is_some(),
+        value.as_bytes().is_some(),
+    );
+    Ok(format!(in alloc; "{of_one_word:?} {of_many:?} {}", value.is_nil())?)
+}
+
 #[test]
-fn values_lend_what_they_hold(rt: HostRuntime) {
-    assert!(rt;
-        Value::from(7_i32).as_integer() == Some(7) && Value::from(true).as_bool() == Some(true)
+fn values_lend_what_they_hold(rt: HostRuntime) -> Tested {
+    let alloc = rt.alloc();
+    let said = lent(alloc, &Value::from(7_i32))?;
+    assert_eq!(rt;
+        said.as_str(),
+        "(Some(7), None, None) (false, false, false) false"
     );
-    assert!(rt; Value::Duration(7).as_duration() == Some(7) && Value::Nil.is_nil());
-    assert!(rt;
-        Value::Bytes(Items::from_vec(Vec::new(rt.alloc())))
-            .as_bytes()
-            .is_some()
+    let said = lent(alloc, &Value::from(true))?;
+    assert_eq!(rt;
+        said.as_str(),
+        "(None, Some(true), None) (false, false, false) false"
     );
-    assert!(rt; Value::Month(7).as_string().is_none() && Value::Month(7).as_array().is_none());
-    assert!(rt; Key::Nil < Key::Bool(false) && Key::Bool(false) < Key::Bool(true));
-    assert!(rt; Key::Integer(10) > Key::Integer(-10) && Key::Integer(10) < Key::Duration(-10));
+    let said = lent(alloc, &Value::Duration(7))?;
+    assert_eq!(rt;
+        said.as_str(),
+        "(None, None, Some(7)) (false, false, false) false"
+    );
+    let said = lent(alloc, &Value::Nil)?;
+    assert_eq!(rt;
+        said.as_str(),
+        "(None, None, None) (false, false, false) true"
+    );
+    Ok(())
+}
+
+#[test]
+fn keys_are_ordered_by_kind(rt: HostRuntime) {
+    let keys = [
+        Key::Nil,
+        Key::Bool(false),
+        Key::Bool(true),
+        Key::Integer(-10),
+        Key::Integer(10),
+        Key::Duration(-10),
+    ];
+    assert!(rt; keys.is_sorted());
 }
