@@ -91,10 +91,7 @@ const STRINGS: &[(&str, &str)] = &[
         r#"fromPairs([["1x", 1], [10, 2], [2, 3], [nil, 4]])"#,
         "map[<nil>:4 2:3 10:2 1x:1]",
     ),
-    (
-        "{b: [1, \"x\"], a: {c: nil}}",
-        "map[a:map[c:<nil>] b:[1 x]]",
-    ),
+    ("nested", "map[a:map[c:<nil>] b:[1 x]]"),
     ("last", "December"),
     ("no_day", ""),
     (r#"[1, {a: "x"}]"#, "[1 map[a:x]]"),
