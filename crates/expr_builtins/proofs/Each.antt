@@ -1,5 +1,5 @@
 -- Each of some values by its kind, one value more at a time.
-use Rattle.std.proofs.Common.{◌≡◌, ℕ, zero, suc, ◌+◌, ◌<◌, List, [], ◌∷◌, ◌++◌, length, get_or, take, map, Option, Some, None, refl, sym, ap, ◌∙◌, arith, add-one}
+use Rattle.std.proofs.Common.{◌≡◌, ℕ, zero, suc, ◌+◌, ◌<◌, List, [], ◌∷◌, ◌++◌, length, get_or, take, map, Option, Some, None, refl, sym, ap, ◌∙◌, arith, add-one, append_assoc}
 use Rattle.std.specs.Prelude.{slice_get}
 use Rattle.std.specs.Option.{option_and_then, option_map}
 use Rattle.std.proofs.lemmas.List.{append-nil}
@@ -46,14 +46,20 @@ module _ {A : Type 0} (kind : Value → Option A) where
   all_of-refused (u ∷ vs) zero v w e n = ap (λ o. before o (all_of kind vs)) (ap kind (sym e) ∙ n)
   all_of-refused (u ∷ vs) (suc i) v w e n = ap (before (kind u)) (all_of-refused vs i v (omega arith) e n) ∙ none_before (kind u)
 
--- the items of one array more
-row_pushed : (all xs : List Value) (done : Option (List (List Value))) → option_map in_a_row done ≡ Some all → option_map in_a_row (pushed items_of (Some xs) done) ≡ Some (all ++ xs)
-row_pushed all xs None e = absurd (cc)
-row_pushed all xs (Some xss) e = ap Some (flat_map-append (λ (ys : List Value). ys) xss (xs ∷ []) ∙ ap (λ l. in_a_row xss ++ l) (append-nil xs)) ∙ ap (option_map (λ l. l ++ xs)) e
+-- the items of one array more, after those in front
+module _ (front : List Value) where
+  abbrev rows : List (List Value) → List Value
+  rows xss = front ++ in_a_row xss
 
-pub row_next : (vs : List Value) (v : Value) (all xs : List Value) → option_map in_a_row (all_of items_of vs) ≡ Some all → items_of v ≡ Some xs → option_map in_a_row (all_of items_of (vs ++ v ∷ [])) ≡ Some (all ++ xs)
-row_next vs v all xs e is =
-    ap (option_map in_a_row) (all_of-push items_of vs v ∙ ap (λ o. pushed items_of o (all_of items_of vs)) is) ∙ row_pushed all xs (all_of items_of vs) e
+  row_pushed : (all xs : List Value) (done : Option (List (List Value))) → option_map rows done ≡ Some all → option_map rows (pushed items_of (Some xs) done) ≡ Some (all ++ xs)
+  row_pushed all xs None e = absurd (cc)
+  row_pushed all xs (Some xss) e =
+      ap (λ l. Some (front ++ l)) (flat_map-append (λ (ys : List Value). ys) xss (xs ∷ []) ∙ ap (λ l. in_a_row xss ++ l) (append-nil xs))
+      ∙ ap Some (sym (append_assoc front (in_a_row xss) xs)) ∙ ap (option_map (λ l. l ++ xs)) e
+
+  pub row_after : (vs : List Value) (v : Value) (all xs : List Value) → option_map rows (all_of items_of vs) ≡ Some all → items_of v ≡ Some xs → option_map rows (all_of items_of (vs ++ v ∷ [])) ≡ Some (all ++ xs)
+  row_after vs v all xs e is =
+      ap (option_map rows) (all_of-push items_of vs v ∙ ap (λ o. pushed items_of o (all_of items_of vs)) is) ∙ row_pushed all xs (all_of items_of vs) e
 
 -- one item more of a list
 module _ {A B : Type 0} (f : A → B) where

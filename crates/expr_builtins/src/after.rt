@@ -72,11 +72,12 @@ fn closed(alloc: Global, found: Vec<&str>, separator: &str) -> Result<Vec<Value>
     Ok(parts)
 }
 
+// Each piece with the separator after it, and room for two parts more.
 fn all_with(alloc: Global, pieces: &[&str], end: &str) -> Result<Vec<Value>>
     ensures ok { IfOk result (λ parts. parts.items ≡ map (λ p. Value.String (p.now ++ end.now)) pieces.now) }
     ensures err { IfErr result (λ e. e ≡ Error.MemoryError) }
 {
-    let mut parts = Vec::with_capacity(alloc, pieces.len())?;
+    let mut parts = Vec::with_capacity(alloc, pieces.len().saturating_add(2))?;
     for i in 0..pieces.len() {
         parts.push(with_end(alloc, pieces[i], end)?)?;
     }

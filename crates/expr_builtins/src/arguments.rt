@@ -46,15 +46,15 @@ pub(crate) fn two_texts(arguments: &[Value]) -> Option<(&str, &str)>
 pub(crate) fn two_texts_and_limit(arguments: &[Value]) -> Option<(&str, &str, i64)>
     ensures { option_map (λ p. (p.0.now, p.1.now, p.2)) result ≡ two_texts_and_limit arguments.now }
 {
-    match arguments {
-        [first, second] => Some((first.as_string()?, second.as_string()?, -1)),
-        [first, second, limit] => Some((
-            first.as_string()?,
-            second.as_string()?,
-            limit.as_integer()?,
-        )),
-        _ => None,
-    }
+    let [first, second, rest @ ..] = arguments else {
+        return None;
+    };
+    let limit = match rest {
+        [] => -1,
+        [limit] => limit.as_integer()?,
+        _ => return None,
+    };
+    Some((first.as_string()?, second.as_string()?, limit))
 }
 
 // The second text is empty where it isn't given.
@@ -81,21 +81,17 @@ pub(crate) fn text_and_integer(arguments: &[Value]) -> Option<(&str, i64)>
 pub(crate) fn three_texts_and_limit(arguments: &[Value]) -> Option<(&str, &str, &str, i64)>
     ensures { option_map (λ p. ((p.0.now, p.1.now), (p.2.now, p.3))) result ≡ three_texts_and_limit arguments.now }
 {
-    match arguments {
-        [first, second, third] => Some((
-            first.as_string()?,
-            second.as_string()?,
-            third.as_string()?,
-            -1,
-        )),
-        [first, second, third, limit] => Some((
-            first.as_string()?,
-            second.as_string()?,
-            third.as_string()?,
-            limit.as_integer()?,
-        )),
-        _ => None,
-    }
+    let [first, second, third, rest @ ..] = arguments else {
+        return None;
+    };
+    let limit = match rest {
+        [] => -1,
+        [limit] => limit.as_integer()?,
+        _ => return None,
+    };
+    let first = first.as_string()?;
+    let second = second.as_string()?;
+    Some((first, second, third.as_string()?, limit))
 }
 
 pub(crate) fn one_value(arguments: &[Value]) -> Option<&Value>

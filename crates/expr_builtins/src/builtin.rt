@@ -6,6 +6,7 @@ ghost use Rattle.expr_builtins.specs.Calls.{Called, name_of};
 use crate::{bits, collection, convert, distinct, indices, nested, number, text, trimmed};
 use expr_value::{Result, Value};
 use std::alloc::Global;
+use std::mem;
 
 /// A built-in, under the language's own name for it.
 #[derive(Clone, Copy, Debug, PartialEq, Eq)]
@@ -121,54 +122,61 @@ impl Builtin {
     pub fn call(self, alloc: Global, mut arguments: Vec<Value>) -> Result<Value>
         ensures { Gives result (Called self arguments.items) }
     {
+        self.answer(alloc, &mut arguments)
+    }
+
+    // Some move what they answer out of the arguments.
+    fn answer(self, alloc: Global, arguments: &mut Vec<Value>) -> Result<Value>
+        ensures { Gives result (Called self arguments.old.items) }
+    {
         match self {
-            Builtin::Bitand => bits::bitand(alloc, &arguments),
-            Builtin::Bitor => bits::bitor(alloc, &arguments),
-            Builtin::Bitxor => bits::bitxor(alloc, &arguments),
-            Builtin::Bitnand => bits::bitnand(alloc, &arguments),
-            Builtin::Bitnot => bits::bitnot(alloc, &arguments),
-            Builtin::Bitshl => bits::bitshl(alloc, &arguments),
-            Builtin::Bitshr => bits::bitshr(alloc, &arguments),
-            Builtin::Bitushr => bits::bitushr(alloc, &arguments),
-            Builtin::Abs => number::abs(alloc, &arguments),
-            Builtin::Max => number::greatest(alloc, arguments),
-            Builtin::Min => number::least(alloc, arguments),
+            Builtin::Bitand => bits::bitand(alloc, arguments),
+            Builtin::Bitor => bits::bitor(alloc, arguments),
+            Builtin::Bitxor => bits::bitxor(alloc, arguments),
+            Builtin::Bitnand => bits::bitnand(alloc, arguments),
+            Builtin::Bitnot => bits::bitnot(alloc, arguments),
+            Builtin::Bitshl => bits::bitshl(alloc, arguments),
+            Builtin::Bitshr => bits::bitshr(alloc, arguments),
+            Builtin::Bitushr => bits::bitushr(alloc, arguments),
+            Builtin::Abs => number::abs(alloc, arguments),
+            Builtin::Max => number::greatest(alloc, mem::replace(arguments, Vec::new(alloc))),
+            Builtin::Min => number::least(alloc, mem::replace(arguments, Vec::new(alloc))),
             Builtin::Float => number::of_fractions(alloc),
             Builtin::Mean => number::of_fractions(alloc),
             Builtin::Median => number::of_fractions(alloc),
             Builtin::Ceil => number::of_fractions(alloc),
             Builtin::Floor => number::of_fractions(alloc),
             Builtin::Round => number::of_fractions(alloc),
-            Builtin::HasPrefix => text::has_prefix(alloc, &arguments),
-            Builtin::HasSuffix => text::has_suffix(alloc, &arguments),
-            Builtin::Trim => trimmed::trim(alloc, &arguments),
-            Builtin::TrimPrefix => text::trim_prefix(alloc, &arguments),
-            Builtin::TrimSuffix => text::trim_suffix(alloc, &arguments),
-            Builtin::Upper => text::upper(alloc, &arguments),
-            Builtin::Lower => text::lower(alloc, &arguments),
-            Builtin::Split => text::split(alloc, &arguments),
-            Builtin::SplitAfter => text::split_after(alloc, &arguments),
-            Builtin::Replace => text::replace(alloc, &arguments),
-            Builtin::Repeat => text::repeat_text(alloc, &arguments),
-            Builtin::Len => collection::len(alloc, &arguments),
-            Builtin::First => collection::first(alloc, &mut arguments),
-            Builtin::Last => collection::last(alloc, &mut arguments),
-            Builtin::Take => collection::take_items(alloc, &mut arguments),
-            Builtin::Reverse => collection::reversed(alloc, &mut arguments),
-            Builtin::Uniq => distinct::uniq(alloc, &mut arguments),
-            Builtin::Flatten => nested::flatten(alloc, &mut arguments),
-            Builtin::Concat => collection::concat(alloc, arguments),
-            Builtin::Keys => collection::keys(alloc, &arguments),
-            Builtin::Values => collection::values(alloc, &arguments),
-            Builtin::ToPairs => collection::to_pairs(alloc, &arguments),
-            Builtin::Get => collection::get(alloc, &arguments),
-            Builtin::Join => collection::join(alloc, &arguments),
-            Builtin::FromPairs => collection::from_pairs(alloc, &mut arguments),
-            Builtin::IndexOf => indices::index_of(alloc, &arguments),
-            Builtin::LastIndexOf => indices::last_index_of(alloc, &arguments),
-            Builtin::Int => convert::int(alloc, &arguments),
-            Builtin::String => convert::string(alloc, &arguments),
-            Builtin::Type => convert::type_name(alloc, &arguments),
+            Builtin::HasPrefix => text::has_prefix(alloc, arguments),
+            Builtin::HasSuffix => text::has_suffix(alloc, arguments),
+            Builtin::Trim => trimmed::trim(alloc, arguments),
+            Builtin::TrimPrefix => text::trim_prefix(alloc, arguments),
+            Builtin::TrimSuffix => text::trim_suffix(alloc, arguments),
+            Builtin::Upper => text::upper(alloc, arguments),
+            Builtin::Lower => text::lower(alloc, arguments),
+            Builtin::Split => text::split(alloc, arguments),
+            Builtin::SplitAfter => text::split_after(alloc, arguments),
+            Builtin::Replace => text::replace(alloc, arguments),
+            Builtin::Repeat => text::repeat_text(alloc, arguments),
+            Builtin::Len => collection::len(alloc, arguments),
+            Builtin::First => collection::first(alloc, arguments),
+            Builtin::Last => collection::last(alloc, arguments),
+            Builtin::Take => collection::take_items(alloc, arguments),
+            Builtin::Reverse => collection::reversed(alloc, arguments),
+            Builtin::Uniq => distinct::uniq(alloc, arguments),
+            Builtin::Flatten => nested::flatten(alloc, arguments),
+            Builtin::Concat => collection::concat(alloc, mem::replace(arguments, Vec::new(alloc))),
+            Builtin::Keys => collection::keys(alloc, arguments),
+            Builtin::Values => collection::values(alloc, arguments),
+            Builtin::ToPairs => collection::to_pairs(alloc, arguments),
+            Builtin::Get => collection::get(alloc, arguments),
+            Builtin::Join => collection::join(alloc, arguments),
+            Builtin::FromPairs => collection::from_pairs(alloc, arguments),
+            Builtin::IndexOf => indices::index_of(alloc, arguments),
+            Builtin::LastIndexOf => indices::last_index_of(alloc, arguments),
+            Builtin::Int => convert::int(alloc, arguments),
+            Builtin::String => convert::string(alloc, arguments),
+            Builtin::Type => convert::type_name(alloc, arguments),
         }
     }
 }

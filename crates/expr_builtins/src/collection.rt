@@ -1,5 +1,5 @@
 //! The calls on arrays and maps.
-ghost use Rattle.std.specs.Prelude.{◌≡◌, ◌≢◌, ◌-◌, None, Some, Ok, map, length, unwrap_or, IfOk, IfErr};
+ghost use Rattle.std.specs.Prelude.{◌≡◌, ◌≢◌, ◌-◌, ◌++◌, None, Some, Ok, map, length, unwrap_or, IfOk, IfErr};
 ghost use Rattle.std.specs.Option.{option_copied, option_map};
 ghost use Rattle.std.specs.Str.{chars};
 ghost use Rattle.expr_value.specs.Fault.{fault_of, memory, evaluation};
@@ -277,9 +277,7 @@ fn pair(alloc: Global, key: Value, value: &Value) -> Result<Value>
     ensures ok { IfOk result (λ v. v ≡ pair key value.now) }
     ensures err { IfErr result (λ e. e ≡ Error.MemoryError) }
 {
-    let mut items = Vec::with_capacity(alloc, 2)?;
-    items.push(key)?;
-    items.push(value.clone()?)?;
+    let items = Vec::from_array(alloc, [key, value.clone()?])?;
     Ok(Value::Array(Items::from_vec(items)))
 }
 
@@ -344,7 +342,25 @@ fn appended(alloc: Global, arrays: Vec<Value>) -> Result<Option<Vec<Value>>>
     ensures ok { IfOk result (λ found. option_map (λ v. v.items) found ≡ option_map in_a_row (all_of items_of arrays.items)) }
     ensures err { IfErr result (λ e. e ≡ Error.MemoryError) }
 {
-    let mut all = Vec::new(alloc);
+    let mut rest = arrays;
+    if rest.is_empty() {
+        return Ok(Some(Vec::new(alloc)));
+    }
+    let Some(first) = into_items(rest.remove(0)) else {
+        return Ok(None);
+    };
+    extended(first, rest)
+}
+
+// Grows once, by what there is in all the arrays.
+fn extended(front: Vec<Value>, arrays: Vec<Value>) -> Result<Option<Vec<Value>>>
+    ensures ok { IfOk result (λ found. option_map (λ v. v.items) found ≡ option_map (λ rows. front.items ++ in_a_row rows) (all_of items_of arrays.items)) }
+    ensures err { IfErr result (λ e. e ≡ Error.MemoryError) }
+{
+    let items = arrays.iter().filter_map(|array| array.as_array());
+    let more = items.fold(0, |sum: usize, items| sum.saturating_add(items.len()));
+    let mut all = front;
+    all.reserve(more)?;
     for array in arrays {
         let Some(mut items) = into_items(array) else {
             return Ok(None);

@@ -1,5 +1,5 @@
 //! Texts cut at the matches of another, and put together.
-ghost use Rattle.std.specs.Prelude.{◌≡◌, map, string_bytes, IfOk};
+ghost use Rattle.std.specs.Prelude.{◌≡◌, [], map, string_bytes, IfOk};
 ghost use Rattle.expr_value.specs.Values.{joined};
 ghost use Rattle.expr_builtins.specs.Texts.{parts, replaced};
 
@@ -50,7 +50,7 @@ pub(crate) fn replaced(
 pub(crate) fn joined(alloc: Global, parts: &[&str], separator: &str) -> Result<String, AllocError>
     ensures { IfOk result (λ s. string_bytes s ≡ joined separator.now (map (λ p. p.now) parts.now)) }
 {
-    let mut text = String::new(alloc);
+    let mut text = room_for(alloc, parts, separator)?;
     for i in 0..parts.len() {
         if i > 0 {
             text.push_str(separator)?;
@@ -58,4 +58,15 @@ pub(crate) fn joined(alloc: Global, parts: &[&str], separator: &str) -> Result<S
         text.push_str(parts[i])?;
     }
     Ok(text)
+}
+
+// An empty text that needn't grow to take the texts and the separators between.
+fn room_for(alloc: Global, parts: &[&str], separator: &str) -> Result<String, AllocError>
+    ensures { IfOk result (λ s. string_bytes s ≡ []) }
+{
+    let separators = separator
+        .len()
+        .saturating_mul(parts.len().saturating_sub(1));
+    let length = (parts.iter()).fold(separators, |sum, part| sum.saturating_add(part.len()));
+    String::with_capacity(alloc, length)
 }

@@ -38,8 +38,7 @@ pub(crate) fn greatest(alloc: Global, arguments: Vec<Value>) -> Result<Value>
     if arguments.is_empty() {
         return Err(refusal(alloc, "max takes at least one argument"));
     }
-    let values = all_opened(alloc, arguments)?;
-    let Some(numbers) = integers(alloc, &values)? else {
+    let Some(numbers) = opened_integers(alloc, arguments)? else {
         return Err(refusal(alloc, "max takes integers and arrays of them"));
     };
     Ok(greatest_of(&numbers))
@@ -52,11 +51,19 @@ pub(crate) fn least(alloc: Global, arguments: Vec<Value>) -> Result<Value>
     if arguments.is_empty() {
         return Err(refusal(alloc, "min takes at least one argument"));
     }
-    let values = all_opened(alloc, arguments)?;
-    let Some(numbers) = integers(alloc, &values)? else {
+    let Some(numbers) = opened_integers(alloc, arguments)? else {
         return Err(refusal(alloc, "min takes integers and arrays of them"));
     };
     Ok(least_of(&numbers))
+}
+
+// The integers that some values are with each array opened, at every depth, if nothing else is there.
+fn opened_integers(alloc: Global, values: Vec<Value>) -> Result<Option<Vec<i64>>>
+    ensures ok { IfOk result (λ found. option_map (λ v. v.items) found ≡ all_of integer_of (all_opened values.items)) }
+    ensures err { IfErr result (λ e. e ≡ Error.MemoryError) }
+{
+    let opened = all_opened(alloc, values)?;
+    integers(alloc, &opened)
 }
 
 // The integers that some values are, if each is one.

@@ -1,20 +1,20 @@
-use Rattle.std.proofs.Common.{Some, length, ap, ◌∙◌, sym, rules}
+use Rattle.std.proofs.Common.{◌++◌, Some, length, ap, ◌∙◌, sym, rules}
 use Rattle.std.specs.Option.{option_map}
 use Rattle.std.proofs.lemmas.Iterator.Adapters.{YieldsList-from_vec}
 use Rattle.std.proofs.lemmas.Iterator.Consumers.{YieldsList-turn}
 use Rattle.expr_value.specs.Values.{items_of}
 use Rattle.expr_builtins.specs.Collections.{in_a_row}
-use Rattle.expr_builtins.proofs.Each.{all_of-refused, row_next}
-use Rattle.expr_builtins.proofs.collection.appended.Goals as goal
+use Rattle.expr_builtins.proofs.Each.{all_of-refused, row_after}
+use Rattle.expr_builtins.proofs.collection.extended.Goals as goal
 
 pub returns-in_default-clause-ok : goal.returns-in_default-clause-ok
 returns-in_default-clause-ok c =
     let turn = YieldsList-turn (YieldsList-from_vec {s = c.into_iter-array-iterator.result} c.args.arrays.items (search rules) (search rules)) c.loop-array.yielded c.loop-array.array-iterator c.loop-array.yielded_by c.next.result c.next.new.self c.in-Some.array c.in-Some.is c.next.ensures.steps in
     let none = rw c.in_default.is at c.into_items.ensures in
-    sym (ap (option_map in_a_row) (all_of-refused items_of c.args.arrays.items (length c.loop-array.yielded) c.in-Some.array turn.0 turn.1 (sym none)))
+    sym (ap (option_map (λ rows. c.args.front.items ++ in_a_row rows)) (all_of-refused items_of c.args.arrays.items (length c.loop-array.yielded) c.in-Some.array turn.0 turn.1 (sym none)))
 
 pub loop-array-preserved : goal.loop-array-preserved
 loop-array-preserved c =
     let some = rw c.in-Some-into_items.is at c.into_items.ensures in
-    row_next c.loop-array.yielded c.in-Some.array c.loop-array.all.items c.in-Some-into_items.items.items c.loop-array.invariant (sym some)
+    row_after c.args.front.items c.loop-array.yielded c.in-Some.array c.loop-array.all.items c.in-Some-into_items.items.items c.loop-array.invariant (sym some)
     ∙ ap Some (sym c.in_ok-append.ensures.items)
