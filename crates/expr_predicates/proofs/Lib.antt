@@ -1,0 +1,9 @@
+pub mod Asked
+pub mod Beginning
+pub mod Gathering
+pub mod Grouped
+pub mod OneOrder
+pub mod Opposite
+pub mod Own
+pub mod Replied
+pub mod Turns

@@ -1,0 +1,33 @@
+-- `none` is the opposite of `any` on the same items.
+use Rattle.std.proofs.Common.{◌≡◌, List, [], ◌∷◌, ◌++◌, Bool, true, false, not, Ok, Err, MatchBool, sym, subst}
+use Rattle.std.specs.List.{list_any}
+use Rattle.expr_value.specs.declared.value.Value as value
+use Rattle.expr_value.specs.declared.value.Value.{Value}
+use Rattle.expr_value.specs.Answers.{Answer, Goes}
+use Rattle.expr_predicates.specs.Runs.{Asks}
+use Rattle.expr_predicates.specs.Tasks.{Reply, Question, any_holds, none_holds, about, holds}
+
+module _ (asks : Question → Answer → Type 0) (single : (q : Question) (a b : Answer) → asks q a → asks q b → a ≡ b) (x y : Value) where
+  abbrev pub Opposite : Type 0
+  Opposite = (t : Bool) × (x ≡ value.Bool t) × (y ≡ value.Bool (not t))
+
+  abbrev Says : Answer → Bool → Type 0
+  Says a b = a ≡ Ok (value.Bool b)
+
+  done : (b : Bool) → Says (Ok x) b → Says (Ok y) (not b) → Opposite
+  done b p q = (b, cc, cc)
+
+  both : (n m : Value → Answer → Type 0) → ((v : Value) → n v (Ok x) → m v (Ok y) → Opposite) → (a b : Answer) → a ≡ b → Goes a n (Ok x) → Goes b m (Ok y) → Opposite
+  both n m k (Ok v) b e p q = k v p (subst (λ s. Goes s m (Ok y)) (sym e) q)
+  both n m k (Err f) b e p q = cc
+
+  either : (b c : Bool) (P Q : Type 0) → (P → Q → Opposite) → MatchBool b (Says (Ok x) c) P → MatchBool b (Says (Ok y) (not c)) Q → Opposite
+  either true c P Q k p q = done c p q
+  either false c P Q k p q = k p q
+
+  pub none_opposite : (left : List Value) (rs : List Reply) → Asks any_holds asks left rs (Ok x) → Asks none_holds asks left rs (Ok y) → Opposite
+  none_opposite [] rs p q = done (list_any holds rs) p q
+  none_opposite (z ∷ left) rs p q =
+      either (list_any holds rs) (list_any holds rs) _ _ (
+      λ a b. both (λ v. Asks any_holds asks left (rs ++ (z, v) ∷ [])) (λ v. Asks none_holds asks left (rs ++ (z, v) ∷ [])) (λ v n m. none_opposite left (rs ++ (z, v) ∷ []) n m) a.0 b.0 (single (about any_holds rs z) a.0 b.0 a.1 b.1) a.2 b.2
+      ) p q

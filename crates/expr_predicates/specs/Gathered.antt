@@ -1,0 +1,53 @@
+-- What a run keeps of its replies.
+use Rattle.std.specs.Prelude.{◌≡◌, ℕ, ◌+◌, List, length, map, reverse, count_by, vec_len, option_map}
+use Rattle.std.specs.List.{filter, find, list_any, position_from}
+use Rattle.expr_value.specs.declared.value.Value.{Value}
+use Rattle.expr_predicates.specs.Sorting.{beside_keys}
+use Rattle.expr_predicates.specs.Tasks.{Task, all_hold, any_holds, none_holds, one_holds, mapping, filtering, finding, finding_place, finding_last_place, counting, summing, reducing, grouping, sorting, Reply, Question, holds, fails, acc_after, first_place, total, keyed}
+use Rattle.expr_predicates.specs.declared.run.Gathered.{Gathered}
+use Rattle.expr_predicates.specs.declared.run.Gathered.TheVariants as gathered
+use Rattle.expr_predicates.specs.declared.noted.Noted.{Noted}
+use Rattle.expr_predicates.specs.declared.noted.Noted.TheVariants as noted
+use Rattle.expr_predicates.specs.declared.kept.Kept.{Kept}
+use Rattle.expr_predicates.specs.declared.kept.Kept.TheVariants as kept
+use Rattle.expr_predicates.specs.declared.run.PredicateRun.{PredicateRun}
+use Rattle.expr_predicates.specs.declared.run.Question.{Question as Lent}
+
+-- what is kept is what the replies so far say
+abbrev pub Notes : Noted → Task → List Reply → Type 0
+Notes (noted.All failed) t rs = (t ≡ all_hold) × (failed ≡ list_any fails rs)
+Notes (noted.Any found) t rs = (t ≡ any_holds) × (found ≡ list_any holds rs)
+Notes (noted.NoneOf found) t rs = (t ≡ none_holds) × (found ≡ list_any holds rs)
+Notes (noted.One n) t rs = (t ≡ one_holds) × (n ≡ count_by holds rs)
+Notes (noted.FindIndex found) t rs = (t ≡ finding_place) × (found ≡ position_from holds 0 rs)
+Notes (noted.FindLastIndex count found) t rs = (t ≡ finding_last_place count) × (found ≡ position_from holds 0 rs)
+Notes (noted.Count n) t rs = (t ≡ counting) × (n ≡ count_by holds rs)
+Notes (noted.Sum n) t rs = (t ≡ summing) × (n ≡ total rs)
+
+abbrev pub Keeps : Kept → Task → List Reply → Type 0
+Keeps (kept.Map values) t rs = (t ≡ mapping) × (values.items ≡ map (λ r. r.1) rs)
+Keeps (kept.Filter values) t rs = (t ≡ filtering) × (values.items ≡ map (λ r. r.0) (filter holds rs))
+Keeps (kept.Find found) t rs = (t ≡ finding) × (found ≡ option_map (λ r. r.0) (find holds rs))
+Keeps (kept.Reduce acc) t rs = (init : Value) × (first : ℕ) × (t ≡ reducing init first) × (acc ≡ acc_after init rs)
+Keeps (kept.GroupBy pairs) t rs = (t ≡ grouping) × (pairs.items ≡ keyed rs)
+Keeps (kept.SortBy down pairs) t rs = (t ≡ sorting down) × (pairs.items ≡ beside_keys rs)
+
+abbrev pub Gathers : Gathered → Task → List Reply → Type 0
+Gathers (gathered.Noted n) t rs = Notes n t rs
+Gathers (gathered.Kept k) t rs = Keeps k t rs
+
+-- a run stands where these replies lead
+pub record Stands (run : PredicateRun) (t : Task) (rs : List Reply) : Type 0 where
+  pub asked : run.asked ≡ first_place t + length rs
+  pub gathered : Gathers run.gathered t rs
+
+-- the items that are left, in the order in which they are asked about
+abbrev pub left : PredicateRun → List Value
+left run = reverse run.left.items
+
+-- how many they are
+abbrev pub to_ask : PredicateRun → ℕ
+to_ask run = vec_len run.left
+
+abbrev pub question_of : Lent → Question
+question_of q = record { item = q.item.now; index = q.index; acc = option_map (λ v. v.now) q.acc }

@@ -1,0 +1,17 @@
+//! The built-ins that ask a predicate about the items of an array, as steps between which an evaluation runs the predicate.
+#![tactic(auto)]
+
+mod arguments;
+mod asking;
+mod grouping;
+mod kept;
+mod laws;
+mod noted;
+mod run;
+mod sorting;
+
+pub use asking::Asking;
+pub use laws::{
+    a_list_has_one_stable_order, a_run_is_a_list_of_replies, none_is_the_opposite_of_any,
+};
+pub use run::{PredicateRun, Question, sort};

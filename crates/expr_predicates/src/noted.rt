@@ -1,0 +1,143 @@
+//! What is kept of the answers where neither an item nor an answer is.
+ghost use Rattle.std.specs.Prelude.{◌≡◌, ◌≢◌, ◌+◌, ◌-◌, ◌<◌, ◌^◌, ◌∷◌, ◌++◌, [], List, length, IfOk, IfErr, Ok, Some, None, true, false, not, unwrap_or, if◌then◌else◌};
+ghost use Rattle.std.specs.Option.{option_map, option_or};
+ghost use Rattle.expr_value.specs.Values.{truth_of};
+ghost use Rattle.expr_value.specs.Fault.{fault_of, memory, evaluation};
+ghost use Rattle.expr_value.specs.declared.value.Value.{Value as value};
+ghost use Rattle.expr_predicates.specs.Tasks.{place_or_none};
+
+use expr_value::{Result, Value, refusal};
+use std::alloc::Global;
+
+/// What is kept of the answers so far.
+#[derive(Clone, Copy)]
+pub(crate) enum Noted {
+    /// Whether some answer was false.
+    All(bool),
+    /// Whether some answer was true.
+    Any(bool),
+    NoneOf(bool),
+    /// How many answers were true.
+    One(usize),
+    /// How many were asked about before the first item whose answer was true.
+    FindIndex(Option<usize>),
+    /// The same, from the back of so many items.
+    FindLastIndex(usize, Option<usize>),
+    Count(usize),
+    Sum(i64),
+}
+
+impl Noted {
+    ghost use Rattle.expr_predicates.specs.Tasks.{Task, Reply, Outcome, first_place, refused, stopped};
+    ghost use Rattle.expr_predicates.specs.Gathered.{Notes};
+
+    /// Whether no more is to be asked.
+    pub(crate) fn has_stopped(&self) -> bool
+        ensures { (t : Task) (rs : List Reply) → Notes self.now t rs → result ≡ stopped t rs }
+    {
+        match self {
+            Noted::All(found) | Noted::Any(found) | Noted::NoneOf(found) => *found,
+            Noted::One(count) => *count > 1,
+            Noted::FindIndex(found) | Noted::FindLastIndex(_, found) => found.is_some(),
+            Noted::Count(_) | Noted::Sum(_) => false,
+        }
+    }
+
+    /// One more answer, about an item that stands behind so many others.
+    pub(crate) fn with(self, alloc: Global, asked: usize, answer: &Value) -> Result<Noted>
+        requires { asked + 1 < 2 ^ 64 }
+        ensures noted { IfOk result (λ n. (t : Task) (rs : List Reply) (item : value) → Notes self t rs → asked ≡ first_place t + length rs
+            → Notes n t (rs ++ (item, answer.now) ∷ []) × (refused t answer.now ≡ false)) }
+        ensures refused { IfErr result (λ e. fault_of e ≢ memory → (t : Task) (rs : List Reply) → Notes self t rs
+            → (refused t answer.now ≡ true) × (fault_of e ≡ evaluation)) }
+    {
+        match self {
+            Noted::All(found) => Ok(Noted::All(found || is_false(answer))),
+            Noted::Any(found) => Ok(Noted::Any(found || is_true(answer))),
+            Noted::NoneOf(found) => Ok(Noted::NoneOf(found || is_true(answer))),
+            Noted::One(count) => Ok(Noted::One(counted(count, is_true(answer)))),
+            Noted::FindIndex(found) => {
+                Ok(Noted::FindIndex(found_if(found, is_true(answer), asked)))
+            }
+            Noted::FindLastIndex(count, found) => Ok(Noted::FindLastIndex(
+                count,
+                found_if(found, is_true(answer), asked),
+            )),
+            Noted::Count(count) => match answer.as_bool() {
+                Some(truth) => Ok(Noted::Count(counted(count, truth))),
+                None => Err(refusal(alloc, "count takes a predicate that answers a boolean")),
+            },
+            Noted::Sum(total) => match answer.as_integer() {
+                Some(number) => Ok(Noted::Sum(total.wrapping_add(number))),
+                None => Err(refusal(alloc, "sum takes integers")),
+            },
+        }
+    }
+
+    /// What the answers come to.
+    pub(crate) fn outcome(self) -> Value
+        ensures { (t : Task) (rs : List Reply) → Notes self t rs → Outcome t rs (Ok result) }
+    {
+        match self {
+            Noted::All(failed) => Value::Bool(!failed),
+            Noted::Any(found) => Value::Bool(found),
+            Noted::NoneOf(found) => Value::Bool(!found),
+            Noted::One(count) => Value::Bool(count == 1),
+            Noted::FindIndex(found) => place(found),
+            Noted::FindLastIndex(count, found) => place_from_back(count, found),
+            Noted::Count(count) => Value::from(count),
+            Noted::Sum(total) => Value::Integer(total),
+        }
+    }
+}
+
+/// Whether an answer is `true`.
+pub(crate) fn is_true(answer: &Value) -> bool
+    ensures { result ≡ unwrap_or (truth_of answer.now) false }
+{
+    answer.as_bool().unwrap_or(false)
+}
+
+/// Whether an answer is `false`.
+fn is_false(answer: &Value) -> bool
+    ensures { result ≡ not (unwrap_or (truth_of answer.now) true) }
+{
+    !answer.as_bool().unwrap_or(true)
+}
+
+/// One more, if it counts.
+fn counted(count: usize, more: bool) -> usize
+    ensures { count + 1 < 2 ^ 64 → result ≡ count + (if more then 1 else 0) }
+{
+    if more { count.saturating_add(1) } else { count }
+}
+
+/// What was found, or else this, if it is what is sought.
+pub(crate) fn found_if<T: Drop>(found: Option<T>, is_sought: bool, here: T) -> Option<T>
+    ensures { result ≡ option_or found (if is_sought then Some here else None) }
+{
+    match found {
+        Some(found) => Some(found),
+        None => { if is_sought { Some(here) } else { None } }
+    }
+}
+
+/// A place that was found, or -1.
+fn place(found: Option<usize>) -> Value
+    ensures { result ≡ place_or_none found }
+{
+    match found {
+        Some(place) => Value::from(place),
+        None => Value::Integer(-1),
+    }
+}
+
+/// The same, where items are counted from the back of so many.
+fn place_from_back(count: usize, found: Option<usize>) -> Value
+    ensures { result ≡ place_or_none (option_map (λ n. count - 1 - n) found) }
+{
+    match found {
+        Some(passed) => Value::from(count.saturating_sub(1).saturating_sub(passed)),
+        None => Value::Integer(-1),
+    }
+}
