@@ -26,7 +26,10 @@ pub(crate) fn array_and_more(alloc: Global, args: Vec<Value>) -> Result<(Vec<Val
             }
         }
     }
-    Err(refusal(alloc, "an Array and at most one more argument"))
+    Err(refusal(
+        alloc,
+        "the function takes an array and at most one more argument",
+    ))
 }
 
 /// Whether an order is downward.
@@ -36,7 +39,7 @@ pub(crate) fn direction(alloc: Global, order: &Value) -> Result<bool>
     match order.as_string() {
         Some("desc") => Ok(true),
         Some("asc") => Ok(false),
-        _ => Err(refusal(alloc, "an order is \"asc\" or \"desc\"")),
+        _ => Err(refusal(alloc, "a direction is \"asc\" or \"desc\"")),
     }
 }
 
@@ -57,6 +60,6 @@ fn items_of(alloc: Global, value: Value) -> Result<Vec<Value>>
 {
     match value {
         Value::Array(items) => Ok(items.into_vec()),
-        _ => Err(refusal(alloc, "expected an Array")),
+        _ => Err(refusal(alloc, "the function takes an array")),
     }
 }

@@ -1,11 +1,12 @@
 //! The names of the built-ins.
 ghost use Rattle.std.specs.Prelude.{◌≡◌};
 
-/// The built-ins that ask a predicate about the items of an array.
+/// A built-in that asks a predicate about the items of an array, under the language's own name for it.
 #[derive(Clone, Copy, Debug)]
 pub enum Asking {
     All,
     Any,
+    /// `none`.
     NoneOf,
     One,
     Map,
@@ -48,7 +49,7 @@ impl Asking {
         }
     }
 
-    /// Whether it needs no predicate.
+    /// Whether it needs no predicate, and takes each item as the answer about itself where none is given.
     pub fn runs_alone(self) -> bool
         ensures { result ≡ runs_alone self }
     {

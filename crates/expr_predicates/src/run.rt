@@ -16,10 +16,11 @@ use std::alloc::Global;
 /// What a predicate is asked about.
 #[derive(Drop)]
 pub struct Question<'r> {
+    /// The item, which `#` is.
     pub item: &'r Value,
-    /// The place in the array, where the built-in binds it.
+    /// The place of the item in the array, from 0, where the built-in binds `#index`.
     pub index: Option<usize>,
-    /// What has been made so far, where the built-in binds it.
+    /// What has been made so far, where the built-in binds `#acc`.
     pub acc: Option<&'r Value>,
 }
 
@@ -112,7 +113,9 @@ impl PredicateRun {
     ghost use Rattle.expr_predicates.specs.Runs.{Asks, AsksItself, next_question};
     ghost use Rattle.expr_predicates.specs.Tasks.{Task, Reply, Outcome, refused, stopped};
 
-    /// A built-in on its arguments, with or without a predicate.
+    /// A built-in on its arguments, with or without a predicate: an array, and for `reduce` what it begins with or for
+    /// `sortBy` its direction. The items are moved out of the array. Other arguments, no predicate where one is needed, and
+    /// `reduce` of no items with nothing to begin with are refused with [`Error::ExprError`](expr_value::Error::ExprError).
     pub fn begin(
         alloc: Global,
         asking: Asking,
@@ -199,7 +202,7 @@ impl PredicateRun {
                     Gathered::Kept(Kept::SortBy(down, Vec::new(alloc))),
                 ))
             }
-            _ => Err(refusal(alloc, "the function takes an Array alone")),
+            _ => Err(refusal(alloc, "the function takes an array alone")),
         }
     }
 
@@ -244,7 +247,7 @@ impl PredicateRun {
                 asked: 1,
                 gathered: Gathered::Kept(Kept::Reduce(first)),
             }),
-            None => Err(refusal(alloc, "reduce() of no items takes a value to begin with")),
+            None => Err(refusal(alloc, "reduce of no items takes a value to begin with")),
         }
     }
 
@@ -260,7 +263,9 @@ impl PredicateRun {
         Some(self.gathered.question(self.asked, item))
     }
 
-    /// Takes the answer to what is asked next.
+    /// Takes the answer to what is asked next: the item and the answer are moved. An answer that is no boolean for `count`,
+    /// no integer for `sum` or no scalar for `groupBy` is refused with [`Error::ExprError`](expr_value::Error::ExprError),
+    /// and nothing is left of the run. Where nothing is asked next, the answer is let go.
     pub fn answer(self, alloc: Global, answer: Value) -> Result<PredicateRun>
         ensures value { IfOk result (λ r. (t : Task) (rs : List Reply) (x : Value) (rest : List Value) → Stands self t rs → left self ≡ x ∷ rest
             → (refused t answer ≡ false) × (left r ≡ rest) × Stands r t (rs ++ (x, answer) ∷ [])) }
@@ -288,7 +293,8 @@ impl PredicateRun {
         })
     }
 
-    /// What the run comes to where each item is the answer about itself.
+    /// What the run comes to where each item is the answer about itself, as for `count` and `sum` without a predicate. An
+    /// item that is refused as an answer is refused with [`Error::ExprError`](expr_value::Error::ExprError).
     pub fn complete(self, alloc: Global) -> Result<Value>
         ensures { (t : Task) → Stands self t [] → Gives result (Asks t AsksItself (left self) []) }
     {
@@ -300,7 +306,8 @@ impl PredicateRun {
         run.finish(alloc)
     }
 
-    /// What the answers come to, once no more is asked.
+    /// What the answers come to, once no more is asked. Keys of `sortBy` that are neither all integers nor all texts are
+    /// refused with [`Error::ExprError`](expr_value::Error::ExprError).
     pub fn finish(self, alloc: Global) -> Result<Value>
         ensures { (t : Task) (rs : List Reply) → Stands self t rs → Gives result (Outcome t rs) }
     {
@@ -313,8 +320,9 @@ impl PredicateRun {
     }
 }
 
-/// The items of an array in their order, upward or downward, each being its own key. No predicate is asked, and no item
-/// is copied.
+/// The items of an array in their order, upward or, with `"desc"`, downward, each being its own key. No predicate is asked,
+/// and no item is copied. Items that are neither all integers nor all texts, and other arguments, are refused with
+/// [`Error::ExprError`](expr_value::Error::ExprError).
 pub fn sort(alloc: Global, args: Vec<Value>) -> Result<Value>
     ensures { Gives result (SortsItems args.items) }
 {
