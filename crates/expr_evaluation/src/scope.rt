@@ -1,52 +1,71 @@
 //! Inner bindings, beside the context that a host lends.
-ghost use Rattle.std.specs.Prelude.{◌≡◌, IfOk};
+ghost use Rattle.std.specs.Prelude.{◌≡◌, Some, MatchOption};
 ghost use Rattle.std.specs.Option.{option_copied};
-ghost use Rattle.expr_evaluation.specs.Scope.{overridden};
+ghost use Rattle.expr_evaluation.specs.Context.{Context};
+ghost use Rattle.expr_evaluation.specs.Scope.{inside, overridden};
 
-use expr_operators::Held;
 use expr_value::{ContextProvider, Value};
-use std::alloc::{AllocError, Global};
+use std::alloc::Global;
 
 /// A name that a line or a predicate binds.
 #[derive(Drop)]
 pub struct Binding<'s> {
     pub name: &'s str,
-    pub value: Held<'s>,
+    pub value: Value,
 }
 
-/// The value of a name: that of the innermost binding, which is the last, else what the host's context has.
+/// The bindings of a block, of which the last is the innermost, and the scope around it.
+#[derive(Drop)]
+pub struct Scope<'s> {
+    pub bindings: Vec<Binding<'s>>,
+    pub outer: Option<&'s Scope<'s>>,
+}
+
+impl<'s> Scope<'s> {
+    /// No bindings.
+    pub fn outermost(alloc: Global) -> Scope<'s>
+        ensures { (ctx : Context) → inside result ctx ≡ ctx }
+    {
+        Scope {
+            bindings: Vec::new(alloc),
+            outer: None,
+        }
+    }
+}
+
+/// The value of a name: that of the innermost binding, else what the host's context has.
 pub fn look_up<'s, P: ContextProvider>(
-    scope: &'s [Binding<'s>],
+    scope: &'s Scope<'s>,
     provider: &'s P,
     key: &str,
 ) -> Option<&'s Value>
-    ensures { option_copied result
-        ≡ (overridden scope.now (P.context provider.now)).value_of key.now }
+    ensures { option_copied result ≡ (inside scope.now (P.context provider.now)).value_of key.now }
 {
-    let mut count = scope.len();
-    while count > 0 {
-        count -= 1;
-        let binding = &scope[count];
-        if binding.name == key {
-            return Some(binding.value.get());
+    let mut at = scope;
+    loop {
+        if let Some(value) = bound(&at.bindings, key) {
+            return Some(value);
+        }
+        match at.outer {
+            Some(outer) => at = outer,
+            None => return provider.get(key),
         }
     }
-    provider.get(key)
 }
 
-/// The same bindings, lent, to which others can be added.
-pub fn lent_again<'s>(
-    alloc: Global,
-    scope: &'s [Binding<'s>],
-) -> Result<Vec<Binding<'s>>, AllocError>
-    ensures { IfOk result (λ v. v.items ≡ scope.now) }
+// The value of the last of these bindings that is of the name.
+fn bound<'s>(bindings: &'s [Binding<'s>], key: &str) -> Option<&'s Value>
+    ensures { MatchOption result
+        ((ctx : Context) → (overridden bindings.now ctx).value_of key.now ≡ ctx.value_of key.now)
+        (λ v. (ctx : Context) → (overridden bindings.now ctx).value_of key.now ≡ Some v.now) }
 {
-    let mut again = Vec::with_capacity(alloc, scope.len())?;
-    for binding in scope {
-        again.push(Binding {
-            name: binding.name,
-            value: Held::lent(binding.value.get()),
-        })?;
+    let mut count = bindings.len();
+    while count > 0 {
+        count -= 1;
+        let binding = &bindings[count];
+        if binding.name == key {
+            return Some(&binding.value);
+        }
     }
-    Ok(again)
+    None
 }

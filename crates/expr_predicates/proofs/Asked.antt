@@ -3,7 +3,8 @@ use Rattle.std.proofs.Common.{◌≡◌, ℕ, List, [], ◌∷◌, ◌++◌, Boo
 use Rattle.expr_value.specs.Fault.{Fault, evaluation}
 use Rattle.expr_value.specs.declared.value.Value.{Value}
 use Rattle.expr_value.specs.Answers.{Answer, After, Goes}
-use Rattle.expr_predicates.specs.Calls.{AllowsCall, Start, asking_named, called}
+use Rattle.expr_predicates.specs.Calls.{AllowsAsking, Start, begun}
+use Rattle.expr_predicates.specs.declared.asking.Asking.{Asking}
 use Rattle.expr_predicates.specs.Runs.{Asks, first_about, next_question}
 use Rattle.expr_predicates.specs.Tasks.{Task, Reply, Question, Outcome, about, stopped, refused}
 
@@ -85,5 +86,5 @@ module _ (asks asks' : Question → Answer → Type 0) (keeps : (q : Question) (
   starts_keeps (Ok s) a p = Asks-keeps s.task asks asks' keeps s.items [] a p
   starts_keeps (Err e) a p = p
 
-  pub AllowsCall-keeps : (name : List ℕ) (vs : List Value) (given : Bool) (a : Answer) → AllowsCall name vs given asks a → AllowsCall name vs given asks' a
-  AllowsCall-keeps name vs given a p = starts_keeps (called (asking_named name) vs given) a p
+  pub AllowsAsking-keeps : (b : Asking) (vs : List Value) (given : Bool) (a : Answer) → AllowsAsking b vs given asks a → AllowsAsking b vs given asks' a
+  AllowsAsking-keeps b vs given a p = starts_keeps (begun b vs given) a p

@@ -88,14 +88,9 @@ runs_alone b = false
 abbrev pub begun : Asking → List Value → Bool → Result Start Fault
 begun b vs given = if given || runs_alone b then started_on b (array_and_more vs) else Err evaluation
 
--- what a call of a name begins with, where the host has not added it
-abbrev pub called : Option Asking → List Value → Bool → Result Start Fault
-called (Some b) vs given = begun b vs given
-called None vs given = Err evaluation
-
--- what such a call may answer, with what its predicate may answer
-abbrev pub AllowsCall : List ℕ → List Value → Bool → (Question → Answer → Type 0) → Answer → Type 0
-AllowsCall name vs given asks answer = Goes (called (asking_named name) vs given) (λ s. Asks s.task asks s.items []) answer
+-- what a built-in may answer on these arguments, with a predicate or without one, and with what that may answer
+abbrev pub AllowsAsking : Asking → List Value → Bool → (Question → Answer → Type 0) → Answer → Type 0
+AllowsAsking b vs given asks answer = Goes (begun b vs given) (λ s. Asks s.task asks s.items []) answer
 
 -- upward, where no direction is given
 abbrev pub direction_of : Option Value → Result Bool Fault

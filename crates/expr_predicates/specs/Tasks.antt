@@ -40,10 +40,14 @@ holds r = unwrap_or (truth_of r.1) false
 abbrev pub fails : Reply → Bool
 fails r = not (unwrap_or (truth_of r.1) true)
 
--- what is asked about: the item, and where they are bound the place and the value that has been made so far
+-- a count or a place, as an integer
+abbrev pub number : ℕ → Value
+number n = value.Integer (cast_signed w64 n)
+
+-- what is asked about: the item, and where they are bound its place and the value that has been made so far
 pub record Question : Type 0 where
   pub item : Value
-  pub index : Option ℕ
+  pub index : Option Value
   pub acc : Option Value
 
 -- the last answer, or what `#acc` is at first
@@ -57,8 +61,8 @@ first_place t = 0
 
 -- what is asked about an item after these replies
 abbrev pub about : Task → List Reply → Value → Question
-about mapping rs x = record { item = x; index = Some (length rs); acc = None }
-about (reducing init first) rs x = record { item = x; index = Some (first + length rs); acc = Some (acc_after init rs) }
+about mapping rs x = record { item = x; index = Some (number (length rs)); acc = None }
+about (reducing init first) rs x = record { item = x; index = Some (number (first + length rs)); acc = Some (acc_after init rs) }
 about t rs x = record { item = x; index = None; acc = None }
 
 -- whether no more is asked after these replies
@@ -78,10 +82,6 @@ refused counting v = not (is_some (truth_of v))
 refused summing v = not (is_some (integer_of v))
 refused grouping v = not (is_some (key_of v))
 refused t v = false
-
--- a count or a place, as an integer
-abbrev pub number : ℕ → Value
-number n = value.Integer (cast_signed w64 n)
 
 abbrev pub place_or_none : Option ℕ → Value
 place_or_none (Some n) = number n

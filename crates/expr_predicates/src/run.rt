@@ -19,7 +19,7 @@ pub struct Question<'r> {
     /// The item, which `#` is.
     pub item: &'r Value,
     /// The place of the item in the array, from 0, where the built-in binds `#index`.
-    pub index: Option<usize>,
+    pub index: Option<Value>,
     /// What has been made so far, where the built-in binds `#acc`.
     pub acc: Option<&'r Value>,
 }
@@ -53,12 +53,12 @@ impl Gathered {
         match self {
             Gathered::Kept(Kept::Map(_)) => Question {
                 item,
-                index: Some(asked),
+                index: Some(Value::from(asked)),
                 acc: None,
             },
             Gathered::Kept(Kept::Reduce(acc)) => Question {
                 item,
-                index: Some(asked),
+                index: Some(Value::from(asked)),
                 acc: Some(acc),
             },
             _ => Question {

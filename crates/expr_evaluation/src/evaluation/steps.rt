@@ -3,7 +3,7 @@ ghost use Rattle.std.specs.Prelude.{◌≡◌, ◌≢◌, Err, IfErr, IfOk, IsTr
 ghost use Rattle.expr_evaluation.specs.Allows.{AllowsCall, given_bound, listed};
 ghost use Rattle.expr_evaluation.specs.Calls.{AllowsMethod, AsksItself};
 ghost use Rattle.expr_evaluation.specs.Context.{looked_up};
-ghost use Rattle.expr_evaluation.specs.Scope.{overridden};
+ghost use Rattle.expr_evaluation.specs.Scope.{inside};
 ghost use Rattle.expr_operators.specs.Operators.{Matched, applied, prefixed, truth, truth_answer};
 ghost use Rattle.expr_operators.specs.Plain.{is_plain_operator, is_plain_value, Surely};
 ghost use Rattle.expr_operators.specs.Positions.{bound_checked, indexed, ranged, sliced};
@@ -12,7 +12,7 @@ ghost use Rattle.expr_value.specs.Fault.{fault_of, memory};
 
 use crate::environment::{ExprCall, Functions};
 use crate::messages::{unknown_function, unknown_method, unknown_name};
-use crate::scope::{Binding, look_up};
+use crate::scope::{Scope, look_up};
 use expr_builtins::Builtin;
 use expr_operators::{
     Held, apply, as_condition, as_truth, match_pattern, prefix, range, slice_bound,
@@ -25,11 +25,11 @@ use std::alloc::Global;
 #[inline(never)]
 pub fn name_value<'s, P: ContextProvider>(
     alloc: Global,
-    scope: &'s [Binding<'s>],
+    scope: &'s Scope<'s>,
     provider: &'s P,
     key: &str,
 ) -> Result<Held<'s>>
-    ensures { Is result (looked_up (overridden scope.now (P.context provider.now)) key.now) }
+    ensures { Is result (looked_up (inside scope.now (P.context provider.now)) key.now) }
 {
     if key == "$env" {
         return Ok(Held::own(Value::Map(provider.environment(alloc)?.into_map())));

@@ -17,9 +17,10 @@ use Rattle.expr_operators.specs.declared.asking.Asking.TheVariants.{Both, EndsAt
 use Rattle.expr_operators.specs.Positions.{sliced}
 use Rattle.expr_evaluation.specs.Plain.{is_plain}
 use Rattle.expr_operators.specs.Plain.{is_plain_operator, is_plain_value}
-use Rattle.expr_evaluation.specs.Scope.{overridden}
+use Rattle.expr_evaluation.specs.Scope.{inside}
 use Rattle.expr_evaluation.specs.Several.{terms_written}
 use Rattle.expr_evaluation.specs.declared.scope.Binding.{Binding}
+use Rattle.expr_evaluation.specs.declared.scope.Scope.{Scope, Scope-F, out-Scope, roll-Scope, out-roll-Scope}
 use Rattle.expr_evaluation.proofs.Allowed.{prepended, drop-at, loop-step, loop-failed, loop-done, AllowsAll-first, AllowsBlock-line, AllowsMore-all, AllowsMore-rest}
 use Rattle.expr_value.proofs.Answered.{Gives-of-Is, Gives-passed, Gives-under, first_of-After}
 use Rattle.expr_operators.proofs.Plainly.{Surely-at}
@@ -30,7 +31,7 @@ pub evaluate-returns-in_err-first-in-Operation-clause-plain : goal.evaluate-retu
 evaluate-returns-in_err-first-in-Operation-clause-plain g t c =
     let host : Host = g.H.Functions.host c.args.self.now.host.now in
     let base : Context = g.P.ContextProvider.context c.args.self.now.provider in
-    let ctx : Context = overridden c.args.scope.now base in
+    let ctx : Context = inside c.args.scope.now base in
     let l = c.in-Operation.left.value in
     let r = c.in-Operation.right.value in
     let op = c.in-Operation.operator in
@@ -49,7 +50,7 @@ evaluate-returns-in_err-first-in-Operation-clause-plain g t c =
 pub evaluate-returns-in-Operation-clause-answer : goal.evaluate-returns-in-Operation-clause-answer
 evaluate-returns-in-Operation-clause-answer g t c =
     let host : Host = g.H.Functions.host c.args.self.now.host.now in
-    let ctx : Context = overridden c.args.scope.now (g.P.ContextProvider.context c.args.self.now.provider) in
+    let ctx : Context = inside c.args.scope.now (g.P.ContextProvider.context c.args.self.now.provider) in
     let l = c.in-Operation.left.value in
     let r = c.in-Operation.right.value in
     let op = c.in-Operation.operator in
@@ -67,7 +68,7 @@ pub evaluate-returns-in-Operation-clause-plain : goal.evaluate-returns-in-Operat
 evaluate-returns-in-Operation-clause-plain g t c =
     let host : Host = g.H.Functions.host c.args.self.now.host.now in
     let base : Context = g.P.ContextProvider.context c.args.self.now.provider in
-    let ctx : Context = overridden c.args.scope.now base in
+    let ctx : Context = inside c.args.scope.now base in
     let l = c.in-Operation.left.value in
     let r = c.in-Operation.right.value in
     let op = c.in-Operation.operator in
@@ -94,7 +95,7 @@ operate-returns-in-EndsAtFalse-clause-plain g t c =
     let host : Host = g.H.Functions.host c.args.self.now.host.now in
     let base : Context = g.P.ContextProvider.context c.args.self.now.provider in
     let op = c.args.operator in
-    let right = Allows host (overridden c.args.scope.now base) (written c.args.right.now) in
+    let right = Allows host (inside c.args.scope.now base) (written c.args.right.now) in
     let asked : asking_of op ≡ EndsAtFalse = sym c.sides_asked.ensures ∙ c.in-EndsAtFalse.is in
     λ v o p q h. c.and_then.ensures.plain v q (subst (λ k. ContinuedAs k op c.args.first right (Ok v)) asked h)
 
@@ -103,7 +104,7 @@ operate-returns-in-EndsAtTrue-clause-plain g t c =
     let host : Host = g.H.Functions.host c.args.self.now.host.now in
     let base : Context = g.P.ContextProvider.context c.args.self.now.provider in
     let op = c.args.operator in
-    let right = Allows host (overridden c.args.scope.now base) (written c.args.right.now) in
+    let right = Allows host (inside c.args.scope.now base) (written c.args.right.now) in
     let asked : asking_of op ≡ EndsAtTrue = sym c.sides_asked.ensures ∙ c.in-EndsAtTrue.is in
     λ v o p q h. c.or_else.ensures.plain v q (subst (λ k. ContinuedAs k op c.args.first right (Ok v)) asked h)
 
@@ -111,7 +112,7 @@ pub operate-returns-in-Both : goal.operate-returns-in-Both
 operate-returns-in-Both g t c =
     let host : Host = g.H.Functions.host c.args.self.now.host.now in
     let base : Context = g.P.ContextProvider.context c.args.self.now.provider in
-    let ctx : Context = overridden c.args.scope.now base in
+    let ctx : Context = inside c.args.scope.now base in
     let op = c.args.operator in
     let first = c.args.first in
     let second = c.in_ok-second-in-Both.second in
@@ -132,7 +133,7 @@ pub follow-returns-in_err-start-in-Range : goal.follow-returns-in_err-start-in-R
 follow-returns-in_err-start-in-Range g t c =
     let host : Host = g.H.Functions.host c.args.self.now.host.now in
     let base : Context = g.P.ContextProvider.context c.args.self.now.provider in
-    let ctx : Context = overridden c.args.scope.now base in
+    let ctx : Context = inside c.args.scope.now base in
     let a = bound_written c.in-Range.start in
     let b = bound_written c.in-Range.end in
     let v = c.args.value in
@@ -149,7 +150,7 @@ pub follow-returns-in-Range : goal.follow-returns-in-Range
 follow-returns-in-Range g t c =
     let host : Host = g.H.Functions.host c.args.self.now.host.now in
     let base : Context = g.P.ContextProvider.context c.args.self.now.provider in
-    let ctx : Context = overridden c.args.scope.now base in
+    let ctx : Context = inside c.args.scope.now base in
     let a = bound_written c.in-Range.start in
     let b = bound_written c.in-Range.end in
     let v = c.args.value in
@@ -165,7 +166,7 @@ pub items-loop-node-preserved : goal.items-loop-node-preserved
 items-loop-node-preserved g t c =
     let host : Host = g.H.Functions.host c.args.self.now.host.now in
     let base : Context = g.P.ContextProvider.context c.args.self.now.provider in
-    let ctx : Context = overridden c.args.scope.now base in
+    let ctx : Context = inside c.args.scope.now base in
     let v = c.in_ok-keep.field-0 in
     let node = c.node-item.result in
     let all = AllowsAll host ctx (terms_written c.args.nodes.now) in
@@ -177,7 +178,7 @@ pub items-returns-in_err-keep : goal.items-returns-in_err-keep
 items-returns-in_err-keep g t c =
     let host : Host = g.H.Functions.host c.args.self.now.host.now in
     let base : Context = g.P.ContextProvider.context c.args.self.now.provider in
-    let ctx : Context = overridden c.args.scope.now base in
+    let ctx : Context = inside c.args.scope.now base in
     let k = fault_of c.in_err-keep.field-0.0 in
     let all = AllowsAll host ctx (terms_written c.args.nodes.now) in
     Gives-passed _ c.in_err-keep.field-0.0 all c.from_residual-in_err-keep.ensures.1 (
@@ -192,7 +193,7 @@ pub items-returns : goal.items-returns
 items-returns g t c =
     let host : Host = g.H.Functions.host c.args.self.now.host.now in
     let base : Context = g.P.ContextProvider.context c.args.self.now.provider in
-    let ctx : Context = overridden c.args.scope.now base in
+    let ctx : Context = inside c.args.scope.now base in
     let all = AllowsAll host ctx (terms_written c.args.nodes.now) in
     subst (λ vs. all (Ok vs)) (sym c.from_vec.ensures) (
     loop-done (λ ns. AllowsAll host ctx (terms_written ns)) all c.args.nodes.now c.loop-node.node-index c.loop-node.values.items c.loop-node.invariant c.loop-node-test.false refl
@@ -202,7 +203,7 @@ pub arguments-loop-node-init : goal.arguments-loop-node-init
 arguments-loop-node-init g t c =
     let host : Host = g.H.Functions.host c.args.self.now.host.now in
     let base : Context = g.P.ContextProvider.context c.args.self.now.provider in
-    let ctx : Context = overridden c.args.scope.now base in
+    let ctx : Context = inside c.args.scope.now base in
     let ts = terms_written c.args.nodes.now in
     λ rest p. subst (λ vs. AllowsMore host ctx (listed c.args.first) ts (prepended vs rest)) (sym c.in_ok-values.ensures.ok) (AllowsMore-all host ctx (listed c.args.first) ts rest p)
 
@@ -210,7 +211,7 @@ pub arguments-loop-node-preserved : goal.arguments-loop-node-preserved
 arguments-loop-node-preserved g t c =
     let host : Host = g.H.Functions.host c.args.self.now.host.now in
     let base : Context = g.P.ContextProvider.context c.args.self.now.provider in
-    let ctx : Context = overridden c.args.scope.now base in
+    let ctx : Context = inside c.args.scope.now base in
     let v = c.in_ok-evaluate.field-0 in
     let node = c.node-item.result in
     let whole = AllowsMore host ctx (listed c.args.first) (terms_written c.args.nodes.now) in
@@ -222,7 +223,7 @@ pub arguments-returns-in_err-evaluate : goal.arguments-returns-in_err-evaluate
 arguments-returns-in_err-evaluate g t c =
     let host : Host = g.H.Functions.host c.args.self.now.host.now in
     let base : Context = g.P.ContextProvider.context c.args.self.now.provider in
-    let ctx : Context = overridden c.args.scope.now base in
+    let ctx : Context = inside c.args.scope.now base in
     let k = fault_of c.in_err-evaluate.field-0.0 in
     let whole = AllowsMore host ctx (listed c.args.first) (terms_written c.args.nodes.now) in
     Gives-passed _ c.in_err-evaluate.field-0.0 whole c.from_residual-in_err-evaluate.ensures.1 (
@@ -237,7 +238,7 @@ pub arguments-returns : goal.arguments-returns
 arguments-returns g t c =
     let host : Host = g.H.Functions.host c.args.self.now.host.now in
     let base : Context = g.P.ContextProvider.context c.args.self.now.provider in
-    let ctx : Context = overridden c.args.scope.now base in
+    let ctx : Context = inside c.args.scope.now base in
     let whole = AllowsMore host ctx (listed c.args.first) (terms_written c.args.nodes.now) in
     subst (λ vs. whole (Ok vs)) (sym c.from_vec.ensures) (
     loop-done (λ ns. AllowsAll host ctx (terms_written ns)) whole c.args.nodes.now c.loop-node.node-index c.loop-node.values.items c.loop-node.invariant c.loop-node-test.false refl
@@ -250,20 +251,19 @@ run_lines-loop-name-preserved g t c =
     let lines_of = λ (ls : List (String Global × Node)). block_of (map (λ p. (p.0, written p.1)) ls) (written c.args.program.now.expr) in
     let lines = c.args.program.now.lines.items in
     let i = c.loop-name.name-index in
-    let inner = c.loop-name.inner.items in
+    let inner = c.loop-name.inner in
     let same : c.deref-name-items.result.now ≡ lines = c.deref-name-items.ensures.value in
     let l = c.loop-name-item.result in
     let at : drop i lines ≡ l ∷ drop (i + 1) lines =
     subst (λ xs. drop i xs ≡ l ∷ drop (i + 1) xs) same (drop-at c.deref-name-items.result.now i l c.loop-name-item.is c.loop-name-test.true) in
-    let b : Binding = record { name = c.deref-in-loop-name.result; value = c.own.result } in
+    let b : Binding = record { name = c.deref.result; value = c.in_ok-value.value } in
     let named : b.name.now ≡ string_bytes l.0 = search rules in
-    let allowed : Allows host (overridden inner base) (written l.1) (Ok b.value) =
-    subst (λ v. Allows host (overridden inner base) (written l.1) (Ok v)) (sym c.own.ensures) (
-    subst (λ s. Allows host (overridden s base) (written l.1) (Ok c.in_ok-value.value)) c.deref.ensures.value c.in_ok-value.ensures
-    ) in
+    let after : Scope-F Scope = record { bindings = c.push.new.self; outer = (out-Scope inner).outer } in
+    let rolled = out-roll-Scope after in
     λ answer p. c.loop-name.invariant answer (
-    subst (λ ls. AllowsBlock host (overridden inner base) (lines_of ls) answer) (sym at) (
-    AllowsBlock-line host base inner c.push.new.self.items b l.0 (written l.1) (lines_of (drop (i + 1) lines)) answer c.in_ok-push.ensures.items named allowed p
+    subst (λ ls. AllowsBlock host (inside inner base) (lines_of ls) answer) (sym at) (
+    AllowsBlock-line host base inner (roll-Scope after) b l.0 (written l.1) (lines_of (drop (i + 1) lines)) answer
+    (ap (λ (r : Scope-F Scope). r.bindings.items) rolled ∙ c.in_ok-push.ensures.items) (ap (λ (r : Scope-F Scope). r.outer) rolled) named c.in_ok-value.ensures p
     )
     )
 
@@ -274,19 +274,15 @@ run_lines-returns-in_err-value g t c =
     let lines_of = λ (ls : List (String Global × Node)). block_of (map (λ p. (p.0, written p.1)) ls) (written c.args.program.now.expr) in
     let lines = c.args.program.now.lines.items in
     let i = c.loop-name.name-index in
-    let inner = c.loop-name.inner.items in
+    let inner = c.loop-name.inner in
     let same : c.deref-name-items.result.now ≡ lines = c.deref-name-items.ensures.value in
     let l = c.loop-name-item.result in
     let at : drop i lines ≡ l ∷ drop (i + 1) lines =
     subst (λ xs. drop i xs ≡ l ∷ drop (i + 1) xs) same (drop-at c.deref-name-items.result.now i l c.loop-name-item.is c.loop-name-test.true) in
     let k = fault_of c.in_err-value.field-0.0 in
-    Gives-passed _ c.in_err-value.field-0.0 (AllowsBlock host (overridden c.args.scope.now base) (program_written c.args.program.now)) c.from_residual-in_err-value.ensures.1 (
+    Gives-passed _ c.in_err-value.field-0.0 (AllowsBlock host (inside c.args.scope.now base) (program_written c.args.program.now)) c.from_residual.ensures.1 (
     λ m. c.loop-name.invariant (Err k) (
-    subst (λ ls. AllowsBlock host (overridden inner base) (lines_of ls) (Err k)) (sym at) (
-      Err k,
-      subst (λ s. Allows host (overridden s base) (written l.1) (Err k)) c.deref.ensures.value (c.in_err-value.ensures m),
-      refl,
-    )
+    subst (λ ls. AllowsBlock host (inside inner base) (lines_of ls) (Err k)) (sym at) (Err k, c.in_err-value.ensures m, refl)
     )
     )
 
@@ -297,16 +293,14 @@ run_lines-returns g t c =
     let lines_of = λ (ls : List (String Global × Node)). block_of (map (λ p. (p.0, written p.1)) ls) (written c.args.program.now.expr) in
     let lines = c.args.program.now.lines.items in
     let i = c.loop-name.name-index in
-    let inner = c.loop-name.inner.items in
+    let inner = c.loop-name.inner in
     let same : c.deref-name-items.result.now ≡ lines = c.deref-name-items.ensures.value in
     let over : length lines ≤ i = subst (λ xs. length xs ≤ i) same c.loop-name-test.false in
-    let last = Allows host (overridden inner base) (written c.args.program.now.expr) in
-    let whole = AllowsBlock host (overridden c.args.scope.now base) (program_written c.args.program.now) in
+    let last = Allows host (inside inner base) (written c.args.program.now.expr) in
+    let whole = AllowsBlock host (inside c.args.scope.now base) (program_written c.args.program.now) in
     let on : (a : Answer) → last a → whole a =
-    λ a p. c.loop-name.invariant a (subst (λ ls. AllowsBlock host (overridden inner base) (lines_of ls) a) (sym (drop_all i lines over)) p) in
-    Gives-under c.keep-2.result last whole on (
-    subst (λ s. Gives c.keep-2.result (Allows host (overridden s base) (written c.args.program.now.expr))) c.deref-2.ensures.value c.keep-2.ensures
-    )
+    λ a p. c.loop-name.invariant a (subst (λ ls. AllowsBlock host (inside inner base) (lines_of ls) a) (sym (drop_all i lines over)) p) in
+    Gives-under c.keep-2.result last whole on c.keep-2.ensures
 
 pub evaluate-returns-in_err-items-in-Array-clause-plain : goal.evaluate-returns-in_err-items-in-Array-clause-plain
 evaluate-returns-in_err-items-in-Array-clause-plain g t c = λ v p h. Array-plain _ c.args.node.now c.in-Array.is p
@@ -351,7 +345,7 @@ evaluate-returns-clause-plain g t c = λ v p h. Conditional-plain _ _ _ c.args.n
 pub evaluate-returns-in-Func-clause-answer : goal.evaluate-returns-in-Func-clause-answer
 evaluate-returns-in-Func-clause-answer g t c =
     let host : Host = g.H.Functions.host c.args.self.now.host.now in
-    let ctx : Context = overridden c.args.scope.now (g.P.ContextProvider.context c.args.self.now.provider) in
+    let ctx : Context = inside c.args.scope.now (g.P.ContextProvider.context c.args.self.now.provider) in
     let key = string_bytes c.in-Func.ident in
     let ts = terms_written c.in-Func.args.items in
     let p = predicate_written c.in-Func.predicate in
@@ -368,7 +362,7 @@ evaluate-returns-in-Func-clause-answer g t c =
 pub pipe-returns : goal.pipe-returns
 pipe-returns g t c =
     let host : Host = g.H.Functions.host c.args.self.now.host.now in
-    let ctx : Context = overridden c.args.scope.now (g.P.ContextProvider.context c.args.self.now.provider) in
+    let ctx : Context = inside c.args.scope.now (g.P.ContextProvider.context c.args.self.now.provider) in
     let key = string_bytes c.in-Func.ident in
     let ts = terms_written c.in-Func.args.items in
     let p = predicate_written c.in-Func.predicate in

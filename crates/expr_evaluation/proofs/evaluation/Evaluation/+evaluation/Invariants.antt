@@ -6,7 +6,7 @@ use Rattle.expr_evaluation.specs.Allows.{AllowsAll, AllowsBlock, AllowsMore, lis
 use Rattle.expr_value.specs.Answers.{Answer}
 use Rattle.expr_evaluation.specs.Context.{Context}
 use Rattle.expr_evaluation.specs.Host.{Host}
-use Rattle.expr_evaluation.specs.Scope.{overridden}
+use Rattle.expr_evaluation.specs.Scope.{inside}
 use Rattle.expr_evaluation.specs.Several.{terms_written}
 use Rattle.expr_evaluation.proofs.Allowed.{prepended}
 use Rattle.expr_evaluation.proofs.evaluation.Evaluation.+evaluation.Given as goal
@@ -14,14 +14,14 @@ use Rattle.expr_evaluation.proofs.evaluation.Evaluation.+evaluation.Given as goa
 abbrev pub invariant-items-loop-node : goal.invariant-items-loop-node
 invariant-items-loop-node g l =
     let host : Host = g.H.Functions.host l.self.host.now in
-    let ctx : Context = overridden l.scope (g.P.ContextProvider.context l.self.provider) in
+    let ctx : Context = inside l.scope (g.P.ContextProvider.context l.self.provider) in
     (rest : Result (List Value) Fault) → AllowsAll host ctx (terms_written (drop l.node-index l.nodes)) rest
     → AllowsAll host ctx (terms_written l.nodes) (prepended l.values.items rest)
 
 abbrev pub invariant-arguments-loop-node : goal.invariant-arguments-loop-node
 invariant-arguments-loop-node g l =
     let host : Host = g.H.Functions.host l.self.host.now in
-    let ctx : Context = overridden l.scope (g.P.ContextProvider.context l.self.provider) in
+    let ctx : Context = inside l.scope (g.P.ContextProvider.context l.self.provider) in
     (rest : Result (List Value) Fault) → AllowsAll host ctx (terms_written (drop l.node-index l.nodes)) rest
     → AllowsMore host ctx (listed l.fn.first) (terms_written l.nodes) (prepended l.values.items rest)
 
@@ -29,5 +29,5 @@ abbrev pub invariant-run_lines-loop-name : goal.invariant-run_lines-loop-name
 invariant-run_lines-loop-name g l =
     let host : Host = g.H.Functions.host l.self.host.now in
     let base : Context = g.P.ContextProvider.context l.self.provider in
-    (answer : Answer) → AllowsBlock host (overridden l.inner.items base) (block_of (map (λ p. (p.0, written p.1)) (drop l.name-index l.program.lines.items)) (written l.program.expr)) answer
-    → AllowsBlock host (overridden l.scope base) (program_written l.program) answer
+    (answer : Answer) → AllowsBlock host (inside l.inner base) (block_of (map (λ p. (p.0, written p.1)) (drop l.name-index l.program.lines.items)) (written l.program.expr)) answer
+    → AllowsBlock host (inside l.scope base) (program_written l.program) answer
