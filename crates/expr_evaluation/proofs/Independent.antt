@@ -17,7 +17,9 @@ use Rattle.expr_value.specs.declared.value.Value as value
 use Rattle.expr_value.specs.declared.value.Value.{Value, out-Value}
 use Rattle.expr_value.specs.declared.value.Value.TheOpen.{Value-F}
 use Rattle.expr_evaluation.specs.Allows.{Allows, AllowsAll, AllowsAsked, AllowsBlock, AllowsBound, AllowsCall, AllowsPiped, AllowsPostfix, AndThenLayer, ContinuedAs, OrElseLayer, ChosenLayer, DefaultsLayer, is_given}
-use Rattle.expr_evaluation.specs.Calls.{AllowsBuiltin, Question, asked_in, told}
+use Rattle.expr_evaluation.specs.Calls.{AllowsBuiltin, asked_in, told}
+use Rattle.expr_evaluation.proofs.Begun.{AllowsBuiltin-keeps, either-keeps}
+use Rattle.expr_predicates.specs.Tasks.{Question}
 use Rattle.expr_value.proofs.Answered.{After-keeps, first-keeps}
 use Rattle.expr_value.specs.Answers.{Answer}
 use Rattle.expr_evaluation.specs.Context.{Context, override, hash, field_of, first_of_two, looked_up}
@@ -93,14 +95,10 @@ looked_up-same one other key p =
     ∙ ap (λ o. first_of_two (other.value_of key) (field_of o key)) p.at_hash)
 
 -- a call, where its predicate may answer more
-either-keeps : (b : Bool) (P Q Q' : Type 0) → (Q → Q') → MatchBool b P Q → MatchBool b P Q'
-either-keeps true P Q Q' f p = p
-either-keeps false P Q Q' f p = f p
-
 AllowsCall-keeps : (host : Host) (key : List ℕ) (vs : List Value) (given : Bool) (asks asks' : Question → Answer → Type 0) → ((q : Question) (a : Answer) → asks q a → asks' q a)
     → (a : Answer) → AllowsCall host key vs given asks a → AllowsCall host key vs given asks' a
 AllowsCall-keeps host key vs given asks asks' keeps a p =
-    either-keeps (host.is_added key) (host.calls key vs a) (AllowsBuiltin key vs given asks a) (AllowsBuiltin key vs given asks' a) (λ q. q) p
+    either-keeps (host.is_added key) (host.calls key vs a) (host.calls key vs a) (AllowsBuiltin key vs given asks a) (AllowsBuiltin key vs given asks' a) (λ q. q) (AllowsBuiltin-keeps asks asks' keeps key vs given a) p
 
 mutual
   pub Allows-keeps : (host : Host) (one other : Context) (t : Term) → Agree one other (operands t) → (a : Answer) → Allows host one t a → Allows host other t a

@@ -1,4 +1,5 @@
 pub mod Allowed
+pub mod Begun
 pub mod Independent
 pub mod Plainly
 pub mod Scoped

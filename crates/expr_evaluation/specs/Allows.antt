@@ -10,7 +10,9 @@ use Rattle.expr_value.specs.declared.value.Value as value
 use Rattle.expr_value.specs.declared.value.Value.{Value, out-Value}
 use Rattle.expr_value.specs.declared.value.Value.TheOpen.{Value-F}
 use Rattle.expr_value.specs.Answers.{Answer, After}
-use Rattle.expr_evaluation.specs.Calls.{AllowsBuiltin, AllowsMethod, AsksItself, Question, asked_in}
+use Rattle.expr_evaluation.specs.Calls.{AllowsBuiltin, AllowsMethod, asked_in}
+use Rattle.expr_predicates.specs.Runs.{AsksItself}
+use Rattle.expr_predicates.specs.Tasks.{Question}
 use Rattle.expr_evaluation.specs.Context.{Context, override, looked_up}
 use Rattle.expr_evaluation.specs.Host.{Host}
 use Rattle.expr_operators.specs.Operators.{Matched, applied, prefixed, truth}

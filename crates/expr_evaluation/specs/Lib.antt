@@ -1,4 +1,5 @@
 pub mod Allows
+pub mod Begun
 pub mod Calls
 pub mod Context
 pub mod Host

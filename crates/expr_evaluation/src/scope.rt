@@ -1,23 +1,27 @@
-//! Inner bindings, beside the context that a host lends.
+//! Inner names, beside the context that a host lends.
 ghost use Rattle.std.specs.Prelude.{◌≡◌, Some, MatchOption};
 ghost use Rattle.std.specs.Option.{option_copied};
+ghost use Rattle.expr_evaluation.specs.Calls.{asked_in};
 ghost use Rattle.expr_evaluation.specs.Context.{Context};
 ghost use Rattle.expr_evaluation.specs.Scope.{inside, overridden};
+ghost use Rattle.expr_predicates.specs.Gathered.{question_of};
 
+use expr_predicates::Question;
 use expr_value::{ContextProvider, Value};
 use std::alloc::Global;
 
-/// A name that a line or a predicate binds.
+/// A name that a line binds.
 #[derive(Drop)]
 pub struct Binding<'s> {
     pub name: &'s str,
     pub value: Value,
 }
 
-/// The bindings of a block, of which the last is the innermost, and the scope around it.
+/// The bindings of a block, of which the last is the innermost, what its predicate is asked about, and the scope around it.
 #[derive(Drop)]
 pub struct Scope<'s> {
     pub bindings: Vec<Binding<'s>>,
+    pub question: Option<Question<'s>>,
     pub outer: Option<&'s Scope<'s>>,
 }
 
@@ -28,6 +32,7 @@ impl<'s> Scope<'s> {
     {
         Scope {
             bindings: Vec::new(alloc),
+            question: None,
             outer: None,
         }
     }
@@ -45,6 +50,11 @@ pub fn look_up<'s, P: ContextProvider>(
     loop {
         if let Some(value) = bound(&at.bindings, key) {
             return Some(value);
+        }
+        if let Some(question) = &at.question {
+            if let Some(value) = asked(question, key) {
+                return Some(value);
+            }
         }
         match at.outer {
             Some(outer) => at = outer,
@@ -68,4 +78,18 @@ fn bound<'s>(bindings: &'s [Binding<'s>], key: &str) -> Option<&'s Value>
         }
     }
     None
+}
+
+// What a predicate is asked about under a name.
+fn asked<'s>(question: &'s Question<'s>, key: &str) -> Option<&'s Value>
+    ensures { MatchOption result
+        ((ctx : Context) → (asked_in ctx (question_of question.now)).value_of key.now ≡ ctx.value_of key.now)
+        (λ v. (ctx : Context) → (asked_in ctx (question_of question.now)).value_of key.now ≡ Some v.now) }
+{
+    match key {
+        "#" => Some(question.item),
+        "#index" => question.index.as_ref(),
+        "#acc" => question.acc,
+        _ => None,
+    }
 }

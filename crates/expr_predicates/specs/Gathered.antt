@@ -11,7 +11,7 @@ use Rattle.expr_predicates.specs.declared.noted.Noted.TheVariants as noted
 use Rattle.expr_predicates.specs.declared.kept.Kept.{Kept}
 use Rattle.expr_predicates.specs.declared.kept.Kept.TheVariants as kept
 use Rattle.expr_predicates.specs.declared.run.PredicateRun.{PredicateRun}
-use Rattle.expr_predicates.specs.declared.run.Question.{Question as Lent}
+use Rattle.expr_predicates.specs.declared.question.Question.{Question as Lent}
 
 -- what is kept is what the replies so far say
 abbrev pub Notes : Noted → Task → List Reply → Type 0

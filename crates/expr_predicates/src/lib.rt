@@ -7,6 +7,7 @@ mod grouping;
 mod kept;
 mod laws;
 mod noted;
+mod question;
 mod run;
 mod sorting;
 
@@ -14,4 +15,5 @@ pub use asking::Asking;
 pub use laws::{
     a_list_has_one_stable_order, a_run_is_a_list_of_replies, none_is_the_opposite_of_any,
 };
-pub use run::{PredicateRun, Question, sort};
+pub use question::Question;
+pub use run::{PredicateRun, sort};

@@ -9,20 +9,10 @@ use crate::arguments::{array_and_more, direction, is_downward};
 use crate::asking::Asking;
 use crate::kept::Kept;
 use crate::noted::Noted;
+use crate::question::Question;
 use crate::sorting::sorted_alone;
 use expr_value::{Result, Value, refusal};
 use std::alloc::Global;
-
-/// What a predicate is asked about.
-#[derive(Drop)]
-pub struct Question<'r> {
-    /// The item, which `#` is.
-    pub item: &'r Value,
-    /// The place of the item in the array, from 0, where the built-in binds `#index`.
-    pub index: Option<Value>,
-    /// What has been made so far, where the built-in binds `#acc`.
-    pub acc: Option<&'r Value>,
-}
 
 /// What is kept of the answers so far.
 #[derive(Drop)]
@@ -300,7 +290,7 @@ impl PredicateRun {
     {
         let mut run = self;
         while let Some(question) = run.next() {
-            let answer = question.item.clone()?;
+            let answer = question.itself()?;
             run = run.answer(alloc, answer)?;
         }
         run.finish(alloc)

@@ -1,7 +1,7 @@
 //! What an evaluation does with the values of parts.
-ghost use Rattle.std.specs.Prelude.{◌≡◌, ◌≢◌, Err, IfErr, IfOk, IsTrue, false, true};
-ghost use Rattle.expr_evaluation.specs.Allows.{AllowsCall, given_bound, listed};
-ghost use Rattle.expr_evaluation.specs.Calls.{AllowsMethod, AsksItself};
+ghost use Rattle.std.specs.Prelude.{◌≡◌, ◌≢◌, Err, IfErr, IfOk, IsTrue};
+ghost use Rattle.expr_evaluation.specs.Allows.{given_bound, listed};
+ghost use Rattle.expr_evaluation.specs.Calls.{AllowsMethod};
 ghost use Rattle.expr_evaluation.specs.Context.{looked_up};
 ghost use Rattle.expr_evaluation.specs.Scope.{inside};
 ghost use Rattle.expr_operators.specs.Operators.{Matched, applied, prefixed, truth, truth_answer};
@@ -10,10 +10,8 @@ ghost use Rattle.expr_operators.specs.Positions.{bound_checked, indexed, ranged,
 ghost use Rattle.expr_value.specs.Answers.{Gives, Is};
 ghost use Rattle.expr_value.specs.Fault.{fault_of, memory};
 
-use crate::environment::{ExprCall, Functions};
-use crate::messages::{unknown_function, unknown_method, unknown_name};
+use crate::messages::{unknown_method, unknown_name};
 use crate::scope::{Scope, look_up};
-use expr_builtins::Builtin;
 use expr_operators::{
     Held, apply, as_condition, as_truth, match_pattern, prefix, range, slice_bound,
 };
@@ -141,54 +139,6 @@ pub fn bound_at(alloc: Global, value: &Held<'_>) -> Result<Option<i64>>
 {
     let bound = slice_bound(alloc, value.get())?;
     Ok(Some(bound))
-}
-
-/// What a call on these values answers: the host's function of the name, else the built-in.
-#[inline(never)]
-pub fn call<'s, H: Functions>(
-    alloc: Global,
-    host: &H,
-    ident: &str,
-    args: Items<Held<'_>>,
-) -> Result<Held<'s>>
-    ensures { Gives result (AllowsCall (H.host host.now) ident.now args.entry false AsksItself) }
-{
-    if host.has(ident) {
-        return call_added(alloc, host, ident, args);
-    }
-    let Some(builtin) = Builtin::named(ident) else {
-        return Err(unknown_function(alloc, ident));
-    };
-    let args = values_of(alloc, args)?;
-    let answer = builtin.call(alloc, args)?;
-    Ok(Held::own(answer))
-}
-
-/// What a function answers on these values that the host has added.
-fn call_added<'s, H: Functions>(
-    alloc: Global,
-    host: &H,
-    ident: &str,
-    args: Items<Held<'_>>,
-) -> Result<Held<'s>>
-    ensures { (H.host host.now).is_added ident.now ≡ true → Gives result ((H.host host.now).calls ident.now args.entry) }
-{
-    let ident = String::from_str(alloc, ident)?;
-    let args = values_of(alloc, args)?;
-    let answer = host.ask(ExprCall { ident, args })?;
-    Ok(Held::own(answer))
-}
-
-/// The values that are held, to be kept.
-fn values_of(alloc: Global, held: Items<Held<'_>>) -> Result<Vec<Value>>
-    ensures ok { IfOk result (λ vs. vs.items ≡ held.entry) }
-    ensures refusal { IfErr result (λ e. fault_of e ≡ memory) }
-{
-    let mut values = Vec::with_capacity(alloc, held.len())?;
-    for value in held.into_vec() {
-        values.push(value.into_value()?)?;
-    }
-    Ok(values)
 }
 
 /// A list with room for so many more than the value that is there already, if there is one.

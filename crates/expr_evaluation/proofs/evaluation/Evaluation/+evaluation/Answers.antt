@@ -1,14 +1,18 @@
 use Rattle.std.proofs.Common.{◌≡◌, ◌&&◌, IsTrue, ◌+◌, ◌≤◌, List, [], ◌∷◌, length, map, drop, rules, false, sym, ap, ◌∙◌, subst, refl, Ok, Err, String, Global, string_bytes}
 use Rattle.std.proofs.lemmas.List.{drop_all}
 use Rattle.expr_tree.proofs.Shapes.{written-Func, written-Slice}
-use Rattle.expr_tree.specs.Term.{call, operation, slice}
+use Rattle.expr_predicates.proofs.Turns.{turn_on, turn_refused, turn_misanswered, turn_done}
+use Rattle.expr_predicates.specs.Gathered.{left, question_of}
+use Rattle.expr_predicates.specs.Runs.{Asks}
+use Rattle.expr_predicates.specs.Tasks.{Question}
+use Rattle.expr_tree.specs.Term.{call, operation, predicate, slice}
+use Rattle.expr_evaluation.proofs.Begun.{AllowsCall-answered, AllowsCall-asks, AllowsCall-refused}
 use Rattle.expr_tree.specs.Written.{written, bound_written, postfix_written, predicate_written, program_written, block_of}
 use Rattle.expr_tree.specs.declared.node.Node.{Node}
 use Rattle.expr_value.specs.Fault.{fault_of}
 use Rattle.expr_value.specs.declared.value.Value.{Value}
-use Rattle.expr_evaluation.specs.Allows.{Allows, AllowsAll, AllowsBlock, AllowsBound, AllowsCall, AllowsMore, AllowsPiped, AllowsPostfix, Continued, ContinuedAs, listed}
+use Rattle.expr_evaluation.specs.Allows.{Allows, AllowsAll, AllowsAsked, AllowsBlock, AllowsBound, AllowsCall, AllowsMore, AllowsPiped, AllowsPostfix, Continued, ContinuedAs, is_given, listed}
 use Rattle.expr_value.specs.Answers.{After, Answer, Gives}
-use Rattle.expr_evaluation.specs.Calls.{AsksItself}
 use Rattle.expr_evaluation.specs.Context.{Context}
 use Rattle.expr_evaluation.specs.Host.{Host}
 use Rattle.expr_operators.specs.Asking.{asking_of}
@@ -258,12 +262,13 @@ run_lines-loop-name-preserved g t c =
     subst (λ xs. drop i xs ≡ l ∷ drop (i + 1) xs) same (drop-at c.deref-name-items.result.now i l c.loop-name-item.is c.loop-name-test.true) in
     let b : Binding = record { name = c.deref.result; value = c.in_ok-value.value } in
     let named : b.name.now ≡ string_bytes l.0 = search rules in
-    let after : Scope-F Scope = record { bindings = c.push.new.self; outer = (out-Scope inner).outer } in
+    let after : Scope-F Scope = record { bindings = c.push.new.self; question = (out-Scope inner).question; outer = (out-Scope inner).outer } in
     let rolled = out-roll-Scope after in
     λ answer p. c.loop-name.invariant answer (
     subst (λ ls. AllowsBlock host (inside inner base) (lines_of ls) answer) (sym at) (
     AllowsBlock-line host base inner (roll-Scope after) b l.0 (written l.1) (lines_of (drop (i + 1) lines)) answer
-    (ap (λ (r : Scope-F Scope). r.bindings.items) rolled ∙ c.in_ok-push.ensures.items) (ap (λ (r : Scope-F Scope). r.outer) rolled) named c.in_ok-value.ensures p
+    (ap (λ (r : Scope-F Scope). r.bindings.items) rolled ∙ c.in_ok-push.ensures.items) (ap (λ (r : Scope-F Scope). r.question) rolled)
+    (ap (λ (r : Scope-F Scope). r.outer) rolled) named c.in_ok-value.ensures p
     )
     )
 
@@ -353,10 +358,11 @@ evaluate-returns-in-Func-clause-answer g t c =
     let vs = c.in_ok-args-in-Func.args in
     let more = subst (λ ns. AllowsMore host ctx [] (terms_written ns) (Ok vs)) c.deref-in-Func.ensures.value c.in_ok-args-in-Func.ensures in
     let found = AllowsMore-rest host ctx [] ts vs more in
+    let asks : Question → Answer → Type 0 = AllowsAsked host ctx p in
     subst (λ n. Gives c.call.result (Allows host ctx n)) (sym is) (
-    Gives-under c.call.result (AllowsCall host key vs false AsksItself) (Allows host ctx (call key ts p)) (
-    λ a q. (Ok found.0, found.1, subst (λ xs. AllowsCall host key xs false AsksItself a) found.2 q)
-    ) (subst (λ k. Gives c.call.result (AllowsCall host k vs false AsksItself)) c.deref-in-Func-2.ensures c.call.ensures)
+    Gives-under c.call.result (AllowsCall host key vs (is_given p) asks) (Allows host ctx (call key ts p)) (
+    λ a q. (Ok found.0, found.1, subst (λ xs. AllowsCall host key xs (is_given p) asks a) found.2 q)
+    ) (subst (λ k. Gives c.call.result (AllowsCall host k vs (is_given p) asks)) c.deref-in-Func-2.ensures c.call.ensures)
     )
 
 pub pipe-returns : goal.pipe-returns
@@ -371,10 +377,11 @@ pipe-returns g t c =
     let vs = c.in_ok-args.args in
     let more = subst (λ ns. AllowsMore host ctx (v ∷ []) (terms_written ns) (Ok vs)) c.deref.ensures.value c.in_ok-args.ensures in
     let found = AllowsMore-rest host ctx (v ∷ []) ts vs more in
+    let asks : Question → Answer → Type 0 = AllowsAsked host ctx p in
     subst (λ n. Gives c.call.result (AllowsPiped host ctx n v)) (sym is) (
-    Gives-under c.call.result (AllowsCall host key vs false AsksItself) (AllowsPiped host ctx (call key ts p) v) (
-    λ a q. (Ok found.0, found.1, subst (λ xs. AllowsCall host key xs false AsksItself a) found.2 q)
-    ) (subst (λ k. Gives c.call.result (AllowsCall host k vs false AsksItself)) c.deref-2.ensures c.call.ensures)
+    Gives-under c.call.result (AllowsCall host key vs (is_given p) asks) (AllowsPiped host ctx (call key ts p) v) (
+    λ a q. (Ok found.0, found.1, subst (λ xs. AllowsCall host key xs (is_given p) asks a) found.2 q)
+    ) (subst (λ k. Gives c.call.result (AllowsCall host k vs (is_given p) asks)) c.deref-2.ensures c.call.ensures)
     )
 
 pub run_within-returns-in_err-answer-clause-plain : goal.run_within-returns-in_err-answer-clause-plain
@@ -382,3 +389,66 @@ run_within-returns-in_err-answer-clause-plain g t c = λ v plain h. let none = n
 
 pub run_within-returns-clause-plain : goal.run_within-returns-clause-plain
 run_within-returns-clause-plain g t c = λ v plain h. let none = no-lines c.args.program.now plain in search rules
+
+pub call-returns-in-None : goal.call-returns-in-None
+call-returns-in-None g t c =
+    let host : Host = g.H.Functions.host c.args.self.now.host.now in
+    let ctx : Context = inside c.args.scope.now (g.P.ContextProvider.context c.args.self.now.provider) in
+    subst (λ o. Gives c.call_alone.result (AllowsCall host c.args.ident.now c.args.args (is_given (predicate_written o)) (AllowsAsked host ctx (predicate_written o)))) (sym c.in-None.is) c.call_alone.ensures
+
+pub call_with-returns-in_err-begin : goal.call_with-returns-in_err-begin
+call_with-returns-in_err-begin g t c =
+    let host : Host = g.H.Functions.host c.args.self.now.host.now in
+    let ctx : Context = inside c.args.scope.now (g.P.ContextProvider.context c.args.self.now.provider) in
+    let asks : Question → Answer → Type 0 = AllowsAsked host ctx (predicate (program_written c.args.program.now)) in
+    let e = c.in_err-begin.field-0.0 in
+    Gives-passed _ e (AllowsCall host c.args.ident.now c.args.args true asks) c.from_residual.ensures.1 (
+    λ m. AllowsCall-refused host c.args.ident.now c.args.args true asks (fault_of e) (c.in_err-begin.ensures m)
+    )
+
+pub ask-loop-question-preserved : goal.ask-loop-question-preserved
+ask-loop-question-preserved g t c = λ u s.
+    let host : Host = g.H.Functions.host c.args.self.now.host.now in
+    let ctx : Context = inside c.args.scope.now (g.P.ContextProvider.context c.args.self.now.provider) in
+    let asks : Question → Answer → Type 0 = AllowsAsked host ctx (predicate (program_written c.args.program.now)) in
+    let at = c.loop-question.invariant u s in
+    let whole : Answer → Type 0 = Asks u asks (left c.args.run) [] in
+    let run = c.loop-question.run in
+    let q = question_of c.in-Some.question in
+    let next = sym (c.in-Some.ensures.question u at.0 at.1) in
+    turn_on asks whole u run q at next c.in_ok-answer.answer c.in_ok-run.run' c.in_ok-answer.ensures c.in_ok-run.ensures.value
+
+pub ask-returns-in_err-answer : goal.ask-returns-in_err-answer
+ask-returns-in_err-answer g t c = λ u s.
+    let host : Host = g.H.Functions.host c.args.self.now.host.now in
+    let ctx : Context = inside c.args.scope.now (g.P.ContextProvider.context c.args.self.now.provider) in
+    let asks : Question → Answer → Type 0 = AllowsAsked host ctx (predicate (program_written c.args.program.now)) in
+    let at = c.loop-question.invariant u s in
+    let whole : Answer → Type 0 = Asks u asks (left c.args.run) [] in
+    let run = c.loop-question.run in
+    let q = question_of c.in-Some.question in
+    let next = sym (c.in-Some.ensures.question u at.0 at.1) in
+    let e = c.in_err-answer.field-0.0 in
+    Gives-passed _ e whole c.from_residual.ensures.1 (λ m. turn_refused asks whole u run q at next (fault_of e) (c.in_err-answer.ensures m))
+
+pub ask-returns-in_err-run : goal.ask-returns-in_err-run
+ask-returns-in_err-run g t c = λ u s.
+    let host : Host = g.H.Functions.host c.args.self.now.host.now in
+    let ctx : Context = inside c.args.scope.now (g.P.ContextProvider.context c.args.self.now.provider) in
+    let asks : Question → Answer → Type 0 = AllowsAsked host ctx (predicate (program_written c.args.program.now)) in
+    let at = c.loop-question.invariant u s in
+    let whole : Answer → Type 0 = Asks u asks (left c.args.run) [] in
+    let run = c.loop-question.run in
+    let q = question_of c.in-Some.question in
+    let next = sym (c.in-Some.ensures.question u at.0 at.1) in
+    let e = c.in_err-run.field-0.0 in
+    Gives-passed _ e whole c.from_residual-in_err-run.ensures.1 (turn_misanswered asks whole u run q at next c.in_ok-answer.answer e c.in_ok-answer.ensures c.in_err-run.ensures.refused)
+
+pub ask-returns : goal.ask-returns
+ask-returns g t c = λ u s.
+    let host : Host = g.H.Functions.host c.args.self.now.host.now in
+    let ctx : Context = inside c.args.scope.now (g.P.ContextProvider.context c.args.self.now.provider) in
+    let asks : Question → Answer → Type 0 = AllowsAsked host ctx (predicate (program_written c.args.program.now)) in
+    let at = c.loop-question.invariant u s in
+    let whole : Answer → Type 0 = Asks u asks (left c.args.run) [] in
+    turn_done asks whole u c.loop-question.run at (sym (c.in_default.ensures.question u at.0 at.1)) c.finish.result (c.finish.ensures u at.0 at.1)

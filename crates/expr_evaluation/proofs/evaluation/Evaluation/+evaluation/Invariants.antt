@@ -1,8 +1,13 @@
-use Rattle.std.proofs.Common.{List, Result, drop, map}
+use Rattle.std.proofs.Common.{List, [], Result, drop, map}
+use Rattle.expr_predicates.proofs.Turns.{Leads}
+use Rattle.expr_predicates.specs.Gathered.{Stands, left, to_ask}
+use Rattle.expr_predicates.specs.Runs.{Asks}
+use Rattle.expr_predicates.specs.Tasks.{Question, Task}
+use Rattle.expr_tree.specs.Term.{predicate}
 use Rattle.expr_tree.specs.Written.{block_of, written, program_written}
 use Rattle.expr_value.specs.Fault.{Fault}
 use Rattle.expr_value.specs.declared.value.Value.{Value}
-use Rattle.expr_evaluation.specs.Allows.{AllowsAll, AllowsBlock, AllowsMore, listed}
+use Rattle.expr_evaluation.specs.Allows.{AllowsAll, AllowsAsked, AllowsBlock, AllowsMore, listed}
 use Rattle.expr_value.specs.Answers.{Answer}
 use Rattle.expr_evaluation.specs.Context.{Context}
 use Rattle.expr_evaluation.specs.Host.{Host}
@@ -31,3 +36,13 @@ invariant-run_lines-loop-name g l =
     let base : Context = g.P.ContextProvider.context l.self.provider in
     (answer : Answer) → AllowsBlock host (inside l.inner base) (block_of (map (λ p. (p.0, written p.1)) (drop l.name-index l.program.lines.items)) (written l.program.expr)) answer
     → AllowsBlock host (inside l.scope base) (program_written l.program) answer
+
+abbrev pub invariant-ask-loop-question : goal.invariant-ask-loop-question
+invariant-ask-loop-question g l =
+    let host : Host = g.H.Functions.host l.self.host.now in
+    let ctx : Context = inside l.scope (g.P.ContextProvider.context l.self.provider) in
+    let asks : Question → Answer → Type 0 = AllowsAsked host ctx (predicate (program_written l.program)) in
+    (t : Task) → Stands l.fn.run t [] → Leads asks (Asks t asks (left l.fn.run) []) t l.run
+
+abbrev pub decreases-ask-loop-question : goal.decreases-ask-loop-question
+decreases-ask-loop-question g l = to_ask l.run
