@@ -7,6 +7,10 @@ pub use Rattle.expr_evaluation.specs.Independence
 pub use Rattle.expr_evaluation.specs.Plain
 pub use Rattle.expr_evaluation.specs.Several
 pub use Rattle.expr_operators.specs.Operators
+pub use Rattle.expr_predicates.specs.Calls as Predicated
+pub use Rattle.expr_predicates.specs.Runs
+pub use Rattle.expr_predicates.specs.Sorting
+pub use Rattle.expr_predicates.specs.Tasks
 pub use Rattle.expr_tree.specs.Context
 pub use Rattle.expr_tree.specs.Names
 pub use Rattle.expr_tree.specs.Term

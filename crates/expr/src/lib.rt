@@ -16,6 +16,9 @@ pub use expr_grammar::laws::{brackets_fit, one_tree};
 pub use expr_operators::{
     outside_is_not_within, part_stands_between_front_and_back, unequal_is_not_equal,
 };
+pub use expr_predicates::{
+    a_list_has_one_stable_order, a_run_is_a_list_of_replies, none_is_the_opposite_of_any,
+};
 pub use expr_syntax::compile;
 pub use expr_syntax::laws::one_tree_of_text;
 pub use expr_token::{lexer_gives_the_reading, one_reading};

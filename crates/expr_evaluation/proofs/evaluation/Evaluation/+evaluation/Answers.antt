@@ -1,4 +1,4 @@
-use Rattle.std.proofs.Common.{◌≡◌, ◌&&◌, IsTrue, ◌+◌, ◌≤◌, List, [], ◌∷◌, length, map, drop, rules, false, sym, ap, ◌∙◌, subst, refl, Ok, Err, String, Global, string_bytes}
+use Rattle.std.proofs.Common.{◌≡◌, ◌&&◌, IsTrue, ◌+◌, ◌≤◌, List, [], ◌∷◌, length, map, drop, rules, false, true, sym, ap, ◌∙◌, subst, refl, Ok, Err, String, Global, string_bytes}
 use Rattle.std.proofs.lemmas.List.{drop_all}
 use Rattle.expr_tree.proofs.Shapes.{written-Func, written-Slice}
 use Rattle.expr_predicates.proofs.Turns.{turn_on, turn_refused, turn_misanswered, turn_done}
@@ -6,7 +6,8 @@ use Rattle.expr_predicates.specs.Gathered.{left, question_of}
 use Rattle.expr_predicates.specs.Runs.{Asks}
 use Rattle.expr_predicates.specs.Tasks.{Question}
 use Rattle.expr_tree.specs.Term.{call, operation, predicate, slice}
-use Rattle.expr_evaluation.proofs.Begun.{AllowsCall-answered, AllowsCall-asks, AllowsCall-refused}
+use Rattle.expr_evaluation.specs.Begun.{Begins}
+use Rattle.expr_evaluation.proofs.Begun.{AllowsCall-answered, AllowsCall-refused, AllowsCall-run}
 use Rattle.expr_tree.specs.Written.{written, bound_written, postfix_written, predicate_written, program_written, block_of}
 use Rattle.expr_tree.specs.declared.node.Node.{Node}
 use Rattle.expr_value.specs.Fault.{fault_of}
@@ -396,15 +397,50 @@ call-returns-in-None g t c =
     let ctx : Context = inside c.args.scope.now (g.P.ContextProvider.context c.args.self.now.provider) in
     subst (λ o. Gives c.call_alone.result (AllowsCall host c.args.ident.now c.args.args (is_given (predicate_written o)) (AllowsAsked host ctx (predicate_written o)))) (sym c.in-None.is) c.call_alone.ensures
 
-pub call_with-returns-in_err-begin : goal.call_with-returns-in_err-begin
-call_with-returns-in_err-begin g t c =
+pub call_with-returns-in_err-answer : goal.call_with-returns-in_err-answer
+call_with-returns-in_err-answer g t c =
     let host : Host = g.H.Functions.host c.args.self.now.host.now in
     let ctx : Context = inside c.args.scope.now (g.P.ContextProvider.context c.args.self.now.provider) in
     let asks : Question → Answer → Type 0 = AllowsAsked host ctx (predicate (program_written c.args.program.now)) in
-    let e = c.in_err-begin.field-0.0 in
-    Gives-passed _ e (AllowsCall host c.args.ident.now c.args.args true asks) c.from_residual.ensures.1 (
-    λ m. AllowsCall-refused host c.args.ident.now c.args.args true asks (fault_of e) (c.in_err-begin.ensures m)
+    let key = c.args.ident.now in
+    let vs = c.args.args in
+    let e = c.in_err-answer.field-0.0 in
+    Gives-passed _ e (AllowsCall host key vs true asks) c.from_residual.ensures.1 (λ m. AllowsCall-refused host key vs true asks (fault_of e) (c.in_err-answer.ensures.refused m))
+
+pub call_with-returns-in-Answered : goal.call_with-returns-in-Answered
+call_with-returns-in-Answered g t c =
+    let host : Host = g.H.Functions.host c.args.self.now.host.now in
+    let ctx : Context = inside c.args.scope.now (g.P.ContextProvider.context c.args.self.now.provider) in
+    let asks : Question → Answer → Type 0 = AllowsAsked host ctx (predicate (program_written c.args.program.now)) in
+    let key = c.args.ident.now in
+    let vs = c.args.args in
+    let v = c.in-Answered.answer in
+    let begins = subst (λ b. Begins host key vs true b) c.in-Answered.is c.in_ok-answer.ensures.begun in
+    subst (λ w. AllowsCall host key vs true asks (Ok w)) (sym c.own.ensures) (AllowsCall-answered host key vs true asks v begins)
+
+pub call_with-returns-in_err-ask-in-Asks : goal.call_with-returns-in_err-ask-in-Asks
+call_with-returns-in_err-ask-in-Asks g t c =
+    let host : Host = g.H.Functions.host c.args.self.now.host.now in
+    let ctx : Context = inside c.args.scope.now (g.P.ContextProvider.context c.args.self.now.provider) in
+    let asks : Question → Answer → Type 0 = AllowsAsked host ctx (predicate (program_written c.args.program.now)) in
+    let key = c.args.ident.now in
+    let vs = c.args.args in
+    let e = c.in_err-ask-in-Asks.field-0.0 in
+    let begins = subst (λ b. Begins host key vs true b) c.in-Asks.is c.in_ok-answer.ensures.begun in
+    Gives-passed _ e (AllowsCall host key vs true asks) c.from_residual-in_err-ask-in-Asks.ensures.1 (
+    λ m. AllowsCall-run host key vs true asks c.in-Asks.run' begins (Err (fault_of e)) (λ u s. c.in_err-ask-in-Asks.ensures u s m)
     )
+
+pub call_with-returns-in_ok-ask-in-Asks : goal.call_with-returns-in_ok-ask-in-Asks
+call_with-returns-in_ok-ask-in-Asks g t c =
+    let host : Host = g.H.Functions.host c.args.self.now.host.now in
+    let ctx : Context = inside c.args.scope.now (g.P.ContextProvider.context c.args.self.now.provider) in
+    let asks : Question → Answer → Type 0 = AllowsAsked host ctx (predicate (program_written c.args.program.now)) in
+    let key = c.args.ident.now in
+    let vs = c.args.args in
+    let v = c.in_ok-ask-in-Asks.field-0 in
+    let begins = subst (λ b. Begins host key vs true b) c.in-Asks.is c.in_ok-answer.ensures.begun in
+    subst (λ w. AllowsCall host key vs true asks (Ok w)) (sym c.own-in-Asks.ensures) (AllowsCall-run host key vs true asks c.in-Asks.run' begins (Ok v) c.in_ok-ask-in-Asks.ensures)
 
 pub ask-loop-question-preserved : goal.ask-loop-question-preserved
 ask-loop-question-preserved g t c = λ u s.
