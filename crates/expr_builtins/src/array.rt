@@ -17,16 +17,16 @@ pub(crate) enum Array<'a> {
     /// Of the call's own.
     Own(Items<Value>),
     /// Of an array that stands elsewhere.
-    Lent(&'a [Value]),
+    Lent(&'a Items<Value>),
 }
 
 /// The array that a value is.
 pub(crate) fn array_of(value: Holding<'_>) -> Option<Array<'_>>
-    ensures { option_map items_held result ≡ items_of (value_held value) }
+    ensures { option_map items_held result ≡ items_of (value_held value.entry) }
 {
     match value {
         Holding::Own(Value::Array(items)) => Some(Array::Own(items)),
-        Holding::Lent(Value::Array(items)) => Some(Array::Lent(items.as_slice())),
+        Holding::Lent(Value::Array(items)) => Some(Array::Lent(items)),
         _ => None,
     }
 }
@@ -43,12 +43,12 @@ pub(crate) fn count_items(array: &Array<'_>) -> usize
 
 /// The item at a place, or nil.
 pub(crate) fn item_at(array: Array<'_>, place: usize) -> Result<Value>
-    ensures ok { IfOk result (λ v. v ≡ item_or_nil (items_held array) place) }
+    ensures ok { IfOk result (λ v. v ≡ item_or_nil (items_held array.entry) place) }
     ensures err { IfErr result (λ e. e ≡ Error.MemoryError) }
 {
     match array {
         Array::Own(items) => Ok(item_moved(items.into_vec(), place)),
-        Array::Lent(items) => item_copied(items, place),
+        Array::Lent(items) => item_copied(items.as_slice(), place),
     }
 }
 
@@ -75,7 +75,7 @@ fn item_copied(items: &[Value], place: usize) -> Result<Value>
 
 /// The first items, so many.
 pub(crate) fn first_items(alloc: Global, array: Array<'_>, count: usize) -> Result<Vec<Value>>
-    ensures ok { IfOk result (λ first. first.items ≡ take count (items_held array)) }
+    ensures ok { IfOk result (λ first. first.items ≡ take count (items_held array.entry)) }
     ensures err { IfErr result (λ e. e ≡ Error.MemoryError) }
 {
     match array {
@@ -84,29 +84,38 @@ pub(crate) fn first_items(alloc: Global, array: Array<'_>, count: usize) -> Resu
             items.truncate(count);
             Ok(items)
         }
-        Array::Lent(items) => Ok(items[..count.min(items.len())].to_vec(alloc)?),
+        Array::Lent(items) => first_copied(alloc, items.as_slice(), count),
     }
 }
 
+fn first_copied(alloc: Global, items: &[Value], count: usize) -> Result<Vec<Value>>
+    ensures ok { IfOk result (λ first. first.items ≡ take count items.now) }
+    ensures err { IfErr result (λ e. e ≡ Error.MemoryError) }
+{
+    let first = &items[..count.min(items.len())];
+    Ok(first.to_vec(alloc)?)
+}
+
 /// All the items, to be kept.
-pub(crate) fn into_items(alloc: Global, array: Array<'_>) -> Result<Vec<Value>>
-    ensures ok { IfOk result (λ all. all.items ≡ items_held array) }
+pub(crate) fn into_items<'a>(alloc: Global, array: Array<'a>) -> Result<Vec<Value>>
+    ensures ok { IfOk result (λ all. all.items ≡ items_held array.entry) }
     ensures err { IfErr result (λ e. e ≡ Error.MemoryError) }
 {
     match array {
         Array::Own(items) => Ok(items.into_vec()),
-        Array::Lent(items) => Ok(items.to_vec(alloc)?),
+        Array::Lent(items) => Ok(items.as_slice().to_vec(alloc)?),
     }
 }
 
 /// The items, each held as the array is.
 pub(crate) fn each_held(alloc: Global, array: Array<'_>) -> Result<Vec<Held<'_>>>
-    ensures ok { IfOk result (λ held. held.items ≡ items_held array) }
+    ensures ok { IfOk result (λ held. held.items ≡ items_held array.entry) }
     ensures err { IfErr result (λ e. e ≡ Error.MemoryError) }
 {
-    match array {
+    let held = array;
+    match held {
         Array::Own(items) => each_own(alloc, items.into_vec()),
-        Array::Lent(items) => each_lent(alloc, items),
+        Array::Lent(items) => each_lent(alloc, items.as_slice()),
     }
 }
 
@@ -134,7 +143,7 @@ fn each_lent(alloc: Global, items: &[Value]) -> Result<Vec<Held<'_>>>
 
 /// Values that are held, to be kept.
 pub(crate) fn each_kept(alloc: Global, held: Vec<Held<'_>>) -> Result<Vec<Value>>
-    ensures ok { IfOk result (λ values. values.items ≡ held.items) }
+    ensures ok { IfOk result (λ values. values.items ≡ held.entry.items) }
     ensures err { IfErr result (λ e. e ≡ Error.MemoryError) }
 {
     let mut values = Vec::with_capacity(alloc, held.len())?;

@@ -121,7 +121,7 @@ impl Builtin {
     /// What the built-in gives on these arguments. What it keeps of them is moved out of values of its own and copied of
     /// lent ones. Other numbers and kinds of arguments than it takes are refused with [`expr_value::Error::ExprError`].
     pub fn call(self, alloc: Global, mut arguments: Vec<Held<'_>>) -> Result<Value>
-        ensures { Gives result (Called self arguments.items) }
+        ensures { Gives result (Called self arguments.entry.items) }
     {
         self.answer(alloc, &mut arguments)
     }

@@ -293,7 +293,7 @@ pub(crate) fn from_pairs(alloc: Global, arguments: &mut [Held<'_>]) -> Result<Va
 }
 
 fn pairs_kept(alloc: Global, items: Vec<Held<'_>>) -> Result<Option<Vec<(Value, Value)>>>
-    ensures ok { IfOk result (λ found. option_map (λ v. v.items) found ≡ all_of pair_of items.items) }
+    ensures ok { IfOk result (λ found. option_map (λ v. v.items) found ≡ all_of pair_of items.entry.items) }
     ensures err { IfErr result (λ e. e ≡ Error.MemoryError) }
 {
     let mut pairs = Vec::with_capacity(alloc, items.len())?;
@@ -312,7 +312,7 @@ fn pair_kept(value: Held<'_>) -> Result<Option<(Value, Value)>>
 {
     match array_of(value.into_holding()) {
         Some(Array::Own(items)) => Ok(both_moved(&mut items.into_vec())),
-        Some(Array::Lent(items)) => both_copied(items),
+        Some(Array::Lent(items)) => both_copied(items.as_slice()),
         None => Ok(None),
     }
 }
@@ -338,7 +338,7 @@ fn both_copied(items: &[Value]) -> Result<Option<(Value, Value)>>
 
 /// The items of some arrays, one array after the other.
 pub(crate) fn concat(alloc: Global, arguments: Vec<Held<'_>>) -> Result<Value>
-    ensures { Gives result (λ answer. answer ≡ concat arguments.items) }
+    ensures { Gives result (λ answer. answer ≡ concat arguments.entry.items) }
 {
     if arguments.is_empty() {
         return Err(refusal(alloc, "concat takes at least one array"));
@@ -351,7 +351,7 @@ pub(crate) fn concat(alloc: Global, arguments: Vec<Held<'_>>) -> Result<Value>
 
 // Grows once, by what there is in all the arrays.
 fn appended(front: Vec<Value>, arrays: Vec<Held<'_>>) -> Result<Option<Vec<Value>>>
-    ensures ok { IfOk result (λ found. option_map (λ v. v.items) found ≡ option_map (λ rows. front.items ++ in_a_row rows) (all_of items_of arrays.items)) }
+    ensures ok { IfOk result (λ found. option_map (λ v. v.items) found ≡ option_map (λ rows. front.items ++ in_a_row rows) (all_of items_of arrays.entry.items)) }
     ensures err { IfErr result (λ e. e ≡ Error.MemoryError) }
 {
     let items = arrays.iter().filter_map(|array| array.get().as_array());
@@ -368,10 +368,10 @@ fn appended(front: Vec<Value>, arrays: Vec<Held<'_>>) -> Result<Option<Vec<Value
 }
 
 fn append(all: &mut Vec<Value>, array: Array<'_>) -> std::result::Result<(), AllocError>
-    ensures { OnOk result (all.new.items ≡ all.old.items ++ items_held array) }
+    ensures { OnOk result (all.new.items ≡ all.old.items ++ items_held array.entry) }
 {
     match array {
         Array::Own(items) => all.append(&mut items.into_vec()),
-        Array::Lent(items) => all.extend_from_slice(items),
+        Array::Lent(items) => all.extend_from_slice(items.as_slice()),
     }
 }

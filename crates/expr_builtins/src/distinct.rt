@@ -22,7 +22,7 @@ pub(crate) fn uniq(alloc: Global, arguments: &mut [Held<'_>]) -> Result<Value>
 
 // Each item is compared with all that are kept before it.
 fn distinct(alloc: Global, items: Vec<Held<'_>>) -> Result<Vec<Value>>
-    ensures ok { IfOk result (λ kept. kept.items ≡ distinct items.items) }
+    ensures ok { IfOk result (λ kept. kept.items ≡ distinct items.entry.items) }
     ensures err { IfErr result (λ e. e ≡ Error.MemoryError) }
 {
     let mut kept = Vec::new(alloc);

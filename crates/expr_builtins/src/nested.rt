@@ -25,7 +25,7 @@ pub(crate) fn flatten(alloc: Global, arguments: &mut [Held<'_>]) -> Result<Value
 
 /// Values with each array opened, at every depth. The arrays that wait are held in a list, so that no depth takes stack.
 pub(crate) fn all_opened<'a>(alloc: Global, values: Vec<Held<'a>>) -> Result<Vec<Held<'a>>>
-    ensures ok { IfOk result (λ found. found.items ≡ all_opened values.items) }
+    ensures ok { IfOk result (λ found. found.items ≡ all_opened values.entry.items) }
     ensures err { IfErr result (λ e. e ≡ Error.MemoryError) }
 {
     let mut waiting = values;
@@ -52,7 +52,7 @@ fn array_or_itself(value: Held<'_>) -> std::result::Result<Array<'_>, Held<'_>>
 {
     match value.into_holding() {
         Holding::Own(Value::Array(items)) => Ok(Array::Own(items)),
-        Holding::Lent(Value::Array(items)) => Ok(Array::Lent(items.as_slice())),
+        Holding::Lent(Value::Array(items)) => Ok(Array::Lent(items)),
         Holding::Own(other) => Err(Held::own(other)),
         Holding::Lent(other) => Err(Held::lent(other)),
     }

@@ -34,7 +34,7 @@ pub(crate) fn of_fractions(alloc: Global) -> Result<Value>
 
 /// The greatest of integers and of arrays of them, at every depth, or nil where there are none.
 pub(crate) fn greatest(alloc: Global, arguments: Vec<Held<'_>>) -> Result<Value>
-    ensures { Gives result (λ answer. answer ≡ greatest arguments.items) }
+    ensures { Gives result (λ answer. answer ≡ greatest arguments.entry.items) }
 {
     if arguments.is_empty() {
         return Err(refusal(alloc, "max takes at least one argument"));
@@ -47,7 +47,7 @@ pub(crate) fn greatest(alloc: Global, arguments: Vec<Held<'_>>) -> Result<Value>
 
 /// The least of integers and of arrays of them, at every depth, or nil where there are none.
 pub(crate) fn least(alloc: Global, arguments: Vec<Held<'_>>) -> Result<Value>
-    ensures { Gives result (λ answer. answer ≡ least arguments.items) }
+    ensures { Gives result (λ answer. answer ≡ least arguments.entry.items) }
 {
     if arguments.is_empty() {
         return Err(refusal(alloc, "min takes at least one argument"));
@@ -60,7 +60,7 @@ pub(crate) fn least(alloc: Global, arguments: Vec<Held<'_>>) -> Result<Value>
 
 // The integers that some values are with each array opened, at every depth, if nothing else is there.
 fn opened_integers(alloc: Global, values: Vec<Held<'_>>) -> Result<Option<Vec<i64>>>
-    ensures ok { IfOk result (λ found. option_map (λ v. v.items) found ≡ all_of integer_of (all_opened values.items)) }
+    ensures ok { IfOk result (λ found. option_map (λ v. v.items) found ≡ all_of integer_of (all_opened values.entry.items)) }
     ensures err { IfErr result (λ e. e ≡ Error.MemoryError) }
 {
     let opened = all_opened(alloc, values)?;
