@@ -7,8 +7,8 @@ use Rattle.expr_builtins.proofs.collection.pairs_kept.Goals as goal
 
 pub returns-in_default-clause-ok : goal.returns-in_default-clause-ok
 returns-in_default-clause-ok c =
-    let turn = YieldsList-turn (YieldsList-from_vec {s = c.into_iter-item-iterator.result} c.args.items.entry.items (search rules) (search rules)) c.loop-item.yielded c.loop-item.item-iterator c.loop-item.yielded_by c.next.result c.next.new.self c.in-Some.item c.in-Some.is c.next.ensures.steps in
-    sym (all_of-refused pair_of c.args.items.entry.items (length c.loop-item.yielded) c.in-Some.item turn.0 turn.1 (sym c.in_ok-pair.ensures.ok ∙ c.in_default.is))
+    let turn = YieldsList-turn (YieldsList-from_vec {s = c.into_iter-item-iterator.result} c.args.items.items (search rules) (search rules)) c.loop-item.yielded c.loop-item.item-iterator c.loop-item.yielded_by c.next.result c.next.new.self c.in-Some.item c.in-Some.is c.next.ensures.steps in
+    sym (all_of-refused pair_of c.args.items.items (length c.loop-item.yielded) c.in-Some.item turn.0 turn.1 (sym c.in_ok-pair.ensures.ok ∙ c.in_default.is))
 
 pub loop-item-preserved : goal.loop-item-preserved
 loop-item-preserved c =
