@@ -6,7 +6,7 @@ ghost use Rattle.expr_operators.specs.Positions.{indexed, sliced};
 use crate::messages::not_indexed;
 use crate::positions::{index, slice, slice_lent, take_item};
 use expr_held::{Held, Holding};
-use expr_value::{Items, Result, Value};
+use expr_value::{Items, Result, Value, ValueMap};
 use std::alloc::Global;
 
 /// What a value has at a key: a part of a lent value is lent, and an item of an array of its own is moved out.
@@ -34,13 +34,26 @@ pub fn slice_of(
     }
 }
 
-/// What a value that is given has at a key: an item of an array is moved out, and another part is copied.
+/// What a value that is given has at a key, moved out.
 fn part_of_own(alloc: Global, value: Value, key: &Value, optional: bool) -> Result<Value>
     ensures { Is result (indexed value key.now optional) }
 {
     match value {
         Value::Array(items) => item_of_own(alloc, items, key, optional),
+        Value::Map(map) => field_of_own(alloc, map, key, optional),
+        Value::KeyedMap(map) => Ok(map.into_value(key).unwrap_or(Value::Nil)),
         other => index(alloc, &other, key, optional)?.into_value(),
+    }
+}
+
+/// The field of a map that is given, moved out.
+fn field_of_own(alloc: Global, map: ValueMap, key: &Value, optional: bool) -> Result<Value>
+    ensures { Is result (indexed (Value.Map map) key.now optional) }
+{
+    match key {
+        Value::String(name) => Ok(map.into_value(name.as_str()).unwrap_or(Value::Nil)),
+        _ if optional => Ok(Value::Nil),
+        _ => Err(not_indexed(alloc, &Value::Map(map), key)),
     }
 }
 
