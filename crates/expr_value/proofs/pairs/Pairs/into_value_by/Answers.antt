@@ -1,4 +1,4 @@
-use Rattle.std.proofs.Common.{slice_get, ap, ◌∙◌, sym}
+use Rattle.std.proofs.Common.{ap, ◌∙◌, sym}
 use Rattle.std.specs.Map.{lookup}
 use Rattle.expr_value.proofs.Beside.{find_beside, find_none_beside}
 use Rattle.expr_value.proofs.pairs.Pairs.into_value_by.Goals as goal
