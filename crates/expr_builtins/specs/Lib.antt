@@ -1,4 +1,5 @@
 pub mod Arguments
+pub mod Arrays
 pub mod Bits
 pub mod Calls
 pub mod Collections

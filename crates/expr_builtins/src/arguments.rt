@@ -2,48 +2,51 @@
 ghost use Rattle.std.specs.Prelude.{◌≡◌};
 ghost use Rattle.std.specs.Option.{option_copied, option_map};
 ghost use Rattle.expr_value.specs.Values.{integer_of, items_of};
+ghost use Rattle.expr_builtins.specs.Arrays.{items_held};
 ghost use Rattle.expr_builtins.specs.Arguments.{one_integer, two_integers, one_text, two_texts, two_texts_and_limit, one_or_two_texts, text_and_integer, three_texts_and_limit, array_and_text, one_of, two_of, any_value};
 
+use crate::array::{Array, array_of};
+use expr_held::Held;
 use expr_value::Value;
 
-pub(crate) fn one_integer(arguments: &[Value]) -> Option<i64>
+pub(crate) fn one_integer(arguments: &[Held<'_>]) -> Option<i64>
     ensures { result ≡ one_integer arguments.now }
 {
     match arguments {
-        [number] => number.as_integer(),
+        [number] => number.get().as_integer(),
         _ => None,
     }
 }
 
-pub(crate) fn two_integers(arguments: &[Value]) -> Option<(i64, i64)>
+pub(crate) fn two_integers(arguments: &[Held<'_>]) -> Option<(i64, i64)>
     ensures { result ≡ two_integers arguments.now }
 {
     match arguments {
-        [first, second] => Some((first.as_integer()?, second.as_integer()?)),
+        [first, second] => Some((first.get().as_integer()?, second.get().as_integer()?)),
         _ => None,
     }
 }
 
-pub(crate) fn one_text(arguments: &[Value]) -> Option<&str>
+pub(crate) fn one_text<'a>(arguments: &'a [Held<'_>]) -> Option<&'a str>
     ensures { option_map (λ s. s.now) result ≡ one_text arguments.now }
 {
     match arguments {
-        [text] => text.as_string(),
+        [text] => text.get().as_string(),
         _ => None,
     }
 }
 
-pub(crate) fn two_texts(arguments: &[Value]) -> Option<(&str, &str)>
+pub(crate) fn two_texts<'a>(arguments: &'a [Held<'_>]) -> Option<(&'a str, &'a str)>
     ensures { option_map (λ p. (p.0.now, p.1.now)) result ≡ two_texts arguments.now }
 {
     match arguments {
-        [first, second] => Some((first.as_string()?, second.as_string()?)),
+        [first, second] => Some((first.get().as_string()?, second.get().as_string()?)),
         _ => None,
     }
 }
 
 // The limit is -1 where it isn't given.
-pub(crate) fn two_texts_and_limit(arguments: &[Value]) -> Option<(&str, &str, i64)>
+pub(crate) fn two_texts_and_limit<'a>(arguments: &'a [Held<'_>]) -> Option<(&'a str, &'a str, i64)>
     ensures { option_map (λ p. (p.0.now, p.1.now, p.2)) result ≡ two_texts_and_limit arguments.now }
 {
     let [first, second, rest @ ..] = arguments else {
@@ -51,34 +54,36 @@ pub(crate) fn two_texts_and_limit(arguments: &[Value]) -> Option<(&str, &str, i6
     };
     let limit = match rest {
         [] => -1,
-        [limit] => limit.as_integer()?,
+        [limit] => limit.get().as_integer()?,
         _ => return None,
     };
-    Some((first.as_string()?, second.as_string()?, limit))
+    Some((first.get().as_string()?, second.get().as_string()?, limit))
 }
 
 // The second text is empty where it isn't given.
-pub(crate) fn one_or_two_texts(arguments: &[Value]) -> Option<(&str, &str)>
+pub(crate) fn one_or_two_texts<'a>(arguments: &'a [Held<'_>]) -> Option<(&'a str, &'a str)>
     ensures { option_map (λ p. (p.0.now, p.1.now)) result ≡ one_or_two_texts arguments.now }
 {
     match arguments {
-        [text] => Some((text.as_string()?, "")),
-        [first, second] => Some((first.as_string()?, second.as_string()?)),
+        [text] => Some((text.get().as_string()?, "")),
+        [first, second] => Some((first.get().as_string()?, second.get().as_string()?)),
         _ => None,
     }
 }
 
-pub(crate) fn text_and_integer(arguments: &[Value]) -> Option<(&str, i64)>
+pub(crate) fn text_and_integer<'a>(arguments: &'a [Held<'_>]) -> Option<(&'a str, i64)>
     ensures { option_map (λ p. (p.0.now, p.1)) result ≡ text_and_integer arguments.now }
 {
     match arguments {
-        [text, number] => Some((text.as_string()?, number.as_integer()?)),
+        [text, number] => Some((text.get().as_string()?, number.get().as_integer()?)),
         _ => None,
     }
 }
 
 // The limit is -1 where it isn't given.
-pub(crate) fn three_texts_and_limit(arguments: &[Value]) -> Option<(&str, &str, &str, i64)>
+pub(crate) fn three_texts_and_limit<'a>(
+    arguments: &'a [Held<'_>],
+) -> Option<(&'a str, &'a str, &'a str, i64)>
     ensures { option_map (λ p. ((p.0.now, p.1.now), (p.2.now, p.3))) result ≡ three_texts_and_limit arguments.now }
 {
     let [first, second, third, rest @ ..] = arguments else {
@@ -86,75 +91,58 @@ pub(crate) fn three_texts_and_limit(arguments: &[Value]) -> Option<(&str, &str, 
     };
     let limit = match rest {
         [] => -1,
-        [limit] => limit.as_integer()?,
+        [limit] => limit.get().as_integer()?,
         _ => return None,
     };
-    let first = first.as_string()?;
-    let second = second.as_string()?;
-    Some((first, second, third.as_string()?, limit))
+    let first = first.get().as_string()?;
+    let second = second.get().as_string()?;
+    Some((first, second, third.get().as_string()?, limit))
 }
 
-pub(crate) fn one_value(arguments: &[Value]) -> Option<&Value>
+pub(crate) fn one_value<'a>(arguments: &'a [Held<'_>]) -> Option<&'a Value>
     ensures { option_copied result ≡ one_of any_value arguments.now }
 {
     match arguments {
-        [value] => Some(value),
+        [value] => Some(value.get()),
         _ => None,
     }
 }
 
-pub(crate) fn two_values(arguments: &[Value]) -> Option<(&Value, &Value)>
+pub(crate) fn two_values<'a>(arguments: &'a [Held<'_>]) -> Option<(&'a Value, &'a Value)>
     ensures { option_map (λ p. (p.0.now, p.1.now)) result ≡ two_of any_value any_value arguments.now }
 {
     match arguments {
-        [first, second] => Some((first, second)),
+        [first, second] => Some((first.get(), second.get())),
         _ => None,
     }
 }
 
 // The separator is empty where it isn't given.
-pub(crate) fn array_and_text(arguments: &[Value]) -> Option<(&[Value], &str)>
+pub(crate) fn array_and_text<'a>(arguments: &'a [Held<'_>]) -> Option<(&'a [Value], &'a str)>
     ensures { option_map (λ p. (p.0.now, p.1.now)) result ≡ array_and_text arguments.now }
 {
     match arguments {
-        [array] => Some((array.as_array()?, "")),
-        [array, text] => Some((array.as_array()?, text.as_string()?)),
+        [array] => Some((array.get().as_array()?, "")),
+        [array, text] => Some((array.get().as_array()?, text.get().as_string()?)),
         _ => None,
     }
 }
 
-// The items of an array.
-pub(crate) fn into_items(value: Value) -> Option<Vec<Value>>
-    ensures { option_map (λ v. v.items) result ≡ items_of value }
-{
-    match value {
-        Value::Array(items) => Some(items.into_vec()),
-        _ => None,
-    }
-}
-
-// The items of an array, which are moved out of it.
-fn items_moved(value: &mut Value) -> Option<Vec<Value>>
-    ensures { option_map (λ v. v.items) result ≡ items_of value.old }
-{
-    into_items(std::mem::take(value))
-}
-
-pub(crate) fn one_array(arguments: &mut [Value]) -> Option<Vec<Value>>
-    ensures { option_map (λ v. v.items) result ≡ one_of items_of arguments.old }
+pub(crate) fn one_array<'a>(arguments: &mut [Held<'a>]) -> Option<Array<'a>>
+    ensures { option_map items_held result ≡ one_of items_of arguments.old }
 {
     match arguments {
-        [array] => items_moved(array),
+        [array] => array_of(array.take_holding()),
         _ => None,
     }
 }
 
-pub(crate) fn array_and_integer(arguments: &mut [Value]) -> Option<(Vec<Value>, i64)>
-    ensures { option_map (λ p. (p.0.items, p.1)) result ≡ two_of items_of integer_of arguments.old }
+pub(crate) fn array_and_integer<'a>(arguments: &mut [Held<'a>]) -> Option<(Array<'a>, i64)>
+    ensures { option_map (λ p. (items_held p.0, p.1)) result ≡ two_of items_of integer_of arguments.old }
 {
     let [_, number] = &*arguments else {
         return None;
     };
-    let number = number.as_integer()?;
-    Some((items_moved(&mut arguments[0])?, number))
+    let number = number.get().as_integer()?;
+    Some((array_of(arguments[0].take_holding())?, number))
 }

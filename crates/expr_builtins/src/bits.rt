@@ -4,11 +4,12 @@ ghost use Rattle.expr_value.specs.Answers.{Gives};
 ghost use Rattle.expr_builtins.specs.Bits.{bitand, bitor, bitxor, bitnand, bitnot, bitshl, bitshr, bitushr, shifted_left, shifted_right, shifted_unsigned};
 
 use crate::arguments::{one_integer, two_integers};
+use expr_held::Held;
 use expr_value::{Result, Value, refusal};
 use std::alloc::Global;
 
 /// The bits that are set in both integers.
-pub(crate) fn bitand(alloc: Global, arguments: &[Value]) -> Result<Value>
+pub(crate) fn bitand(alloc: Global, arguments: &[Held<'_>]) -> Result<Value>
     ensures { Gives result (λ answer. answer ≡ bitand arguments.now) }
 {
     let Some((a, b)) = two_integers(arguments) else {
@@ -18,7 +19,7 @@ pub(crate) fn bitand(alloc: Global, arguments: &[Value]) -> Result<Value>
 }
 
 /// The bits that are set in either integer.
-pub(crate) fn bitor(alloc: Global, arguments: &[Value]) -> Result<Value>
+pub(crate) fn bitor(alloc: Global, arguments: &[Held<'_>]) -> Result<Value>
     ensures { Gives result (λ answer. answer ≡ bitor arguments.now) }
 {
     let Some((a, b)) = two_integers(arguments) else {
@@ -28,7 +29,7 @@ pub(crate) fn bitor(alloc: Global, arguments: &[Value]) -> Result<Value>
 }
 
 /// The bits that are set in one integer alone.
-pub(crate) fn bitxor(alloc: Global, arguments: &[Value]) -> Result<Value>
+pub(crate) fn bitxor(alloc: Global, arguments: &[Held<'_>]) -> Result<Value>
     ensures { Gives result (λ answer. answer ≡ bitxor arguments.now) }
 {
     let Some((a, b)) = two_integers(arguments) else {
@@ -38,7 +39,7 @@ pub(crate) fn bitxor(alloc: Global, arguments: &[Value]) -> Result<Value>
 }
 
 /// The first integer with the bits of the second cleared.
-pub(crate) fn bitnand(alloc: Global, arguments: &[Value]) -> Result<Value>
+pub(crate) fn bitnand(alloc: Global, arguments: &[Held<'_>]) -> Result<Value>
     ensures { Gives result (λ answer. answer ≡ bitnand arguments.now) }
 {
     let Some((a, b)) = two_integers(arguments) else {
@@ -48,7 +49,7 @@ pub(crate) fn bitnand(alloc: Global, arguments: &[Value]) -> Result<Value>
 }
 
 /// The bits that are not set in an integer.
-pub(crate) fn bitnot(alloc: Global, arguments: &[Value]) -> Result<Value>
+pub(crate) fn bitnot(alloc: Global, arguments: &[Held<'_>]) -> Result<Value>
     ensures { Gives result (λ answer. answer ≡ bitnot arguments.now) }
 {
     let Some(a) = one_integer(arguments) else {
@@ -90,7 +91,7 @@ fn shifted_unsigned(a: i64, count: u64) -> i64
 }
 
 /// An integer shifted to the left. A count below 0 is refused; bits shifted out are lost.
-pub(crate) fn bitshl(alloc: Global, arguments: &[Value]) -> Result<Value>
+pub(crate) fn bitshl(alloc: Global, arguments: &[Held<'_>]) -> Result<Value>
     ensures { Gives result (λ answer. answer ≡ bitshl arguments.now) }
 {
     let Some((a, count)) = two_integers(arguments) else {
@@ -103,7 +104,7 @@ pub(crate) fn bitshl(alloc: Global, arguments: &[Value]) -> Result<Value>
 }
 
 /// An integer shifted to the right, with its sign kept. A count below 0 is refused.
-pub(crate) fn bitshr(alloc: Global, arguments: &[Value]) -> Result<Value>
+pub(crate) fn bitshr(alloc: Global, arguments: &[Held<'_>]) -> Result<Value>
     ensures { Gives result (λ answer. answer ≡ bitshr arguments.now) }
 {
     let Some((a, count)) = two_integers(arguments) else {
@@ -116,7 +117,7 @@ pub(crate) fn bitshr(alloc: Global, arguments: &[Value]) -> Result<Value>
 }
 
 /// An integer shifted to the right, with zeros from the left. A count below 0 is refused.
-pub(crate) fn bitushr(alloc: Global, arguments: &[Value]) -> Result<Value>
+pub(crate) fn bitushr(alloc: Global, arguments: &[Held<'_>]) -> Result<Value>
     ensures { Gives result (λ answer. answer ≡ bitushr arguments.now) }
 {
     let Some((a, count)) = two_integers(arguments) else {

@@ -4,6 +4,7 @@ ghost use Rattle.expr_value.specs.Answers.{Gives};
 ghost use Rattle.expr_builtins.specs.Calls.{Called, name_of};
 
 use crate::{bits, collection, convert, distinct, indices, nested, number, text, trimmed};
+use expr_held::Held;
 use expr_value::{Result, Value};
 use std::alloc::Global;
 use std::mem;
@@ -117,16 +118,16 @@ impl Builtin {
         }
     }
 
-    /// What the built-in gives on these arguments, which the call owns. Other numbers and kinds of arguments than it
-    /// takes are refused with [`expr_value::Error::ExprError`].
-    pub fn call(self, alloc: Global, mut arguments: Vec<Value>) -> Result<Value>
-        ensures { Gives result (Called self arguments.items) }
+    /// What the built-in gives on these arguments. What it keeps of them is moved out of values of its own and copied of
+    /// lent ones. Other numbers and kinds of arguments than it takes are refused with [`expr_value::Error::ExprError`].
+    pub fn call(self, alloc: Global, mut arguments: Vec<Held<'_>>) -> Result<Value>
+        ensures { Gives result (Called self arguments.entry.items) }
     {
         self.answer(alloc, &mut arguments)
     }
 
     // Some move what they answer out of the arguments.
-    fn answer(self, alloc: Global, arguments: &mut Vec<Value>) -> Result<Value>
+    fn answer(self, alloc: Global, arguments: &mut Vec<Held<'_>>) -> Result<Value>
         ensures { Gives result (Called self arguments.old.items) }
     {
         match self {

@@ -1,22 +1,23 @@
 //! The calls on arrays and maps.
-ghost use Rattle.std.specs.Prelude.{◌≡◌, ◌≢◌, ◌-◌, ◌++◌, None, Some, Ok, map, length, unwrap_or, IfOk, IfErr};
+ghost use Rattle.std.specs.Prelude.{◌≡◌, ◌≢◌, ◌-◌, ◌++◌, None, Some, Ok, map, length, unwrap_or, IfOk, IfErr, OnOk};
 ghost use Rattle.std.specs.Option.{option_copied, option_map};
 ghost use Rattle.std.specs.Str.{chars};
 ghost use Rattle.expr_value.specs.Fault.{fault_of, memory, evaluation};
 ghost use Rattle.expr_value.specs.Values.{of_key, string_of, items_of};
 ghost use Rattle.expr_value.specs.Answers.{Gives};
 ghost use Rattle.expr_builtins.specs.Arguments.{all_of};
+ghost use Rattle.expr_builtins.specs.Arrays.{items_held};
 ghost use Rattle.expr_builtins.specs.Collections.{len, size_of, first, last, item_or_nil, take_items, taken, reversed, keys, values, to_pairs, from_pairs, get, join, concat, pair_of, two_items, in_a_row, item_from, or_nil, pair, named_pair, keyed_pair};
 
-use crate::arguments::{
-    array_and_integer, array_and_text, into_items, one_array, one_value, two_values,
-};
+use crate::arguments::{array_and_integer, array_and_text, one_array, one_value, two_values};
+use crate::array::{Array, array_of, count_items, each_held, first_items, into_items, item_at};
 use crate::cuts::joined;
+use expr_held::Held;
 use expr_value::{Error, Items, Key, KeyedMap, Result, Text, Value, ValueMap, refusal};
-use std::alloc::Global;
+use std::alloc::{AllocError, Global};
 
 /// How many items, characters, bytes or pairs there are.
-pub(crate) fn len(alloc: Global, arguments: &[Value]) -> Result<Value>
+pub(crate) fn len(alloc: Global, arguments: &[Held<'_>]) -> Result<Value>
     ensures { Gives result (λ answer. answer ≡ len arguments.now) }
 {
     let Some(value) = one_value(arguments) else {
@@ -48,59 +49,54 @@ fn characters(text: &str) -> usize
 }
 
 /// The first item of an array, or nil.
-pub(crate) fn first(alloc: Global, arguments: &mut [Value]) -> Result<Value>
+pub(crate) fn first(alloc: Global, arguments: &mut [Held<'_>]) -> Result<Value>
     ensures { Gives result (λ answer. answer ≡ first arguments.old) }
 {
-    let Some(mut items) = one_array(arguments) else {
+    let Some(array) = one_array(arguments) else {
         return Err(refusal(alloc, "first takes an array"));
     };
-    if items.is_empty() {
-        return Ok(Value::Nil);
-    }
-    Ok(std::mem::take(&mut items[0]))
+    item_at(array, 0)
 }
 
 /// The last item of an array, or nil.
-pub(crate) fn last(alloc: Global, arguments: &mut [Value]) -> Result<Value>
+pub(crate) fn last(alloc: Global, arguments: &mut [Held<'_>]) -> Result<Value>
     ensures { Gives result (λ answer. answer ≡ last arguments.old) }
 {
-    let Some(mut items) = one_array(arguments) else {
+    let Some(array) = one_array(arguments) else {
         return Err(refusal(alloc, "last takes an array"));
     };
-    if items.is_empty() {
-        return Ok(Value::Nil);
-    }
-    let last = items.len() - 1;
-    Ok(std::mem::take(&mut items[last]))
+    let last = count_items(&array).saturating_sub(1);
+    item_at(array, last)
 }
 
 /// The first items of an array, so many.
-pub(crate) fn take_items(alloc: Global, arguments: &mut [Value]) -> Result<Value>
+pub(crate) fn take_items(alloc: Global, arguments: &mut [Held<'_>]) -> Result<Value>
     ensures { Gives result (λ answer. answer ≡ take_items arguments.old) }
 {
-    let Some((mut items, count)) = array_and_integer(arguments) else {
+    let Some((array, count)) = array_and_integer(arguments) else {
         return Err(refusal(alloc, "take takes an array and an integer"));
     };
     if count < 0 {
         return Err(refusal(alloc, "take takes no count below 0"));
     }
-    items.truncate(count as usize);
+    let items = first_items(alloc, array, count as usize)?;
     Ok(Value::Array(Items::from_vec(items)))
 }
 
 /// The items of an array, the last first.
-pub(crate) fn reversed(alloc: Global, arguments: &mut [Value]) -> Result<Value>
+pub(crate) fn reversed(alloc: Global, arguments: &mut [Held<'_>]) -> Result<Value>
     ensures { Gives result (λ answer. answer ≡ reversed arguments.old) }
 {
-    let Some(mut items) = one_array(arguments) else {
+    let Some(array) = one_array(arguments) else {
         return Err(refusal(alloc, "reverse takes an array"));
     };
+    let mut items = into_items(alloc, array)?;
     items.reverse();
     Ok(Value::Array(Items::from_vec(items)))
 }
 
 /// The keys of a map, in its order.
-pub(crate) fn keys(alloc: Global, arguments: &[Value]) -> Result<Value>
+pub(crate) fn keys(alloc: Global, arguments: &[Held<'_>]) -> Result<Value>
     ensures { Gives result (λ answer. answer ≡ keys arguments.now) }
 {
     let Some(value) = one_value(arguments) else {
@@ -136,7 +132,7 @@ fn scalars(alloc: Global, keys: &[Key]) -> Result<Value>
 }
 
 /// The values of a map, in its order.
-pub(crate) fn values(alloc: Global, arguments: &[Value]) -> Result<Value>
+pub(crate) fn values(alloc: Global, arguments: &[Held<'_>]) -> Result<Value>
     ensures { Gives result (λ answer. answer ≡ values arguments.now) }
 {
     let Some(value) = one_value(arguments) else {
@@ -156,7 +152,7 @@ pub(crate) fn values(alloc: Global, arguments: &[Value]) -> Result<Value>
 }
 
 /// What a value has at a key, or nil.
-pub(crate) fn get(alloc: Global, arguments: &[Value]) -> Result<Value>
+pub(crate) fn get(alloc: Global, arguments: &[Held<'_>]) -> Result<Value>
     ensures { Gives result (λ answer. answer ≡ get arguments.now) }
 {
     let Some((value, key)) = two_values(arguments) else {
@@ -201,7 +197,7 @@ fn item<T>(items: &[T], place: i64) -> Option<&T>
 }
 
 /// The texts of an array, with a separator between.
-pub(crate) fn join(alloc: Global, arguments: &[Value]) -> Result<Value>
+pub(crate) fn join(alloc: Global, arguments: &[Held<'_>]) -> Result<Value>
     ensures { Gives result (λ answer. answer ≡ join arguments.now) }
 {
     let Some((items, separator)) = array_and_text(arguments) else {
@@ -230,7 +226,7 @@ fn texts(alloc: Global, items: &[Value]) -> Result<Option<Vec<&str>>>
 }
 
 /// The pairs of a map, in its order, as arrays of two.
-pub(crate) fn to_pairs(alloc: Global, arguments: &[Value]) -> Result<Value>
+pub(crate) fn to_pairs(alloc: Global, arguments: &[Held<'_>]) -> Result<Value>
     ensures { Gives result (λ answer. answer ≡ to_pairs arguments.now) }
 {
     let Some(value) = one_value(arguments) else {
@@ -282,26 +278,27 @@ fn pair(alloc: Global, key: Value, value: &Value) -> Result<Value>
 }
 
 /// A map of arrays of two. A repeated key stays as first given, in its place, and takes the later value.
-pub(crate) fn from_pairs(alloc: Global, arguments: &mut [Value]) -> Result<Value>
+pub(crate) fn from_pairs(alloc: Global, arguments: &mut [Held<'_>]) -> Result<Value>
     ensures { Gives result (λ answer. answer ≡ from_pairs arguments.old) }
 {
-    let Some(items) = one_array(arguments) else {
+    let Some(array) = one_array(arguments) else {
         return Err(refusal(alloc, "fromPairs takes an array"));
     };
-    let Some(pairs) = pairs_moved(alloc, items)? else {
+    let items = each_held(alloc, array)?;
+    let Some(pairs) = pairs_kept(alloc, items)? else {
         return Err(refusal(alloc, "fromPairs takes an array of arrays of two"));
     };
     let map = KeyedMap::from_pairs(alloc, pairs)?;
     Ok(Value::KeyedMap(map))
 }
 
-fn pairs_moved(alloc: Global, items: Vec<Value>) -> Result<Option<Vec<(Value, Value)>>>
-    ensures ok { IfOk result (λ found. option_map (λ v. v.items) found ≡ all_of pair_of items.items) }
+fn pairs_kept(alloc: Global, items: Vec<Held<'_>>) -> Result<Option<Vec<(Value, Value)>>>
+    ensures ok { IfOk result (λ found. option_map (λ v. v.items) found ≡ all_of pair_of items.entry.items) }
     ensures err { IfErr result (λ e. e ≡ Error.MemoryError) }
 {
     let mut pairs = Vec::with_capacity(alloc, items.len())?;
     for item in items {
-        let Some(pair) = pair_moved(item) else {
+        let Some(pair) = pair_kept(item)? else {
             return Ok(None);
         };
         pairs.push(pair)?;
@@ -309,11 +306,15 @@ fn pairs_moved(alloc: Global, items: Vec<Value>) -> Result<Option<Vec<(Value, Va
     Ok(Some(pairs))
 }
 
-fn pair_moved(value: Value) -> Option<(Value, Value)>
-    ensures { result ≡ pair_of value }
+fn pair_kept(value: Held<'_>) -> Result<Option<(Value, Value)>>
+    ensures ok { IfOk result (λ found. found ≡ pair_of value.entry) }
+    ensures err { IfErr result (λ e. e ≡ Error.MemoryError) }
 {
-    let mut items = into_items(value)?;
-    both_moved(&mut items)
+    match array_of(value.into_holding()) {
+        Some(Array::Own(items)) => Ok(both_moved(&mut items.into_vec())),
+        Some(Array::Lent(items)) => both_copied(items.as_slice()),
+        None => Ok(None),
+    }
 }
 
 fn both_moved(items: &mut [Value]) -> Option<(Value, Value)>
@@ -325,47 +326,52 @@ fn both_moved(items: &mut [Value]) -> Option<(Value, Value)>
     Some((std::mem::take(&mut items[0]), std::mem::take(&mut items[1])))
 }
 
+fn both_copied(items: &[Value]) -> Result<Option<(Value, Value)>>
+    ensures ok { IfOk result (λ found. found ≡ two_items items.now) }
+    ensures err { IfErr result (λ e. e ≡ Error.MemoryError) }
+{
+    match items {
+        [key, value] => Ok(Some((key.clone()?, value.clone()?))),
+        _ => Ok(None),
+    }
+}
+
 /// The items of some arrays, one array after the other.
-pub(crate) fn concat(alloc: Global, arguments: Vec<Value>) -> Result<Value>
-    ensures { Gives result (λ answer. answer ≡ concat arguments.items) }
+pub(crate) fn concat(alloc: Global, arguments: Vec<Held<'_>>) -> Result<Value>
+    ensures { Gives result (λ answer. answer ≡ concat arguments.entry.items) }
 {
     if arguments.is_empty() {
         return Err(refusal(alloc, "concat takes at least one array"));
     }
-    let Some(items) = appended(alloc, arguments)? else {
+    let Some(items) = appended(Vec::new(alloc), arguments)? else {
         return Err(refusal(alloc, "concat takes arrays"));
     };
     Ok(Value::Array(Items::from_vec(items)))
 }
 
-fn appended(alloc: Global, arrays: Vec<Value>) -> Result<Option<Vec<Value>>>
-    ensures ok { IfOk result (λ found. option_map (λ v. v.items) found ≡ option_map in_a_row (all_of items_of arrays.items)) }
-    ensures err { IfErr result (λ e. e ≡ Error.MemoryError) }
-{
-    let mut rest = arrays;
-    if rest.is_empty() {
-        return Ok(Some(Vec::new(alloc)));
-    }
-    let Some(first) = into_items(rest.remove(0)) else {
-        return Ok(None);
-    };
-    extended(first, rest)
-}
-
 // Grows once, by what there is in all the arrays.
-fn extended(front: Vec<Value>, arrays: Vec<Value>) -> Result<Option<Vec<Value>>>
-    ensures ok { IfOk result (λ found. option_map (λ v. v.items) found ≡ option_map (λ rows. front.items ++ in_a_row rows) (all_of items_of arrays.items)) }
+fn appended(front: Vec<Value>, arrays: Vec<Held<'_>>) -> Result<Option<Vec<Value>>>
+    ensures ok { IfOk result (λ found. option_map (λ v. v.items) found ≡ option_map (λ rows. front.items ++ in_a_row rows) (all_of items_of arrays.entry.items)) }
     ensures err { IfErr result (λ e. e ≡ Error.MemoryError) }
 {
-    let items = arrays.iter().filter_map(|array| array.as_array());
+    let items = arrays.iter().filter_map(|array| array.get().as_array());
     let more = items.fold(0, |sum: usize, items| sum.saturating_add(items.len()));
     let mut all = front;
     all.reserve(more)?;
-    for array in arrays {
-        let Some(mut items) = into_items(array) else {
+    for value in arrays {
+        let Some(array) = array_of(value.into_holding()) else {
             return Ok(None);
         };
-        all.append(&mut items)?;
+        append(&mut all, array)?;
     }
     Ok(Some(all))
+}
+
+fn append(all: &mut Vec<Value>, array: Array<'_>) -> std::result::Result<(), AllocError>
+    ensures { OnOk result (all.new.items ≡ all.old.items ++ items_held array.entry) }
+{
+    match array {
+        Array::Own(items) => all.append(&mut items.into_vec()),
+        Array::Lent(items) => all.extend_from_slice(items.as_slice()),
+    }
 }

@@ -5,11 +5,12 @@ ghost use Rattle.expr_value.specs.Answers.{Gives};
 ghost use Rattle.expr_builtins.specs.Conversions.{Int, Read, string, kind_text, type_name};
 
 use crate::arguments::one_value;
+use expr_held::Held;
 use expr_value::{Result, Text, Value, refusal};
 use std::alloc::Global;
 
 /// An integer itself, or the integer of a text: an optional sign and ASCII digits, within 64 bits.
-pub(crate) fn int(alloc: Global, arguments: &[Value]) -> Result<Value>
+pub(crate) fn int(alloc: Global, arguments: &[Held<'_>]) -> Result<Value>
     ensures { Gives result (Int arguments.now) }
 {
     let Some(value) = one_value(arguments) else {
@@ -32,7 +33,7 @@ fn read(alloc: Global, text: &str) -> Result<Value>
 }
 
 /// The text of a value: a text itself, and the pairs of a map in the order of their keys.
-pub(crate) fn string(alloc: Global, arguments: &[Value]) -> Result<Value>
+pub(crate) fn string(alloc: Global, arguments: &[Held<'_>]) -> Result<Value>
     ensures { Gives result (λ answer. answer ≡ string arguments.now) }
 {
     let Some(value) = one_value(arguments) else {
@@ -43,7 +44,7 @@ pub(crate) fn string(alloc: Global, arguments: &[Value]) -> Result<Value>
 }
 
 /// The name of a value's kind.
-pub(crate) fn type_name(alloc: Global, arguments: &[Value]) -> Result<Value>
+pub(crate) fn type_name(alloc: Global, arguments: &[Held<'_>]) -> Result<Value>
     ensures { Gives result (λ answer. answer ≡ type_name arguments.now) }
 {
     let Some(value) = one_value(arguments) else {

@@ -4,23 +4,25 @@ ghost use Rattle.expr_value.specs.Answers.{Gives};
 ghost use Rattle.expr_builtins.specs.Distinct.{uniq, distinct, with_new};
 
 use crate::arguments::one_array;
+use crate::array::each_held;
+use expr_held::Held;
 use expr_value::{Error, Items, Result, Value, refusal};
-use std::alloc::{AllocError, Global};
+use std::alloc::Global;
 
 /// The items of an array that equal no earlier one.
-pub(crate) fn uniq(alloc: Global, arguments: &mut [Value]) -> Result<Value>
+pub(crate) fn uniq(alloc: Global, arguments: &mut [Held<'_>]) -> Result<Value>
     ensures { Gives result (λ answer. answer ≡ uniq arguments.old) }
 {
-    let Some(items) = one_array(arguments) else {
+    let Some(array) = one_array(arguments) else {
         return Err(refusal(alloc, "uniq takes an array"));
     };
-    let items = distinct(alloc, items)?;
+    let items = distinct(alloc, each_held(alloc, array)?)?;
     Ok(Value::Array(Items::from_vec(items)))
 }
 
 // Each item is compared with all that are kept before it.
-fn distinct(alloc: Global, items: Vec<Value>) -> Result<Vec<Value>>
-    ensures ok { IfOk result (λ kept. kept.items ≡ distinct items.items) }
+fn distinct(alloc: Global, items: Vec<Held<'_>>) -> Result<Vec<Value>>
+    ensures ok { IfOk result (λ kept. kept.items ≡ distinct items.entry.items) }
     ensures err { IfErr result (λ e. e ≡ Error.MemoryError) }
 {
     let mut kept = Vec::new(alloc);
@@ -30,12 +32,13 @@ fn distinct(alloc: Global, items: Vec<Value>) -> Result<Vec<Value>>
     Ok(kept)
 }
 
-fn keep(kept: &mut Vec<Value>, item: Value) -> std::result::Result<(), AllocError>
-    ensures { OnOk result (kept.new.items ≡ with_new kept.old.items item) }
+fn keep(kept: &mut Vec<Value>, item: Held<'_>) -> Result<()>
+    ensures ok { OnOk result (kept.new.items ≡ with_new kept.old.items item.entry) }
+    ensures err { IfErr result (λ e. e ≡ Error.MemoryError) }
 {
-    if kept.contains(&item) {
+    if kept.contains(item.get()) {
         return Ok(());
     }
-    kept.push(item)?;
+    kept.push(item.into_value()?)?;
     Ok(())
 }

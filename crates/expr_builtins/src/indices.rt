@@ -4,11 +4,12 @@ ghost use Rattle.expr_value.specs.Answers.{Gives};
 ghost use Rattle.expr_builtins.specs.Indices.{index_of, last_index_of, least_place, greatest_place, place_or_less};
 
 use crate::arguments::two_texts;
+use expr_held::Held;
 use expr_value::{Result, Value, refusal};
 use std::alloc::Global;
 
 /// The least place, in bytes, where a text stands in another, or -1.
-pub(crate) fn index_of(alloc: Global, arguments: &[Value]) -> Result<Value>
+pub(crate) fn index_of(alloc: Global, arguments: &[Held<'_>]) -> Result<Value>
     ensures { Gives result (λ answer. answer ≡ index_of arguments.now) }
 {
     let Some((text, sought)) = two_texts(arguments) else {
@@ -18,7 +19,7 @@ pub(crate) fn index_of(alloc: Global, arguments: &[Value]) -> Result<Value>
 }
 
 /// The greatest place, in bytes, where a text stands in another, or -1.
-pub(crate) fn last_index_of(alloc: Global, arguments: &[Value]) -> Result<Value>
+pub(crate) fn last_index_of(alloc: Global, arguments: &[Held<'_>]) -> Result<Value>
     ensures { Gives result (λ answer. answer ≡ last_index_of arguments.now) }
 {
     let Some((text, sought)) = two_texts(arguments) else {

@@ -2,34 +2,39 @@
 ghost use Rattle.std.specs.Prelude.{◌≡◌, None, IfOk, IfErr};
 ghost use Rattle.expr_value.specs.Answers.{Gives};
 ghost use Rattle.expr_value.specs.Values.{items_of};
+ghost use Rattle.expr_builtins.specs.Arrays.{items_held};
 ghost use Rattle.expr_builtins.specs.Nested.{flatten, all_opened};
 
 use crate::arguments::one_array;
+use crate::array::{Array, each_held, each_kept};
+use expr_held::{Held, Holding};
 use expr_value::{Error, Items, Result, Value, refusal};
 use std::alloc::Global;
 
 /// An array without arrays in it: the items of each stand in its place, at every depth.
-pub(crate) fn flatten(alloc: Global, arguments: &mut [Value]) -> Result<Value>
+pub(crate) fn flatten(alloc: Global, arguments: &mut [Held<'_>]) -> Result<Value>
     ensures { Gives result (λ answer. answer ≡ flatten arguments.old) }
 {
-    let Some(items) = one_array(arguments) else {
+    let Some(array) = one_array(arguments) else {
         return Err(refusal(alloc, "flatten takes an array"));
     };
-    let items = all_opened(alloc, items)?;
+    let found = all_opened(alloc, each_held(alloc, array)?)?;
+    let items = each_kept(alloc, found)?;
     Ok(Value::Array(Items::from_vec(items)))
 }
 
 /// Values with each array opened, at every depth. The arrays that wait are held in a list, so that no depth takes stack.
-pub(crate) fn all_opened(alloc: Global, values: Vec<Value>) -> Result<Vec<Value>>
-    ensures ok { IfOk result (λ found. found.items ≡ all_opened values.items) }
+pub(crate) fn all_opened<'a>(alloc: Global, values: Vec<Held<'a>>) -> Result<Vec<Held<'a>>>
+    ensures ok { IfOk result (λ found. found.items ≡ all_opened values.entry.items) }
     ensures err { IfErr result (λ e. e ≡ Error.MemoryError) }
 {
     let mut waiting = values;
     waiting.reverse();
     let mut found = Vec::new(alloc);
     while let Some(value) = waiting.pop() {
-        match items_or_itself(value) {
-            Ok(mut items) => {
+        match array_or_itself(value) {
+            Ok(array) => {
+                let mut items = each_held(alloc, array)?;
                 items.reverse();
                 waiting.append(&mut items)?;
             }
@@ -39,14 +44,16 @@ pub(crate) fn all_opened(alloc: Global, values: Vec<Value>) -> Result<Vec<Value>
     Ok(found)
 }
 
-// The items of an array, or the value where it is none.
-fn items_or_itself(value: Value) -> std::result::Result<Vec<Value>, Value>
-    ensures items { IfOk result (λ items. value ≡ Value.Array items.items) }
-    ensures itself { IfErr result (λ same. same ≡ value) }
+// The array that a value is, or the value where it is none.
+fn array_or_itself(value: Held<'_>) -> std::result::Result<Array<'_>, Held<'_>>
+    ensures array { IfOk result (λ array. value.entry ≡ Value.Array (items_held array)) }
+    ensures itself { IfErr result (λ same. same ≡ value.entry) }
     ensures other { IfErr result (λ same. items_of same ≡ None) }
 {
-    match value {
-        Value::Array(items) => Ok(items.into_vec()),
-        other => Err(other),
+    match value.into_holding() {
+        Holding::Own(Value::Array(items)) => Ok(Array::Own(items)),
+        Holding::Lent(Value::Array(items)) => Ok(Array::Lent(items)),
+        Holding::Own(other) => Err(Held::own(other)),
+        Holding::Lent(other) => Err(Held::lent(other)),
     }
 }

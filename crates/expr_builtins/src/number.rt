@@ -11,11 +11,12 @@ ghost use Rattle.expr_builtins.specs.Numbers.{abs, chosen, greatest, least};
 
 use crate::arguments::one_integer;
 use crate::nested::all_opened;
+use expr_held::Held;
 use expr_value::{Error, Result, Value, refusal};
 use std::alloc::Global;
 
 /// An integer without its sign. The least integer is its own.
-pub(crate) fn abs(alloc: Global, arguments: &[Value]) -> Result<Value>
+pub(crate) fn abs(alloc: Global, arguments: &[Held<'_>]) -> Result<Value>
     ensures { Gives result (λ answer. answer ≡ abs arguments.now) }
 {
     let Some(a) = one_integer(arguments) else {
@@ -32,8 +33,8 @@ pub(crate) fn of_fractions(alloc: Global) -> Result<Value>
 }
 
 /// The greatest of integers and of arrays of them, at every depth, or nil where there are none.
-pub(crate) fn greatest(alloc: Global, arguments: Vec<Value>) -> Result<Value>
-    ensures { Gives result (λ answer. answer ≡ greatest arguments.items) }
+pub(crate) fn greatest(alloc: Global, arguments: Vec<Held<'_>>) -> Result<Value>
+    ensures { Gives result (λ answer. answer ≡ greatest arguments.entry.items) }
 {
     if arguments.is_empty() {
         return Err(refusal(alloc, "max takes at least one argument"));
@@ -45,8 +46,8 @@ pub(crate) fn greatest(alloc: Global, arguments: Vec<Value>) -> Result<Value>
 }
 
 /// The least of integers and of arrays of them, at every depth, or nil where there are none.
-pub(crate) fn least(alloc: Global, arguments: Vec<Value>) -> Result<Value>
-    ensures { Gives result (λ answer. answer ≡ least arguments.items) }
+pub(crate) fn least(alloc: Global, arguments: Vec<Held<'_>>) -> Result<Value>
+    ensures { Gives result (λ answer. answer ≡ least arguments.entry.items) }
 {
     if arguments.is_empty() {
         return Err(refusal(alloc, "min takes at least one argument"));
@@ -58,8 +59,8 @@ pub(crate) fn least(alloc: Global, arguments: Vec<Value>) -> Result<Value>
 }
 
 // The integers that some values are with each array opened, at every depth, if nothing else is there.
-fn opened_integers(alloc: Global, values: Vec<Value>) -> Result<Option<Vec<i64>>>
-    ensures ok { IfOk result (λ found. option_map (λ v. v.items) found ≡ all_of integer_of (all_opened values.items)) }
+fn opened_integers(alloc: Global, values: Vec<Held<'_>>) -> Result<Option<Vec<i64>>>
+    ensures ok { IfOk result (λ found. option_map (λ v. v.items) found ≡ all_of integer_of (all_opened values.entry.items)) }
     ensures err { IfErr result (λ e. e ≡ Error.MemoryError) }
 {
     let opened = all_opened(alloc, values)?;
@@ -67,13 +68,13 @@ fn opened_integers(alloc: Global, values: Vec<Value>) -> Result<Option<Vec<i64>>
 }
 
 // The integers that some values are, if each is one.
-fn integers(alloc: Global, values: &[Value]) -> Result<Option<Vec<i64>>>
+fn integers(alloc: Global, values: &[Held<'_>]) -> Result<Option<Vec<i64>>>
     ensures ok { IfOk result (λ found. option_map (λ v. v.items) found ≡ all_of integer_of values.now) }
     ensures err { IfErr result (λ e. e ≡ Error.MemoryError) }
 {
     let mut numbers = Vec::with_capacity(alloc, values.len())?;
     for i in 0..values.len() {
-        let Some(number) = values[i].as_integer() else {
+        let Some(number) = values[i].get().as_integer() else {
             return Ok(None);
         };
         numbers.push(number)?;

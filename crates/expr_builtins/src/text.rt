@@ -10,11 +10,12 @@ use crate::arguments::{
     two_texts_and_limit,
 };
 use crate::cuts::{parts, replaced};
+use expr_held::Held;
 use expr_value::{Error, Items, Result, Text, Value, refusal};
 use std::alloc::Global;
 
 /// Whether a text begins with another.
-pub(crate) fn has_prefix(alloc: Global, arguments: &[Value]) -> Result<Value>
+pub(crate) fn has_prefix(alloc: Global, arguments: &[Held<'_>]) -> Result<Value>
     ensures { Gives result (λ answer. answer ≡ has_prefix arguments.now) }
 {
     let Some((text, front)) = two_texts(arguments) else {
@@ -24,7 +25,7 @@ pub(crate) fn has_prefix(alloc: Global, arguments: &[Value]) -> Result<Value>
 }
 
 /// Whether a text ends with another.
-pub(crate) fn has_suffix(alloc: Global, arguments: &[Value]) -> Result<Value>
+pub(crate) fn has_suffix(alloc: Global, arguments: &[Held<'_>]) -> Result<Value>
     ensures { Gives result (λ answer. answer ≡ has_suffix arguments.now) }
 {
     let Some((text, back)) = two_texts(arguments) else {
@@ -46,7 +47,7 @@ fn ends_in(text: &str, back: &str) -> bool
 }
 
 /// A text without another at its front, once, if it is there.
-pub(crate) fn trim_prefix(alloc: Global, arguments: &[Value]) -> Result<Value>
+pub(crate) fn trim_prefix(alloc: Global, arguments: &[Held<'_>]) -> Result<Value>
     ensures { Gives result (λ answer. answer ≡ trim_prefix arguments.now) }
 {
     let Some((text, front)) = one_or_two_texts(arguments) else {
@@ -56,7 +57,7 @@ pub(crate) fn trim_prefix(alloc: Global, arguments: &[Value]) -> Result<Value>
 }
 
 /// A text without another at its back, once, if it is there.
-pub(crate) fn trim_suffix(alloc: Global, arguments: &[Value]) -> Result<Value>
+pub(crate) fn trim_suffix(alloc: Global, arguments: &[Held<'_>]) -> Result<Value>
     ensures { Gives result (λ answer. answer ≡ trim_suffix arguments.now) }
 {
     let Some((text, back)) = one_or_two_texts(arguments) else {
@@ -84,7 +85,7 @@ fn without_back<'a>(text: &'a str, back: &str) -> &'a str
 }
 
 /// The parts of a text at a separator, at most so many if a limit is given.
-pub(crate) fn split(alloc: Global, arguments: &[Value]) -> Result<Value>
+pub(crate) fn split(alloc: Global, arguments: &[Held<'_>]) -> Result<Value>
     ensures { Gives result (λ answer. answer ≡ split arguments.now) }
 {
     let Some((text, separator, limit)) = two_texts_and_limit(arguments) else {
@@ -95,7 +96,7 @@ pub(crate) fn split(alloc: Global, arguments: &[Value]) -> Result<Value>
 }
 
 /// The parts of a text, cut after each match of a separator, at most so many if a limit is given.
-pub(crate) fn split_after(alloc: Global, arguments: &[Value]) -> Result<Value>
+pub(crate) fn split_after(alloc: Global, arguments: &[Held<'_>]) -> Result<Value>
     ensures { Gives result (λ answer. answer ≡ split_after arguments.now) }
 {
     let Some((text, separator, limit)) = two_texts_and_limit(arguments) else {
@@ -117,7 +118,7 @@ fn array_of_texts(alloc: Global, texts: &[&str]) -> Result<Value>
 }
 
 /// A text with matches replaced, the first so many if a limit is given.
-pub(crate) fn replace(alloc: Global, arguments: &[Value]) -> Result<Value>
+pub(crate) fn replace(alloc: Global, arguments: &[Held<'_>]) -> Result<Value>
     ensures { Gives result (λ answer. answer ≡ replace arguments.now) }
 {
     let Some((text, from, to, limit)) = three_texts_and_limit(arguments) else {
@@ -128,7 +129,7 @@ pub(crate) fn replace(alloc: Global, arguments: &[Value]) -> Result<Value>
 }
 
 /// So many copies of a text: at most a million, of less than 2^64 bytes.
-pub(crate) fn repeat_text(alloc: Global, arguments: &[Value]) -> Result<Value>
+pub(crate) fn repeat_text(alloc: Global, arguments: &[Held<'_>]) -> Result<Value>
     ensures { Gives result (λ answer. answer ≡ repeat_text arguments.now) }
 {
     let Some((text, count)) = text_and_integer(arguments) else {
@@ -154,7 +155,7 @@ fn repeated(alloc: Global, text: &str, count: i64) -> Result<Value>
 }
 
 /// A text in upper case.
-pub(crate) fn upper(alloc: Global, arguments: &[Value]) -> Result<Value>
+pub(crate) fn upper(alloc: Global, arguments: &[Held<'_>]) -> Result<Value>
     ensures { Gives result (Upper arguments.now) }
 {
     let Some(text) = one_text(arguments) else {
@@ -164,7 +165,7 @@ pub(crate) fn upper(alloc: Global, arguments: &[Value]) -> Result<Value>
 }
 
 /// A text in lower case.
-pub(crate) fn lower(alloc: Global, arguments: &[Value]) -> Result<Value>
+pub(crate) fn lower(alloc: Global, arguments: &[Held<'_>]) -> Result<Value>
     ensures { Gives result (Lower arguments.now) }
 {
     let Some(text) = one_text(arguments) else {

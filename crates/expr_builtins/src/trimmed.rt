@@ -6,11 +6,12 @@ ghost use Rattle.expr_value.specs.Answers.{Gives};
 ghost use Rattle.expr_builtins.specs.Trimmed.{Trim, IsTrimmed};
 
 use crate::arguments::{one_text, two_texts};
+use expr_held::Held;
 use expr_value::{Result, Value, refusal};
 use std::alloc::{AllocError, Global};
 
 /// A text without white space at both ends, or without the characters of a second text.
-pub(crate) fn trim(alloc: Global, arguments: &[Value]) -> Result<Value>
+pub(crate) fn trim(alloc: Global, arguments: &[Held<'_>]) -> Result<Value>
     ensures { Gives result (Trim arguments.now) }
 {
     if let Some(text) = one_text(arguments) {

@@ -1,8 +1,8 @@
 pub mod Asking
-pub mod Holdings
 pub mod Operators
 pub mod Plain
 pub mod Positions
+pub use Rattle.expr_held.specs.Holdings
 pub use Rattle.expr_value.specs.Answers
 pub use Rattle.expr_value.specs.Fault
 pub use Rattle.expr_value.specs.Names

@@ -3,19 +3,9 @@ use Rattle.std.specs.Prelude.{◌≡◌, Bool, true, false, Result, Ok, Err}
 use Rattle.expr_tree.specs.declared.operator.Operator.{Operator}
 use Rattle.expr_tree.specs.declared.operator.Operator.TheVariants.{Add, Subtract, Multiply, Modulo, Equal, NotEqual, GreaterThan, GreaterThanOrEqual, LessThan, LessThanOrEqual, And, Or}
 use Rattle.expr_value.specs.declared.error.Error.{Error}
-use Rattle.expr_value.specs.declared.value.Value.{Value, out-Value}
-use Rattle.expr_value.specs.declared.value.Value.TheOpen.{Value-F}
+use Rattle.expr_value.specs.declared.value.Value.{Value}
 use Rattle.expr_value.specs.Answers.{Answer}
-
-abbrev pub is_plain_layer : Value-F Value → Bool
-is_plain_layer Value-F.Nil = true
-is_plain_layer (Value-F.Bool b) = true
-is_plain_layer (Value-F.Integer n) = true
-is_plain_layer v = false
-
--- nil, a boolean or an integer
-abbrev pub is_plain_value : Value → Bool
-is_plain_value v = is_plain_layer (out-Value v)
+pub use Rattle.expr_held.specs.Plain.{is_plain_layer, is_plain_value}
 
 abbrev pub is_plain_operator : Operator → Bool
 is_plain_operator Add = true

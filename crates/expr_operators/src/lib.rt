@@ -1,4 +1,4 @@
-//! What operators, indices, slices and ranges give on values, and the values that an evaluation holds.
+//! What operators, indices, slices and ranges give on values.
 #![tactic(auto)]
 
 mod arithmetic;
@@ -12,7 +12,8 @@ mod operators;
 mod positions;
 
 pub use asking::{Asking, sides_asked};
-pub use held::Held;
+pub use expr_held::Held;
+pub use held::{part_of, slice_of};
 pub use laws::{outside_is_not_within, part_stands_between_front_and_back, unequal_is_not_equal};
 pub use messages::{refused, unexpected};
 pub use operators::{apply, as_condition, as_truth, match_pattern, prefix};

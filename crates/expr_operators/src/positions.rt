@@ -4,9 +4,9 @@ ghost use Rattle.std.specs.Option.{option_copied};
 ghost use Rattle.expr_value.specs.Answers.{Is};
 ghost use Rattle.expr_operators.specs.Positions.{bound_at, bound_checked, indexed, integers_between, item_from, or_nil, part, ranged, repaired, sliced, start_at, stop_at};
 
-use crate::held::Held;
 use crate::messages::{mismatch, not_indexed, unexpected};
 use bstr::ByteSlice;
+use expr_held::Held;
 use expr_value::{Error, Items, Result, Text, Value};
 use std::alloc::{AllocError, Global};
 

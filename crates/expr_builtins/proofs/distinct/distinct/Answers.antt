@@ -5,4 +5,4 @@ use Rattle.expr_builtins.proofs.distinct.distinct.Goals as goal
 
 pub loop-item-preserved : goal.loop-item-preserved
 loop-item-preserved c =
-    c.in_ok-keep.ensures ∙ ap (λ vs. with_new vs c.in-Some.item) c.loop-item.invariant ∙ sym (distinct-push c.loop-item.yielded c.in-Some.item)
+    c.in_ok-keep.ensures.ok ∙ ap (λ vs. with_new vs c.in-Some.item) c.loop-item.invariant ∙ sym (distinct-push c.loop-item.yielded c.in-Some.item)

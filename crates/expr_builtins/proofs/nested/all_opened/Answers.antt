@@ -1,18 +1,19 @@
 use Rattle.std.proofs.Common.{[], ◌∷◌, ◌++◌, ap, ◌∙◌, sym, reverse}
+use Rattle.expr_value.specs.declared.value.Value as value
 use Rattle.expr_builtins.specs.Nested.{all_opened}
 use Rattle.expr_builtins.proofs.Opening.{array_opened, array_smaller, other_opened, other_smaller}
 use Rattle.expr_builtins.proofs.nested.all_opened.Goals as goal
 
 pub loop-value-smaller-in-Ok : goal.loop-value-smaller-in-Ok
 loop-value-smaller-in-Ok c =
-    array_smaller c.loop-value.waiting.items c.pop.new.self.items c.in-Some.value c.in-Some.ensures.items c.in-Ok.items.items c.append.new.self.items
-    c.in-Ok.ensures.items (c.in_ok-append-in-Ok.ensures.items ∙ ap (λ l. c.pop.new.self.items ++ l) c.reverse-in-Ok.ensures.items)
+    array_smaller c.loop-value.waiting.items c.pop.new.self.items c.in-Some.value c.in-Some.ensures.items c.in_ok-items-in-Ok.items.items c.append.new.self.items
+    (c.in-Ok.ensures.array ∙ ap value.Array (sym c.in_ok-items-in-Ok.ensures.ok)) (c.in_ok-append-in-Ok.ensures.items ∙ ap (λ l. c.pop.new.self.items ++ l) c.reverse-in-Ok.ensures.items)
 
 pub loop-value-preserved-in-Ok : goal.loop-value-preserved-in-Ok
 loop-value-preserved-in-Ok c =
     ap (λ l. c.loop-value.found.items ++ l)
-    (array_opened c.loop-value.waiting.items c.pop.new.self.items c.in-Some.value c.in-Some.ensures.items c.in-Ok.items.items c.append.new.self.items
-    c.in-Ok.ensures.items (c.in_ok-append-in-Ok.ensures.items ∙ ap (λ l. c.pop.new.self.items ++ l) c.reverse-in-Ok.ensures.items))
+    (array_opened c.loop-value.waiting.items c.pop.new.self.items c.in-Some.value c.in-Some.ensures.items c.in_ok-items-in-Ok.items.items c.append.new.self.items
+    (c.in-Ok.ensures.array ∙ ap value.Array (sym c.in_ok-items-in-Ok.ensures.ok)) (c.in_ok-append-in-Ok.ensures.items ∙ ap (λ l. c.pop.new.self.items ++ l) c.reverse-in-Ok.ensures.items))
     ∙ c.loop-value.invariant
 
 pub loop-value-smaller : goal.loop-value-smaller

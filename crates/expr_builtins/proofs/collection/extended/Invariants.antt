@@ -1,9 +1,0 @@
-use Rattle.std.proofs.Common.{◌≡◌, ◌++◌, Some}
-use Rattle.std.specs.Option.{option_map}
-use Rattle.expr_value.specs.Values.{items_of}
-use Rattle.expr_builtins.specs.Arguments.{all_of}
-use Rattle.expr_builtins.specs.Collections.{in_a_row}
-use Rattle.expr_builtins.proofs.collection.extended.Given as goal
-
-abbrev pub invariant-loop-array : goal.invariant-loop-array
-invariant-loop-array l = option_map (λ rows. l.fn.front.items ++ in_a_row rows) (all_of items_of l.yielded) ≡ Some l.all.items

@@ -1,0 +1,16 @@
+use Rattle.std.proofs.Common.{ap, ◌∙◌, sym}
+use Rattle.std.specs.Map.{lookup}
+use Rattle.expr_value.proofs.Beside.{find_beside, find_none_beside}
+use Rattle.expr_value.proofs.pairs.Pairs.into_value_by.Goals as goal
+
+pub returns-in_err-index : goal.returns-in_err-index
+returns-in_err-index g c =
+    c.from_residual.ensures
+    ∙ sym (find_none_beside _ c.self.inside.keys.keys c.self.inside.values.items c.self.invariant c.in_err-index.ensures.index)
+    ∙ ap (lookup _) c.self.view_is
+
+pub returns : goal.returns
+returns g c =
+    c.item_moved.ensures
+    ∙ sym (find_beside _ c.self.inside.keys.keys c.self.inside.values.items c.self.invariant c.in_ok-index.index c.in_ok-index.ensures.index)
+    ∙ ap (lookup _) c.self.view_is
