@@ -9,9 +9,9 @@ use Rattle.expr_tree.specs.Context.{Agree}
 use Rattle.expr_tree.specs.Names.{AreNamesOf, env, operands, postfix_operands, bound_operands, all_operands, predicate_operands, block_operands}
 use Rattle.expr_tree.specs.Term.{Term, name, literal, list, range, call, unary, operation, postfix, choice, Postfix, index, slice, coalesce, pipe, ternary, method, Bound, unbounded, bound, Terms, no_terms, term, Predicate, no_predicate, predicate, Block, answers, line}
 use Rattle.expr_tree.specs.declared.operator.Operator.{Operator}
-use Rattle.expr_operators.specs.Asking.{asking_of}
-use Rattle.expr_operators.specs.declared.asking.Asking.{Asking}
-use Rattle.expr_operators.specs.declared.asking.Asking.TheVariants.{Both, EndsAtFalse, EndsAtTrue, Pattern}
+use Rattle.expr_operators.specs.Sides.{sides_of}
+use Rattle.expr_operators.specs.declared.sides.Sides.{Sides}
+use Rattle.expr_operators.specs.declared.sides.Sides.TheVariants.{Both, EndsAtFalse, EndsAtTrue, Pattern}
 use Rattle.expr_value.specs.Fault.{Fault}
 use Rattle.expr_value.specs.declared.value.Value as value
 use Rattle.expr_value.specs.declared.value.Value.{Value, out-Value}
@@ -38,7 +38,7 @@ module _ (right right' : Answer → Type 0) (keeps : (a : Answer) → right a �
   OrElse-keeps (Value-F.Bool false) a p = first-keeps right right' _ keeps a p
   OrElse-keeps v a p = p
 
-  ContinuedAs-keeps : (c : Asking) (op : Operator) (v : Value) (a : Answer) → ContinuedAs c op v right a → ContinuedAs c op v right' a
+  ContinuedAs-keeps : (c : Sides) (op : Operator) (v : Value) (a : Answer) → ContinuedAs c op v right a → ContinuedAs c op v right' a
   ContinuedAs-keeps Both op v a p = first-keeps right right' _ keeps a p
   ContinuedAs-keeps EndsAtFalse op v a p = AndThen-keeps (out-Value v) a p
   ContinuedAs-keeps EndsAtTrue op v a p = OrElse-keeps (out-Value v) a p
@@ -116,7 +116,7 @@ mutual
   Allows-keeps host one other (unary op t) h a p = first-keeps (Allows host one t) (Allows host other t) _ (Allows-keeps host one other t h) a p
   Allows-keeps host one other (operation op l r) h a p =
       After-keeps (Allows host one l) (Allows host other l) _ _ (Allows-keeps host one other l (Agree-left one other (operands l) (operands r) h)) (
-      λ v s q. ContinuedAs-keeps (Allows host one r) (Allows host other r) (Allows-keeps host one other r (Agree-right one other (operands l) (operands r) h)) (asking_of op) op v s q
+      λ v s q. ContinuedAs-keeps (Allows host one r) (Allows host other r) (Allows-keeps host one other r (Agree-right one other (operands l) (operands r) h)) (sides_of op) op v s q
       ) a p
   Allows-keeps host one other (postfix q t) h a p =
       After-keeps (Allows host one t) (Allows host other t) _ _ (Allows-keeps host one other t (Agree-left one other (operands t) (postfix_operands q) h)) (

@@ -19,10 +19,10 @@ use Rattle.expr_operators.proofs.Plainly.{plain-Bool, plain-at, applied-plain, p
 use Rattle.expr_value.specs.Answers.{Answer, After}
 use Rattle.expr_evaluation.specs.Context.{Context}
 use Rattle.expr_evaluation.specs.Host.{Host}
-use Rattle.expr_operators.specs.Asking.{asking_of}
+use Rattle.expr_operators.specs.Sides.{sides_of}
 use Rattle.expr_operators.specs.Operators.{Matched, applied, truth, prefixed}
-use Rattle.expr_operators.specs.declared.asking.Asking.{Asking}
-use Rattle.expr_operators.specs.declared.asking.Asking.TheVariants.{Both, EndsAtFalse, EndsAtTrue, Pattern}
+use Rattle.expr_operators.specs.declared.sides.Sides.{Sides}
+use Rattle.expr_operators.specs.declared.sides.Sides.TheVariants.{Both, EndsAtFalse, EndsAtTrue, Pattern}
 use Rattle.expr_value.proofs.Answered.{first_of-After}
 use Rattle.expr_evaluation.specs.Plain.{is_plain, is_plain_program}
 use Rattle.expr_operators.specs.Plain.{is_plain_operator, is_plain_value}
@@ -57,7 +57,7 @@ module _ (right : Answer → Type 0) (of_right : (w : Value) → right (Ok w) �
       let q = first_of-After right (λ y a. a ≡ applied op x y) v h in
       plain-at (applied op x q.0) v q.2 (applied-plain op x q.0 o p (of_right q.0 q.1))
 
-  ContinuedAs-plain : (c : Asking) (op : Operator) (x v : Value) → IsTrue (is_plain_operator op) → IsTrue (is_plain_value x) → ContinuedAs c op x right (Ok v) → IsTrue (is_plain_value v)
+  ContinuedAs-plain : (c : Sides) (op : Operator) (x v : Value) → IsTrue (is_plain_operator op) → IsTrue (is_plain_value x) → ContinuedAs c op x right (Ok v) → IsTrue (is_plain_value v)
   ContinuedAs-plain Both op x v o p h = both-plain op x v o p h
   ContinuedAs-plain EndsAtFalse op x v o p h = AndThen-plain (out-Value x) right v h
   ContinuedAs-plain EndsAtTrue op x v o p h = OrElse-plain (out-Value x) right v h
@@ -74,7 +74,7 @@ Allows-plain host ctx (operation op l r) v p h =
     let o = left-true (is_plain_operator op) (is_plain l && is_plain r) p in
     let both = right-true (is_plain_operator op) (is_plain l && is_plain r) p in
     let q = first_of-After (Allows host ctx l) (λ x. Continued op x (Allows host ctx r)) v h in
-    ContinuedAs-plain (Allows host ctx r) (λ w k. Allows-plain host ctx r w (right-true (is_plain l) (is_plain r) both) k) (asking_of op) op q.0 v o (
+    ContinuedAs-plain (Allows host ctx r) (λ w k. Allows-plain host ctx r w (right-true (is_plain l) (is_plain r) both) k) (sides_of op) op q.0 v o (
     Allows-plain host ctx l q.0 (left-true (is_plain l) (is_plain r) both) q.1
     ) q.2
 Allows-plain host ctx (name key) v p h = cc

@@ -2,9 +2,9 @@
 use Rattle.std.specs.Prelude.{◌≡◌, ℕ, ℤ, Bool, List, [], ◌∷◌, ◌++◌, true, false, Option, Some, None, Result, Ok, Err, MatchBool}
 use Rattle.expr_tree.specs.Term.{Term, name, literal, list, range, call, unary, operation, postfix, choice, Postfix, index, slice, coalesce, pipe, ternary, method, Bound, unbounded, bound, Terms, no_terms, term, Predicate, no_predicate, predicate, Block, answers, line}
 use Rattle.expr_tree.specs.declared.operator.Operator.{Operator}
-use Rattle.expr_operators.specs.Asking.{asking_of}
-use Rattle.expr_operators.specs.declared.asking.Asking.{Asking}
-use Rattle.expr_operators.specs.declared.asking.Asking.TheVariants.{Both, EndsAtFalse, EndsAtTrue, Pattern}
+use Rattle.expr_operators.specs.Sides.{sides_of}
+use Rattle.expr_operators.specs.declared.sides.Sides.{Sides}
+use Rattle.expr_operators.specs.declared.sides.Sides.TheVariants.{Both, EndsAtFalse, EndsAtTrue, Pattern}
 use Rattle.expr_value.specs.Fault.{Fault, evaluation}
 use Rattle.expr_value.specs.declared.value.Value as value
 use Rattle.expr_value.specs.declared.value.Value.{Value, out-Value}
@@ -37,14 +37,14 @@ abbrev pub OrElse : Value → (Answer → Type 0) → Answer → Type 0
 OrElse v right answer = OrElseLayer (out-Value v) right answer
 
 -- what an operator gives with this value on the left, by the sides that it asks
-abbrev pub ContinuedAs : Asking → Operator → Value → (Answer → Type 0) → Answer → Type 0
+abbrev pub ContinuedAs : Sides → Operator → Value → (Answer → Type 0) → Answer → Type 0
 ContinuedAs Both op x right answer = After right (λ y a. a ≡ applied op x y) answer
 ContinuedAs EndsAtFalse op x right answer = AndThen x right answer
 ContinuedAs EndsAtTrue op x right answer = OrElse x right answer
 ContinuedAs Pattern op x right answer = After right (λ y. Matched x y) answer
 
 abbrev pub Continued : Operator → Value → (Answer → Type 0) → Answer → Type 0
-Continued op x right answer = ContinuedAs (asking_of op) op x right answer
+Continued op x right answer = ContinuedAs (sides_of op) op x right answer
 
 -- the branch that the condition's value picks
 abbrev pub ChosenLayer : Value-F Value → (Answer → Type 0) → (Answer → Type 0) → Answer → Type 0

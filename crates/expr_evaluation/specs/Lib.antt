@@ -7,7 +7,7 @@ pub mod Independence
 pub mod Plain
 pub mod Scope
 pub mod Several
-pub use Rattle.expr_operators.specs.Asking
+pub use Rattle.expr_operators.specs.Sides
 pub use Rattle.expr_operators.specs.Operators
 pub use Rattle.expr_operators.specs.Positions
 pub use Rattle.expr_tree.specs.Names

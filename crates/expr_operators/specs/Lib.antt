@@ -1,7 +1,7 @@
-pub mod Asking
 pub mod Operators
 pub mod Plain
 pub mod Positions
+pub mod Sides
 pub use Rattle.expr_held.specs.Holdings
 pub use Rattle.expr_value.specs.Answers
 pub use Rattle.expr_value.specs.Fault

@@ -2,7 +2,6 @@
 #![tactic(auto)]
 
 mod arithmetic;
-mod asking;
 mod comparison;
 mod held;
 mod laws;
@@ -10,11 +9,12 @@ mod membership;
 mod messages;
 mod operators;
 mod positions;
+mod sides;
 
-pub use asking::{Asking, sides_asked};
 pub use expr_held::Held;
 pub use held::{part_of, slice_of};
 pub use laws::{outside_is_not_within, part_stands_between_front_and_back, unequal_is_not_equal};
 pub use messages::{refused, unexpected};
 pub use operators::{apply, as_condition, as_truth, match_pattern, prefix};
 pub use positions::{index, range, slice, slice_bound, slice_lent};
+pub use sides::{Sides, sides_asked};

@@ -66,8 +66,7 @@ fn call_on_values(alloc: Global, ident: &str, args: Items<Held<'_>>) -> Result<V
     let Some(builtin) = Builtin::named(ident) else {
         return Err(unknown_function(alloc, ident));
     };
-    let args = values_of(alloc, args)?;
-    builtin.call(alloc, args)
+    builtin.call(alloc, args.into_vec())
 }
 
 /// What a call answers that is given no predicate.

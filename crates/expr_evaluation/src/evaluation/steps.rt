@@ -13,7 +13,7 @@ ghost use Rattle.expr_value.specs.Fault.{fault_of, memory};
 use crate::messages::{unknown_method, unknown_name};
 use crate::scope::{Scope, look_up};
 use expr_operators::{
-    Held, apply, as_condition, as_truth, match_pattern, prefix, range, slice_bound,
+    Held, apply, as_condition, as_truth, match_pattern, part_of, prefix, range, slice_bound,
 };
 use expr_tree::operator::{Operator, UnaryOperator};
 use expr_value::{ContextProvider, Items, Result, Value};
@@ -106,7 +106,7 @@ pub fn part_at<'s>(
 ) -> Result<Held<'s>>
     ensures { Is result (indexed value.entry key.now optional) }
 {
-    value.part(alloc, key.get(), optional)
+    part_of(alloc, value, key.get(), optional)
 }
 
 /// The integers from one value to another.
@@ -128,7 +128,7 @@ pub fn slice_of<'s>(
 ) -> Result<Held<'s>>
     ensures { Is result (sliced value.entry start stop) }
 {
-    let part = value.slice(alloc, start, stop)?;
+    let part = expr_operators::slice_of(alloc, value, start, stop)?;
     Ok(Held::own(part))
 }
 

@@ -16,9 +16,9 @@ use Rattle.expr_evaluation.specs.Allows.{Allows, AllowsAll, AllowsAsked, AllowsB
 use Rattle.expr_value.specs.Answers.{After, Answer, Gives}
 use Rattle.expr_evaluation.specs.Context.{Context}
 use Rattle.expr_evaluation.specs.Host.{Host}
-use Rattle.expr_operators.specs.Asking.{asking_of}
+use Rattle.expr_operators.specs.Sides.{sides_of}
 use Rattle.expr_operators.specs.Operators.{applied}
-use Rattle.expr_operators.specs.declared.asking.Asking.TheVariants.{Both, EndsAtFalse, EndsAtTrue}
+use Rattle.expr_operators.specs.declared.sides.Sides.TheVariants.{Both, EndsAtFalse, EndsAtTrue}
 use Rattle.expr_operators.specs.Positions.{sliced}
 use Rattle.expr_evaluation.specs.Plain.{is_plain}
 use Rattle.expr_operators.specs.Plain.{is_plain_operator, is_plain_value}
@@ -101,7 +101,7 @@ operate-returns-in-EndsAtFalse-clause-plain g t c =
     let base : Context = g.P.ContextProvider.context c.args.self.now.provider in
     let op = c.args.operator in
     let right = Allows host (inside c.args.scope.now base) (written c.args.right.now) in
-    let asked : asking_of op ≡ EndsAtFalse = sym c.sides_asked.ensures ∙ c.in-EndsAtFalse.is in
+    let asked : sides_of op ≡ EndsAtFalse = sym c.sides_asked.ensures ∙ c.in-EndsAtFalse.is in
     λ v o p q h. c.and_then.ensures.plain v q (subst (λ k. ContinuedAs k op c.args.first right (Ok v)) asked h)
 
 pub operate-returns-in-EndsAtTrue-clause-plain : goal.operate-returns-in-EndsAtTrue-clause-plain
@@ -110,7 +110,7 @@ operate-returns-in-EndsAtTrue-clause-plain g t c =
     let base : Context = g.P.ContextProvider.context c.args.self.now.provider in
     let op = c.args.operator in
     let right = Allows host (inside c.args.scope.now base) (written c.args.right.now) in
-    let asked : asking_of op ≡ EndsAtTrue = sym c.sides_asked.ensures ∙ c.in-EndsAtTrue.is in
+    let asked : sides_of op ≡ EndsAtTrue = sym c.sides_asked.ensures ∙ c.in-EndsAtTrue.is in
     λ v o p q h. c.or_else.ensures.plain v q (subst (λ k. ContinuedAs k op c.args.first right (Ok v)) asked h)
 
 pub operate-returns-in-Both : goal.operate-returns-in-Both
@@ -122,7 +122,7 @@ operate-returns-in-Both g t c =
     let first = c.args.first in
     let second = c.in_ok-second-in-Both.second in
     let right = Allows host ctx (written c.args.right.now) in
-    let asked : asking_of op ≡ Both = sym c.sides_asked.ensures ∙ c.in-Both.is in
+    let asked : sides_of op ≡ Both = sym c.sides_asked.ensures ∙ c.in-Both.is in
     record {
       answer = Gives-of-Is c.apply_held.result (applied op first second) (Continued op first right) c.apply_held.ensures.answer (
           subst (λ k. ContinuedAs k op first right (applied op first second)) (sym asked) (Ok second, c.in_ok-second-in-Both.ensures.answer, refl)

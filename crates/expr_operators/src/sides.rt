@@ -1,12 +1,12 @@
 //! Which sides an operator asks.
 ghost use Rattle.std.specs.Prelude.{◌≡◌};
-ghost use Rattle.expr_operators.specs.Asking.{asking_of};
+ghost use Rattle.expr_operators.specs.Sides.{sides_of};
 
 use expr_tree::operator::Operator;
 
 /// Which sides an operator asks, and what comes of their values.
 #[derive(Clone, Copy, Debug)]
-pub enum Asking {
+pub enum Sides {
     /// Both sides are asked, and their values have one answer.
     Both,
     /// False on the left is the answer, and only true asks the right side.
@@ -18,13 +18,13 @@ pub enum Asking {
 }
 
 /// Which sides an operator asks.
-pub fn sides_asked(operator: Operator) -> Asking
-    ensures { result ≡ asking_of operator }
+pub fn sides_asked(operator: Operator) -> Sides
+    ensures { result ≡ sides_of operator }
 {
     match operator {
-        Operator::And => Asking::EndsAtFalse,
-        Operator::Or => Asking::EndsAtTrue,
-        Operator::Matches => Asking::Pattern,
-        _ => Asking::Both,
+        Operator::And => Sides::EndsAtFalse,
+        Operator::Or => Sides::EndsAtTrue,
+        Operator::Matches => Sides::Pattern,
+        _ => Sides::Both,
     }
 }
