@@ -8,7 +8,7 @@ ghost use Rattle.expr_frames.specs.declared.frame.Place.TheVariants as place;
 ghost use Rattle.expr_frames.specs.declared.frame.Section.TheVariants as section;
 ghost use Rattle.expr_frames.specs.declared.frame.Operand.TheVariants as operand;
 ghost use Rattle.expr_value.specs.declared.value.Value.TheVariants as value;
-ghost use Rattle.expr_grammar.specs.Machine.{role as role_of, role_level};
+ghost use Rattle.expr_grammar.specs.Machine.{role_of, role_level};
 ghost use Rattle.expr_grammar.specs.Grammar.{TreeProgram, Spells, Fits};
 ghost use Rattle.expr_frames.specs.Nodes.{given_more, given_program};
 ghost use Rattle.expr_frames.specs.Nodes as machine;
@@ -19,7 +19,7 @@ mod brace;
 
 use expr_frames::build::{branched, member, nested};
 use expr_frames::frame::{
-    Caller, Chain, Fault, Frame, Holder, Operand, Place, Reaching, Section, Start,
+    Caller, Branches, Fault, Frame, Holder, Operand, Place, Reaching, Section, Start,
 };
 use expr_frames::read;
 use expr_grammar::literals::literals_fit;
@@ -152,22 +152,22 @@ impl Parser {
             Start::Brace => self.brace(),
             Start::Choice => self.enter(Frame::Condition(Items::from_vec(Vec::new(self.alloc)))),
             Start::Line => self.line(),
-            Start::Other(token) => self.lack(&token),
+            Start::Other(token) => self.without_operand(&token),
         }
     }
 
     // A token that begins no operand, where one is wanted.
-    fn lack(&mut self, token: &Token) -> Result<Place, Fault>
-        ensures { Stands (machine.lack token.now (stack self.old.frames.items)) self.new.frames.items result }
+    fn without_operand(&mut self, token: &Token) -> Result<Place, Fault>
+        ensures { Stands (machine.without_operand token.now (stack self.old.frames.items)) self.new.frames.items result }
     {
         match self.pop() {
-            Some(frame) => self.lack_in(frame, token),
+            Some(frame) => self.without_operand_in(frame, token),
             None => Err(Fault::Syntax),
         }
     }
 
-    fn lack_in(&mut self, frame: Frame, token: &Token) -> Result<Place, Fault>
-        ensures { Stands (machine.lack token.now (frame ∷ stack self.old.frames.items)) self.new.frames.items result }
+    fn without_operand_in(&mut self, frame: Frame, token: &Token) -> Result<Place, Fault>
+        ensures { Stands (machine.without_operand token.now (frame ∷ stack self.old.frames.items)) self.new.frames.items result }
     {
         match frame {
             Frame::List(holder, items) => self.end_list(holder, items, token),
@@ -190,7 +190,7 @@ impl Parser {
         arguments: Arguments,
         token: &Token,
     ) -> Result<Place, Fault>
-        ensures { Stands (machine.lack token.now (frame.Call caller arguments ∷ stack self.old.frames.items)) self.new.frames.items result }
+        ensures { Stands (machine.without_operand token.now (frame.Call caller arguments ∷ stack self.old.frames.items)) self.new.frames.items result }
     {
         match token {
             Token::Sign(Sign::Dot) => {
@@ -203,7 +203,7 @@ impl Parser {
 
     // A token after an operand.
     fn follow(&mut self, left: Operand, token: &Token) -> Result<Place, Fault>
-        ensures { Stands (machine.had (role_of token.now) token.now (stack self.old.frames.items) left) self.new.frames.items result }
+        ensures { Stands (machine.follow (role_of token.now) token.now (stack self.old.frames.items) left) self.new.frames.items result }
     {
         match Role::of(token) {
             Role::Applying => self.apply(left),
@@ -213,15 +213,15 @@ impl Parser {
 
     // A token after an operand that doesn't begin its arguments.
     fn go_on(&mut self, role: Role, left: Operand, token: &Token) -> Result<Place, Fault>
-        ensures { Stands (machine.follow role token.now (machine.settle (role_level role) (stack self.old.frames.items) (machine.make left))) self.new.frames.items result }
+        ensures { Stands (machine.after_settled role token.now (machine.settle (role_level role) (stack self.old.frames.items) (machine.make left))) self.new.frames.items result }
     {
         let left = self.settled(role.level(), left)?;
-        self.act(role, left, token)
+        self.after_operand(role, left, token)
     }
 
     // A token after a part that it does not go inside.
-    fn act(&mut self, role: Role, left: Part, token: &Token) -> Result<Place, Fault>
-        ensures { Stands (machine.act role token.now (stack self.old.frames.items) left) self.new.frames.items result }
+    fn after_operand(&mut self, role: Role, left: Part, token: &Token) -> Result<Place, Fault>
+        ensures { Stands (machine.after_operand role token.now (stack self.old.frames.items) left) self.new.frames.items result }
     {
         match role {
             Role::Applying => Err(Fault::Syntax),
@@ -232,7 +232,7 @@ impl Parser {
             Role::Dotting => Ok(Place::Dotted(left)),
             Role::Questioning => Ok(Place::Questioned(left)),
             Role::Picking => self.enter(Frame::Index(left, false)),
-            Role::Plain => self.shut(left, token),
+            Role::Plain => self.close(left, token),
         }
     }
 
@@ -252,17 +252,17 @@ impl Parser {
     }
 
     // A token that is no operator, after an operand.
-    fn shut(&mut self, last: Part, token: &Token) -> Result<Place, Fault>
-        ensures { Stands (machine.shut token.now (stack self.old.frames.items) last) self.new.frames.items result }
+    fn close(&mut self, last: Part, token: &Token) -> Result<Place, Fault>
+        ensures { Stands (machine.close token.now (stack self.old.frames.items) last) self.new.frames.items result }
     {
         match self.pop() {
-            Some(frame) => self.shut_frame(frame, last, token),
+            Some(frame) => self.close_frame(frame, last, token),
             None => Err(Fault::Syntax),
         }
     }
 
-    fn shut_frame(&mut self, frame: Frame, last: Part, token: &Token) -> Result<Place, Fault>
-        ensures { Stands (machine.shut token.now (frame ∷ stack self.old.frames.items) last) self.new.frames.items result }
+    fn close_frame(&mut self, frame: Frame, last: Part, token: &Token) -> Result<Place, Fault>
+        ensures { Stands (machine.close token.now (frame ∷ stack self.old.frames.items) last) self.new.frames.items result }
     {
         match frame {
             Frame::Inside => {
@@ -399,7 +399,7 @@ impl Parser {
         index: Part,
         token: &Token,
     ) -> Result<Place, Fault>
-        ensures { Stands (machine.shut token.now (frame.Index left optional ∷ stack self.old.frames.items) index) self.new.frames.items result }
+        ensures { Stands (machine.close token.now (frame.Index left optional ∷ stack self.old.frames.items) index) self.new.frames.items result }
     {
         match token {
             Token::Sign(Sign::SquareClose) => {
@@ -432,7 +432,7 @@ impl Parser {
 
     // A program between braces is whole.
     fn end_section(&self, section: Section, body: ProgramPart) -> Result<Place, Fault>
-        ensures { Stands (machine.after_part section body (stack self.now.frames.items)) self.now.frames.items result }
+        ensures { Stands (machine.after_section section body (stack self.now.frames.items)) self.now.frames.items result }
     {
         match section {
             Section::Top => Err(Fault::Syntax),
@@ -533,7 +533,7 @@ impl Parser {
 
     fn otherwise(
         &self,
-        chain: Chain,
+        chain: Branches,
         condition: Boxed<Part>,
         then: Boxed<ProgramPart>,
         token: &Token,
@@ -548,7 +548,7 @@ impl Parser {
 
     fn alternative(
         &mut self,
-        chain: Chain,
+        chain: Branches,
         condition: Boxed<Part>,
         then: Boxed<ProgramPart>,
         token: &Token,
