@@ -218,7 +218,7 @@ abbrev pub bind : List Frame → List ℕ → Term → State
 bind (frame.Body b ls ∷ k) w t = wanting (frame.Body b (ls ++ (w, t) ∷ []) ∷ k)
 bind k w t = Fail
 
--- A token that is no operator, after an operand: it closes the innermost frame, or its first part.
+-- A token that is no operator, after an operand: it ends what the innermost frame waits for.
 abbrev pub close : Token → List Frame → Term → State
 close t (frame.Inside ∷ k) l = at_close t (whole k l) Fail
 close t (frame.Middle c ∷ k) l = at_colon t (wanting (frame.Reaching (reaching.Otherwise c l) ∷ k)) Fail

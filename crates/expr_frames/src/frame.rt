@@ -28,7 +28,7 @@ pub enum Caller {
     Pipe(Boxed<Part>, Text),
 }
 
-/// What a program between braces is for.
+/// What a program is for.
 #[derive(Drop)]
 pub enum Section {
     Top,

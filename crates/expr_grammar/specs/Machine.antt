@@ -198,7 +198,7 @@ abbrev pub chosen : Branches → Tree → TreeProgram → ElsePart → Tree
 chosen NoBranch c a e = If c a e
 chosen (Branch bs d b) c a e = chosen bs d b (ElseIf c a e)
 
--- What a program is a section of.
+-- What a program is for.
 pub data Section : Type 0 where
   Top : Section
   Then : (bs : Branches) (c : Tree) → Section
@@ -319,7 +319,7 @@ abbrev pub bind : List Frame → List ℕ → Tree → State
 bind (Body b ls ∷ k) w t = Want (Body b (MoreLines ls w t) ∷ k)
 bind k w t = Fail
 
--- A token that is no operator, after an operand: it closes the innermost frame, or its first part.
+-- A token that is no operator, after an operand: it ends what the innermost frame waits for.
 abbrev pub close : Token → List Frame → Tree → State
 close t (Inside ∷ k) l = at_close t (Have k (Paren l))
 close t (Middle c ∷ k) l = at_colon t (Want (Otherwise c l ∷ k)) Fail
