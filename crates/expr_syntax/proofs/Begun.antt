@@ -1,5 +1,5 @@
 -- Which tokens a program begins with, where the parser stands or stops.
-use Rattle.std.proofs.Common.{◌≡◌, ℕ, ◌<◌, ◌≤◌, List, [], ◌∷◌, ◌++◌, take, length, map, arith, sym, ap, ◌∙◌, refl, subst, fold, append-nil}
+use Rattle.std.proofs.Common.{◌≡◌, ℕ, ◌≤◌, List, [], ◌∷◌, ◌++◌, take, length, map, arith, sym, ap, ◌∙◌, refl, subst, fold, append-nil}
 use Rattle.std.proofs.lemmas.List.{map-id}
 use Rattle.std.proofs.Math.Seq.{take-append_seam}
 use Rattle.expr_token.specs.declared.token.Token.{Token}
