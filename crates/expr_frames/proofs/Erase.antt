@@ -23,18 +23,18 @@ use Rattle.expr_frames.specs.declared.frame.Reaching.TheVariants as reaching
 use Rattle.expr_frames.specs.declared.frame.Operand.{Operand}
 use Rattle.expr_frames.specs.declared.frame.Operand.TheVariants as operand
 use Rattle.expr_frames.specs.declared.frame.Place.TheVariants as place
-use Rattle.expr_grammar.specs.Grammar.{Word, Usual, Kept, Constant, Key, WordKey, QuotedKey, EntryRow, Tree, Name, Paren, Map, Member, Index, Slice, Row, NoEntries, SomeEntries, SomeItems, SomeArguments, ArgumentRow, Argument, Expression, MemberAlone, Braces, Bound, LeftOut, At, Else, ElseIf, TreeProgram, Program, NoLines, key_token}
+use Rattle.expr_grammar.specs.Grammar.{Word, Usual, ReservedWord, Constant, Key, WordKey, QuotedKey, EntryRow, Tree, Name, Paren, Map, Member, Index, Slice, Row, NoEntries, SomeEntries, SomeItems, SomeArguments, ArgumentRow, Argument, Expression, MemberAlone, Braces, Bound, LeftOut, At, Else, ElseIf, TreeProgram, Program, NoLines, key_token}
 use Rattle.expr_grammar.specs.Machine as tree
-use Rattle.expr_grammar.specs.Machine.{role, role_level, word_at, key_at, constant_at, push, push_argument, push_entry, items_end, arguments_end, entries_end, Shape, InArray, InMethod, shape_tree, InCall, InPipe, caller_tree, Chain, NoBranch, Branch, chosen, Part, Top, ThenPart, LastPart, Predicate, tree_of}
-use Rattle.expr_frames.specs.Kept.{word_text, key_text, constant_value, entry_row_pairs, entries_pairs, term_of, items_terms, row_terms, argument_terms, argument_row_terms, last_predicate, last_predicate_in_row, bound_term, else_block, program_of, line_terms, kept}
+use Rattle.expr_grammar.specs.Machine.{role_of, role_level, word_at, key_at, constant_at, push, push_argument, push_entry, items_end, arguments_end, entries_end, InArray, InMethod, holder_tree, InCall, InPipe, caller_tree, Branches, NoBranch, Branch, chosen, Top, Then, Last, Predicate, tree_of}
+use Rattle.expr_frames.specs.Programs.{word_text, key_text, constant_value, entry_row_pairs, entries_pairs, term_of, items_terms, row_terms, argument_terms, argument_row_terms, last_predicate, last_predicate_in_row, bound_term, else_block, program_of, line_terms, program_if_any}
 use Rattle.expr_frames.specs.Nodes as node
 use Rattle.expr_frames.specs.Nodes.{nest, none_given, given_more, given_program, call_given}
-use Rattle.expr_frames.proofs.Chains.{nest_more}
+use Rattle.expr_frames.proofs.Branches.{nest_more}
 use Rattle.expr_grammar.proofs.Complete.{stays}
 use Rattle.expr_grammar.proofs.Measures.{tight}
 
 -- what the frames kept
-abbrev holder_of : Shape → Holder
+abbrev holder_of : tree.Holder → Holder
 holder_of InArray = holder.Array
 holder_of (InMethod l w) = holder.Method (term_of l) (word_text w)
 
@@ -68,19 +68,19 @@ abbrev pairs : Option EntryRow → List (List ℕ × Value)
 pairs None = []
 pairs (Some r) = entry_row_pairs r
 
-abbrev chain : Chain → List (Term × Block)
-chain NoBranch = []
-chain (Branch ch c a) = chain ch ++ (term_of c, program_of a) ∷ []
+abbrev branches : Branches → List (Term × Block)
+branches NoBranch = []
+branches (Branch bs c a) = branches bs ++ (term_of c, program_of a) ∷ []
 
-abbrev section_of : Part → Section
+abbrev section_of : tree.Section → Section
 section_of Top = section.Top
-section_of (ThenPart ch c) = section.Then (chain ch) (term_of c)
-section_of (LastPart ch c a) = section.Last (chain ch) (term_of c) (program_of a)
+section_of (Then bs c) = section.Then (branches bs) (term_of c)
+section_of (Last bs c a) = section.Last (branches bs) (term_of c) (program_of a)
 section_of Predicate = section.Predicate
 
-abbrev bound_kept : Bound → Option Term
-bound_kept LeftOut = None
-bound_kept (At t) = Some (term_of t)
+abbrev bound_of : Bound → Option Term
+bound_of LeftOut = None
+bound_of (At t) = Some (term_of t)
 
 abbrev frame_of : tree.Frame → Frame
 frame_of (tree.Under o) = frame.Reaching (reaching.Under o)
@@ -91,8 +91,8 @@ frame_of (tree.Middle c) = frame.Middle (term_of c)
 frame_of (tree.Listed s r) = frame.List (holder_of s) (items_given r)
 frame_of (tree.Calling c r) = frame.Call (caller_of c) (row_given r)
 frame_of (tree.Indexed l optional) = frame.Index (term_of l) optional
-frame_of (tree.Cut l a) = frame.Cut (term_of l) (bound_kept a)
-frame_of (tree.Condition ch) = frame.Condition (chain ch)
+frame_of (tree.Cut l a) = frame.Cut (term_of l) (bound_of a)
+frame_of (tree.Condition bs) = frame.Condition (branches bs)
 frame_of (tree.Body b ls) = frame.Body (section_of b) (line_terms ls)
 frame_of (tree.Value w) = frame.Value w
 
@@ -113,8 +113,8 @@ state (tree.Questioned k l) = node.On (frames k) (place.Questioned (term_of l))
 state (tree.Negated k l) = node.On (frames k) (place.Negated (term_of l))
 state (tree.Barred k l) = node.On (frames k) (place.Barred (term_of l))
 state (tree.Piped k l w) = node.On (frames k) (place.Piped (term_of l) w)
-state (tree.Chosen k ch c a) = node.On (frames k) (place.Chosen (chain ch) (term_of c) (program_of a))
-state (tree.Alternate k ch c a) = node.On (frames k) (place.Alternate (chain ch) (term_of c) (program_of a))
+state (tree.Chosen k bs c a) = node.On (frames k) (place.Chosen (branches bs) (term_of c) (program_of a))
+state (tree.Alternate k bs c a) = node.On (frames k) (place.Alternate (branches bs) (term_of c) (program_of a))
 state (tree.NamesLine k) = node.On (frames k) place.NamesLine
 state (tree.Named k w) = node.On (frames k) (place.Named w)
 state (tree.Argued k (Expression l)) = node.Fail
@@ -163,18 +163,18 @@ more_pairs : (r : Option EntryRow) (key : Key) (c : Constant) → Rattle.expr_va
 more_pairs None key c = refl
 more_pairs (Some r) key c = refl
 
-bounds : (a : Bound) → bound_with (bound_kept a) ≡ bound_term a
+bounds : (a : Bound) → bound_with (bound_of a) ≡ bound_term a
 bounds LeftOut = refl
 bounds (At t) = refl
 
-nests : (ch : Chain) (c : Tree) (a : TreeProgram) (e : Rattle.expr_grammar.specs.Grammar.ElsePart) → nest (chain ch) (choice (term_of c) (program_of a) (else_block e)) ≡ term_of (chosen ch c a e)
+nests : (bs : Branches) (c : Tree) (a : TreeProgram) (e : Rattle.expr_grammar.specs.Grammar.ElsePart) → nest (branches bs) (choice (term_of c) (program_of a) (else_block e)) ≡ term_of (chosen bs c a e)
 nests NoBranch c a e = refl
-nests (Branch ch d b) c a e = nest_more (chain ch) (term_of d) (program_of b) (choice (term_of c) (program_of a) (else_block e)) ∙ nests ch d b (ElseIf c a e)
+nests (Branch bs d b) c a e = nest_more (branches bs) (term_of d) (program_of b) (choice (term_of c) (program_of a) (else_block e)) ∙ nests bs d b (ElseIf c a e)
 
 -- a choice is no name and no member
-chosen_head : (ch : Chain) (c : Tree) (a : TreeProgram) (e : Rattle.expr_grammar.specs.Grammar.ElsePart) → head (chosen ch c a e) ≡ operand.Whole (term_of (chosen ch c a e))
+chosen_head : (bs : Branches) (c : Tree) (a : TreeProgram) (e : Rattle.expr_grammar.specs.Grammar.ElsePart) → head (chosen bs c a e) ≡ operand.Whole (term_of (chosen bs c a e))
 chosen_head NoBranch c a e = refl
-chosen_head (Branch ch d b) c a e = chosen_head ch d b (ElseIf c a e)
+chosen_head (Branch bs d b) c a e = chosen_head bs d b (ElseIf c a e)
 
 -- tests of the token
 closes : (t : Token) (s : tree.State) → node.at_close t (state s) node.Fail ≡ state (tree.at_close t s)
@@ -214,19 +214,19 @@ square_opens (token.Sign sign.SquareOpen) s r = refl
 square_opens t s r = refl
 
 -- the end of a list, and of arguments
-list_ends : (s : Shape) (t : Token) (k : List tree.Frame) (xs : Rattle.expr_grammar.specs.Grammar.Items) (g : Given) → g.terms ≡ items_terms xs → node.list_end (holder_of s) t g (frames k) ≡ state (tree.at_end s t (tree.Have k (shape_tree s xs)))
-list_ends InArray t k xs g e = ap (λ q. node.at_square t (node.whole (frames k) (list (terms_of q))) node.Fail) e ∙ squares t (tree.Have k (shape_tree InArray xs))
-list_ends (InMethod l w) t k xs g e = ap (λ q. node.at_close t (node.whole (frames k) (postfix (method (word_text w) (terms_of q)) (term_of l))) node.Fail) e ∙ closes t (tree.Have k (shape_tree (InMethod l w) xs))
+list_ends : (s : tree.Holder) (t : Token) (k : List tree.Frame) (xs : Rattle.expr_grammar.specs.Grammar.Items) (g : Given) → g.terms ≡ items_terms xs → node.list_end (holder_of s) t g (frames k) ≡ state (tree.at_end s t (tree.Have k (holder_tree s xs)))
+list_ends InArray t k xs g e = ap (λ q. node.at_square t (node.whole (frames k) (list (terms_of q))) node.Fail) e ∙ squares t (tree.Have k (holder_tree InArray xs))
+list_ends (InMethod l w) t k xs g e = ap (λ q. node.at_close t (node.whole (frames k) (postfix (method (word_text w) (terms_of q)) (term_of l))) node.Fail) e ∙ closes t (tree.Have k (holder_tree (InMethod l w) xs))
 
 call_ends : (c : tree.Caller) (t : Token) (k : List tree.Frame) (xs : Rattle.expr_grammar.specs.Grammar.Arguments) (g : Given) → g ≡ arguments_given xs → node.call_end (caller_of c) t g (frames k) ≡ state (tree.at_close t (tree.Have k (caller_tree c xs)))
 call_ends (InCall w) t k xs g e = ap (λ q. node.at_close t (node.whole (frames k) (call_given w q)) node.Fail) e ∙ closes t (tree.Have k (caller_tree (InCall w) xs))
 call_ends (InPipe l w) t k xs g e = ap (λ q. node.at_close t (node.whole (frames k) (postfix (pipe (call_given w q)) (term_of l))) node.Fail) e ∙ closes t (tree.Have k (caller_tree (InPipe l w) xs))
 
-lists : (t : Token) (s : Shape) (r : Option Row) (l : Tree) (k : List tree.Frame) → node.listed t (holder_of s) (given_more (items_given r) (term_of l)) (frames k) ≡ state (tree.at_comma t (tree.Want (tree.Listed s (Some (push r l)) ∷ k)) (tree.at_end s t (tree.Have k (shape_tree s (SomeItems (push r l) false)))))
+lists : (t : Token) (s : tree.Holder) (r : Option Row) (l : Tree) (k : List tree.Frame) → node.listed t (holder_of s) (given_more (items_given r) (term_of l)) (frames k) ≡ state (tree.at_comma t (tree.Want (tree.Listed s (Some (push r l)) ∷ k)) (tree.at_end s t (tree.Have k (holder_tree s (SomeItems (push r l) false)))))
 lists t s r l k =
     ap (λ g. node.listed t (holder_of s) g (frames k)) (more_items r l)
     ∙ ap (λ q. node.at_comma t (node.wanting (frame.List (holder_of s) (items_given (Some (push r l))) ∷ frames k)) q) (list_ends s t k (SomeItems (push r l) false) (items_given (Some (push r l))) refl)
-    ∙ commas t (tree.Want (tree.Listed s (Some (push r l)) ∷ k)) (tree.at_end s t (tree.Have k (shape_tree s (SomeItems (push r l) false))))
+    ∙ commas t (tree.Want (tree.Listed s (Some (push r l)) ∷ k)) (tree.at_end s t (tree.Have k (holder_tree s (SomeItems (push r l) false))))
 
 calls : (t : Token) (c : tree.Caller) (r : Option ArgumentRow) (a : Argument) (k : List tree.Frame) → node.called t (caller_of c) (with_argument a (row_given r)) (frames k) ≡ state (tree.argued t (tree.Calling c r ∷ k) a)
 calls t c r a k =
@@ -245,36 +245,36 @@ braces_argue t [] p = refl
 braces_argue t (tree.Calling c r ∷ k) p = calls t c r (Braces p) k
 braces_argue t (f ∷ k) p = refl
 
-parts : (b : Part) (p : TreeProgram) (k : List tree.Frame) → node.after_part (section_of b) (program_of p) (frames k) ≡ state (tree.after_part b p k)
-parts Top p k = refl
-parts (ThenPart ch c) p k = refl
-parts (LastPart ch c a) p k = ap (λ q. node.whole (frames k) q) (nests ch c a (Else p)) ∙ ap (λ q. node.On (frames k) (place.Have q)) (sym (chosen_head ch c a (Else p)))
-parts Predicate p k = refl
+after_section_same : (b : tree.Section) (p : TreeProgram) (k : List tree.Frame) → node.after_section (section_of b) (program_of p) (frames k) ≡ state (tree.after_section b p k)
+after_section_same Top p k = refl
+after_section_same (Then bs c) p k = refl
+after_section_same (Last bs c a) p k = ap (λ q. node.whole (frames k) q) (nests bs c a (Else p)) ∙ ap (λ q. node.On (frames k) (place.Have q)) (sym (chosen_head bs c a (Else p)))
+after_section_same Predicate p k = refl
 
 binds : (k : List tree.Frame) (w : List ℕ) (l : Tree) → node.bind (frames k) w (term_of l) ≡ state (tree.bind k w l)
 binds [] w l = refl
 binds (tree.Body b ls ∷ k) w l = refl
 binds (f ∷ k) w l = refl
 
-shuts : (t : Token) (k : List tree.Frame) (l : Tree) → node.shut t (frames k) (term_of l) ≡ state (tree.shut t k l)
-shuts t [] l = refl
-shuts t (tree.Inside ∷ k) l = closes t (tree.Have k (Paren l))
-shuts t (tree.Middle c ∷ k) l = colons t (tree.Want (tree.Otherwise c l ∷ k)) tree.Fail
-shuts t (tree.Listed s r ∷ k) l = lists t s r l k
-shuts t (tree.Calling c r ∷ k) l = calls t c r (Expression l) k
-shuts t (tree.Indexed x true ∷ k) l = squares t (tree.Have k (Index x true l))
-shuts t (tree.Indexed x false ∷ k) l =
+close_same : (t : Token) (k : List tree.Frame) (l : Tree) → node.close t (frames k) (term_of l) ≡ state (tree.close t k l)
+close_same t [] l = refl
+close_same t (tree.Inside ∷ k) l = closes t (tree.Have k (Paren l))
+close_same t (tree.Middle c ∷ k) l = colons t (tree.Want (tree.Otherwise c l ∷ k)) tree.Fail
+close_same t (tree.Listed s r ∷ k) l = lists t s r l k
+close_same t (tree.Calling c r ∷ k) l = calls t c r (Expression l) k
+close_same t (tree.Indexed x true ∷ k) l = squares t (tree.Have k (Index x true l))
+close_same t (tree.Indexed x false ∷ k) l =
     ap (λ q. node.at_colon t (node.wanting (frame.Cut (term_of x) (Some (term_of l)) ∷ frames k)) q) (squares t (tree.Have k (Index x false l)))
     ∙ colons t (tree.Want (tree.Cut x (At l) ∷ k)) (tree.at_square t (tree.Have k (Index x false l)))
-shuts t (tree.Cut x a ∷ k) l = ap (λ q. node.at_square t (node.whole (frames k) (postfix (slice q (bound_term (At l))) (term_of x))) node.Fail) (bounds a) ∙ squares t (tree.Have k (Slice x a (At l)))
-shuts t (tree.Condition ch ∷ k) l = braces t (tree.Want (tree.Body (ThenPart ch l) NoLines ∷ k)) tree.Fail
-shuts t (tree.Body b ls ∷ k) l =
-    ap (λ q. node.at_end_brace t q node.Fail) (parts b (Program ls l) k)
-    ∙ end_braces t (tree.after_part b (Program ls l) k) tree.Fail
-shuts t (tree.Value w ∷ k) l = ap (λ q. node.at_semicolon t q node.Fail) (binds k w l) ∙ semicolons t (tree.bind k w l)
-shuts t (tree.Under o ∷ k) l = refl
-shuts t (tree.After x o ∷ k) l = refl
-shuts t (tree.Otherwise c a ∷ k) l = refl
+close_same t (tree.Cut x a ∷ k) l = ap (λ q. node.at_square t (node.whole (frames k) (postfix (slice q (bound_term (At l))) (term_of x))) node.Fail) (bounds a) ∙ squares t (tree.Have k (Slice x a (At l)))
+close_same t (tree.Condition bs ∷ k) l = braces t (tree.Want (tree.Body (Then bs l) NoLines ∷ k)) tree.Fail
+close_same t (tree.Body b ls ∷ k) l =
+    ap (λ q. node.at_end_brace t q node.Fail) (after_section_same b (Program ls l) k)
+    ∙ end_braces t (tree.after_section b (Program ls l) k) tree.Fail
+close_same t (tree.Value w ∷ k) l = ap (λ q. node.at_semicolon t q node.Fail) (binds k w l) ∙ semicolons t (tree.bind k w l)
+close_same t (tree.Under o ∷ k) l = refl
+close_same t (tree.After x o ∷ k) l = refl
+close_same t (tree.Otherwise c a ∷ k) l = refl
 
 either : {A R S : Type 0} (done : A → R) (kept : S → R) (b : Bool) (x y : A) (u v : S) → done x ≡ kept u → done y ≡ kept v → done (cond b x y) ≡ kept (cond b u v)
 either done kept true x y u v e f = e
@@ -294,32 +294,32 @@ applies k (Member l false w) = refl
 applies k (Member l true w) = refl
 applies k l = refl
 
-follows : (r : Role) (t : Token) → ((k : List tree.Frame) (l : Tree) → node.act r t (frames k) (term_of l) ≡ state (tree.act r t k l)) → (k : List tree.Frame) (l : Tree) → node.follow r t (node.settle (role_level r) (frames k) (node.make (head l))) ≡ state (tree.settle (role_level r) (tree.act r t) k l)
-follows r t h k l =
-    ap (λ x. node.follow r t (node.settle (role_level r) (frames k) x)) (makes l)
-    ∙ settles (role_level r) (tree.act r t) state (node.follow r t) h k l
+after_settled_same : (r : Role) (t : Token) → ((k : List tree.Frame) (l : Tree) → node.after_operand r t (frames k) (term_of l) ≡ state (tree.after_operand r t k l)) → (k : List tree.Frame) (l : Tree) → node.after_settled r t (node.settle (role_level r) (frames k) (node.make (head l))) ≡ state (tree.settle (role_level r) (tree.after_operand r t) k l)
+after_settled_same r t h k l =
+    ap (λ x. node.after_settled r t (node.settle (role_level r) (frames k) x)) (makes l)
+    ∙ settles (role_level r) (tree.after_operand r t) state (node.after_settled r t) h k l
 
-hads : (r : Role) (t : Token) (k : List tree.Frame) (l : Tree) → node.had r t (frames k) (head l) ≡ state (tree.settle (role_level r) (tree.act r t) k l)
-hads Applying t k l = applies k l ∙ sym (ap state (stays 13 (tree.act Applying t) k l (tight k)))
-hads (Binary o) t k l = follows (Binary o) t (λ k l. refl) k l
-hads Negating t k l = follows Negating t (λ k l. refl) k l
-hads Asking t k l = follows Asking t (λ k l. refl) k l
-hads Piping t k l = follows Piping t (λ k l. refl) k l
-hads Dotting t k l = follows Dotting t (λ k l. refl) k l
-hads Questioning t k l = follows Questioning t (λ k l. refl) k l
-hads Picking t k l = follows Picking t (λ k l. refl) k l
-hads Plain t k l = follows Plain t (λ k l. shuts t k l) k l
+follow_same : (r : Role) (t : Token) (k : List tree.Frame) (l : Tree) → node.follow r t (frames k) (head l) ≡ state (tree.settle (role_level r) (tree.after_operand r t) k l)
+follow_same Applying t k l = applies k l ∙ sym (ap state (stays 13 (tree.after_operand Applying t) k l (tight k)))
+follow_same (Binary o) t k l = after_settled_same (Binary o) t (λ k l. refl) k l
+follow_same Negating t k l = after_settled_same Negating t (λ k l. refl) k l
+follow_same Asking t k l = after_settled_same Asking t (λ k l. refl) k l
+follow_same Piping t k l = after_settled_same Piping t (λ k l. refl) k l
+follow_same Dotting t k l = after_settled_same Dotting t (λ k l. refl) k l
+follow_same Questioning t k l = after_settled_same Questioning t (λ k l. refl) k l
+follow_same Picking t k l = after_settled_same Picking t (λ k l. refl) k l
+follow_same Plain t k l = after_settled_same Plain t (λ k l. close_same t k l) k l
 
-lacks : (t : Token) (k : List tree.Frame) → node.lack t (frames k) ≡ state (tree.lack t k)
-lacks t [] = refl
-lacks t (tree.Listed s r ∷ k) = list_ends s t k (items_end r) (items_given r) (end_items r)
-lacks t (tree.Calling c r ∷ k) =
+without_operand_same : (t : Token) (k : List tree.Frame) → node.without_operand t (frames k) ≡ state (tree.without_operand t k)
+without_operand_same t [] = refl
+without_operand_same t (tree.Listed s r ∷ k) = list_ends s t k (items_end r) (items_given r) (end_items r)
+without_operand_same t (tree.Calling c r ∷ k) =
     ap (λ q. node.at_dot t (node.On (frame.Call (caller_of c) (row_given r) ∷ frames k) place.NamesMember) q) (call_ends c t k (arguments_end r) (row_given r) (end_arguments r))
     ∙ dotted t (tree.NamesMember (tree.Calling c r ∷ k)) (tree.at_close t (tree.Have k (caller_tree c (arguments_end r))))
-lacks t (tree.Indexed x false ∷ k) = colons t (tree.Want (tree.Cut x LeftOut ∷ k)) tree.Fail
-lacks t (tree.Indexed x true ∷ k) = refl
-lacks t (tree.Cut x a ∷ k) = ap (λ q. node.at_square t (node.whole (frames k) (postfix (slice q (bound_term LeftOut)) (term_of x))) node.Fail) (bounds a) ∙ squares t (tree.Have k (Slice x a LeftOut))
-lacks t (f ∷ k) = refl
+without_operand_same t (tree.Indexed x false ∷ k) = colons t (tree.Want (tree.Cut x LeftOut ∷ k)) tree.Fail
+without_operand_same t (tree.Indexed x true ∷ k) = refl
+without_operand_same t (tree.Cut x a ∷ k) = ap (λ q. node.at_square t (node.whole (frames k) (postfix (slice q (bound_term LeftOut)) (term_of x))) node.Fail) (bounds a) ∙ squares t (tree.Have k (Slice x a LeftOut))
+without_operand_same t (f ∷ k) = refl
 
 begins : (k : List tree.Frame) → node.begin_line (frames k) ≡ state (tree.begin_line k)
 begins [] = refl
@@ -350,7 +350,7 @@ wants (token.Reserved reserved.Nil) k = refl
 wants (token.Reserved reserved.If) k = refl
 wants (token.Reserved reserved.Let) k = begins k
 wants (token.Reserved reserved.Not) k = refl
-wants t k = lacks t k
+wants t k = without_operand_same t k
 
 dots : (k : List tree.Frame) (l : Tree) (t : Token) → node.word_after_dot (frames k) (term_of l) (node.text_at t) ≡ state (tree.word_after_dot k l false (word_at t))
 dots k l (token.Word w) = refl
@@ -374,14 +374,14 @@ pipes : (k : List tree.Frame) (l : Tree) (w : List ℕ) (t : Token) → node.ope
 pipes k l w (token.Sign sign.ParenOpen) = refl
 pipes k l w t = refl
 
-elses : (k : List tree.Frame) (ch : Chain) (c : Tree) (a : TreeProgram) (t : Token) → node.else_after (frames k) (chain ch) (term_of c) (program_of a) t ≡ state (tree.else_after k ch c a t)
-elses k ch c a (token.Reserved reserved.Else) = refl
-elses k ch c a t = refl
+elses : (k : List tree.Frame) (bs : Branches) (c : Tree) (a : TreeProgram) (t : Token) → node.else_after (frames k) (branches bs) (term_of c) (program_of a) t ≡ state (tree.else_after k bs c a t)
+elses k bs c a (token.Reserved reserved.Else) = refl
+elses k bs c a t = refl
 
-alternates : (k : List tree.Frame) (ch : Chain) (c : Tree) (a : TreeProgram) (t : Token) → node.alternative (frames k) (chain ch) (term_of c) (program_of a) t ≡ state (tree.step_on (tree.Alternate k ch c a) t)
-alternates k ch c a (token.Sign sign.BraceOpen) = refl
-alternates k ch c a (token.Reserved reserved.If) = refl
-alternates k ch c a t = refl
+alternates : (k : List tree.Frame) (bs : Branches) (c : Tree) (a : TreeProgram) (t : Token) → node.alternative (frames k) (branches bs) (term_of c) (program_of a) t ≡ state (tree.step_on (tree.Alternate k bs c a) t)
+alternates k bs c a (token.Sign sign.BraceOpen) = refl
+alternates k bs c a (token.Reserved reserved.If) = refl
+alternates k bs c a t = refl
 
 names : (k : List tree.Frame) (t : Token) → node.word_after_let (frames k) t ≡ state (tree.word_after_let k t)
 names k (token.Word w) = refl
@@ -428,7 +428,7 @@ entereds k r t = refl
 
 steps_on : (s : tree.State) (t : Token) → node.steps_on (state s) t ≡ state (tree.step_on s t)
 steps_on (tree.Want k) t = wants t k
-steps_on (tree.Have k l) t = hads (role t) t k l
+steps_on (tree.Have k l) t = follow_same (role_of t) t k l
 steps_on (tree.Dotted k l) t = dots k l t
 steps_on (tree.Questioned k l) t =
     ap (λ q. node.at_square_open t (node.wanting (frame.Index (term_of l) true ∷ frames k)) q) (questions k l t)
@@ -436,8 +436,8 @@ steps_on (tree.Questioned k l) t =
 steps_on (tree.Negated k l) t = nots k l t
 steps_on (tree.Barred k l) t = bars k l t
 steps_on (tree.Piped k l w) t = pipes k l w t
-steps_on (tree.Chosen k ch c a) t = elses k ch c a t
-steps_on (tree.Alternate k ch c a) t = alternates k ch c a t
+steps_on (tree.Chosen k bs c a) t = elses k bs c a t
+steps_on (tree.Alternate k bs c a) t = alternates k bs c a t
 steps_on (tree.NamesLine k) t = names k t
 steps_on (tree.Named k w) t = values k w t
 steps_on (tree.Argued k (Expression l)) t = refl
@@ -454,7 +454,7 @@ steps_on tree.Fail t = refl
 
 key_text_there : (key : Key) → node.key_text_at (key_token key) ≡ Some (key_text key)
 key_text_there (WordKey (Usual w)) = refl
-key_text_there (WordKey (Kept r)) = refl
+key_text_there (WordKey (ReservedWord r)) = refl
 key_text_there (QuotedKey s) = refl
 
 steps_key : (k : List tree.Frame) (key : Key) (t : Token) → node.step (state (tree.BracedKey k key)) t ≡ state (tree.step (tree.BracedKey k key) t)
@@ -471,26 +471,26 @@ steps (tree.Argued k (MemberAlone w)) t = member_argues t k w
 steps (tree.Argued k (Braces p)) t = braces_argue t k p
 steps s t = steps_on s t
 
-wholes : (k : List tree.Frame) (l : Tree) → node.whole_in (frames k) (term_of l) ≡ kept (tree.whole k l)
+wholes : (k : List tree.Frame) (l : Tree) → node.whole_in (frames k) (term_of l) ≡ program_if_any (tree.whole k l)
 wholes [] l = refl
 wholes (tree.Body Top ls ∷ []) l = refl
 wholes (tree.Body Top ls ∷ f ∷ k) l = refl
-wholes (tree.Body (ThenPart ch c) ls ∷ k) l = refl
-wholes (tree.Body (LastPart ch c a) ls ∷ k) l = refl
+wholes (tree.Body (Then bs c) ls ∷ k) l = refl
+wholes (tree.Body (Last bs c a) ls ∷ k) l = refl
 wholes (tree.Body Predicate ls ∷ k) l = refl
 wholes (f ∷ k) l = refl
 
-finishes : (s : tree.State) → node.finish (state s) ≡ kept (tree.finish s)
-finishes (tree.Have k l) = ap (λ x. node.whole_of (node.settle 0 (frames k) x)) (makes l) ∙ settles 0 tree.whole kept node.whole_of (λ k l. wholes k l) k l
+finishes : (s : tree.State) → node.finish (state s) ≡ program_if_any (tree.finish s)
+finishes (tree.Have k l) = ap (λ x. node.whole_of (node.settle 0 (frames k) x)) (makes l) ∙ settles 0 tree.whole program_if_any node.whole_of (λ k l. wholes k l) k l
 finishes (tree.Argued k (Expression l)) = refl
 finishes (tree.Argued k (MemberAlone w)) = refl
 finishes (tree.Argued k (Braces p)) = refl
 finishes s = refl
 
-runs : (s : tree.State) (ts : List Token) → node.finish (fold node.step (state s) ts) ≡ kept (tree.parse s ts)
+runs : (s : tree.State) (ts : List Token) → node.finish (fold node.step (state s) ts) ≡ program_if_any (tree.parse s ts)
 unfolding tree.parse
 runs s [] = finishes s
 runs s (t ∷ ts) = ap (λ x. node.finish (fold node.step x ts)) (steps s t) ∙ runs (tree.step s t) ts
 
-pub erases : (ts : List Token) → node.block_of_tokens ts ≡ kept (tree_of ts)
-erases ts = runs tree.start ts
+pub erases : (ts : List Token) → node.block_of_tokens ts ≡ program_if_any (tree_of ts)
+erases ts = runs tree.first_state ts

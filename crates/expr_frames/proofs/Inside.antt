@@ -5,7 +5,7 @@ use Rattle.expr_tree.specs.Written.{terms_of}
 use Rattle.expr_parts.specs.Promotion.{call_of}
 use Rattle.expr_grammar.specs.Brackets.{tree_with, items_with, row_with, arguments_with, argument_row_with, argument_with, bound_with, else_with, program_with, lines_with, SomeInBrackets}
 use Rattle.expr_grammar.specs.Grammar.{Tree, Literal, Name, HashName, Paren, Array, Map, Call, If, Prefix, Infix, Member, Method, Index, Slice, Pipe, Ternary, Items, NoItems, SomeItems, Row, One, More, Arguments, NoArguments, SomeArguments, ArgumentRow, OneArgument, MoreArguments, Argument, Expression, MemberAlone, Braces, Bound, LeftOut, At, ElsePart, Else, ElseIf, TreeProgram, Program, Lines, NoLines, MoreLines}
-use Rattle.expr_frames.specs.Kept.{term_of, items_terms, row_terms, argument_terms, argument_row_terms, expression_terms, last_predicate, last_predicate_in_row, argument_predicate, else_before, bound_term, else_block, program_of, line_terms, word_text, prefix_operator, infix_meaning, joined, member_term}
+use Rattle.expr_frames.specs.Programs.{term_of, items_terms, row_terms, argument_terms, argument_row_terms, expression_terms, last_predicate, last_predicate_in_row, argument_predicate, else_before, bound_term, else_block, program_of, line_terms, word_text, prefix_operator, infix_meaning, joined, member_term}
 
 module _ (at bracketed : List ℕ → Tree) (some : SomeInBrackets at bracketed) where
   same_name : (w : List ℕ) → term_of (bracketed w) ≡ term_of (at w)

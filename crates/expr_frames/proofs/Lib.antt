@@ -1,3 +1,3 @@
 pub mod Inside
-pub mod Chains
+pub mod Branches
 pub mod Erase

@@ -1,3 +1,3 @@
-pub mod Kept
+pub mod Programs
 pub mod Nodes
 pub mod Faults

@@ -1,4 +1,5 @@
 -- The machine over what a program keeps: a state and the next token give the next state.
+-- It models the grammar's `Machine`, so what a word or function names there (`Start`, `Holder`, `Caller`, `Section`, `Frame`, `State`, `close`, `settle`) it names here, with terms in place of trees: the types are those of `frame`.
 use Rattle.std.specs.Prelude.{ℕ, true, false, List, [], ◌∷◌, ◌++◌, Option, Some, None, nat_lt, if◌then◌else◌, fold}
 use Rattle.expr_value.specs.declared.value.Value.{Value}
 use Rattle.expr_value.specs.declared.value.Value.TheVariants as value
@@ -35,8 +36,8 @@ use Rattle.expr_frames.specs.declared.frame.Operand.TheVariants as operand
 use Rattle.expr_frames.specs.declared.frame.Place.{Place}
 use Rattle.expr_frames.specs.declared.frame.Place.TheVariants as place
 use Rattle.expr_grammar.specs.Grammar.{prefix_level}
-use Rattle.expr_grammar.specs.Machine.{infix_reach, role, role_level}
-use Rattle.expr_frames.specs.Kept.{integer_value, prefix_operator, infix_meaning, joined, member_term}
+use Rattle.expr_grammar.specs.Machine.{infix_reach, role_of, role_level}
+use Rattle.expr_frames.specs.Programs.{integer_value, prefix_operator, infix_meaning, joined, member_term}
 
 -- what a token is where an operand is wanted
 abbrev pub sign_start : Sign → Start
@@ -206,30 +207,30 @@ nest [] t = t
 nest (b ∷ bs) t = choice b.0 b.1 (answers (nest bs t))
 
 -- a program between braces is whole
-abbrev pub after_part : Section → Block → List Frame → State
-after_part section.Top p k = Fail
-after_part (section.Then ch c) p k = On k (place.Chosen ch c p)
-after_part (section.Last ch c a) p k = whole k (nest ch (choice c a p))
-after_part section.Predicate p k = On k (place.Argued p)
+abbrev pub after_section : Section → Block → List Frame → State
+after_section section.Top p k = Fail
+after_section (section.Then bs c) p k = On k (place.Chosen bs c p)
+after_section (section.Last bs c a) p k = whole k (nest bs (choice c a p))
+after_section section.Predicate p k = On k (place.Argued p)
 
 -- a line is whole
 abbrev pub bind : List Frame → List ℕ → Term → State
 bind (frame.Body b ls ∷ k) w t = wanting (frame.Body b (ls ++ (w, t) ∷ []) ∷ k)
 bind k w t = Fail
 
--- A token that is no operator, after an operand.
-abbrev pub shut : Token → List Frame → Term → State
-shut t (frame.Inside ∷ k) l = at_close t (whole k l) Fail
-shut t (frame.Middle c ∷ k) l = at_colon t (wanting (frame.Reaching (reaching.Otherwise c l) ∷ k)) Fail
-shut t (frame.List h g ∷ k) l = listed t h (given_more g l) k
-shut t (frame.Call c g ∷ k) l = called t c (given_more g l) k
-shut t (frame.Index x true ∷ k) l = at_square t (whole k (postfix (index l true) x)) Fail
-shut t (frame.Index x false ∷ k) l = at_colon t (wanting (frame.Cut x (Some l) ∷ k)) (at_square t (whole k (postfix (index l false) x)) Fail)
-shut t (frame.Cut x a ∷ k) l = at_square t (whole k (postfix (slice (bound_with a) (bound l)) x)) Fail
-shut t (frame.Condition ch ∷ k) l = at_brace t (wanting (frame.Body (section.Then ch l) [] ∷ k)) Fail
-shut t (frame.Body b ls ∷ k) l = at_end_brace t (after_part b (block_with ls l) k) Fail
-shut t (frame.Value w ∷ k) l = at_semicolon t (bind k w l) Fail
-shut t k l = Fail
+-- A token that is no operator, after an operand: it ends what the innermost frame waits for.
+abbrev pub close : Token → List Frame → Term → State
+close t (frame.Inside ∷ k) l = at_close t (whole k l) Fail
+close t (frame.Middle c ∷ k) l = at_colon t (wanting (frame.Reaching (reaching.Otherwise c l) ∷ k)) Fail
+close t (frame.List h g ∷ k) l = listed t h (given_more g l) k
+close t (frame.Call c g ∷ k) l = called t c (given_more g l) k
+close t (frame.Index x true ∷ k) l = at_square t (whole k (postfix (index l true) x)) Fail
+close t (frame.Index x false ∷ k) l = at_colon t (wanting (frame.Cut x (Some l) ∷ k)) (at_square t (whole k (postfix (index l false) x)) Fail)
+close t (frame.Cut x a ∷ k) l = at_square t (whole k (postfix (slice (bound_with a) (bound l)) x)) Fail
+close t (frame.Condition bs ∷ k) l = at_brace t (wanting (frame.Body (section.Then bs l) [] ∷ k)) Fail
+close t (frame.Body b ls ∷ k) l = at_end_brace t (after_section b (block_with ls l) k) Fail
+close t (frame.Value w ∷ k) l = at_semicolon t (bind k w l) Fail
+close t k l = Fail
 
 -- an opening parenthesis after an operand
 abbrev pub apply : List Frame → Operand → State
@@ -238,31 +239,33 @@ apply k (operand.Member l w) = wanting (frame.List (holder.Method l w) none_give
 apply k (operand.Whole l) = Fail
 
 -- A token after an operand, once the frames are settled.
-abbrev pub act : Role → Token → List Frame → Term → State
-act (Binary o) t k l = wanting (frame.Reaching (reaching.After l o) ∷ k)
-act Negating t k l = On k (place.Negated l)
-act Asking t k l = wanting (frame.Middle l ∷ k)
-act Piping t k l = On k (place.Barred l)
-act Dotting t k l = On k (place.Dotted l)
-act Questioning t k l = On k (place.Questioned l)
-act Applying t k l = Fail
-act Picking t k l = wanting (frame.Index l false ∷ k)
-act Plain t k l = shut t k l
+abbrev pub after_operand : Role → Token → List Frame → Term → State
+after_operand (Binary o) t k l = wanting (frame.Reaching (reaching.After l o) ∷ k)
+after_operand Negating t k l = On k (place.Negated l)
+after_operand Asking t k l = wanting (frame.Middle l ∷ k)
+after_operand Piping t k l = On k (place.Barred l)
+after_operand Dotting t k l = On k (place.Dotted l)
+after_operand Questioning t k l = On k (place.Questioned l)
+after_operand Applying t k l = Fail
+after_operand Picking t k l = wanting (frame.Index l false ∷ k)
+after_operand Plain t k l = close t k l
 
-abbrev pub follow : Role → Token → Settled → State
-follow r t a = act r t a.stack a.left
+-- the same, with the stack and operand that settling left
+abbrev pub after_settled : Role → Token → Settled → State
+after_settled r t a = after_operand r t a.stack a.left
 
-abbrev pub had : Role → Token → List Frame → Operand → State
-had Applying t k h = apply k h
-had r t k h = follow r t (settle (role_level r) k (make h))
+-- A token after an operand. Arguments go on with what the operand is; else the frames are settled first.
+abbrev pub follow : Role → Token → List Frame → Operand → State
+follow Applying t k h = apply k h
+follow r t k h = after_settled r t (settle (role_level r) k (make h))
 
 -- A token that begins no operand, where one is wanted.
-abbrev pub lack : Token → List Frame → State
-lack t (frame.List h g ∷ k) = list_end h t g k
-lack t (frame.Call c g ∷ k) = at_dot t (On (frame.Call c g ∷ k) place.NamesMember) (call_end c t g k)
-lack t (frame.Index x false ∷ k) = at_colon t (wanting (frame.Cut x None ∷ k)) Fail
-lack t (frame.Cut x a ∷ k) = at_square t (whole k (postfix (slice (bound_with a) unbounded) x)) Fail
-lack t k = Fail
+abbrev pub without_operand : Token → List Frame → State
+without_operand t (frame.List h g ∷ k) = list_end h t g k
+without_operand t (frame.Call c g ∷ k) = at_dot t (On (frame.Call c g ∷ k) place.NamesMember) (call_end c t g k)
+without_operand t (frame.Index x false ∷ k) = at_colon t (wanting (frame.Cut x None ∷ k)) Fail
+without_operand t (frame.Cut x a ∷ k) = at_square t (whole k (postfix (slice (bound_with a) unbounded) x)) Fail
+without_operand t k = Fail
 
 abbrev pub begin_line : List Frame → State
 begin_line (frame.Body b ls ∷ k) = On (frame.Body b ls ∷ k) place.NamesLine
@@ -282,7 +285,7 @@ begin start.List k = wanting (frame.List holder.Array none_given ∷ k)
 begin start.Brace k = begin_brace k
 begin start.Choice k = wanting (frame.Condition [] ∷ k)
 begin start.Line k = begin_line k
-begin (start.Other t) k = lack t k
+begin (start.Other t) k = without_operand t k
 
 -- A token where an operand is wanted.
 abbrev pub want : Token → List Frame → State
@@ -309,14 +312,14 @@ open_after_word k l w (token.Sign sign.ParenOpen) = wanting (frame.Call (caller.
 open_after_word k l w t = Fail
 
 abbrev pub else_after : List Frame → List (Term × Block) → Term → Block → Token → State
-else_after k ch c a (token.Reserved reserved.Else) = On k (place.Alternate ch c a)
-else_after k ch c a t = Fail
+else_after k bs c a (token.Reserved reserved.Else) = On k (place.Alternate bs c a)
+else_after k bs c a t = Fail
 
 -- a program or another condition, after `else`
 abbrev pub alternative : List Frame → List (Term × Block) → Term → Block → Token → State
-alternative k ch c a (token.Sign sign.BraceOpen) = wanting (frame.Body (section.Last ch c a) [] ∷ k)
-alternative k ch c a (token.Reserved reserved.If) = wanting (frame.Condition (ch ++ (c, a) ∷ []) ∷ k)
-alternative k ch c a t = Fail
+alternative k bs c a (token.Sign sign.BraceOpen) = wanting (frame.Body (section.Last bs c a) [] ∷ k)
+alternative k bs c a (token.Reserved reserved.If) = wanting (frame.Condition (bs ++ (c, a) ∷ []) ∷ k)
+alternative k bs c a t = Fail
 
 abbrev pub word_after_let : List Frame → Token → State
 word_after_let k (token.Word w) = On k (place.Named w)
@@ -353,14 +356,14 @@ value_after_key k None = Fail
 
 abbrev pub step_on : List Frame → Place → Token → State
 step_on k place.Want t = want t k
-step_on k (place.Have h) t = had (role t) t k h
+step_on k (place.Have h) t = follow (role_of t) t k h
 step_on k (place.Dotted l) t = word_after_dot k l (text_at t)
 step_on k (place.Questioned l) t = at_square_open t (wanting (frame.Index l true ∷ k)) (word_after_question k l (text_at t))
 step_on k (place.Negated l) t = in_after_not k l t
 step_on k (place.Barred l) t = word_after_bar k l t
 step_on k (place.Piped l w) t = open_after_word k l w t
-step_on k (place.Chosen ch c a) t = else_after k ch c a t
-step_on k (place.Alternate ch c a) t = alternative k ch c a t
+step_on k (place.Chosen bs c a) t = else_after k bs c a t
+step_on k (place.Alternate bs c a) t = alternative k bs c a t
 step_on k place.NamesLine t = word_after_let k t
 step_on k (place.Named w) t = equals_after k w t
 step_on k (place.Argued b) t = argued t k b
@@ -399,9 +402,9 @@ abbrev pub finish : State → Option Block
 finish (On k p) = finish_in k p
 finish Fail = None
 
-abbrev pub begins : State
-begins = wanting (frame.Body section.Top [] ∷ [])
+abbrev pub first_state : State
+first_state = wanting (frame.Body section.Top [] ∷ [])
 
 -- the program of a token list, if it has one
 abbrev pub block_of_tokens : List Token → Option Block
-block_of_tokens ts = finish (fold step begins ts)
+block_of_tokens ts = finish (fold step first_state ts)

@@ -2,13 +2,13 @@
 
 ghost use Rattle.std.specs.Prelude.{◌≡◌, ◌∷◌, [], ◌++◌, IfOk, MatchOption};
 ghost use Rattle.expr_tree.specs.Term.{choice};
-ghost use Rattle.expr_frames.specs.Kept.{prefix_operator, infix_meaning, joined, member_term};
+ghost use Rattle.expr_frames.specs.Programs.{prefix_operator, infix_meaning, joined, member_term};
 ghost use Rattle.expr_frames.specs.Nodes as machine;
 ghost use Rattle.expr_frames.specs.Faults.{HoldsNoBody, HoldsNoCall, HoldsNoOperand};
 ghost use Rattle.expr_frames.specs.declared.frame.Frame.TheVariants as frame;
 ghost use Rattle.expr_frames.specs.declared.frame.Place.TheVariants as place;
 
-use crate::frame::{Caller, Chain, Fault, Frame, Meaning, Operand, Place, Reaching, Section};
+use crate::frame::{Caller, Branches, Fault, Frame, Meaning, Operand, Place, Reaching, Section};
 use expr_grammar::sign::{InfixSign, PrefixSign};
 use expr_parts::{Arguments, Lines, Part, ProgramPart};
 use expr_tree::operator::{Operator, UnaryOperator};
@@ -204,7 +204,7 @@ pub fn member(alloc: Global, left: Part, name: Text, optional: bool) -> Result<P
 /// A choice, inside the branches before it.
 pub fn nested(
     alloc: Global,
-    before: Chain,
+    before: Branches,
     condition: Part,
     then: ProgramPart,
     otherwise: ProgramPart,
@@ -221,7 +221,7 @@ pub fn nested(
 }
 
 /// The branches with one more.
-pub fn branched(before: Chain, condition: Part, then: ProgramPart) -> Result<Chain, AllocError>
+pub fn branched(before: Branches, condition: Part, then: ProgramPart) -> Result<Branches, AllocError>
     ensures { IfOk result (λ c. c ≡ before ++ (condition, then) ∷ []) }
 {
     let mut branches = before.into_vec();

@@ -1,5 +1,9 @@
 //! What the parser keeps of what it has read. Frames and places are moved at each token, so what only waits in one
 //! stands in a box.
+//!
+//! A type here bears the name of what it models in the grammar's machine (`Start`, `Holder`, `Caller`, `Branches`,
+//! `Section`, `Frame`): parts stand here where trees stand there. So do `Arguments` and `Lines`, which are of the
+//! grammar there.
 
 use expr_grammar::sign::{InfixSign, PrefixSign};
 use expr_parts::{Arguments, Lines, Part, ProgramPart};
@@ -8,7 +12,7 @@ use expr_tree::operator::Operator;
 use expr_value::{Boxed, Items, Text, Value, ValueMap};
 
 /// The branches of a choice before its last one.
-pub type Chain = Items<(Part, ProgramPart)>;
+pub type Branches = Items<(Part, ProgramPart)>;
 
 /// What a list is for.
 #[derive(Drop)]
@@ -24,12 +28,12 @@ pub enum Caller {
     Pipe(Boxed<Part>, Text),
 }
 
-/// What a program between braces is for.
+/// What a program is for.
 #[derive(Drop)]
 pub enum Section {
     Top,
-    Then(Chain, Boxed<Part>),
-    Last(Chain, Boxed<Part>, Boxed<ProgramPart>),
+    Then(Branches, Boxed<Part>),
+    Last(Branches, Boxed<Part>, Boxed<ProgramPart>),
     Predicate,
 }
 
@@ -51,7 +55,7 @@ pub enum Frame {
     Call(Caller, Arguments),
     Index(Part, bool),
     Cut(Boxed<Part>, Option<Part>),
-    Condition(Chain),
+    Condition(Branches),
     Body(Section, Lines),
     Value(Text),
 }
@@ -74,8 +78,8 @@ pub enum Place {
     Negated(Part),
     Barred(Part),
     Piped(Part, Text),
-    Chosen(Chain, Boxed<Part>, Boxed<ProgramPart>),
-    Alternate(Chain, Boxed<Part>, Boxed<ProgramPart>),
+    Chosen(Branches, Boxed<Part>, Boxed<ProgramPart>),
+    Alternate(Branches, Boxed<Part>, Boxed<ProgramPart>),
     NamesLine,
     Named(Text),
     Argued(ProgramPart),

@@ -3,7 +3,7 @@
 ghost use Rattle.std.specs.Prelude.{◌≡◌, List};
 ghost use Rattle.expr_token.specs.declared.token.Token.{Token};
 ghost use Rattle.expr_grammar.specs.Machine.{tree_of};
-ghost use Rattle.expr_frames.specs.Kept.{kept, BracketsLeaveExpression, BracketsLeaveInside, BracketsLeaveProgram};
+ghost use Rattle.expr_frames.specs.Programs.{program_if_any, BracketsLeaveExpression, BracketsLeaveInside, BracketsLeaveProgram};
 ghost use Rattle.expr_frames.specs.Nodes.{block_of_tokens};
 
 /// Brackets round an expression leave its program, also round expressions inside a program.
@@ -15,5 +15,5 @@ pub fn brackets_leave_program()
 
 // The machine over what is kept answers the program of that tree.
 fn erasure()
-    ensures { (ts : List Token) → block_of_tokens ts ≡ kept (tree_of ts) }
+    ensures { (ts : List Token) → block_of_tokens ts ≡ program_if_any (tree_of ts) }
 {}

@@ -8,7 +8,7 @@ use Rattle.expr_grammar.specs.declared.sign.InfixSign.TheVariants as infixed
 use Rattle.expr_grammar.specs.declared.role.Role.{Role}
 use Rattle.expr_grammar.specs.declared.role.Role.TheVariants.{Applying, Plain}
 use Rattle.expr_grammar.specs.Grammar.{Word, Usual, Constant, Nil, Key, EntryRow, Tree, Literal, Name, Member, Argument, Expression, MemberAlone, Braces, TreeProgram, Program, Lines, NoLines, MoreLines, key_token, Spells, Fits}
-use Rattle.expr_grammar.specs.Machine.{Start, Bracing, Letting, Other, start_at, constant_at, role, role_level, level_at, word_at, key_at, Shape, InArray, InMethod, Chain, Part, Top, ThenPart, LastPart, Predicate, Frame, Under, After, Otherwise, Inside, Middle, Listed, Calling, Indexed, Cut, Condition, Body, Value, reach, plug, State, Want, Have, Dotted, Questioned, Negated, Barred, Piped, Chosen, Alternate, NamesLine, Named, Argued, NamesMember, Braced, BracedKey, Keys, Colons, Values, Entered, Fail, at_close, at_square, at_colon, at_comma, at_semicolon, at_brace, at_end_brace, at_dot, at_end, argued, after_part, bind, shut, apply, act, lack, begin_line, begin_brace, begin, want, word_after_dot, at_square_open, in_after_not, word_after_bar, open_after_word, else_after, at_if, word_after_let, equals_after, member_alone, braced, key_in, value_in, step_on, step, parse, start}
+use Rattle.expr_grammar.specs.Machine.{Start, Bracing, Letting, Other, start_of, constant_at, role_of, role_level, level_at, word_at, key_at, Holder, InArray, InMethod, Branches, Section, Top, Then, Last, Predicate, Frame, Under, After, Otherwise, Inside, Middle, Listed, Calling, Indexed, Cut, Condition, Body, Value, reach, plug, State, Want, Have, Dotted, Questioned, Negated, Barred, Piped, Chosen, Alternate, NamesLine, Named, Argued, NamesMember, Braced, BracedKey, Keys, Colons, Values, Entered, Fail, at_close, at_square, at_colon, at_comma, at_semicolon, at_brace, at_end_brace, at_dot, at_end, argued, after_section, bind, close, apply, after_operand, without_operand, begin_line, begin_brace, begin, want, word_after_dot, at_square_open, in_after_not, word_after_bar, open_after_word, else_after, at_if, word_after_let, equals_after, member_alone, braced, key_in, value_in, step_on, step, parse, first_state}
 use Rattle.expr_grammar.specs.Prefixes.{SomeBegins}
 use Rattle.expr_grammar.proofs.Measures.{prefix_above, reach_above}
 use Rattle.expr_grammar.proofs.Complete.{closes}
@@ -28,15 +28,15 @@ IsBody (Body b ls ∷ k) = Unit {0}
 IsBody k = ⊥
 
 -- a program over k, of which Q holds
-abbrev IsPartOn : Part → List Frame → Type 0 → Type 0
-IsPartOn Top k Q = IsBottom k
-IsPartOn Predicate k Q = IsCall k × Q
-IsPartOn b k Q = Q
+abbrev IsSectionOn : Section → List Frame → Type 0 → Type 0
+IsSectionOn Top k Q = IsBottom k
+IsSectionOn Predicate k Q = IsCall k × Q
+IsSectionOn b k Q = Q
 
 -- frames that tokens can close
 abbrev IsOpen : List Frame → Type 0
 IsOpen [] = ⊥
-IsOpen (Body b ls ∷ k) = IsPartOn b k (IsOpen k)
+IsOpen (Body b ls ∷ k) = IsSectionOn b k (IsOpen k)
 IsOpen (Value w ∷ k) = IsBody k × IsOpen k
 IsOpen (f ∷ k) = IsOpen k
 
@@ -49,8 +49,8 @@ IsOn (Questioned k l) = IsOpen k
 IsOn (Negated k l) = IsOpen k
 IsOn (Barred k l) = IsOpen k
 IsOn (Piped k l w) = IsOpen k
-IsOn (Chosen k ch c a) = IsOpen k
-IsOn (Alternate k ch c a) = IsOpen k
+IsOn (Chosen k bs c a) = IsOpen k
+IsOn (Alternate k bs c a) = IsOpen k
 IsOn (NamesLine k) = IsBody k × IsOpen k
 IsOn (Named k w) = IsBody k × IsOpen k
 IsOn (Argued k (Expression l)) = ⊥
@@ -105,7 +105,7 @@ if_at : (t : Token) (s : State) → IsOn s → IsOn (at_if t s)
 if_at (token.Reserved reserved.If) s h = h
 if_at t s h = tt
 
-end_at : (x : Shape) (t : Token) (s : State) → IsOn s → IsOn (at_end x t s)
+end_at : (x : Holder) (t : Token) (s : State) → IsOn s → IsOn (at_end x t s)
 end_at InArray t s h = square_at t s h
 end_at (InMethod l w) t s h = close_at t s h
 
@@ -113,38 +113,38 @@ argues : (t : Token) (k : List Frame) (a : Argument) → IsOpen k → IsOn (argu
 argues t (Calling c r ∷ k) a h = comma_at t _ _ h (close_at t _ h)
 argues t k a h = tt
 
-part_done : (b : Part) (p : TreeProgram) (k : List Frame) → IsPartOn b k (IsOpen k) → IsOn (after_part b p k)
-part_done Top p k h = tt
-part_done (ThenPart ch c) p k h = h
-part_done (LastPart ch c a) p k h = h
-part_done Predicate p k h = h
+section_done : (b : Section) (p : TreeProgram) (k : List Frame) → IsSectionOn b k (IsOpen k) → IsOn (after_section b p k)
+section_done Top p k h = tt
+section_done (Then bs c) p k h = h
+section_done (Last bs c a) p k h = h
+section_done Predicate p k h = h
 
 line_done : (k : List Frame) (w : List ℕ) (l : Tree) → IsOpen k → IsOn (bind k w l)
 line_done (Body b ls ∷ k) w l h = h
 line_done k w l h = tt
 
-shuts : (t : Token) (k : List Frame) (l : Tree) → IsOpen k → IsOn (shut t k l)
-shuts t (Inside ∷ k) l h = close_at t _ h
-shuts t (Middle c ∷ k) l h = colon_at t _ _ h tt
-shuts t (Listed s r ∷ k) l h = comma_at t _ _ h (end_at s t _ h)
-shuts t (Calling c r ∷ k) l h = argues t (Calling c r ∷ k) (Expression l) h
-shuts t (Indexed x true ∷ k) l h = square_at t _ h
-shuts t (Indexed x false ∷ k) l h = colon_at t _ _ h (square_at t _ h)
-shuts t (Cut x a ∷ k) l h = square_at t _ h
-shuts t (Condition ch ∷ k) l h = brace_at t _ _ h tt
-shuts t (Body b ls ∷ k) l h = end_brace_at t _ _ (part_done b (Program ls l) k h) tt
-shuts t (Value w ∷ k) l h = semicolon_at t _ (line_done k w l h.1)
-shuts t k l h = tt
+close_on : (t : Token) (k : List Frame) (l : Tree) → IsOpen k → IsOn (close t k l)
+close_on t (Inside ∷ k) l h = close_at t _ h
+close_on t (Middle c ∷ k) l h = colon_at t _ _ h tt
+close_on t (Listed s r ∷ k) l h = comma_at t _ _ h (end_at s t _ h)
+close_on t (Calling c r ∷ k) l h = argues t (Calling c r ∷ k) (Expression l) h
+close_on t (Indexed x true ∷ k) l h = square_at t _ h
+close_on t (Indexed x false ∷ k) l h = colon_at t _ _ h (square_at t _ h)
+close_on t (Cut x a ∷ k) l h = square_at t _ h
+close_on t (Condition bs ∷ k) l h = brace_at t _ _ h tt
+close_on t (Body b ls ∷ k) l h = end_brace_at t _ _ (section_done b (Program ls l) k h) tt
+close_on t (Value w ∷ k) l h = semicolon_at t _ (line_done k w l h.1)
+close_on t k l h = tt
 
 applies : (k : List Frame) (l : Tree) → IsOpen k → IsOn (apply k l)
 applies k (Name w) h = h
 applies k (Member l false w) h = h
 applies k l h = tt
 
-acts : (r : Role) (t : Token) (k : List Frame) (l : Tree) → IsOpen k → IsOn (act r t k l)
-acts Applying t k l h = applies k l h
-acts Plain t k l h = shuts t k l h
-acts r t k l h = h
+after_operand_on : (r : Role) (t : Token) (k : List Frame) (l : Tree) → IsOpen k → IsOn (after_operand r t k l)
+after_operand_on Applying t k l h = applies k l h
+after_operand_on Plain t k l h = close_on t k l h
+after_operand_on r t k l h = h
 
 -- a frame that captures a level stands on open frames
 under : (f : Frame) (k : List Frame) → 0 < reach f → IsOpen (f ∷ k) → IsOpen k
@@ -153,12 +153,12 @@ under (After l o) k e h = h
 under (Otherwise c a) k e h = h
 under f k e h = absurd (omega arith)
 
-lacks : (t : Token) (k : List Frame) → IsOpen k → IsOn (lack t k)
-lacks t (Listed s r ∷ k) h = end_at s t _ h
-lacks t (Calling c r ∷ k) h = dot_at t _ _ (tt, h) (close_at t _ h)
-lacks t (Indexed x false ∷ k) h = colon_at t _ _ h tt
-lacks t (Cut x a ∷ k) h = square_at t _ h
-lacks t k h = tt
+without_operand_on : (t : Token) (k : List Frame) → IsOpen k → IsOn (without_operand t k)
+without_operand_on t (Listed s r ∷ k) h = end_at s t _ h
+without_operand_on t (Calling c r ∷ k) h = dot_at t _ _ (tt, h) (close_at t _ h)
+without_operand_on t (Indexed x false ∷ k) h = colon_at t _ _ h tt
+without_operand_on t (Cut x a ∷ k) h = square_at t _ h
+without_operand_on t k h = tt
 
 begins_line : (k : List Frame) → IsOpen k → IsOn (begin_line k)
 begins_line (Body b ls ∷ k) h = (tt, h)
@@ -171,7 +171,7 @@ begins_brace k h = h
 begins : (s : Start) (t : Token) (k : List Frame) → IsOpen k → IsOn (begin s t k)
 begins Bracing t k h = begins_brace k h
 begins Letting t k h = begins_line k h
-begins Other t k h = lacks t k h
+begins Other t k h = without_operand_on t k h
 begins s t k h = h
 
 dots : (k : List Frame) (l : Tree) (optional : Bool) (o : Option Word) → IsOpen k → IsOn (word_after_dot k l optional o)
@@ -190,9 +190,9 @@ pipes : (k : List Frame) (l : Tree) (w : List ℕ) (t : Token) → IsOpen k → 
 pipes k l w (token.Sign sign.ParenOpen) h = h
 pipes k l w t h = tt
 
-elses : (k : List Frame) (ch : Chain) (c : Tree) (a : TreeProgram) (t : Token) → IsOpen k → IsOn (else_after k ch c a t)
-elses k ch c a (token.Reserved reserved.Else) h = h
-elses k ch c a t h = tt
+elses : (k : List Frame) (bs : Branches) (c : Tree) (a : TreeProgram) (t : Token) → IsOpen k → IsOn (else_after k bs c a t)
+elses k bs c a (token.Reserved reserved.Else) h = h
+elses k bs c a t h = tt
 
 names : (k : List Frame) (t : Token) → IsBody k × IsOpen k → IsOn (word_after_let k t)
 names k (token.Word w) h = h
@@ -208,7 +208,7 @@ members k None h = tt
 
 opens : (k : List Frame) (o : Option Key) (t : Token) → IsCall k × IsOpen k → IsOn (braced k o t)
 opens k (Some key) t h = h
-opens k None t h = end_brace_at t _ _ h.1 (begins (start_at t) t (Body Predicate NoLines ∷ k) h)
+opens k None t h = end_brace_at t _ _ h.1 (begins (start_of t) t (Body Predicate NoLines ∷ k) h)
 
 keys : (k : List Frame) (r : Option EntryRow) (o : Option Key) (t : Token) → IsOpen k → IsOn (key_in k r o t)
 keys k r (Some key) t h = h
@@ -219,15 +219,15 @@ constants k r key (Some c) h = h
 constants k r key None h = tt
 
 steps_on : (s : State) (t : Token) → IsOn s → IsOn (step_on s t)
-steps_on (Want k) t h = begins (start_at t) t k h
-steps_on (Have k l) t h = settled (λ k l. IsOpen k) IsOn (role_level (role t)) (act (role t) t) (λ f k l below. under f k (omega arith)) (λ k l h r. acts (role t) t k l h) k l h
+steps_on (Want k) t h = begins (start_of t) t k h
+steps_on (Have k l) t h = settled (λ k l. IsOpen k) IsOn (role_level (role_of t)) (after_operand (role_of t) t) (λ f k l below. under f k (omega arith)) (λ k l h r. after_operand_on (role_of t) t k l h) k l h
 steps_on (Dotted k l) t h = dots k l false (word_at t) h
 steps_on (Questioned k l) t h = square_open_at t _ _ h (dots k l true (word_at t) h)
 steps_on (Negated k l) t h = nots k l t h
 steps_on (Barred k l) t h = bars k l t h
 steps_on (Piped k l w) t h = pipes k l w t h
-steps_on (Chosen k ch c a) t h = elses k ch c a t h
-steps_on (Alternate k ch c a) t h = brace_at t _ _ h (if_at t _ h)
+steps_on (Chosen k bs c a) t h = elses k bs c a t h
+steps_on (Alternate k bs c a) t h = brace_at t _ _ h (if_at t _ h)
 steps_on (NamesLine k) t h = names k t h
 steps_on (Named k w) t h = values k w t h
 steps_on (Argued k (Expression l)) t h = absurd h
@@ -244,7 +244,7 @@ steps_on Fail t h = tt
 
 steps : (s : State) (t : Token) → IsOn s → IsOn (step s t)
 steps (BracedKey k key) t h =
-    colon_at t _ _ h.1 (steps_on (want (key_token key) (Body Predicate NoLines ∷ k)) t (begins (start_at (key_token key)) (key_token key) (Body Predicate NoLines ∷ k) h))
+    colon_at t _ _ h.1 (steps_on (want (key_token key) (Body Predicate NoLines ∷ k)) t (begins (start_of (key_token key)) (key_token key) (Body Predicate NoLines ∷ k) h))
 steps (Argued k (Expression l)) t h = absurd h
 steps s t h = steps_on s t h
 
@@ -270,7 +270,7 @@ parse_after (t ∷ ts) rest s = parse_after ts rest (step s t)
 goes_by : (s : State) (ts : List Token) → Goes (fold step s ts) → Goes s
 goes_by s ts g = record { rest = ts ++ g.rest; tree = g.tree; leads = parse_after ts g.rest s ∙ g.leads }
 
-ends_by : (s : State) (t : Token) (ts : List Token) → role_level (role t) ≡ 0 → Goes (fold step s (t ∷ ts)) → Ends s
+ends_by : (s : State) (t : Token) (ts : List Token) → role_level (role_of t) ≡ 0 → Goes (fold step s (t ∷ ts)) → Ends s
 unfolding goes_by
 ends_by s t ts e g = (goes_by s (t ∷ ts) g, e)
 
@@ -315,12 +315,12 @@ semicolon = token.Sign sign.Semicolon
 abbrev equal : Token
 equal = token.Sign sign.Equal
 
-ends_body : (b : Part) (ls : Lines) (k : List Frame) (l : Tree) → EndsBelow (Body b ls ∷ k) → IsPartOn b k (IsOpen k) → Ends (Have (Body b ls ∷ k) l)
+ends_body : (b : Section) (ls : Lines) (k : List Frame) (l : Tree) → EndsBelow (Body b ls ∷ k) → IsSectionOn b k (IsOpen k) → Ends (Have (Body b ls ∷ k) l)
 unfolding parse
 ends_body Top ls [] l e h = (record { rest = []; tree = Program ls l; leads = refl }, refl)
 ends_body Top ls (f ∷ k) l e h = absurd h
-ends_body (ThenPart ch c) ls k l e h = ends_by _ brace_close (token.Reserved reserved.Else ∷ brace_open ∷ nil ∷ brace_close ∷ []) refl (e.0 h _).0
-ends_body (LastPart ch c a) ls k l e h = ends_by _ brace_close [] refl (e.0 h _).0
+ends_body (Then bs c) ls k l e h = ends_by _ brace_close (token.Reserved reserved.Else ∷ brace_open ∷ nil ∷ brace_close ∷ []) refl (e.0 h _).0
+ends_body (Last bs c a) ls k l e h = ends_by _ brace_close [] refl (e.0 h _).0
 ends_body Predicate ls (Calling c r ∷ k) l e h = ends_by _ brace_close (paren_close ∷ []) refl (e.1.0 h.1 _).0
 ends_body Predicate ls k l e h = absurd h.0
 
@@ -337,7 +337,7 @@ ends_over (Calling c r ∷ k) e h l = ends_by _ paren_close [] refl (e.0 h _).0
 ends_over (Indexed x true ∷ k) e h l = ends_by _ square_close [] refl (e.0 h _).0
 ends_over (Indexed x false ∷ k) e h l = ends_by _ square_close [] refl (e.0 h _).0
 ends_over (Cut x a ∷ k) e h l = ends_by _ square_close [] refl (e.0 h _).0
-ends_over (Condition ch ∷ k) e h l = ends_by _ brace_open (nil ∷ brace_close ∷ token.Reserved reserved.Else ∷ brace_open ∷ nil ∷ brace_close ∷ []) refl (e.0 h _).0
+ends_over (Condition bs ∷ k) e h l = ends_by _ brace_open (nil ∷ brace_close ∷ token.Reserved reserved.Else ∷ brace_open ∷ nil ∷ brace_close ∷ []) refl (e.0 h _).0
 ends_over (Body b ls ∷ k) e h l = ends_body b ls k l e h
 ends_over (Value w ∷ Body b ls ∷ k) e h l = ends_by _ semicolon (nil ∷ []) refl (ends_body b (MoreLines ls w l) k (Literal Nil) e.1 h.1).0
 ends_over (Value w ∷ k) e h l = absurd h.0
@@ -362,8 +362,8 @@ goes (Questioned k l) h n = goes_by _ (word ∷ []) (operand k _ h)
 goes (Negated k l) h n = goes_by _ (token.Reserved reserved.In ∷ nil ∷ []) (operand (After l infixed.NotIn ∷ k) _ h)
 goes (Barred k l) h n = goes_by _ (word ∷ paren_open ∷ paren_close ∷ []) (operand k _ h)
 goes (Piped k l w) h n = goes_by _ (paren_open ∷ paren_close ∷ []) (operand k _ h)
-goes (Chosen k ch c a) h n = goes_by _ (token.Reserved reserved.Else ∷ brace_open ∷ nil ∷ brace_close ∷ []) (operand k _ h)
-goes (Alternate k ch c a) h n = goes_by _ (brace_open ∷ nil ∷ brace_close ∷ []) (operand k _ h)
+goes (Chosen k bs c a) h n = goes_by _ (token.Reserved reserved.Else ∷ brace_open ∷ nil ∷ brace_close ∷ []) (operand k _ h)
+goes (Alternate k bs c a) h n = goes_by _ (brace_open ∷ nil ∷ brace_close ∷ []) (operand k _ h)
 goes (NamesLine k) h n = goes_by _ (word ∷ equal ∷ nil ∷ []) (operand (Value [] ∷ k) _ h)
 goes (Named k w) h n = goes_by _ (equal ∷ nil ∷ []) (operand (Value w ∷ k) _ h)
 goes (Argued k (Expression l)) h n = absurd h
@@ -379,8 +379,8 @@ goes (Entered k r) h n = goes_by _ (brace_close ∷ []) (operand k _ h)
 goes Fail h n = absurd (n refl)
 
 -- where the tokens lead to a state, a program begins with them
-pub goes_on : (ts : List Token) → ¬ (fold step start ts ≡ Fail) → SomeBegins ts
+pub goes_on : (ts : List Token) → ¬ (fold step first_state ts ≡ Fail) → SomeBegins ts
 goes_on ts on =
-    let g : Goes (fold step start ts) = goes (fold step start ts) (runs ts start tt) on in
-    let s : Spells g.tree (ts ++ g.rest) × Fits g.tree = sound g.tree (ts ++ g.rest) (parse_after ts g.rest start ∙ g.leads) in
+    let g : Goes (fold step first_state ts) = goes (fold step first_state ts) (runs ts first_state tt) on in
+    let s : Spells g.tree (ts ++ g.rest) × Fits g.tree = sound g.tree (ts ++ g.rest) (parse_after ts g.rest first_state ∙ g.leads) in
     record { tree = g.tree; rest = g.rest; spells = s.0; fits = s.1 }

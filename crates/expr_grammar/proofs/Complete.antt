@@ -9,8 +9,8 @@ use Rattle.expr_grammar.specs.declared.sign.PrefixSign.{PrefixSign}
 use Rattle.expr_grammar.specs.declared.sign.PrefixSign.TheVariants as prefix
 use Rattle.expr_grammar.specs.declared.sign.InfixSign.{InfixSign}
 use Rattle.expr_grammar.specs.declared.sign.InfixSign.TheVariants as infixed
-use Rattle.expr_grammar.specs.Grammar.{Word, Usual, Kept, Constant, True, Key, WordKey, QuotedKey, EntryRow, OneEntry, MoreEntries, Entries, NoEntries, SomeEntries, Tree, Literal, Name, HashName, Paren, Array, Map, Call, If, Prefix, Infix, Member, Method, Index, Slice, Pipe, Ternary, Items, NoItems, SomeItems, Row, One, More, Arguments, NoArguments, SomeArguments, ArgumentRow, OneArgument, MoreArguments, Argument, Expression, MemberAlone, Braces, Bound, LeftOut, At, ElsePart, Else, ElseIf, TreeProgram, Program, Lines, NoLines, MoreLines, word_token, constant_token, key_token, prefix_token, infix_tokens, comma_tokens, entry_row_tokens, entries_tokens, tokens_of, items_tokens, row_tokens, arguments_tokens, argument_row_tokens, argument_tokens, bound_tokens, else_tokens, program_tokens, lines_tokens, Spells, infix_level, TreeFits, ItemsFit, RowFits, ArgumentsFit, ArgumentRowFits, ArgumentFits, BoundFits, ElseFits, Fits, LinesFit, OneTree}
-use Rattle.expr_grammar.specs.Machine.{role, role_level, level_at, word_at, key_at, constant_at, push, push_argument, push_entry, items_end, Shape, InArray, InMethod, shape_tree, shape_end, Caller, InCall, InPipe, caller_tree, Chain, NoBranch, Branch, chosen, Part, Top, ThenPart, LastPart, Predicate, Frame, Under, After, Otherwise, Inside, Middle, Listed, Calling, Indexed, Cut, Condition, Body, Value, reach, reach_of, plug, settle, State, Want, Have, Dotted, Questioned, Argued, Braced, BracedKey, Values, Entered, Chosen, Fail, at_end_brace, after_part, begin_brace, act, want, braced, step, step_on, whole, parse, start, tree_of}
+use Rattle.expr_grammar.specs.Grammar.{Word, Usual, ReservedWord, Constant, True, Key, WordKey, QuotedKey, EntryRow, OneEntry, MoreEntries, Entries, NoEntries, SomeEntries, Tree, Literal, Name, HashName, Paren, Array, Map, Call, If, Prefix, Infix, Member, Method, Index, Slice, Pipe, Ternary, Items, NoItems, SomeItems, Row, One, More, Arguments, NoArguments, SomeArguments, ArgumentRow, OneArgument, MoreArguments, Argument, Expression, MemberAlone, Braces, Bound, LeftOut, At, ElsePart, Else, ElseIf, TreeProgram, Program, Lines, NoLines, MoreLines, word_token, constant_token, key_token, prefix_token, infix_tokens, comma_tokens, entry_row_tokens, entries_tokens, tokens_of, items_tokens, row_tokens, arguments_tokens, argument_row_tokens, argument_tokens, bound_tokens, else_tokens, program_tokens, lines_tokens, Spells, infix_level, TreeFits, ItemsFit, RowFits, ArgumentsFit, ArgumentRowFits, ArgumentFits, BoundFits, ElseFits, Fits, LinesFit, OneTree}
+use Rattle.expr_grammar.specs.Machine.{role_of, role_level, level_at, word_at, key_at, constant_at, push, push_argument, push_entry, items_end, Holder, InArray, InMethod, holder_tree, holder_end, Caller, InCall, InPipe, caller_tree, Branches, NoBranch, Branch, chosen, Section, Top, Then, Last, Predicate, Frame, Under, After, Otherwise, Inside, Middle, Listed, Calling, Indexed, Cut, Condition, Body, Value, reach, reach_of, plug, settle, State, Want, Have, Dotted, Questioned, Argued, Braced, BracedKey, Values, Entered, Chosen, Fail, at_end_brace, after_section, begin_brace, after_operand, want, braced, step, step_on, whole, parse, first_state, tree_of}
 use Rattle.expr_grammar.proofs.Measures.{StartsAbove, EndsAbove, tight, captured_if, starts_loose, ends_closed, ends_of_none, captures_reach, level_of_sign}
 
 -- a frame that doesn't capture p is closed
@@ -25,11 +25,11 @@ stays p next (f ∷ k) l h = ap (λ b. cond b (settle p next k (plug f l)) (next
 pub closes : (f : Frame) (k : List Frame) (l : Tree) (rest : List Token) → level_at rest < reach f → parse (Have (f ∷ k) l) rest ≡ parse (Have k (plug f l)) rest
 unfolding parse
 closes f k l [] h = settles 0 whole f k l h
-closes f k l (t ∷ ts) h = ap (λ s. parse s ts) (settles (role_level (role t)) (act (role t) t) f k l h)
+closes f k l (t ∷ ts) h = ap (λ s. parse s ts) (settles (role_level (role_of t)) (after_operand (role_of t) t) f k l h)
 
-pub acts : (t : Token) (k : List Frame) (l : Tree) (ts : List Token) → reach_of k ≤ role_level (role t) → parse (Have k l) (t ∷ ts) ≡ parse (act (role t) t k l) ts
+pub takes_token : (t : Token) (k : List Frame) (l : Tree) (ts : List Token) → reach_of k ≤ role_level (role_of t) → parse (Have k l) (t ∷ ts) ≡ parse (after_operand (role_of t) t k l) ts
 unfolding parse
-acts t k l ts h = ap (λ s. parse s ts) (stays (role_level (role t)) (act (role t) t) k l h)
+takes_token t k l ts h = ap (λ s. parse s ts) (stays (role_level (role_of t)) (after_operand (role_of t) t) k l h)
 
 pub want_sign : (o : PrefixSign) (k : List Frame) → want (prefix_token o) k ≡ Want (Under o ∷ k)
 want_sign prefix.Not k = refl
@@ -42,8 +42,8 @@ first_of_sign (t ∷ ts) = t
 -- an infix is taken where the top frame captures its level
 pub takes_infix : (o : InfixSign) (k : List Frame) (l : Tree) (ts : List Token) → reach_of k ≤ infix_level o → parse (Have k l) (infix_tokens o ++ ts) ≡ parse (Want (After l o ∷ k)) ts
 unfolding parse
-takes_infix infixed.NotIn k l ts h = acts (token.Reserved reserved.Not) k l (token.Reserved reserved.In ∷ ts) h
-takes_infix o k l ts h = acts (first_of_sign (infix_tokens o)) k l ts h
+takes_infix infixed.NotIn k l ts h = takes_token (token.Reserved reserved.Not) k l (token.Reserved reserved.In ∷ ts) h
+takes_infix o k l ts h = takes_token (first_of_sign (infix_tokens o)) k l ts h
 
 -- a literal, a key and a word, as they are read
 pub want_constant : (c : Constant) (k : List Frame) → want (constant_token c) k ≡ Have k (Literal c)
@@ -56,12 +56,12 @@ constant_there c = refl
 
 pub key_there : (key : Key) → key_at (key_token key) ≡ Some key
 key_there (WordKey (Usual w)) = refl
-key_there (WordKey (Kept r)) = refl
+key_there (WordKey (ReservedWord r)) = refl
 key_there (QuotedKey s) = refl
 
 pub word_there : (w : Word) → word_at (word_token w) ≡ Some w
 word_there (Usual w) = refl
-word_there (Kept r) = refl
+word_there (ReservedWord r) = refl
 
 -- the row before its last tree, and that tree
 abbrev row_before : Row → Option Row
@@ -77,12 +77,12 @@ row_again (One t) = refl
 row_again (More r t) = refl
 
 -- a list ends
-pub ends_items : (s : Shape) (r : Option Row) (k : List Frame) (l : Tree) (rest : List Token) → parse (Have (Listed s r ∷ k) l) (shape_end s ∷ rest) ≡ parse (Have k (shape_tree s (SomeItems (push r l) false))) rest
+pub ends_items : (s : Holder) (r : Option Row) (k : List Frame) (l : Tree) (rest : List Token) → parse (Have (Listed s r ∷ k) l) (holder_end s ∷ rest) ≡ parse (Have k (holder_tree s (SomeItems (push r l) false))) rest
 unfolding parse
 ends_items InArray r k l rest = refl
 ends_items (InMethod x w) r k l rest = refl
 
-pub ends_items_early : (s : Shape) (r : Option Row) (k : List Frame) (rest : List Token) → parse (Want (Listed s r ∷ k)) (shape_end s ∷ rest) ≡ parse (Have k (shape_tree s (items_end r))) rest
+pub ends_items_early : (s : Holder) (r : Option Row) (k : List Frame) (rest : List Token) → parse (Want (Listed s r ∷ k)) (holder_end s ∷ rest) ≡ parse (Have k (holder_tree s (items_end r))) rest
 unfolding parse
 ends_items_early InArray r k rest = refl
 ends_items_early (InMethod x w) r k rest = refl
@@ -91,7 +91,7 @@ ends_items_early (InMethod x w) r k rest = refl
 pub ends_plain : (ts : List Token) → level_at ts ≡ 0 → (t : Tree) → EndsAbove (level_at ts) t
 ends_plain ts h t = rw h (ends_closed t)
 
-pub plain_end : (comma : Bool) (s : Shape) (rest : List Token) → level_at (comma_tokens comma ++ shape_end s ∷ rest) ≡ 0
+pub plain_end : (comma : Bool) (s : Holder) (rest : List Token) → level_at (comma_tokens comma ++ holder_end s ∷ rest) ≡ 0
 plain_end true s rest = refl
 plain_end false InArray rest = refl
 plain_end false (InMethod l w) rest = refl
@@ -105,10 +105,10 @@ plain_brace true rest = refl
 plain_brace false rest = refl
 
 -- the last part of a list, after its last tree
-pub tail_items : (comma : Bool) (s : Shape) (r : Row) (k : List Frame) (rest : List Token) → parse (Have (Listed s (row_before r) ∷ k) (row_last r)) (comma_tokens comma ++ shape_end s ∷ rest) ≡ parse (Have k (shape_tree s (SomeItems r comma))) rest
+pub tail_items : (comma : Bool) (s : Holder) (r : Row) (k : List Frame) (rest : List Token) → parse (Have (Listed s (row_before r) ∷ k) (row_last r)) (comma_tokens comma ++ holder_end s ∷ rest) ≡ parse (Have k (holder_tree s (SomeItems r comma))) rest
 unfolding parse
-tail_items false s r k rest = ends_items s (row_before r) k (row_last r) rest ∙ ap (λ q. parse (Have k (shape_tree s (SomeItems q false))) rest) (row_again r)
-tail_items true s r k rest = ap (λ q. parse (Want (Listed s (Some q) ∷ k)) (shape_end s ∷ rest)) (row_again r) ∙ ends_items_early s (Some r) k rest
+tail_items false s r k rest = ends_items s (row_before r) k (row_last r) rest ∙ ap (λ q. parse (Have k (holder_tree s (SomeItems q false))) rest) (row_again r)
+tail_items true s r k rest = ap (λ q. parse (Want (Listed s (Some q) ∷ k)) (holder_end s ∷ rest)) (row_again r) ∙ ends_items_early s (Some r) k rest
 
 -- the arguments before the last one, and that one
 abbrev arguments_before : ArgumentRow → Option ArgumentRow
@@ -189,8 +189,8 @@ fails (t ∷ ts) = fails ts
 
 colon_fails : (key : Key) → step_on (want (key_token key) (Body Top NoLines ∷ [])) (token.Sign sign.Colon) ≡ Fail
 colon_fails (WordKey (Usual w)) = refl
-colon_fails (WordKey (Kept reserved.True)) = refl
-colon_fails (WordKey (Kept r)) = refl
+colon_fails (WordKey (ReservedWord reserved.True)) = refl
+colon_fails (WordKey (ReservedWord r)) = refl
 colon_fails (QuotedKey s) = refl
 
 pub key_back : (t : Token) (key : Key) → key_at t ≡ Some key → key_token key ≡ t
@@ -199,32 +199,32 @@ key_back (token.Reserved r) key h = cc
 key_back (token.Quoted s) key h = cc
 key_back t key h = let e : ⊥ = cc in absurd e
 
-plain_step : (key : Key) (b : Part) (k : List Frame) (t : Token) → step (want (key_token key) (Body b NoLines ∷ k)) t ≡ step_on (want (key_token key) (Body b NoLines ∷ k)) t
+plain_step : (key : Key) (b : Section) (k : List Frame) (t : Token) → step (want (key_token key) (Body b NoLines ∷ k)) t ≡ step_on (want (key_token key) (Body b NoLines ∷ k)) t
 plain_step (WordKey (Usual w)) b k t = refl
 plain_step (QuotedKey s) b k t = refl
-plain_step (WordKey (Kept reserved.True)) b k t = refl
-plain_step (WordKey (Kept r)) b k t = refl
+plain_step (WordKey (ReservedWord reserved.True)) b k t = refl
+plain_step (WordKey (ReservedWord r)) b k t = refl
 
 none_some : (p : TreeProgram) → None ≡ Some p → ⊥
 none_some p h = cc
 
-after_key : (key : Key) (t : Token) (ts more : List Token) (k : List Frame) (p : TreeProgram) → parse start (key_token key ∷ t ∷ ts) ≡ Some p → parse (BracedKey k key) (t ∷ more) ≡ parse (want (key_token key) (Body Predicate NoLines ∷ k)) (t ∷ more)
+after_key : (key : Key) (t : Token) (ts more : List Token) (k : List Frame) (p : TreeProgram) → parse first_state (key_token key ∷ t ∷ ts) ≡ Some p → parse (BracedKey k key) (t ∷ more) ≡ parse (want (key_token key) (Body Predicate NoLines ∷ k)) (t ∷ more)
 unfolding parse
 after_key key (token.Sign sign.Colon) ts more k p h = absurd (none_some p (sym (fails ts) ∙ ap (λ s. parse s ts) (sym (colon_fails key) ∙ sym (plain_step key Top [] (token.Sign sign.Colon))) ∙ h))
 after_key key t ts more k p h = ap (λ s. parse s more) (sym (plain_step key Predicate k t))
 
-at_no_end : (t : Token) (ts : List Token) (p : TreeProgram) (s r : State) → parse start (t ∷ ts) ≡ Some p → at_end_brace t s r ≡ r
+at_no_end : (t : Token) (ts : List Token) (p : TreeProgram) (s r : State) → parse first_state (t ∷ ts) ≡ Some p → at_end_brace t s r ≡ r
 unfolding parse
 at_no_end (token.Sign sign.BraceClose) ts p s r h = absurd (none_some p (sym (fails ts) ∙ h))
 at_no_end t ts p s r h = refl
 
 -- so the tokens of a program open a predicate
-pub opens_predicate : (ts rest : List Token) (k : List Frame) (p : TreeProgram) → parse start ts ≡ Some p → parse (Braced k) (ts ++ token.Sign sign.BraceClose ∷ rest) ≡ parse (Want (Body Predicate NoLines ∷ k)) (ts ++ token.Sign sign.BraceClose ∷ rest)
+pub opens_predicate : (ts rest : List Token) (k : List Frame) (p : TreeProgram) → parse first_state ts ≡ Some p → parse (Braced k) (ts ++ token.Sign sign.BraceClose ∷ rest) ≡ parse (Want (Body Predicate NoLines ∷ k)) (ts ++ token.Sign sign.BraceClose ∷ rest)
 unfolding parse
 opens_predicate [] rest k p h = absurd (none_some p h)
 opens_predicate (t ∷ ts) rest k p h = choose (key_at t) refl
   where
-    second : (key : Key) (us : List Token) → parse start (key_token key ∷ us) ≡ Some p → parse (BracedKey k key) (us ++ token.Sign sign.BraceClose ∷ rest) ≡ parse (want (key_token key) (Body Predicate NoLines ∷ k)) (us ++ token.Sign sign.BraceClose ∷ rest)
+    second : (key : Key) (us : List Token) → parse first_state (key_token key ∷ us) ≡ Some p → parse (BracedKey k key) (us ++ token.Sign sign.BraceClose ∷ rest) ≡ parse (want (key_token key) (Body Predicate NoLines ∷ k)) (us ++ token.Sign sign.BraceClose ∷ rest)
     second key [] g = ap (λ s. parse s rest) (sym (plain_step key Predicate k (token.Sign sign.BraceClose)))
     second key (u ∷ us) g = after_key key u us (us ++ token.Sign sign.BraceClose ∷ rest) k p g
 
@@ -233,13 +233,13 @@ opens_predicate (t ∷ ts) rest k p h = choose (key_at t) refl
     choose (Some key) e =
         let b = key_back t key e in
         ap (λ o. parse (braced k o t) (ts ++ token.Sign sign.BraceClose ∷ rest)) e
-        ∙ second key ts (ap (λ u. parse start (u ∷ ts)) b ∙ h)
+        ∙ second key ts (ap (λ u. parse first_state (u ∷ ts)) b ∙ h)
         ∙ ap (λ u. parse (want u (Body Predicate NoLines ∷ k)) (ts ++ token.Sign sign.BraceClose ∷ rest)) b
 
 -- an optional member
 pub takes_optional : (w : Word) (k : List Frame) (l : Tree) → step (Questioned k l) (word_token w) ≡ Have k (Member l true w)
 takes_optional (Usual w) k l = refl
-takes_optional (Kept r) k l = refl
+takes_optional (ReservedWord r) k l = refl
 
 pub takes_member : (w : Word) (k : List Frame) (l : Tree) (rest : List Token) → parse (Dotted k l) (word_token w ∷ rest) ≡ parse (Have k (Member l false w)) rest
 unfolding parse
@@ -259,14 +259,14 @@ mutual
   reads (Array xs) k rest fits starts ends = reads_items xs InArray k rest fits
   reads (Map es) k rest fits starts ends = reads_entries es k rest
   reads (Call w xs) k rest fits starts ends =
-      acts (token.Sign sign.ParenOpen) k (Name w) ((arguments_tokens xs ++ token.Sign sign.ParenClose ∷ []) ++ rest) (tight k)
+      takes_token (token.Sign sign.ParenOpen) k (Name w) ((arguments_tokens xs ++ token.Sign sign.ParenClose ∷ []) ++ rest) (tight k)
       ∙ reads_arguments xs (InCall w) k rest fits
   reads (If c a e) k rest fits starts ends =
       let els = token.Sign sign.BraceClose ∷ token.Reserved reserved.Else ∷ else_tokens e in
       ap (λ ts. parse (Want (Condition NoBranch ∷ k)) ts) (append_assoc (tokens_of c) (token.Sign sign.BraceOpen ∷ (program_tokens a ++ els)) rest)
       ∙ reads c (Condition NoBranch ∷ k) (token.Sign sign.BraceOpen ∷ ((program_tokens a ++ els) ++ rest)) fits.0 (starts_loose 0 (omega arith) c) (ends_closed c)
-      ∙ ap (λ ts. parse (Want (Body (ThenPart NoBranch c) NoLines ∷ k)) ts) (append_assoc (program_tokens a) els rest)
-      ∙ reads_body a (ThenPart NoBranch c) k (token.Reserved reserved.Else ∷ (else_tokens e ++ rest)) fits.1
+      ∙ ap (λ ts. parse (Want (Body (Then NoBranch c) NoLines ∷ k)) ts) (append_assoc (program_tokens a) els rest)
+      ∙ reads_body a (Then NoBranch c) k (token.Reserved reserved.Else ∷ (else_tokens e ++ rest)) fits.1
       ∙ reads_else e NoBranch c a k rest fits.2
   reads (Prefix o t) k rest fits starts ends =
       ap (λ s. parse s (tokens_of t ++ rest)) (want_sign o k)
@@ -281,37 +281,37 @@ mutual
   reads (Member l false w) k rest fits starts ends =
       ap (λ ts. parse (Want k) ts) (append_assoc (tokens_of l) (token.Sign sign.Dot ∷ word_token w ∷ []) rest)
       ∙ reads l k (token.Sign sign.Dot ∷ word_token w ∷ rest) fits.0 starts.1 (ends_of_none 13 l fits.1)
-      ∙ acts (token.Sign sign.Dot) k l (word_token w ∷ rest) starts.0
+      ∙ takes_token (token.Sign sign.Dot) k l (word_token w ∷ rest) starts.0
       ∙ takes_member w k l rest
   reads (Member l true w) k rest fits starts ends =
       ap (λ ts. parse (Want k) ts) (append_assoc (tokens_of l) (token.Sign sign.QuestionDot ∷ word_token w ∷ []) rest)
       ∙ reads l k (token.Sign sign.QuestionDot ∷ word_token w ∷ rest) fits.0 starts.1 (ends_of_none 13 l fits.1)
-      ∙ acts (token.Sign sign.QuestionDot) k l (word_token w ∷ rest) starts.0
+      ∙ takes_token (token.Sign sign.QuestionDot) k l (word_token w ∷ rest) starts.0
       ∙ ap (λ s. parse s rest) (takes_optional w k l)
   reads (Method l w xs) k rest fits starts ends =
       ap (λ ts. parse (Want k) ts) (append_assoc (tokens_of l) (token.Sign sign.Dot ∷ word_token w ∷ token.Sign sign.ParenOpen ∷ (items_tokens xs ++ token.Sign sign.ParenClose ∷ [])) rest)
       ∙ reads l k (token.Sign sign.Dot ∷ word_token w ∷ token.Sign sign.ParenOpen ∷ ((items_tokens xs ++ token.Sign sign.ParenClose ∷ []) ++ rest)) fits.0 starts.1 (ends_of_none 13 l fits.1)
-      ∙ acts (token.Sign sign.Dot) k l (word_token w ∷ token.Sign sign.ParenOpen ∷ ((items_tokens xs ++ token.Sign sign.ParenClose ∷ []) ++ rest)) starts.0
+      ∙ takes_token (token.Sign sign.Dot) k l (word_token w ∷ token.Sign sign.ParenOpen ∷ ((items_tokens xs ++ token.Sign sign.ParenClose ∷ []) ++ rest)) starts.0
       ∙ takes_member w k l (token.Sign sign.ParenOpen ∷ ((items_tokens xs ++ token.Sign sign.ParenClose ∷ []) ++ rest))
-      ∙ acts (token.Sign sign.ParenOpen) k (Member l false w) ((items_tokens xs ++ token.Sign sign.ParenClose ∷ []) ++ rest) (tight k)
+      ∙ takes_token (token.Sign sign.ParenOpen) k (Member l false w) ((items_tokens xs ++ token.Sign sign.ParenClose ∷ []) ++ rest) (tight k)
       ∙ reads_items xs (InMethod l w) k rest fits.2
   reads (Index l false i) k rest fits starts ends =
       ap (λ ts. parse (Want k) ts) (append_assoc (tokens_of l) (token.Sign sign.SquareOpen ∷ (tokens_of i ++ token.Sign sign.SquareClose ∷ [])) rest)
       ∙ reads l k (token.Sign sign.SquareOpen ∷ ((tokens_of i ++ token.Sign sign.SquareClose ∷ []) ++ rest)) fits.0 starts.1 (ends_of_none 13 l fits.1)
-      ∙ acts (token.Sign sign.SquareOpen) k l ((tokens_of i ++ token.Sign sign.SquareClose ∷ []) ++ rest) (tight k)
+      ∙ takes_token (token.Sign sign.SquareOpen) k l ((tokens_of i ++ token.Sign sign.SquareClose ∷ []) ++ rest) (tight k)
       ∙ ap (λ ts. parse (Want (Indexed l false ∷ k)) ts) (append_assoc (tokens_of i) (token.Sign sign.SquareClose ∷ []) rest)
       ∙ reads i (Indexed l false ∷ k) (token.Sign sign.SquareClose ∷ rest) fits.2 (starts_loose 0 (omega arith) i) (ends_closed i)
   reads (Index l true i) k rest fits starts ends =
       ap (λ ts. parse (Want k) ts) (append_assoc (tokens_of l) (token.Sign sign.QuestionDot ∷ token.Sign sign.SquareOpen ∷ (tokens_of i ++ token.Sign sign.SquareClose ∷ [])) rest)
       ∙ reads l k (token.Sign sign.QuestionDot ∷ token.Sign sign.SquareOpen ∷ ((tokens_of i ++ token.Sign sign.SquareClose ∷ []) ++ rest)) fits.0 starts.1 (ends_of_none 13 l fits.1)
-      ∙ acts (token.Sign sign.QuestionDot) k l (token.Sign sign.SquareOpen ∷ ((tokens_of i ++ token.Sign sign.SquareClose ∷ []) ++ rest)) (tight k)
+      ∙ takes_token (token.Sign sign.QuestionDot) k l (token.Sign sign.SquareOpen ∷ ((tokens_of i ++ token.Sign sign.SquareClose ∷ []) ++ rest)) (tight k)
       ∙ ap (λ ts. parse (Want (Indexed l true ∷ k)) ts) (append_assoc (tokens_of i) (token.Sign sign.SquareClose ∷ []) rest)
       ∙ reads i (Indexed l true ∷ k) (token.Sign sign.SquareClose ∷ rest) fits.2 (starts_loose 0 (omega arith) i) (ends_closed i)
   reads (Slice l a b) k rest fits starts ends =
       let tail = token.Sign sign.Colon ∷ (bound_tokens b ++ token.Sign sign.SquareClose ∷ []) in
       ap (λ ts. parse (Want k) ts) (append_assoc (tokens_of l) (token.Sign sign.SquareOpen ∷ (bound_tokens a ++ tail)) rest)
       ∙ reads l k (token.Sign sign.SquareOpen ∷ ((bound_tokens a ++ tail) ++ rest)) fits.0 starts.1 (ends_of_none 13 l fits.1)
-      ∙ acts (token.Sign sign.SquareOpen) k l ((bound_tokens a ++ tail) ++ rest) (tight k)
+      ∙ takes_token (token.Sign sign.SquareOpen) k l ((bound_tokens a ++ tail) ++ rest) (tight k)
       ∙ ap (λ ts. parse (Want (Indexed l false ∷ k)) ts) (append_assoc (bound_tokens a) tail rest)
       ∙ reads_from a l k ((bound_tokens b ++ token.Sign sign.SquareClose ∷ []) ++ rest) fits.2
       ∙ ap (λ ts. parse (Want (Cut l a ∷ k)) ts) (append_assoc (bound_tokens b) (token.Sign sign.SquareClose ∷ []) rest)
@@ -319,25 +319,25 @@ mutual
   reads (Pipe l w xs) k rest fits starts ends =
       ap (λ ts. parse (Want k) ts) (append_assoc (tokens_of l) (token.Sign sign.Bar ∷ token.Word w ∷ token.Sign sign.ParenOpen ∷ (arguments_tokens xs ++ token.Sign sign.ParenClose ∷ [])) rest)
       ∙ reads l k (token.Sign sign.Bar ∷ token.Word w ∷ token.Sign sign.ParenOpen ∷ ((arguments_tokens xs ++ token.Sign sign.ParenClose ∷ []) ++ rest)) fits.0 starts.1 (ends_of_none 2 l fits.1)
-      ∙ acts (token.Sign sign.Bar) k l (token.Word w ∷ token.Sign sign.ParenOpen ∷ ((arguments_tokens xs ++ token.Sign sign.ParenClose ∷ []) ++ rest)) starts.0
+      ∙ takes_token (token.Sign sign.Bar) k l (token.Word w ∷ token.Sign sign.ParenOpen ∷ ((arguments_tokens xs ++ token.Sign sign.ParenClose ∷ []) ++ rest)) starts.0
       ∙ reads_arguments xs (InPipe l w) k rest fits.2
   reads (Ternary c a b) k rest fits starts ends =
       ap (λ ts. parse (Want k) ts) (append_assoc (tokens_of c) (token.Sign sign.Question ∷ (tokens_of a ++ token.Sign sign.Colon ∷ tokens_of b)) rest)
       ∙ reads c k (token.Sign sign.Question ∷ ((tokens_of a ++ token.Sign sign.Colon ∷ tokens_of b) ++ rest)) fits.0 starts.1 (ends_of_none 1 c fits.3)
-      ∙ acts (token.Sign sign.Question) k c ((tokens_of a ++ token.Sign sign.Colon ∷ tokens_of b) ++ rest) starts.0
+      ∙ takes_token (token.Sign sign.Question) k c ((tokens_of a ++ token.Sign sign.Colon ∷ tokens_of b) ++ rest) starts.0
       ∙ ap (λ ts. parse (Want (Middle c ∷ k)) ts) (append_assoc (tokens_of a) (token.Sign sign.Colon ∷ tokens_of b) rest)
       ∙ reads a (Middle c ∷ k) (token.Sign sign.Colon ∷ (tokens_of b ++ rest)) fits.1 (starts_loose 0 (omega arith) a) (ends_closed a)
       ∙ reads b (Otherwise c a ∷ k) rest fits.2 (starts_loose 1 (omega arith) b) ends.1
       ∙ closes (Otherwise c a) k b rest ends.0
 
-  reads_items : (xs : Items) (s : Shape) (k : List Frame) (rest : List Token) → ItemsFit xs → parse (Want (Listed s None ∷ k)) ((items_tokens xs ++ shape_end s ∷ []) ++ rest) ≡ parse (Have k (shape_tree s xs)) rest
+  reads_items : (xs : Items) (s : Holder) (k : List Frame) (rest : List Token) → ItemsFit xs → parse (Want (Listed s None ∷ k)) ((items_tokens xs ++ holder_end s ∷ []) ++ rest) ≡ parse (Have k (holder_tree s xs)) rest
   reads_items NoItems s k rest fits = ends_items_early s None k rest
   reads_items (SomeItems r comma) s k rest fits =
-      ap (λ ts. parse (Want (Listed s None ∷ k)) ts) (append_assoc (row_tokens r ++ comma_tokens comma) (shape_end s ∷ []) rest ∙ append_assoc (row_tokens r) (comma_tokens comma) (shape_end s ∷ rest))
-      ∙ reads_row r s k (comma_tokens comma ++ shape_end s ∷ rest) fits (plain_end comma s rest)
+      ap (λ ts. parse (Want (Listed s None ∷ k)) ts) (append_assoc (row_tokens r ++ comma_tokens comma) (holder_end s ∷ []) rest ∙ append_assoc (row_tokens r) (comma_tokens comma) (holder_end s ∷ rest))
+      ∙ reads_row r s k (comma_tokens comma ++ holder_end s ∷ rest) fits (plain_end comma s rest)
       ∙ tail_items comma s r k rest
 
-  reads_row : (r : Row) (s : Shape) (k : List Frame) (rest : List Token) → RowFits r → level_at rest ≡ 0 → parse (Want (Listed s None ∷ k)) (row_tokens r ++ rest) ≡ parse (Have (Listed s (row_before r) ∷ k) (row_last r)) rest
+  reads_row : (r : Row) (s : Holder) (k : List Frame) (rest : List Token) → RowFits r → level_at rest ≡ 0 → parse (Want (Listed s None ∷ k)) (row_tokens r ++ rest) ≡ parse (Have (Listed s (row_before r) ∷ k) (row_last r)) rest
   reads_row (One t) s k rest fits h = reads t (Listed s None ∷ k) rest fits (starts_loose 0 (omega arith) t) (ends_plain rest h t)
   reads_row (More r t) s k rest fits h =
       ap (λ ts. parse (Want (Listed s None ∷ k)) ts) (append_assoc (row_tokens r) (token.Sign sign.Comma ∷ tokens_of t) rest)
@@ -377,20 +377,20 @@ mutual
   reads_to LeftOut l a k rest fits = refl
   reads_to (At t) l a k rest fits = reads t (Cut l a ∷ k) (token.Sign sign.SquareClose ∷ rest) fits (starts_loose 0 (omega arith) t) (ends_closed t)
 
-  reads_else : (e : ElsePart) (ch : Chain) (d : Tree) (b : TreeProgram) (k : List Frame) (rest : List Token) → ElseFits e → parse (Chosen k ch d b) (token.Reserved reserved.Else ∷ (else_tokens e ++ rest)) ≡ parse (Have k (chosen ch d b e)) rest
-  reads_else (Else p) ch d b k rest fits =
-      ap (λ ts. parse (Want (Body (LastPart ch d b) NoLines ∷ k)) ts) (append_assoc (program_tokens p) (token.Sign sign.BraceClose ∷ []) rest)
-      ∙ reads_body p (LastPart ch d b) k rest fits
-  reads_else (ElseIf c a e) ch d b k rest fits =
+  reads_else : (e : ElsePart) (bs : Branches) (d : Tree) (b : TreeProgram) (k : List Frame) (rest : List Token) → ElseFits e → parse (Chosen k bs d b) (token.Reserved reserved.Else ∷ (else_tokens e ++ rest)) ≡ parse (Have k (chosen bs d b e)) rest
+  reads_else (Else p) bs d b k rest fits =
+      ap (λ ts. parse (Want (Body (Last bs d b) NoLines ∷ k)) ts) (append_assoc (program_tokens p) (token.Sign sign.BraceClose ∷ []) rest)
+      ∙ reads_body p (Last bs d b) k rest fits
+  reads_else (ElseIf c a e) bs d b k rest fits =
       let els = token.Sign sign.BraceClose ∷ token.Reserved reserved.Else ∷ else_tokens e in
-      let done = Branch ch d b in
+      let done = Branch bs d b in
       ap (λ ts. parse (Want (Condition done ∷ k)) ts) (append_assoc (tokens_of c) (token.Sign sign.BraceOpen ∷ (program_tokens a ++ els)) rest)
       ∙ reads c (Condition done ∷ k) (token.Sign sign.BraceOpen ∷ ((program_tokens a ++ els) ++ rest)) fits.0 (starts_loose 0 (omega arith) c) (ends_closed c)
-      ∙ ap (λ ts. parse (Want (Body (ThenPart done c) NoLines ∷ k)) ts) (append_assoc (program_tokens a) els rest)
-      ∙ reads_body a (ThenPart done c) k (token.Reserved reserved.Else ∷ (else_tokens e ++ rest)) fits.1
+      ∙ ap (λ ts. parse (Want (Body (Then done c) NoLines ∷ k)) ts) (append_assoc (program_tokens a) els rest)
+      ∙ reads_body a (Then done c) k (token.Reserved reserved.Else ∷ (else_tokens e ++ rest)) fits.1
       ∙ reads_else e done c a k rest fits.2
 
-  reads_lines : (ls : Lines) (b : Part) (k : List Frame) (rest : List Token) → LinesFit ls → parse (Want (Body b NoLines ∷ k)) (lines_tokens ls ++ rest) ≡ parse (Want (Body b ls ∷ k)) rest
+  reads_lines : (ls : Lines) (b : Section) (k : List Frame) (rest : List Token) → LinesFit ls → parse (Want (Body b NoLines ∷ k)) (lines_tokens ls ++ rest) ≡ parse (Want (Body b ls ∷ k)) rest
   reads_lines NoLines b k rest fits = refl
   reads_lines (MoreLines ls w t) b k rest fits =
       ap (λ ts. parse (Want (Body b NoLines ∷ k)) ts) (append_assoc (lines_tokens ls) (token.Reserved reserved.Let ∷ token.Word w ∷ token.Sign sign.Equal ∷ (tokens_of t ++ token.Sign sign.Semicolon ∷ [])) rest)
@@ -398,13 +398,13 @@ mutual
       ∙ ap (λ ts. parse (Want (Value w ∷ Body b ls ∷ k)) ts) (append_assoc (tokens_of t) (token.Sign sign.Semicolon ∷ []) rest)
       ∙ reads t (Value w ∷ Body b ls ∷ k) (token.Sign sign.Semicolon ∷ rest) fits.1 (starts_loose 0 (omega arith) t) (ends_closed t)
 
-  reads_body : (p : TreeProgram) (b : Part) (k : List Frame) (rest : List Token) → Fits p → parse (Want (Body b NoLines ∷ k)) (program_tokens p ++ token.Sign sign.BraceClose ∷ rest) ≡ parse (after_part b p k) rest
+  reads_body : (p : TreeProgram) (b : Section) (k : List Frame) (rest : List Token) → Fits p → parse (Want (Body b NoLines ∷ k)) (program_tokens p ++ token.Sign sign.BraceClose ∷ rest) ≡ parse (after_section b p k) rest
   reads_body (Program ls t) b k rest fits =
       ap (λ ts. parse (Want (Body b NoLines ∷ k)) ts) (append_assoc (lines_tokens ls) (tokens_of t) (token.Sign sign.BraceClose ∷ rest))
       ∙ reads_lines ls b k (tokens_of t ++ token.Sign sign.BraceClose ∷ rest) fits.0
       ∙ reads t (Body b ls ∷ k) (token.Sign sign.BraceClose ∷ rest) fits.1 (starts_loose 0 (omega arith) t) (ends_closed t)
 
-  reads_top : (p : TreeProgram) → Fits p → parse start (program_tokens p) ≡ Some p
+  reads_top : (p : TreeProgram) → Fits p → parse first_state (program_tokens p) ≡ Some p
   reads_top (Program ls t) fits =
       reads_lines ls Top [] (tokens_of t) fits.0
       ∙ ap (λ ts. parse (Want (Body Top ls ∷ [])) ts) (sym (append-nil (tokens_of t)))

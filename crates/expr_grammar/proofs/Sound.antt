@@ -8,14 +8,14 @@ use Rattle.expr_token.specs.declared.reserved.Reserved.TheVariants as reserved
 use Rattle.expr_grammar.specs.declared.sign.InfixSign.{InfixSign}
 use Rattle.expr_grammar.specs.declared.sign.InfixSign.TheVariants as infixed
 use Rattle.expr_grammar.specs.Grammar.{Word, Constant, True, False, Nil, Integer, Quoted, Raw, Bytes, Key, EntryRow, Entries, NoEntries, SomeEntries, Tree, Literal, Name, HashName, Paren, Array, Map, Call, Member, Method, Index, Slice, Pipe, Items, SomeItems, Row, Arguments, SomeArguments, ArgumentRow, Argument, Expression, LeftOut, At, ElsePart, Else, ElseIf, TreeProgram, Program, NoLines, word_token, constant_token, key_token, prefix_token, infix_tokens, member_token, index_tokens, entry_row_tokens, entries_tokens, tokens_of, items_tokens, row_tokens, arguments_tokens, argument_row_tokens, argument_tokens, bound_tokens, else_tokens, program_tokens, lines_tokens, Spells, infix_level, TreeFits, ItemsFit, RowFits, ArgumentsFit, ArgumentRowFits, ArgumentFits, BoundFits, ElseFits, Fits, LinesFit}
-use Rattle.expr_grammar.specs.Machine.{constant_at, role, role_level, word_at, key_at, push, push_argument, push_entry, items_end, arguments_end, entries_end, Shape, InArray, InMethod, shape_tree, shape_end, Caller, InCall, InPipe, caller_tree, Chain, NoBranch, Branch, chosen, Part, Top, ThenPart, LastPart, Predicate, Frame, Under, After, Otherwise, Inside, Middle, Listed, Calling, Indexed, Cut, Condition, Body, Value, reach, reach_of, plug, settle, State, Want, Have, Dotted, Questioned, Negated, Barred, Piped, Chosen, Alternate, NamesLine, Named, Argued, NamesMember, Braced, BracedKey, Keys, Colons, Values, Entered, Fail, at_close, at_square, at_colon, at_comma, at_semicolon, at_brace, at_end_brace, at_dot, at_end, argued, after_part, bind, shut, apply, act, lack, begin_line, begin_brace, want, word_after_dot, at_square_open, in_after_not, word_after_bar, open_after_word, else_after, at_if, word_after_let, equals_after, member_alone, braced, key_in, value_in, step_on, step, whole, finish, parse, start, tree_of}
+use Rattle.expr_grammar.specs.Machine.{constant_at, role_of, role_level, word_at, key_at, push, push_argument, push_entry, items_end, arguments_end, entries_end, Holder, InArray, InMethod, holder_tree, holder_end, Caller, InCall, InPipe, caller_tree, Branches, NoBranch, Branch, chosen, Section, Top, Then, Last, Predicate, Frame, Under, After, Otherwise, Inside, Middle, Listed, Calling, Indexed, Cut, Condition, Body, Value, reach, reach_of, plug, settle, State, Want, Have, Dotted, Questioned, Negated, Barred, Piped, Chosen, Alternate, NamesLine, Named, Argued, NamesMember, Braced, BracedKey, Keys, Colons, Values, Entered, Fail, at_close, at_square, at_colon, at_comma, at_semicolon, at_brace, at_end_brace, at_dot, at_end, argued, after_section, bind, close, apply, after_operand, without_operand, begin_line, begin_brace, want, word_after_dot, at_square_open, in_after_not, word_after_bar, open_after_word, else_after, at_if, word_after_let, equals_after, member_alone, braced, key_in, value_in, step_on, step, whole, finish, parse, first_state, tree_of}
 use Rattle.expr_grammar.proofs.Measures.{StartsAbove, EndsAbove, infix_above, tight, captured_if, ends_of_none, none_of_ends, reach_captures}
 use Rattle.expr_grammar.proofs.Complete.{key_back}
 
 -- the tokens of a frame, and of a stack
-abbrev shape_front : Shape → List Token
-shape_front InArray = token.Sign sign.SquareOpen ∷ []
-shape_front (InMethod l w) = tokens_of l ++ token.Sign sign.Dot ∷ word_token w ∷ token.Sign sign.ParenOpen ∷ []
+abbrev holder_front : Holder → List Token
+holder_front InArray = token.Sign sign.SquareOpen ∷ []
+holder_front (InMethod l w) = tokens_of l ++ token.Sign sign.Dot ∷ word_token w ∷ token.Sign sign.ParenOpen ∷ []
 
 abbrev caller_front : Caller → List Token
 caller_front (InCall w) = token.Word w ∷ token.Sign sign.ParenOpen ∷ []
@@ -34,15 +34,15 @@ entries_front None = []
 entries_front (Some r) = entry_row_tokens r ++ token.Sign sign.Comma ∷ []
 
 -- up to the `if` of the last branch
-abbrev chain_front : Chain → List Token
-chain_front NoBranch = token.Reserved reserved.If ∷ []
-chain_front (Branch ch c a) = chain_front ch ++ (tokens_of c ++ token.Sign sign.BraceOpen ∷ (program_tokens a ++ token.Sign sign.BraceClose ∷ token.Reserved reserved.Else ∷ token.Reserved reserved.If ∷ []))
+abbrev branches_front : Branches → List Token
+branches_front NoBranch = token.Reserved reserved.If ∷ []
+branches_front (Branch bs c a) = branches_front bs ++ (tokens_of c ++ token.Sign sign.BraceOpen ∷ (program_tokens a ++ token.Sign sign.BraceClose ∷ token.Reserved reserved.Else ∷ token.Reserved reserved.If ∷ []))
 
-abbrev part_front : Part → List Token
-part_front Top = []
-part_front (ThenPart ch c) = chain_front ch ++ (tokens_of c ++ token.Sign sign.BraceOpen ∷ [])
-part_front (LastPart ch c a) = chain_front ch ++ (tokens_of c ++ token.Sign sign.BraceOpen ∷ (program_tokens a ++ token.Sign sign.BraceClose ∷ token.Reserved reserved.Else ∷ token.Sign sign.BraceOpen ∷ []))
-part_front Predicate = token.Sign sign.BraceOpen ∷ []
+abbrev section_front : Section → List Token
+section_front Top = []
+section_front (Then bs c) = branches_front bs ++ (tokens_of c ++ token.Sign sign.BraceOpen ∷ [])
+section_front (Last bs c a) = branches_front bs ++ (tokens_of c ++ token.Sign sign.BraceOpen ∷ (program_tokens a ++ token.Sign sign.BraceClose ∷ token.Reserved reserved.Else ∷ token.Sign sign.BraceOpen ∷ []))
+section_front Predicate = token.Sign sign.BraceOpen ∷ []
 
 abbrev front : Frame → List Token
 front (Under o) = prefix_token o ∷ []
@@ -50,12 +50,12 @@ front (After l o) = tokens_of l ++ infix_tokens o
 front (Otherwise c a) = tokens_of c ++ token.Sign sign.Question ∷ (tokens_of a ++ token.Sign sign.Colon ∷ [])
 front Inside = token.Sign sign.ParenOpen ∷ []
 front (Middle c) = tokens_of c ++ token.Sign sign.Question ∷ []
-front (Listed s r) = shape_front s ++ row_front r
+front (Listed s r) = holder_front s ++ row_front r
 front (Calling c r) = caller_front c ++ arguments_front r
 front (Indexed l optional) = tokens_of l ++ index_tokens optional
 front (Cut l a) = tokens_of l ++ token.Sign sign.SquareOpen ∷ (bound_tokens a ++ token.Sign sign.Colon ∷ [])
-front (Condition ch) = chain_front ch
-front (Body b ls) = part_front b ++ lines_tokens ls
+front (Condition bs) = branches_front bs
+front (Body b ls) = section_front b ++ lines_tokens ls
 front (Value w) = token.Reserved reserved.Let ∷ token.Word w ∷ token.Sign sign.Equal ∷ []
 
 abbrev before : List Frame → List Token
@@ -71,9 +71,9 @@ record IsLeft (p : ℕ) (k : List Frame) (l : Tree) : Type 0 where
 abbrev IsLeftAt : ℕ → List Frame → Tree → Type 0
 IsLeftAt p k l = IsLeft p k l × (reach_of k ≤ p)
 
-abbrev IsShape : List Frame → Shape → Type 0
-IsShape k InArray = Unit {0}
-IsShape k (InMethod l w) = IsLeftAt 13 k l
+abbrev IsHolder : List Frame → Holder → Type 0
+IsHolder k InArray = Unit {0}
+IsHolder k (InMethod l w) = IsLeftAt 13 k l
 
 abbrev IsCaller : List Frame → Caller → Type 0
 IsCaller k (InCall w) = Unit {0}
@@ -87,15 +87,15 @@ abbrev ArgumentRowsFit : Option ArgumentRow → Type 0
 ArgumentRowsFit None = Unit {0}
 ArgumentRowsFit (Some r) = ArgumentRowFits r
 
-abbrev ChainFits : Chain → Type 0
-ChainFits NoBranch = Unit {0}
-ChainFits (Branch ch c a) = ChainFits ch × TreeFits c × Fits a
+abbrev BranchesFit : Branches → Type 0
+BranchesFit NoBranch = Unit {0}
+BranchesFit (Branch bs c a) = BranchesFit bs × TreeFits c × Fits a
 
-abbrev IsPart : Part → Type 0
-IsPart Top = Unit {0}
-IsPart (ThenPart ch c) = ChainFits ch × TreeFits c
-IsPart (LastPart ch c a) = ChainFits ch × TreeFits c × Fits a
-IsPart Predicate = Unit {0}
+abbrev IsSection : Section → Type 0
+IsSection Top = Unit {0}
+IsSection (Then bs c) = BranchesFit bs × TreeFits c
+IsSection (Last bs c a) = BranchesFit bs × TreeFits c × Fits a
+IsSection Predicate = Unit {0}
 
 abbrev IsFrame : List Frame → Frame → Type 0
 IsFrame k (Under o) = Unit {0}
@@ -103,12 +103,12 @@ IsFrame k (After l o) = IsLeftAt (infix_level o) k l
 IsFrame k (Otherwise c a) = IsLeftAt 1 k c × TreeFits a
 IsFrame k Inside = Unit {0}
 IsFrame k (Middle c) = IsLeftAt 1 k c
-IsFrame k (Listed s r) = IsShape k s × RowsFit r
+IsFrame k (Listed s r) = IsHolder k s × RowsFit r
 IsFrame k (Calling c r) = IsCaller k c × ArgumentRowsFit r
 IsFrame k (Indexed l optional) = IsLeftAt 13 k l
 IsFrame k (Cut l a) = IsLeftAt 13 k l × BoundFits a
-IsFrame k (Condition ch) = ChainFits ch
-IsFrame k (Body b ls) = IsPart b × LinesFit ls
+IsFrame k (Condition bs) = BranchesFit bs
+IsFrame k (Body b ls) = IsSection b × LinesFit ls
 IsFrame k (Value w) = Unit {0}
 
 abbrev IsStack : List Frame → Type 0
@@ -173,8 +173,8 @@ IsState (Questioned k l) seen = IsStack k × IsLeftAt 13 k l × (seen ≡ before
 IsState (Negated k l) seen = IsStack k × IsLeftAt 5 k l × (seen ≡ before k ++ (tokens_of l ++ token.Reserved reserved.Not ∷ []))
 IsState (Barred k l) seen = IsStack k × IsLeftAt 2 k l × (seen ≡ before k ++ (tokens_of l ++ token.Sign sign.Bar ∷ []))
 IsState (Piped k l w) seen = IsStack k × IsLeftAt 2 k l × (seen ≡ before k ++ (tokens_of l ++ token.Sign sign.Bar ∷ token.Word w ∷ []))
-IsState (Chosen k ch c a) seen = IsStack k × (ChainFits ch × TreeFits c × Fits a) × (seen ≡ before k ++ (chain_front ch ++ (tokens_of c ++ token.Sign sign.BraceOpen ∷ (program_tokens a ++ token.Sign sign.BraceClose ∷ []))))
-IsState (Alternate k ch c a) seen = IsStack k × (ChainFits ch × TreeFits c × Fits a) × (seen ≡ before k ++ (chain_front ch ++ (tokens_of c ++ token.Sign sign.BraceOpen ∷ (program_tokens a ++ token.Sign sign.BraceClose ∷ token.Reserved reserved.Else ∷ []))))
+IsState (Chosen k bs c a) seen = IsStack k × (BranchesFit bs × TreeFits c × Fits a) × (seen ≡ before k ++ (branches_front bs ++ (tokens_of c ++ token.Sign sign.BraceOpen ∷ (program_tokens a ++ token.Sign sign.BraceClose ∷ []))))
+IsState (Alternate k bs c a) seen = IsStack k × (BranchesFit bs × TreeFits c × Fits a) × (seen ≡ before k ++ (branches_front bs ++ (tokens_of c ++ token.Sign sign.BraceOpen ∷ (program_tokens a ++ token.Sign sign.BraceClose ∷ token.Reserved reserved.Else ∷ []))))
 IsState (NamesLine k) seen = IsStack k × (seen ≡ before k ++ token.Reserved reserved.Let ∷ [])
 IsState (Named k w) seen = IsStack k × (seen ≡ before k ++ token.Reserved reserved.Let ∷ token.Word w ∷ [])
 IsState (Argued k a) seen = IsStack k × ArgumentFits a × (seen ≡ before k ++ argument_tokens a)
@@ -233,26 +233,26 @@ entries_end_tokens None = refl
 entries_end_tokens (Some r) = refl
 
 -- a choice of many branches
-chosen_tokens : (ch : Chain) (c : Tree) (a : TreeProgram) (e : ElsePart) → tokens_of (chosen ch c a e) ≡ chain_front ch ++ (tokens_of c ++ token.Sign sign.BraceOpen ∷ (program_tokens a ++ token.Sign sign.BraceClose ∷ token.Reserved reserved.Else ∷ else_tokens e))
+chosen_tokens : (bs : Branches) (c : Tree) (a : TreeProgram) (e : ElsePart) → tokens_of (chosen bs c a e) ≡ branches_front bs ++ (tokens_of c ++ token.Sign sign.BraceOpen ∷ (program_tokens a ++ token.Sign sign.BraceClose ∷ token.Reserved reserved.Else ∷ else_tokens e))
 chosen_tokens NoBranch c a e = refl
-chosen_tokens (Branch ch d b) c a e = chosen_tokens ch d b (ElseIf c a e) ∙ simp append_assoc
+chosen_tokens (Branch bs d b) c a e = chosen_tokens bs d b (ElseIf c a e) ∙ simp append_assoc
 
-chosen_fits : (ch : Chain) (c : Tree) (a : TreeProgram) (e : ElsePart) → ChainFits ch → TreeFits c → Fits a → ElseFits e → TreeFits (chosen ch c a e)
+chosen_fits : (bs : Branches) (c : Tree) (a : TreeProgram) (e : ElsePart) → BranchesFit bs → TreeFits c → Fits a → ElseFits e → TreeFits (chosen bs c a e)
 chosen_fits NoBranch c a e h f g i = (f, g, i)
-chosen_fits (Branch ch d b) c a e h f g i = chosen_fits ch d b (ElseIf c a e) h.0 h.1 h.2 (f, g, i)
+chosen_fits (Branch bs d b) c a e h f g i = chosen_fits bs d b (ElseIf c a e) h.0 h.1 h.2 (f, g, i)
 
-chosen_starts : (n : ℕ) (ch : Chain) (c : Tree) (a : TreeProgram) (e : ElsePart) → StartsAbove n (chosen ch c a e)
+chosen_starts : (n : ℕ) (bs : Branches) (c : Tree) (a : TreeProgram) (e : ElsePart) → StartsAbove n (chosen bs c a e)
 chosen_starts n NoBranch c a e = (tt, tt)
-chosen_starts n (Branch ch d b) c a e = chosen_starts n ch d b (ElseIf c a e)
+chosen_starts n (Branch bs d b) c a e = chosen_starts n bs d b (ElseIf c a e)
 
-chosen_ends : (p : ℕ) (ch : Chain) (c : Tree) (a : TreeProgram) (e : ElsePart) → EndsAbove p (chosen ch c a e)
+chosen_ends : (p : ℕ) (bs : Branches) (c : Tree) (a : TreeProgram) (e : ElsePart) → EndsAbove p (chosen bs c a e)
 chosen_ends p NoBranch c a e = tt
-chosen_ends p (Branch ch d b) c a e = chosen_ends p ch d b (ElseIf c a e)
+chosen_ends p (Branch bs d b) c a e = chosen_ends p bs d b (ElseIf c a e)
 
 -- a list is whole
-shape_done : (s : Shape) (k : List Frame) (xs : Items) (seen : List Token) → IsStack k → IsShape k s → ItemsFit xs → seen ≡ before k ++ (shape_front s ++ (items_tokens xs ++ shape_end s ∷ [])) → IsState (Have k (shape_tree s xs)) seen
-shape_done InArray k xs seen st sh f e = holds k (Array xs) seen st f (tt, tt) (λ p. tt) e
-shape_done (InMethod l w) k xs seen st sh f e = holds k (Method l w xs) seen st (sh.0.fits, none_of_ends 13 (omega arith) l sh.0.ends, f) (sh.1, sh.0.starts) (λ p. tt) (e ∙ ap (λ q. before k ++ q) (append_assoc (tokens_of l) (token.Sign sign.Dot ∷ word_token w ∷ token.Sign sign.ParenOpen ∷ []) (items_tokens xs ++ token.Sign sign.ParenClose ∷ [])))
+holder_done : (s : Holder) (k : List Frame) (xs : Items) (seen : List Token) → IsStack k → IsHolder k s → ItemsFit xs → seen ≡ before k ++ (holder_front s ++ (items_tokens xs ++ holder_end s ∷ [])) → IsState (Have k (holder_tree s xs)) seen
+holder_done InArray k xs seen st sh f e = holds k (Array xs) seen st f (tt, tt) (λ p. tt) e
+holder_done (InMethod l w) k xs seen st sh f e = holds k (Method l w xs) seen st (sh.0.fits, none_of_ends 13 (omega arith) l sh.0.ends, f) (sh.1, sh.0.starts) (λ p. tt) (e ∙ ap (λ q. before k ++ q) (append_assoc (tokens_of l) (token.Sign sign.Dot ∷ word_token w ∷ token.Sign sign.ParenOpen ∷ []) (items_tokens xs ++ token.Sign sign.ParenClose ∷ [])))
 
 caller_done : (c : Caller) (k : List Frame) (xs : Arguments) (seen : List Token) → IsStack k → IsCaller k c → ArgumentsFit xs → seen ≡ before k ++ (caller_front c ++ (arguments_tokens xs ++ token.Sign sign.ParenClose ∷ [])) → IsState (Have k (caller_tree c xs)) seen
 caller_done (InCall w) k xs seen st sh f e = holds k (Call w xs) seen st f (tt, tt) (λ p. tt) e
@@ -302,7 +302,7 @@ if_at : (s : State) (seen : List Token) → IsState s (seen ++ token.Reserved re
 if_at s seen a (token.Reserved reserved.If) = a
 if_at s seen a t = tt
 
-end_at : (x : Shape) (s : State) (seen : List Token) → IsState s (seen ++ shape_end x ∷ []) → (t : Token) → IsState (at_end x t s) (seen ++ t ∷ [])
+end_at : (x : Holder) (s : State) (seen : List Token) → IsState s (seen ++ holder_end x ∷ []) → (t : Token) → IsState (at_end x t s) (seen ++ t ∷ [])
 end_at InArray s seen a t = square_at s seen a t
 end_at (InMethod l w) s seen a t = close_at s seen a t
 
@@ -316,11 +316,11 @@ argues t (Calling c r ∷ k) a seen st f e =
 argues t k a seen st f e = tt
 
 -- a program between braces is whole
-part_done : (b : Part) (p : TreeProgram) (k : List Frame) (seen : List Token) → IsStack k → IsPart b → Fits p → seen ≡ before k ++ (part_front b ++ (program_tokens p ++ token.Sign sign.BraceClose ∷ [])) → IsState (after_part b p k) seen
-part_done Top p k seen st h f e = tt
-part_done (ThenPart ch c) p k seen st h f e = (st, (h.0, h.1, f), e ∙ simp append_assoc)
-part_done (LastPart ch c a) p k seen st h f e = holds k (chosen ch c a (Else p)) seen st (chosen_fits ch c a (Else p) h.0 h.1 h.2 f) (chosen_starts (reach_of k) ch c a (Else p)) (λ q. chosen_ends q ch c a (Else p)) (e ∙ ap (λ q. before k ++ q) (simp append_assoc) ∙ ap (λ q. before k ++ q) (sym (chosen_tokens ch c a (Else p))))
-part_done Predicate p k seen st h f e = (st, f, e)
+section_done : (b : Section) (p : TreeProgram) (k : List Frame) (seen : List Token) → IsStack k → IsSection b → Fits p → seen ≡ before k ++ (section_front b ++ (program_tokens p ++ token.Sign sign.BraceClose ∷ [])) → IsState (after_section b p k) seen
+section_done Top p k seen st h f e = tt
+section_done (Then bs c) p k seen st h f e = (st, (h.0, h.1, f), e ∙ simp append_assoc)
+section_done (Last bs c a) p k seen st h f e = holds k (chosen bs c a (Else p)) seen st (chosen_fits bs c a (Else p) h.0 h.1 h.2 f) (chosen_starts (reach_of k) bs c a (Else p)) (λ q. chosen_ends q bs c a (Else p)) (e ∙ ap (λ q. before k ++ q) (simp append_assoc) ∙ ap (λ q. before k ++ q) (sym (chosen_tokens bs c a (Else p))))
+section_done Predicate p k seen st h f e = (st, f, e)
 
 line_done : (k : List Frame) (w : List ℕ) (l : Tree) (seen : List Token) → IsStack k → TreeFits l → seen ≡ before k ++ token.Reserved reserved.Let ∷ token.Word w ∷ token.Sign sign.Equal ∷ (tokens_of l ++ token.Sign sign.Semicolon ∷ []) → IsState (bind k w l) seen
 line_done (Body b ls ∷ k) w l seen st f e = (((st.0.0, (st.0.1, f)), st.1), e ∙ simp append_assoc)
@@ -330,32 +330,32 @@ line_done k w l seen st f e = tt
 more : (k : List Frame) (l : Tree) (seen : List Token) (t : Token) → seen ≡ before k ++ tokens_of l → seen ++ t ∷ [] ≡ before k ++ (tokens_of l ++ t ∷ [])
 more k l seen t e = ap (λ x. x ++ t ∷ []) e ∙ append_assoc (before k) (tokens_of l) (t ∷ [])
 
-shuts : (t : Token) (k : List Frame) (l : Tree) (seen : List Token) → Holds 0 k l seen → IsState (shut t k l) (seen ++ t ∷ [])
-shuts t (Inside ∷ k) l seen a = close_at _ seen (holds k (Paren l) _ a.stack.1 a.left.fits (tt, tt) (λ p. tt) (more (Inside ∷ k) l seen (token.Sign sign.ParenClose) a.spelled ∙ simp append_assoc)) t
-shuts t (Middle c ∷ k) l seen a = colon_at _ _ seen (((a.stack.0, a.left.fits), a.stack.1), more (Middle c ∷ k) l seen (token.Sign sign.Colon) a.spelled ∙ simp append_assoc) t tt
-shuts t (Listed s r ∷ k) l seen a =
+close_state : (t : Token) (k : List Frame) (l : Tree) (seen : List Token) → Holds 0 k l seen → IsState (close t k l) (seen ++ t ∷ [])
+close_state t (Inside ∷ k) l seen a = close_at _ seen (holds k (Paren l) _ a.stack.1 a.left.fits (tt, tt) (λ p. tt) (more (Inside ∷ k) l seen (token.Sign sign.ParenClose) a.spelled ∙ simp append_assoc)) t
+close_state t (Middle c ∷ k) l seen a = colon_at _ _ seen (((a.stack.0, a.left.fits), a.stack.1), more (Middle c ∷ k) l seen (token.Sign sign.Colon) a.spelled ∙ simp append_assoc) t tt
+close_state t (Listed s r ∷ k) l seen a =
     comma_at _ _ seen
     (((a.stack.0.0, push_fits r l a.stack.0.1 a.left.fits), a.stack.1), more (Listed s r ∷ k) l seen (token.Sign sign.Comma) a.spelled ∙ simp (push_tokens, append_assoc))
     t
-    (end_at s _ seen (shape_done s k (SomeItems (push r l) false) _ a.stack.1 a.stack.0.0 (push_fits r l a.stack.0.1 a.left.fits) (more (Listed s r ∷ k) l seen (shape_end s) a.spelled ∙ simp (push_tokens, append_assoc, append-nil))) t)
-shuts t (Calling c r ∷ k) l seen a = argues t (Calling c r ∷ k) (Expression l) seen a.stack a.left.fits a.spelled
-shuts t (Indexed x true ∷ k) l seen a =
+    (end_at s _ seen (holder_done s k (SomeItems (push r l) false) _ a.stack.1 a.stack.0.0 (push_fits r l a.stack.0.1 a.left.fits) (more (Listed s r ∷ k) l seen (holder_end s) a.spelled ∙ simp (push_tokens, append_assoc, append-nil))) t)
+close_state t (Calling c r ∷ k) l seen a = argues t (Calling c r ∷ k) (Expression l) seen a.stack a.left.fits a.spelled
+close_state t (Indexed x true ∷ k) l seen a =
     let f = a.stack.0 in
     square_at _ seen (holds k (Index x true l) _ a.stack.1 (f.0.fits, none_of_ends 13 (omega arith) x f.0.ends, a.left.fits) (f.1, f.0.starts) (λ p. tt) (more (Indexed x true ∷ k) l seen (token.Sign sign.SquareClose) a.spelled ∙ simp append_assoc)) t
-shuts t (Indexed x false ∷ k) l seen a =
+close_state t (Indexed x false ∷ k) l seen a =
     let f = a.stack.0 in
     colon_at _ _ seen
     (((f, a.left.fits), a.stack.1), more (Indexed x false ∷ k) l seen (token.Sign sign.Colon) a.spelled ∙ simp append_assoc)
     t
     (square_at _ seen (holds k (Index x false l) _ a.stack.1 (f.0.fits, none_of_ends 13 (omega arith) x f.0.ends, a.left.fits) (f.1, f.0.starts) (λ p. tt) (more (Indexed x false ∷ k) l seen (token.Sign sign.SquareClose) a.spelled ∙ simp append_assoc)) t)
-shuts t (Cut x b ∷ k) l seen a =
+close_state t (Cut x b ∷ k) l seen a =
     let f = a.stack.0 in
     square_at _ seen (holds k (Slice x b (At l)) _ a.stack.1 (f.0.0.fits, none_of_ends 13 (omega arith) x f.0.0.ends, f.1, a.left.fits) (f.0.1, f.0.0.starts) (λ p. tt) (more (Cut x b ∷ k) l seen (token.Sign sign.SquareClose) a.spelled ∙ simp append_assoc)) t
-shuts t (Condition ch ∷ k) l seen a = brace_at _ _ seen ((((a.stack.0, a.left.fits), tt), a.stack.1), more (Condition ch ∷ k) l seen (token.Sign sign.BraceOpen) a.spelled ∙ simp (append_assoc, append-nil)) t tt
-shuts t (Body b ls ∷ k) l seen a =
-    end_brace_at _ _ seen (part_done b (Program ls l) k _ a.stack.1 a.stack.0.0 (a.stack.0.1, a.left.fits) (more (Body b ls ∷ k) l seen (token.Sign sign.BraceClose) a.spelled ∙ simp append_assoc)) t tt
-shuts t (Value w ∷ k) l seen a = semicolon_at _ seen (line_done k w l _ a.stack.1 a.left.fits (more (Value w ∷ k) l seen (token.Sign sign.Semicolon) a.spelled ∙ append_assoc (before k) (front (Value w)) _)) t
-shuts t k l seen a = tt
+close_state t (Condition bs ∷ k) l seen a = brace_at _ _ seen ((((a.stack.0, a.left.fits), tt), a.stack.1), more (Condition bs ∷ k) l seen (token.Sign sign.BraceOpen) a.spelled ∙ simp (append_assoc, append-nil)) t tt
+close_state t (Body b ls ∷ k) l seen a =
+    end_brace_at _ _ seen (section_done b (Program ls l) k _ a.stack.1 a.stack.0.0 (a.stack.0.1, a.left.fits) (more (Body b ls ∷ k) l seen (token.Sign sign.BraceClose) a.spelled ∙ simp append_assoc)) t tt
+close_state t (Value w ∷ k) l seen a = semicolon_at _ seen (line_done k w l _ a.stack.1 a.left.fits (more (Value w ∷ k) l seen (token.Sign sign.Semicolon) a.spelled ∙ append_assoc (before k) (front (Value w)) _)) t
+close_state t k l seen a = tt
 
 applies : (k : List Frame) (l : Tree) (seen : List Token) → Holds 13 k l seen → IsState (apply k l) (seen ++ token.Sign sign.ParenOpen ∷ [])
 applies k (Name w) seen a = (((tt, tt), a.stack), more k (Name w) seen (token.Sign sign.ParenOpen) a.spelled)
@@ -364,53 +364,53 @@ applies k (Member l false w) seen a =
 applies k l seen a = tt
 
 -- an infix of one token
-acts_infix : (o : InfixSign) (t : Token) (k : List Frame) (l : Tree) (seen : List Token) → infix_tokens o ≡ t ∷ [] → Holds (infix_level o) k l seen → reach_of k ≤ infix_level o → IsState (Want (After l o ∷ k)) (seen ++ t ∷ [])
-acts_infix o t k l seen e a r = (((a.left, r), a.stack), more k l seen t a.spelled ∙ ap (λ q. before k ++ (tokens_of l ++ q)) (sym e))
+infix_state : (o : InfixSign) (t : Token) (k : List Frame) (l : Tree) (seen : List Token) → infix_tokens o ≡ t ∷ [] → Holds (infix_level o) k l seen → reach_of k ≤ infix_level o → IsState (Want (After l o ∷ k)) (seen ++ t ∷ [])
+infix_state o t k l seen e a r = (((a.left, r), a.stack), more k l seen t a.spelled ∙ ap (λ q. before k ++ (tokens_of l ++ q)) (sym e))
 
-acts_as : (t : Token) (k : List Frame) (l : Tree) (seen : List Token) → Holds (role_level (role t)) k l seen → reach_of k ≤ role_level (role t) → IsState (act (role t) t k l) (seen ++ t ∷ [])
-acts_as (token.Sign sign.Question) k l seen a r = (((a.left, r), a.stack), more k l seen (token.Sign sign.Question) a.spelled)
-acts_as (token.Sign sign.Dot) k l seen a r = (a.stack, (a.left, r), more k l seen (token.Sign sign.Dot) a.spelled)
-acts_as (token.Sign sign.QuestionDot) k l seen a r = (a.stack, (a.left, r), more k l seen (token.Sign sign.QuestionDot) a.spelled)
-acts_as (token.Sign sign.Bar) k l seen a r = (a.stack, (a.left, r), more k l seen (token.Sign sign.Bar) a.spelled)
-acts_as (token.Reserved reserved.Not) k l seen a r = (a.stack, (a.left, r), more k l seen (token.Reserved reserved.Not) a.spelled)
-acts_as (token.Sign sign.ParenOpen) k l seen a r = applies k l seen a
-acts_as (token.Sign sign.SquareOpen) k l seen a r = (((a.left, r), a.stack), more k l seen (token.Sign sign.SquareOpen) a.spelled)
-acts_as (token.Sign sign.BarBar) k l seen a r = acts_infix infixed.BarBar (token.Sign sign.BarBar) k l seen refl a r
-acts_as (token.Sign sign.AndAnd) k l seen a r = acts_infix infixed.AndAnd (token.Sign sign.AndAnd) k l seen refl a r
-acts_as (token.Sign sign.EqualEqual) k l seen a r = acts_infix infixed.Equal (token.Sign sign.EqualEqual) k l seen refl a r
-acts_as (token.Sign sign.NotEqual) k l seen a r = acts_infix infixed.NotEqual (token.Sign sign.NotEqual) k l seen refl a r
-acts_as (token.Sign sign.Less) k l seen a r = acts_infix infixed.Less (token.Sign sign.Less) k l seen refl a r
-acts_as (token.Sign sign.LessEqual) k l seen a r = acts_infix infixed.LessEqual (token.Sign sign.LessEqual) k l seen refl a r
-acts_as (token.Sign sign.Greater) k l seen a r = acts_infix infixed.Greater (token.Sign sign.Greater) k l seen refl a r
-acts_as (token.Sign sign.GreaterEqual) k l seen a r = acts_infix infixed.GreaterEqual (token.Sign sign.GreaterEqual) k l seen refl a r
-acts_as (token.Sign sign.DotDot) k l seen a r = acts_infix infixed.Range (token.Sign sign.DotDot) k l seen refl a r
-acts_as (token.Sign sign.Plus) k l seen a r = acts_infix infixed.Add (token.Sign sign.Plus) k l seen refl a r
-acts_as (token.Sign sign.Minus) k l seen a r = acts_infix infixed.Subtract (token.Sign sign.Minus) k l seen refl a r
-acts_as (token.Sign sign.Star) k l seen a r = acts_infix infixed.Multiply (token.Sign sign.Star) k l seen refl a r
-acts_as (token.Sign sign.Slash) k l seen a r = acts_infix infixed.Divide (token.Sign sign.Slash) k l seen refl a r
-acts_as (token.Sign sign.Percent) k l seen a r = acts_infix infixed.Modulo (token.Sign sign.Percent) k l seen refl a r
-acts_as (token.Sign sign.Caret) k l seen a r = acts_infix infixed.Caret (token.Sign sign.Caret) k l seen refl a r
-acts_as (token.Sign sign.StarStar) k l seen a r = acts_infix infixed.StarStar (token.Sign sign.StarStar) k l seen refl a r
-acts_as (token.Sign sign.QuestionQuestion) k l seen a r = acts_infix infixed.Coalesce (token.Sign sign.QuestionQuestion) k l seen refl a r
-acts_as (token.Reserved reserved.Or) k l seen a r = acts_infix infixed.Or (token.Reserved reserved.Or) k l seen refl a r
-acts_as (token.Reserved reserved.And) k l seen a r = acts_infix infixed.And (token.Reserved reserved.And) k l seen refl a r
-acts_as (token.Reserved reserved.In) k l seen a r = acts_infix infixed.In (token.Reserved reserved.In) k l seen refl a r
-acts_as (token.Reserved reserved.Contains) k l seen a r = acts_infix infixed.Contains (token.Reserved reserved.Contains) k l seen refl a r
-acts_as (token.Reserved reserved.StartsWith) k l seen a r = acts_infix infixed.StartsWith (token.Reserved reserved.StartsWith) k l seen refl a r
-acts_as (token.Reserved reserved.EndsWith) k l seen a r = acts_infix infixed.EndsWith (token.Reserved reserved.EndsWith) k l seen refl a r
-acts_as (token.Reserved reserved.Matches) k l seen a r = acts_infix infixed.Matches (token.Reserved reserved.Matches) k l seen refl a r
-acts_as t k l seen a r = shuts t k l seen a
+after_operand_state : (t : Token) (k : List Frame) (l : Tree) (seen : List Token) → Holds (role_level (role_of t)) k l seen → reach_of k ≤ role_level (role_of t) → IsState (after_operand (role_of t) t k l) (seen ++ t ∷ [])
+after_operand_state (token.Sign sign.Question) k l seen a r = (((a.left, r), a.stack), more k l seen (token.Sign sign.Question) a.spelled)
+after_operand_state (token.Sign sign.Dot) k l seen a r = (a.stack, (a.left, r), more k l seen (token.Sign sign.Dot) a.spelled)
+after_operand_state (token.Sign sign.QuestionDot) k l seen a r = (a.stack, (a.left, r), more k l seen (token.Sign sign.QuestionDot) a.spelled)
+after_operand_state (token.Sign sign.Bar) k l seen a r = (a.stack, (a.left, r), more k l seen (token.Sign sign.Bar) a.spelled)
+after_operand_state (token.Reserved reserved.Not) k l seen a r = (a.stack, (a.left, r), more k l seen (token.Reserved reserved.Not) a.spelled)
+after_operand_state (token.Sign sign.ParenOpen) k l seen a r = applies k l seen a
+after_operand_state (token.Sign sign.SquareOpen) k l seen a r = (((a.left, r), a.stack), more k l seen (token.Sign sign.SquareOpen) a.spelled)
+after_operand_state (token.Sign sign.BarBar) k l seen a r = infix_state infixed.BarBar (token.Sign sign.BarBar) k l seen refl a r
+after_operand_state (token.Sign sign.AndAnd) k l seen a r = infix_state infixed.AndAnd (token.Sign sign.AndAnd) k l seen refl a r
+after_operand_state (token.Sign sign.EqualEqual) k l seen a r = infix_state infixed.Equal (token.Sign sign.EqualEqual) k l seen refl a r
+after_operand_state (token.Sign sign.NotEqual) k l seen a r = infix_state infixed.NotEqual (token.Sign sign.NotEqual) k l seen refl a r
+after_operand_state (token.Sign sign.Less) k l seen a r = infix_state infixed.Less (token.Sign sign.Less) k l seen refl a r
+after_operand_state (token.Sign sign.LessEqual) k l seen a r = infix_state infixed.LessEqual (token.Sign sign.LessEqual) k l seen refl a r
+after_operand_state (token.Sign sign.Greater) k l seen a r = infix_state infixed.Greater (token.Sign sign.Greater) k l seen refl a r
+after_operand_state (token.Sign sign.GreaterEqual) k l seen a r = infix_state infixed.GreaterEqual (token.Sign sign.GreaterEqual) k l seen refl a r
+after_operand_state (token.Sign sign.DotDot) k l seen a r = infix_state infixed.Range (token.Sign sign.DotDot) k l seen refl a r
+after_operand_state (token.Sign sign.Plus) k l seen a r = infix_state infixed.Add (token.Sign sign.Plus) k l seen refl a r
+after_operand_state (token.Sign sign.Minus) k l seen a r = infix_state infixed.Subtract (token.Sign sign.Minus) k l seen refl a r
+after_operand_state (token.Sign sign.Star) k l seen a r = infix_state infixed.Multiply (token.Sign sign.Star) k l seen refl a r
+after_operand_state (token.Sign sign.Slash) k l seen a r = infix_state infixed.Divide (token.Sign sign.Slash) k l seen refl a r
+after_operand_state (token.Sign sign.Percent) k l seen a r = infix_state infixed.Modulo (token.Sign sign.Percent) k l seen refl a r
+after_operand_state (token.Sign sign.Caret) k l seen a r = infix_state infixed.Caret (token.Sign sign.Caret) k l seen refl a r
+after_operand_state (token.Sign sign.StarStar) k l seen a r = infix_state infixed.StarStar (token.Sign sign.StarStar) k l seen refl a r
+after_operand_state (token.Sign sign.QuestionQuestion) k l seen a r = infix_state infixed.Coalesce (token.Sign sign.QuestionQuestion) k l seen refl a r
+after_operand_state (token.Reserved reserved.Or) k l seen a r = infix_state infixed.Or (token.Reserved reserved.Or) k l seen refl a r
+after_operand_state (token.Reserved reserved.And) k l seen a r = infix_state infixed.And (token.Reserved reserved.And) k l seen refl a r
+after_operand_state (token.Reserved reserved.In) k l seen a r = infix_state infixed.In (token.Reserved reserved.In) k l seen refl a r
+after_operand_state (token.Reserved reserved.Contains) k l seen a r = infix_state infixed.Contains (token.Reserved reserved.Contains) k l seen refl a r
+after_operand_state (token.Reserved reserved.StartsWith) k l seen a r = infix_state infixed.StartsWith (token.Reserved reserved.StartsWith) k l seen refl a r
+after_operand_state (token.Reserved reserved.EndsWith) k l seen a r = infix_state infixed.EndsWith (token.Reserved reserved.EndsWith) k l seen refl a r
+after_operand_state (token.Reserved reserved.Matches) k l seen a r = infix_state infixed.Matches (token.Reserved reserved.Matches) k l seen refl a r
+after_operand_state t k l seen a r = close_state t k l seen a
 
-lacks : (t : Token) (k : List Frame) (seen : List Token) → IsStack k → seen ≡ before k → IsState (lack t k) (seen ++ t ∷ [])
-lacks t (Listed s r ∷ k) seen st e = end_at s _ seen (shape_done s k (items_end r) _ st.1 st.0.0 (items_end_fit r st.0.1) (ap (λ x. x ++ shape_end s ∷ []) e ∙ simp (items_end_tokens, append_assoc))) t
-lacks t (Calling c r ∷ k) seen st e =
+without_operand_state : (t : Token) (k : List Frame) (seen : List Token) → IsStack k → seen ≡ before k → IsState (without_operand t k) (seen ++ t ∷ [])
+without_operand_state t (Listed s r ∷ k) seen st e = end_at s _ seen (holder_done s k (items_end r) _ st.1 st.0.0 (items_end_fit r st.0.1) (ap (λ x. x ++ holder_end s ∷ []) e ∙ simp (items_end_tokens, append_assoc))) t
+without_operand_state t (Calling c r ∷ k) seen st e =
     dot_at _ _ seen (st, ap (λ x. x ++ token.Sign sign.Dot ∷ []) e) t
     (close_at _ seen (caller_done c k (arguments_end r) _ st.1 st.0.0 (arguments_end_fit r st.0.1) (ap (λ x. x ++ token.Sign sign.ParenClose ∷ []) e ∙ simp (arguments_end_tokens, append_assoc))) t)
-lacks t (Indexed x false ∷ k) seen st e = colon_at _ _ seen (((st.0, tt), st.1), ap (λ x. x ++ token.Sign sign.Colon ∷ []) e ∙ simp append_assoc) t tt
-lacks t (Cut x b ∷ k) seen st e =
+without_operand_state t (Indexed x false ∷ k) seen st e = colon_at _ _ seen (((st.0, tt), st.1), ap (λ x. x ++ token.Sign sign.Colon ∷ []) e ∙ simp append_assoc) t tt
+without_operand_state t (Cut x b ∷ k) seen st e =
     let f = st.0 in
     square_at _ seen (holds k (Slice x b LeftOut) _ st.1 (f.0.0.fits, none_of_ends 13 (omega arith) x f.0.0.ends, f.1, tt) (f.0.1, f.0.0.starts) (λ p. tt) (ap (λ x. x ++ token.Sign sign.SquareClose ∷ []) e ∙ simp append_assoc)) t
-lacks t k seen st e = tt
+without_operand_state t k seen st e = tt
 
 begins : (k : List Frame) (seen : List Token) → IsStack k → seen ≡ before k → IsState (begin_line k) (seen ++ token.Reserved reserved.Let ∷ [])
 begins (Body b ls ∷ k) seen st e = (st, ap (λ x. x ++ token.Reserved reserved.Let ∷ []) e)
@@ -444,7 +444,7 @@ wants (token.Reserved reserved.Not) k seen s e = ((tt, s), ap (λ x. x ++ token.
 wants (token.Sign sign.Bang) k seen s e = ((tt, s), ap (λ x. x ++ token.Sign sign.Bang ∷ []) e)
 wants (token.Sign sign.Plus) k seen s e = ((tt, s), ap (λ x. x ++ token.Sign sign.Plus ∷ []) e)
 wants (token.Sign sign.Minus) k seen s e = ((tt, s), ap (λ x. x ++ token.Sign sign.Minus ∷ []) e)
-wants t k seen s e = lacks t k seen s e
+wants t k seen s e = without_operand_state t k seen s e
 
 -- a word and a literal are their tokens
 word_back : (t : Token) (w : Word) → word_at t ≡ Some w → word_token w ≡ t
@@ -479,12 +479,12 @@ pipes : (k : List Frame) (l : Tree) (w : List ℕ) (t : Token) (seen : List Toke
 pipes k l w (token.Sign sign.ParenOpen) seen a = (((a.1, tt), a.0), ap (λ x. x ++ token.Sign sign.ParenOpen ∷ []) a.2 ∙ simp (append_assoc, append-nil))
 pipes k l w t seen a = tt
 
-elses : (k : List Frame) (ch : Chain) (c : Tree) (p : TreeProgram) (t : Token) (seen : List Token) → IsState (Chosen k ch c p) seen → IsState (else_after k ch c p t) (seen ++ t ∷ [])
-elses k ch c p (token.Reserved reserved.Else) seen a = (a.0, a.1, ap (λ x. x ++ token.Reserved reserved.Else ∷ []) a.2 ∙ simp append_assoc)
-elses k ch c p t seen a = tt
+elses : (k : List Frame) (bs : Branches) (c : Tree) (p : TreeProgram) (t : Token) (seen : List Token) → IsState (Chosen k bs c p) seen → IsState (else_after k bs c p t) (seen ++ t ∷ [])
+elses k bs c p (token.Reserved reserved.Else) seen a = (a.0, a.1, ap (λ x. x ++ token.Reserved reserved.Else ∷ []) a.2 ∙ simp append_assoc)
+elses k bs c p t seen a = tt
 
-alternates : (k : List Frame) (ch : Chain) (c : Tree) (p : TreeProgram) (t : Token) (seen : List Token) → IsState (Alternate k ch c p) seen → IsState (step_on (Alternate k ch c p) t) (seen ++ t ∷ [])
-alternates k ch c p t seen a =
+alternates : (k : List Frame) (bs : Branches) (c : Tree) (p : TreeProgram) (t : Token) (seen : List Token) → IsState (Alternate k bs c p) seen → IsState (step_on (Alternate k bs c p) t) (seen ++ t ∷ [])
+alternates k bs c p t seen a =
     brace_at _ _ seen (((a.1, tt), a.0), ap (λ x. x ++ token.Sign sign.BraceOpen ∷ []) a.2 ∙ simp (append_assoc, append-nil)) t
     (if_at _ seen ((a.1, a.0), ap (λ x. x ++ token.Reserved reserved.If ∷ []) a.2 ∙ simp append_assoc) t)
 
@@ -521,7 +521,7 @@ entereds k r t seen a =
 
 steps_on : (s : State) (t : Token) (seen : List Token) → IsState s seen → IsState (step_on s t) (seen ++ t ∷ [])
 steps_on (Want k) t seen a = wants t k seen a.0 a.1
-steps_on (Have k l) t seen a = let p = role_level (role t) in settled (λ k l. Holds p k l seen) (λ s. IsState s (seen ++ t ∷ [])) p (act (role t) t) (λ f k l. plugs p f k l seen) (λ k l h r. acts_as t k l seen h r) k l (a p)
+steps_on (Have k l) t seen a = let p = role_level (role_of t) in settled (λ k l. Holds p k l seen) (λ s. IsState s (seen ++ t ∷ [])) p (after_operand (role_of t) t) (λ f k l. plugs p f k l seen) (λ k l h r. after_operand_state t k l seen h r) k l (a p)
 steps_on (Dotted k l) t seen a = dots k l false t seen (word_at t) refl a.0 a.1 a.2
 steps_on (Questioned k l) t seen a =
     square_open_at _ _ seen ((a.1, a.0), ap (λ x. x ++ token.Sign sign.SquareOpen ∷ []) a.2 ∙ simp append_assoc) t
@@ -529,8 +529,8 @@ steps_on (Questioned k l) t seen a =
 steps_on (Negated k l) t seen a = nots k l t seen a
 steps_on (Barred k l) t seen a = bars k l t seen a
 steps_on (Piped k l w) t seen a = pipes k l w t seen a
-steps_on (Chosen k ch c p) t seen a = elses k ch c p t seen a
-steps_on (Alternate k ch c p) t seen a = alternates k ch c p t seen a
+steps_on (Chosen k bs c p) t seen a = elses k bs c p t seen a
+steps_on (Alternate k bs c p) t seen a = alternates k bs c p t seen a
 steps_on (NamesLine k) t seen a = names k t seen a
 steps_on (Named k w) t seen a = values k w t seen a
 steps_on (Argued k (Expression l)) t seen a = tt
@@ -575,4 +575,4 @@ answers s [] seen a = rw append-nil (ends s seen a)
 answers s (t ∷ ts) seen a = rw append_assoc at (answers (step s t) ts (seen ++ t ∷ []) (steps s t seen a))
 
 pub sound : (p : TreeProgram) (ts : List Token) → tree_of ts ≡ Some p → Spells p ts × Fits p
-sound p ts e = rw e at (answers start ts [] (((tt, tt), tt), refl))
+sound p ts e = rw e at (answers first_state ts [] (((tt, tt), tt), refl))

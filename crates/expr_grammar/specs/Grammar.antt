@@ -14,7 +14,7 @@ use Rattle.expr_grammar.specs.declared.sign.InfixSign.TheVariants as infixed
 -- a word, reserved or not
 pub data Word : Type 0 where
   Usual : (w : List ℕ) → Word
-  Kept : (r : Reserved) → Word
+  ReservedWord : (r : Reserved) → Word
 
 -- a literal but a map; the integer is none where it is 2^63 or more
 pub data Constant : Type 0 where
@@ -104,7 +104,7 @@ mutual
 -- Words, literals and signs as they are written.
 abbrev pub word_token : Word → Token
 word_token (Usual w) = token.Word w
-word_token (Kept r) = token.Reserved r
+word_token (ReservedWord r) = token.Reserved r
 
 abbrev pub constant_token : Constant → Token
 constant_token True = token.Reserved reserved.True

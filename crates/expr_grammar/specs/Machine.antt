@@ -1,4 +1,5 @@
 -- How tokens are read: a state and the next token give the next state. No call promises anything by this: it is what `Grammar` is proved to be computed by.
+-- The parser is modelled on it, so its frames and what they hold (`Start`, `Holder`, `Caller`, `Branches`, `Section`, `Frame`) bear the same names, over parts in place of trees.
 use Rattle.std.specs.Prelude.{ℕ, ◌+◌, Bool, true, false, List, [], ◌∷◌, Option, Some, None, nat_lt, if◌then◌else◌}
 use Rattle.expr_token.specs.declared.token.Token.{Token}
 use Rattle.expr_token.specs.declared.token.Token.TheVariants as token
@@ -12,7 +13,7 @@ use Rattle.expr_grammar.specs.declared.sign.InfixSign.{InfixSign}
 use Rattle.expr_grammar.specs.declared.sign.InfixSign.TheVariants as infixed
 use Rattle.expr_grammar.specs.declared.role.Role.{Role}
 use Rattle.expr_grammar.specs.declared.role.Role.TheVariants.{Binary, Negating, Asking, Piping, Dotting, Questioning, Applying, Picking, Plain}
-use Rattle.expr_grammar.specs.Grammar.{Word, Usual, Kept, Constant, True, False, Nil, Integer, Quoted, Raw, Bytes, Key, WordKey, QuotedKey, EntryRow, OneEntry, MoreEntries, Entries, NoEntries, SomeEntries, Tree, Literal, Name, HashName, Paren, Array, Map, Call, If, Prefix, Infix, Member, Method, Index, Slice, Pipe, Ternary, Items, NoItems, SomeItems, Row, One, More, Arguments, NoArguments, SomeArguments, ArgumentRow, OneArgument, MoreArguments, Argument, Expression, MemberAlone, Braces, Bound, LeftOut, At, ElsePart, Else, ElseIf, TreeProgram, Program, Lines, NoLines, MoreLines, key_token, prefix_level, infix_level}
+use Rattle.expr_grammar.specs.Grammar.{Word, Usual, ReservedWord, Constant, True, False, Nil, Integer, Quoted, Raw, Bytes, Key, WordKey, QuotedKey, EntryRow, OneEntry, MoreEntries, Entries, NoEntries, SomeEntries, Tree, Literal, Name, HashName, Paren, Array, Map, Call, If, Prefix, Infix, Member, Method, Index, Slice, Pipe, Ternary, Items, NoItems, SomeItems, Row, One, More, Arguments, NoArguments, SomeArguments, ArgumentRow, OneArgument, MoreArguments, Argument, Expression, MemberAlone, Braces, Bound, LeftOut, At, ElsePart, Else, ElseIf, TreeProgram, Program, Lines, NoLines, MoreLines, key_token, prefix_level, infix_level}
 
 -- What a token is where an operand is wanted.
 pub data Start : Type 0 where
@@ -45,15 +46,15 @@ reserved_start reserved.Let = Letting
 reserved_start reserved.Not = Signing prefix.Not
 reserved_start r = Other
 
-abbrev pub start_at : Token → Start
-start_at (token.Integer n) = Constantly (Integer n)
-start_at (token.Word w) = Naming w
-start_at (token.Reserved r) = reserved_start r
-start_at (token.Hash w) = HashNaming w
-start_at (token.Quoted s) = Constantly (Quoted s)
-start_at (token.Raw s) = Constantly (Raw s)
-start_at (token.Bytes s) = Constantly (Bytes s)
-start_at (token.Sign s) = sign_start s
+abbrev pub start_of : Token → Start
+start_of (token.Integer n) = Constantly (Integer n)
+start_of (token.Word w) = Naming w
+start_of (token.Reserved r) = reserved_start r
+start_of (token.Hash w) = HashNaming w
+start_of (token.Quoted s) = Constantly (Quoted s)
+start_of (token.Raw s) = Constantly (Raw s)
+start_of (token.Bytes s) = Constantly (Bytes s)
+start_of (token.Sign s) = sign_start s
 
 -- What a token is after an operand.
 abbrev pub sign_role : Sign → Role
@@ -93,10 +94,10 @@ reserved_role reserved.EndsWith = Binary infixed.EndsWith
 reserved_role reserved.Matches = Binary infixed.Matches
 reserved_role r = Plain
 
-abbrev pub role : Token → Role
-role (token.Sign s) = sign_role s
-role (token.Reserved r) = reserved_role r
-role t = Plain
+abbrev pub role_of : Token → Role
+role_of (token.Sign s) = sign_role s
+role_of (token.Reserved r) = reserved_role r
+role_of t = Plain
 
 -- The level of a role, 0 where it is no operator.
 abbrev pub role_level : Role → ℕ
@@ -112,7 +113,7 @@ role_level Plain = 0
 
 abbrev pub level_at : List Token → ℕ
 level_at [] = 0
-level_at (t ∷ ts) = role_level (role t)
+level_at (t ∷ ts) = role_level (role_of t)
 
 -- The least level that an infix captures.
 abbrev pub infix_reach : InfixSign → ℕ
@@ -123,12 +124,12 @@ infix_reach o = infix_level o + 1
 -- the word, key or literal that a token is
 abbrev pub word_at : Token → Option Word
 word_at (token.Word w) = Some (Usual w)
-word_at (token.Reserved r) = Some (Kept r)
+word_at (token.Reserved r) = Some (ReservedWord r)
 word_at t = None
 
 abbrev pub key_at : Token → Option Key
 key_at (token.Word w) = Some (WordKey (Usual w))
-key_at (token.Reserved r) = Some (WordKey (Kept r))
+key_at (token.Reserved r) = Some (WordKey (ReservedWord r))
 key_at (token.Quoted s) = Some (QuotedKey s)
 key_at t = None
 
@@ -137,7 +138,7 @@ constant_of_start (Constantly c) = Some c
 constant_of_start s = None
 
 abbrev pub constant_at : Token → Option Constant
-constant_at t = constant_of_start (start_at t)
+constant_at t = constant_of_start (start_of t)
 
 -- one more, after those that are there
 abbrev pub push : Option Row → Tree → Row
@@ -166,18 +167,18 @@ entries_end None = NoEntries
 entries_end (Some r) = SomeEntries r true
 
 -- What holds a list of trees.
-pub data Shape : Type 0 where
-  InArray : Shape
-  InMethod : (l : Tree) (w : Word) → Shape
+pub data Holder : Type 0 where
+  InArray : Holder
+  InMethod : (l : Tree) (w : Word) → Holder
 
-abbrev pub shape_tree : Shape → Items → Tree
-shape_tree InArray xs = Array xs
-shape_tree (InMethod l w) xs = Method l w xs
+abbrev pub holder_tree : Holder → Items → Tree
+holder_tree InArray xs = Array xs
+holder_tree (InMethod l w) xs = Method l w xs
 
 -- its last token
-abbrev pub shape_end : Shape → Token
-shape_end InArray = token.Sign sign.SquareClose
-shape_end (InMethod l w) = token.Sign sign.ParenClose
+abbrev pub holder_end : Holder → Token
+holder_end InArray = token.Sign sign.SquareClose
+holder_end (InMethod l w) = token.Sign sign.ParenClose
 
 -- What holds arguments.
 pub data Caller : Type 0 where
@@ -188,21 +189,21 @@ abbrev pub caller_tree : Caller → Arguments → Tree
 caller_tree (InCall w) xs = Call w xs
 caller_tree (InPipe l w) xs = Pipe l w xs
 
--- The conditions and programs before a last `else`.
-pub data Chain : Type 0 where
-  NoBranch : Chain
-  Branch : (ch : Chain) (c : Tree) (a : TreeProgram) → Chain
+-- The branches of a choice before its last one: conditions and programs.
+pub data Branches : Type 0 where
+  NoBranch : Branches
+  Branch : (bs : Branches) (c : Tree) (a : TreeProgram) → Branches
 
-abbrev pub chosen : Chain → Tree → TreeProgram → ElsePart → Tree
+abbrev pub chosen : Branches → Tree → TreeProgram → ElsePart → Tree
 chosen NoBranch c a e = If c a e
-chosen (Branch ch d b) c a e = chosen ch d b (ElseIf c a e)
+chosen (Branch bs d b) c a e = chosen bs d b (ElseIf c a e)
 
--- What holds a program.
-pub data Part : Type 0 where
-  Top : Part
-  ThenPart : (ch : Chain) (c : Tree) → Part
-  LastPart : (ch : Chain) (c : Tree) (a : TreeProgram) → Part
-  Predicate : Part
+-- What a program is for.
+pub data Section : Type 0 where
+  Top : Section
+  Then : (bs : Branches) (c : Tree) → Section
+  Last : (bs : Branches) (c : Tree) (a : TreeProgram) → Section
+  Predicate : Section
 
 -- What is open to the left of the reading point.
 pub data Frame : Type 0 where
@@ -211,12 +212,12 @@ pub data Frame : Type 0 where
   Otherwise : (c a : Tree) → Frame
   Inside : Frame
   Middle : (c : Tree) → Frame
-  Listed : (s : Shape) (r : Option Row) → Frame
+  Listed : (s : Holder) (r : Option Row) → Frame
   Calling : (c : Caller) (r : Option ArgumentRow) → Frame
   Indexed : (l : Tree) (optional : Bool) → Frame
   Cut : (l : Tree) (a : Bound) → Frame
-  Condition : (ch : Chain) → Frame
-  Body : (b : Part) (ls : Lines) → Frame
+  Condition : (bs : Branches) → Frame
+  Body : (b : Section) (ls : Lines) → Frame
   Value : (w : List ℕ) → Frame
 
 -- The least level that a frame captures: 0 where only its own tokens end it.
@@ -250,8 +251,8 @@ pub data State : Type 0 where
   Negated : (k : List Frame) (l : Tree) → State
   Barred : (k : List Frame) (l : Tree) → State
   Piped : (k : List Frame) (l : Tree) (w : List ℕ) → State
-  Chosen : (k : List Frame) (ch : Chain) (c : Tree) (a : TreeProgram) → State
-  Alternate : (k : List Frame) (ch : Chain) (c : Tree) (a : TreeProgram) → State
+  Chosen : (k : List Frame) (bs : Branches) (c : Tree) (a : TreeProgram) → State
+  Alternate : (k : List Frame) (bs : Branches) (c : Tree) (a : TreeProgram) → State
   NamesLine : (k : List Frame) → State
   Named : (k : List Frame) (w : List ℕ) → State
   Argued : (k : List Frame) (a : Argument) → State
@@ -297,7 +298,7 @@ abbrev pub at_dot : Token → State → State → State
 at_dot (token.Sign sign.Dot) s r = s
 at_dot t s r = r
 
-abbrev pub at_end : Shape → Token → State → State
+abbrev pub at_end : Holder → Token → State → State
 at_end InArray t s = at_square t s
 at_end (InMethod l w) t s = at_close t s
 
@@ -307,30 +308,30 @@ argued t (Calling c r ∷ k) a = at_comma t (Want (Calling c (Some (push_argumen
 argued t k a = Fail
 
 -- a program between braces is whole
-abbrev pub after_part : Part → TreeProgram → List Frame → State
-after_part Top p k = Fail
-after_part (ThenPart ch c) p k = Chosen k ch c p
-after_part (LastPart ch c a) p k = Have k (chosen ch c a (Else p))
-after_part Predicate p k = Argued k (Braces p)
+abbrev pub after_section : Section → TreeProgram → List Frame → State
+after_section Top p k = Fail
+after_section (Then bs c) p k = Chosen k bs c p
+after_section (Last bs c a) p k = Have k (chosen bs c a (Else p))
+after_section Predicate p k = Argued k (Braces p)
 
 -- a line is whole
 abbrev pub bind : List Frame → List ℕ → Tree → State
 bind (Body b ls ∷ k) w t = Want (Body b (MoreLines ls w t) ∷ k)
 bind k w t = Fail
 
--- A token that is no operator, after an operand.
-abbrev pub shut : Token → List Frame → Tree → State
-shut t (Inside ∷ k) l = at_close t (Have k (Paren l))
-shut t (Middle c ∷ k) l = at_colon t (Want (Otherwise c l ∷ k)) Fail
-shut t (Listed s r ∷ k) l = at_comma t (Want (Listed s (Some (push r l)) ∷ k)) (at_end s t (Have k (shape_tree s (SomeItems (push r l) false))))
-shut t (Calling c r ∷ k) l = argued t (Calling c r ∷ k) (Expression l)
-shut t (Indexed x true ∷ k) l = at_square t (Have k (Index x true l))
-shut t (Indexed x false ∷ k) l = at_colon t (Want (Cut x (At l) ∷ k)) (at_square t (Have k (Index x false l)))
-shut t (Cut x a ∷ k) l = at_square t (Have k (Slice x a (At l)))
-shut t (Condition ch ∷ k) l = at_brace t (Want (Body (ThenPart ch l) NoLines ∷ k)) Fail
-shut t (Body b ls ∷ k) l = at_end_brace t (after_part b (Program ls l) k) Fail
-shut t (Value w ∷ k) l = at_semicolon t (bind k w l)
-shut t k l = Fail
+-- A token that is no operator, after an operand: it ends what the innermost frame waits for.
+abbrev pub close : Token → List Frame → Tree → State
+close t (Inside ∷ k) l = at_close t (Have k (Paren l))
+close t (Middle c ∷ k) l = at_colon t (Want (Otherwise c l ∷ k)) Fail
+close t (Listed s r ∷ k) l = at_comma t (Want (Listed s (Some (push r l)) ∷ k)) (at_end s t (Have k (holder_tree s (SomeItems (push r l) false))))
+close t (Calling c r ∷ k) l = argued t (Calling c r ∷ k) (Expression l)
+close t (Indexed x true ∷ k) l = at_square t (Have k (Index x true l))
+close t (Indexed x false ∷ k) l = at_colon t (Want (Cut x (At l) ∷ k)) (at_square t (Have k (Index x false l)))
+close t (Cut x a ∷ k) l = at_square t (Have k (Slice x a (At l)))
+close t (Condition bs ∷ k) l = at_brace t (Want (Body (Then bs l) NoLines ∷ k)) Fail
+close t (Body b ls ∷ k) l = at_end_brace t (after_section b (Program ls l) k) Fail
+close t (Value w ∷ k) l = at_semicolon t (bind k w l)
+close t k l = Fail
 
 -- an opening parenthesis after an operand
 abbrev pub apply : List Frame → Tree → State
@@ -339,24 +340,24 @@ apply k (Member l false w) = Want (Listed (InMethod l w) None ∷ k)
 apply k l = Fail
 
 -- A token after an operand, once the frames are settled.
-abbrev pub act : Role → Token → List Frame → Tree → State
-act (Binary o) t k l = Want (After l o ∷ k)
-act Negating t k l = Negated k l
-act Asking t k l = Want (Middle l ∷ k)
-act Piping t k l = Barred k l
-act Dotting t k l = Dotted k l
-act Questioning t k l = Questioned k l
-act Applying t k l = apply k l
-act Picking t k l = Want (Indexed l false ∷ k)
-act Plain t k l = shut t k l
+abbrev pub after_operand : Role → Token → List Frame → Tree → State
+after_operand (Binary o) t k l = Want (After l o ∷ k)
+after_operand Negating t k l = Negated k l
+after_operand Asking t k l = Want (Middle l ∷ k)
+after_operand Piping t k l = Barred k l
+after_operand Dotting t k l = Dotted k l
+after_operand Questioning t k l = Questioned k l
+after_operand Applying t k l = apply k l
+after_operand Picking t k l = Want (Indexed l false ∷ k)
+after_operand Plain t k l = close t k l
 
 -- A token that begins no operand, where one is wanted.
-abbrev pub lack : Token → List Frame → State
-lack t (Listed s r ∷ k) = at_end s t (Have k (shape_tree s (items_end r)))
-lack t (Calling c r ∷ k) = at_dot t (NamesMember (Calling c r ∷ k)) (at_close t (Have k (caller_tree c (arguments_end r))))
-lack t (Indexed x false ∷ k) = at_colon t (Want (Cut x LeftOut ∷ k)) Fail
-lack t (Cut x a ∷ k) = at_square t (Have k (Slice x a LeftOut))
-lack t k = Fail
+abbrev pub without_operand : Token → List Frame → State
+without_operand t (Listed s r ∷ k) = at_end s t (Have k (holder_tree s (items_end r)))
+without_operand t (Calling c r ∷ k) = at_dot t (NamesMember (Calling c r ∷ k)) (at_close t (Have k (caller_tree c (arguments_end r))))
+without_operand t (Indexed x false ∷ k) = at_colon t (Want (Cut x LeftOut ∷ k)) Fail
+without_operand t (Cut x a ∷ k) = at_square t (Have k (Slice x a LeftOut))
+without_operand t k = Fail
 
 abbrev pub begin_line : List Frame → State
 begin_line (Body b ls ∷ k) = NamesLine (Body b ls ∷ k)
@@ -377,11 +378,11 @@ begin Listing t k = Want (Listed InArray None ∷ k)
 begin Bracing t k = begin_brace k
 begin Choosing t k = Want (Condition NoBranch ∷ k)
 begin Letting t k = begin_line k
-begin Other t k = lack t k
+begin Other t k = without_operand t k
 
 -- A token where an operand is wanted.
 abbrev pub want : Token → List Frame → State
-want t k = begin (start_at t) t k
+want t k = begin (start_of t) t k
 
 abbrev pub word_after_dot : List Frame → Tree → Bool → Option Word → State
 word_after_dot k l optional (Some w) = Have k (Member l optional w)
@@ -403,9 +404,9 @@ abbrev pub open_after_word : List Frame → Tree → List ℕ → Token → Stat
 open_after_word k l w (token.Sign sign.ParenOpen) = Want (Calling (InPipe l w) None ∷ k)
 open_after_word k l w t = Fail
 
-abbrev pub else_after : List Frame → Chain → Tree → TreeProgram → Token → State
-else_after k ch c a (token.Reserved reserved.Else) = Alternate k ch c a
-else_after k ch c a t = Fail
+abbrev pub else_after : List Frame → Branches → Tree → TreeProgram → Token → State
+else_after k bs c a (token.Reserved reserved.Else) = Alternate k bs c a
+else_after k bs c a t = Fail
 
 abbrev pub at_if : Token → State → State
 at_if (token.Reserved reserved.If) s = s
@@ -444,14 +445,14 @@ argue t k a = argued t k a
 -- the next state, but after a key that may begin a predicate
 abbrev pub step_on : State → Token → State
 step_on (Want k) t = want t k
-step_on (Have k l) t = settle (role_level (role t)) (act (role t) t) k l
+step_on (Have k l) t = settle (role_level (role_of t)) (after_operand (role_of t) t) k l
 step_on (Dotted k l) t = word_after_dot k l false (word_at t)
 step_on (Questioned k l) t = at_square_open t (Want (Indexed l true ∷ k)) (word_after_dot k l true (word_at t))
 step_on (Negated k l) t = in_after_not k l t
 step_on (Barred k l) t = word_after_bar k l t
 step_on (Piped k l w) t = open_after_word k l w t
-step_on (Chosen k ch c a) t = else_after k ch c a t
-step_on (Alternate k ch c a) t = at_brace t (Want (Body (LastPart ch c a) NoLines ∷ k)) (at_if t (Want (Condition (Branch ch c a) ∷ k)))
+step_on (Chosen k bs c a) t = else_after k bs c a t
+step_on (Alternate k bs c a) t = at_brace t (Want (Body (Last bs c a) NoLines ∷ k)) (at_if t (Want (Condition (Branch bs c a) ∷ k)))
 step_on (NamesLine k) t = word_after_let k t
 step_on (Named k w) t = equals_after k w t
 step_on (Argued k a) t = argue t k a
@@ -476,8 +477,8 @@ abbrev pub finish : State → Option TreeProgram
 finish (Have k l) = settle 0 whole k l
 finish s = None
 
-abbrev pub start : State
-start = Want (Body Top NoLines ∷ [])
+abbrev pub first_state : State
+first_state = Want (Body Top NoLines ∷ [])
 
 -- What the state makes of the tokens that are left.
 unfoldable pub parse : State → List Token → Option TreeProgram
@@ -486,4 +487,4 @@ parse s (t ∷ ts) = parse (step s t) ts
 
 -- The one tree of a token list.
 abbrev pub tree_of : List Token → Option TreeProgram
-tree_of ts = parse start ts
+tree_of ts = parse first_state ts

@@ -1,7 +1,7 @@
 //! What a token is after an operand.
 
 ghost use Rattle.std.specs.Prelude.{◌≡◌};
-ghost use Rattle.expr_grammar.specs.Machine.{role_level, role as role_of, sign_role, reserved_role};
+ghost use Rattle.expr_grammar.specs.Machine.{role_level, role_of, sign_role, reserved_role};
 
 use crate::sign::InfixSign;
 use expr_token::{Reserved, Sign, Token};

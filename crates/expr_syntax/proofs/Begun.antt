@@ -1,5 +1,5 @@
 -- Which tokens a program begins with, where the parser stands or stops.
-use Rattle.std.proofs.Common.{◌≡◌, ℕ, ◌<◌, ◌≤◌, List, [], ◌∷◌, ◌++◌, take, length, map, arith, sym, ap, ◌∙◌, refl, subst, fold, append-nil}
+use Rattle.std.proofs.Common.{◌≡◌, ℕ, ◌≤◌, List, [], ◌∷◌, ◌++◌, take, length, map, arith, sym, ap, ◌∙◌, refl, subst, fold, append-nil}
 use Rattle.std.proofs.lemmas.List.{map-id}
 use Rattle.std.proofs.Math.Seq.{take-append_seam}
 use Rattle.expr_token.specs.declared.token.Token.{Token}
@@ -8,7 +8,7 @@ use Rattle.expr_frames.specs.declared.frame.Frame.{Frame as NodeFrame}
 use Rattle.expr_frames.specs.declared.frame.Place.{Place}
 use Rattle.expr_frames.specs.Nodes as node
 use Rattle.expr_frames.proofs.Erase.{state, steps as kept_steps}
-use Rattle.expr_grammar.specs.Machine.{State, step, start}
+use Rattle.expr_grammar.specs.Machine.{State, step, first_state}
 use Rattle.expr_grammar.specs.Prefixes.{SomeBegins, StopsAt}
 use Rattle.expr_grammar.proofs.Closing.{goes_on as begins_where}
 use Rattle.expr_syntax.specs.Reading.{IsParse, IsTooLarge}
@@ -21,7 +21,7 @@ stands s (t ∷ ts) = ap (λ x. fold node.step x ts) (kept_steps s t) ∙ stands
 
 -- where the tokens lead to a state, a program begins with them
 pub goes_on : (ts : List Token) (k : List NodeFrame) (p : Place) → after ts ≡ node.On k p → SomeBegins ts
-goes_on ts k p h = begins_where ts (λ f. let e : node.Fail ≡ node.On k p = sym (stands start ts ∙ ap state f) ∙ h in let d : ⊥ = cc in d)
+goes_on ts k p h = begins_where ts (λ f. let e : node.Fail ≡ node.On k p = sym (stands first_state ts ∙ ap state f) ∙ h in let d : ⊥ = cc in d)
 
 -- so at a token that leads to no state, and where all tokens led to one
 module _ (ts seen : List Token) (i : ℕ) (k : List NodeFrame) (p : Place) (counted : i ≡ length seen) (at : after seen ≡ node.On k p) where

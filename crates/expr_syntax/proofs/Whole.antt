@@ -10,8 +10,8 @@ use Rattle.expr_tree.specs.Written.{program_written}
 use Rattle.expr_grammar.specs.Grammar.{TreeProgram, Spells, Fits, LiteralsFit, IntegerFits}
 use Rattle.std.specs.List.{AllByRecursion}
 use Rattle.expr_grammar.specs.Machine.{tree_of}
-use Rattle.expr_frames.specs.Kept.{program_of, kept}
-use Rattle.expr_frames.specs.Nodes.{State, begins, Fail, step, finish, block_of_tokens}
+use Rattle.expr_frames.specs.Programs.{program_of, program_if_any}
+use Rattle.expr_frames.specs.Nodes.{State, first_state, Fail, step, finish, block_of_tokens}
 use Rattle.expr_grammar.specs.Prefixes.{NoneBegins}
 use Rattle.expr_syntax.specs.Reading.{IsParse, IsTooLarge}
 use Rattle.expr_grammar.proofs.Complete.{complete}
@@ -20,10 +20,10 @@ use Rattle.expr_frames.proofs.Erase.{erases}
 
 -- the state after some tokens
 abbrev pub after : List Token → State
-after ts = fold step begins ts
+after ts = fold step first_state ts
 
 pub program_is : (ts : List Token) (t : TreeProgram) → Spells t ts → Fits t → block_of_tokens ts ≡ Some (program_of t)
-program_is ts t s f = erases ts ∙ ap kept (complete t ts s f)
+program_is ts t s f = erases ts ∙ ap program_if_any (complete t ts s f)
 
 -- a tree's literals are those of its tokens
 pub literals_of : (ts : List Token) (t : TreeProgram) → Spells t ts → AllByRecursion IntegerFits ts → LiteralsFit t
@@ -36,17 +36,17 @@ pub parsed : (ts : List Token) (n : Program) (b : Block) → AllByRecursion Inte
 parsed ts n b l w h = choose (tree_of ts) refl
   where
     choose : (o : Option TreeProgram) → tree_of ts ≡ o → IsParse ts n
-    choose None e = let c : None ≡ Some b = sym (erases ts ∙ ap kept e) ∙ h in let d : ⊥ = cc in absurd d
+    choose None e = let c : None ≡ Some b = sym (erases ts ∙ ap program_if_any e) ∙ h in let d : ⊥ = cc in absurd d
     choose (Some t) e =
         let s = sound t ts e in
-        let c : Some (program_of t) ≡ Some b = sym (erases ts ∙ ap kept e) ∙ h in
+        let c : Some (program_of t) ≡ Some b = sym (erases ts ∙ ap program_if_any e) ∙ h in
         record { tree = t; spells = s.0; fits = s.1; literals = literals_of ts t s.0 l; same = cc }
 
 pub too_large : (ts : List Token) (b : Block) → ¬ AllByRecursion IntegerFits ts → block_of_tokens ts ≡ Some b → IsTooLarge ts
 too_large ts b l h = choose (tree_of ts) refl
   where
     choose : (o : Option TreeProgram) → tree_of ts ≡ o → IsTooLarge ts
-    choose None e = let c : None ≡ Some b = sym (erases ts ∙ ap kept e) ∙ h in let d : ⊥ = cc in absurd d
+    choose None e = let c : None ≡ Some b = sym (erases ts ∙ ap program_if_any e) ∙ h in let d : ⊥ = cc in absurd d
     choose (Some t) e =
         let s = sound t ts e in
         record { tree = t; spells = s.0; fits = s.1; literals = λ f. l (literals_in ts t s.0 f) }
@@ -63,11 +63,11 @@ fails (t ∷ ts) = fails ts
 
 -- where the tokens lead to no state, nor do more of them
 pub no_more : (ts rest : List Token) → after ts ≡ Fail → (t : TreeProgram) → Spells t (ts ++ rest) → Fits t → ⊥
-no_more ts rest h = no_tree (ts ++ rest) (ap (λ s. finish s) (fold-append step begins ts rest ∙ ap (λ s. fold step s rest) h ∙ fails rest))
+no_more ts rest h = no_tree (ts ++ rest) (ap (λ s. finish s) (fold-append step first_state ts rest ∙ ap (λ s. fold step s rest) h ∙ fails rest))
 
 -- at a token that leads to no state
 pub stuck : (seen : List Token) (t : Token) (s : State) → after seen ≡ s → step s t ≡ Fail → after (seen ++ t ∷ []) ≡ Fail
-stuck seen t s e f = fold-append step begins seen (t ∷ []) ∙ ap (λ s. step s t) e ∙ f
+stuck seen t s e f = fold-append step first_state seen (t ∷ []) ∙ ap (λ s. step s t) e ∙ f
 
 pub stuck_only : (ts seen rest : List Token) → ts ≡ seen ++ rest → after seen ≡ Fail → (t : TreeProgram) → Spells t ts → Fits t → ⊥
 stuck_only ts seen rest e h t s f = no_more seen rest h t (s ∙ e) f

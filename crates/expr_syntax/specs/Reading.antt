@@ -16,7 +16,7 @@ use Rattle.expr_frames.specs.declared.frame.Fault.TheVariants as fault
 use Rattle.expr_syntax.specs.declared.parser.ParseError.{ParseError}
 use Rattle.expr_syntax.specs.declared.parser.ParseError.TheVariants as error
 use Rattle.expr_grammar.specs.Grammar.{TreeProgram, Spells, Fits, LiteralsFit}
-use Rattle.expr_frames.specs.Kept.{program_of}
+use Rattle.expr_frames.specs.Programs.{program_of}
 use Rattle.expr_frames.specs.Nodes.{plug, settle, argued, bind, whole_in, State, On, Fail}
 use Rattle.expr_grammar.specs.Prefixes.{StopsAt}
 

@@ -8,7 +8,7 @@ use Rattle.expr_tree.specs.declared.node.Program.{Program}
 use Rattle.expr_value.specs.declared.error.Error.{Error}
 use Rattle.expr_value.specs.declared.error.Error.TheVariants.{PestError, ParseError, ExprError, RegexError, MemoryError}
 use Rattle.expr_grammar.specs.Grammar.{TreeProgram, Spells, Fits, LiteralsFit}
-use Rattle.expr_frames.specs.Kept.{program_of}
+use Rattle.expr_frames.specs.Programs.{program_of}
 use Rattle.expr_grammar.specs.Prefixes.{SomeBegins, NoneBegins}
 
 -- the tree spells what the text reads as, and fits

@@ -1,19 +1,33 @@
-//! The first token after an opening brace, where an argument begins: of a map or of a predicate.
+//! An opening brace where an operand is wanted: of a map, or of a predicate where an argument begins.
 
-ghost use Rattle.std.specs.Prelude.{[], ◌∷◌};
-ghost use Rattle.expr_token.specs.declared.token.Token.TheVariants as token;
+ghost use Rattle.std.specs.Prelude.{◌∷◌, []};
 ghost use Rattle.expr_frames.specs.declared.frame.Frame.TheVariants as frame;
+ghost use Rattle.expr_frames.specs.declared.frame.Place.TheVariants as place;
 ghost use Rattle.expr_frames.specs.declared.frame.Section.TheVariants as section;
 ghost use Rattle.expr_frames.specs.Nodes as machine;
 ghost use Rattle.expr_syntax.specs.Reading.{stack, Stands};
+ghost use Rattle.expr_token.specs.declared.token.Token.TheVariants as token;
 
-use crate::parser::{Parser, map_literal};
+use crate::parser::Parser;
+use crate::parser::map::map_literal;
 use expr_frames::frame::{Fault, Frame, Place, Section};
+use expr_frames::read;
 use expr_parts::Lines;
 use expr_token::{Sign, Token};
 use expr_value::ValueMap;
 
 impl Parser {
+    // An opening brace: of a predicate or a map where an argument begins, else of a map.
+    pub(super) fn brace(&self) -> Result<Place, Fault>
+        ensures { Stands (machine.begin_brace (stack self.now.frames.items)) self.now.frames.items result }
+    {
+        match self.frames.last() {
+            Some(Frame::Call(..)) => Ok(Place::Braced),
+            _ => Ok(Place::Keys(ValueMap::new(self.alloc))),
+        }
+    }
+
+    // The first token after the brace, where an argument begins.
     pub(super) fn braced(&mut self, first: Token) -> Result<Place, Fault>
         ensures { Stands (machine.braced (stack self.old.frames.items) first) self.new.frames.items result }
     {
@@ -36,10 +50,43 @@ impl Parser {
     }
 
     // The first token of a predicate.
-    pub(super) fn body(&mut self, first: Token) -> Result<Place, Fault>
+    fn body(&mut self, first: Token) -> Result<Place, Fault>
         ensures { Stands (machine.want first (frame.Body section.Predicate [] ∷ stack self.old.frames.items)) self.new.frames.items result }
     {
         self.push(Frame::Body(Section::Predicate, Lines::new(self.alloc)))?;
         self.want(first)
+    }
+
+    // A key after an opening brace, which begins a map literal where a colon follows, else a predicate.
+    pub(super) fn after_key(&mut self, key: Token, next: &mut Token) -> Result<Place, Fault>
+        ensures { Stands (machine.step_in (stack self.old.frames.items) (place.BracedKey key) next.old) self.new.frames.items result }
+    {
+        match next {
+            Token::Sign(Sign::Colon) => self.first_key(key),
+            Token::Sign(_)
+            | Token::Integer(_)
+            | Token::Word(_)
+            | Token::Reserved(_)
+            | Token::Hash(_)
+            | Token::Quoted(_)
+            | Token::Raw(_)
+            | Token::Bytes(_) => self.after_first(key, next),
+        }
+    }
+
+    // A map literal after its first key and the colon.
+    fn first_key(&self, key: Token) -> Result<Place, Fault>
+        ensures { Stands (machine.value_after_key (stack self.now.frames.items) (machine.key_text_at key)) self.now.frames.items result }
+    {
+        let key = read::key(self.alloc, key)?;
+        Ok(Place::Values(ValueMap::new(self.alloc), key))
+    }
+
+    // A predicate after its first token.
+    fn after_first(&mut self, first: Token, next: &mut Token) -> Result<Place, Fault>
+        ensures { Stands (machine.steps_on (machine.want first (frame.Body section.Predicate [] ∷ stack self.old.frames.items)) next.old) self.new.frames.items result }
+    {
+        let place = self.body(first)?;
+        self.step_on(place, next)
     }
 }

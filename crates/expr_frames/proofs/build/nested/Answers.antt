@@ -1,7 +1,7 @@
 use Rattle.std.proofs.Common.{ap, ◌∙◌, sym}
 use Rattle.expr_tree.specs.Term.{choice}
 use Rattle.expr_frames.specs.Nodes.{nest}
-use Rattle.expr_frames.proofs.Chains.{nest_more}
+use Rattle.expr_frames.proofs.Branches.{nest_more}
 use Rattle.expr_frames.proofs.build.nested.Goals as goal
 
 pub loop-condition-preserved : goal.loop-condition-preserved

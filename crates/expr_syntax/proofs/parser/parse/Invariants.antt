@@ -1,10 +1,10 @@
 use Rattle.std.proofs.Common.{◌≡◌, length, fold}
-use Rattle.expr_frames.specs.Nodes.{step, begins, On}
+use Rattle.expr_frames.specs.Nodes.{step, first_state, On}
 use Rattle.expr_syntax.specs.Reading.{stack}
 use Rattle.expr_syntax.proofs.parser.parse.Given as goal
 
 abbrev pub invariant-loop-token : goal.invariant-loop-token
 invariant-loop-token l = record {
-  stands : fold step begins l.yielded ≡ On (stack l.parser.frames.items) l.place;
+  stands : fold step first_state l.yielded ≡ On (stack l.parser.frames.items) l.place;
   counted : l.index ≡ length l.yielded;
 }

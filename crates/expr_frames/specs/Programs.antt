@@ -17,11 +17,11 @@ use Rattle.expr_grammar.specs.declared.sign.InfixSign.TheVariants as infixed
 use Rattle.expr_frames.specs.declared.frame.Meaning.{Meaning}
 use Rattle.expr_frames.specs.declared.frame.Meaning.TheVariants as meaning
 use Rattle.expr_grammar.specs.Brackets.{program_with, SomeInBrackets}
-use Rattle.expr_grammar.specs.Grammar.{Word, Usual, Kept, Constant, True, False, Nil, Integer, Quoted, Raw, Bytes, Key, WordKey, QuotedKey, EntryRow, OneEntry, MoreEntries, Entries, NoEntries, SomeEntries, Tree, Literal, Name, HashName, Paren, Array, Map, Call, If, Prefix, Infix, Member, Method, Index, Slice, Pipe, Ternary, Items, NoItems, SomeItems, Row, One, More, Arguments, NoArguments, SomeArguments, ArgumentRow, OneArgument, MoreArguments, Argument, Expression, MemberAlone, Braces, Bound, LeftOut, At, ElsePart, Else, ElseIf, TreeProgram, Program, Lines, NoLines, MoreLines}
+use Rattle.expr_grammar.specs.Grammar.{Word, Usual, ReservedWord, Constant, True, False, Nil, Integer, Quoted, Raw, Bytes, Key, WordKey, QuotedKey, EntryRow, OneEntry, MoreEntries, Entries, NoEntries, SomeEntries, Tree, Literal, Name, HashName, Paren, Array, Map, Call, If, Prefix, Infix, Member, Method, Index, Slice, Pipe, Ternary, Items, NoItems, SomeItems, Row, One, More, Arguments, NoArguments, SomeArguments, ArgumentRow, OneArgument, MoreArguments, Argument, Expression, MemberAlone, Braces, Bound, LeftOut, At, ElsePart, Else, ElseIf, TreeProgram, Program, Lines, NoLines, MoreLines}
 
 abbrev pub word_text : Word → List ℕ
 word_text (Usual w) = w
-word_text (Kept r) = reserved_text r
+word_text (ReservedWord r) = reserved_text r
 
 abbrev pub key_text : Key → List ℕ
 key_text (WordKey w) = word_text w
@@ -181,6 +181,6 @@ abbrev pub BracketsLeaveInside : Type 0
 BracketsLeaveInside = (p : TreeProgram) (at bracketed : List ℕ → Tree) → SomeInBrackets at bracketed → program_of (program_with bracketed p) ≡ program_of (program_with at p)
 
 -- the program of a tree, if there is one
-abbrev pub kept : Option TreeProgram → Option Block
-kept None = None
-kept (Some p) = Some (program_of p)
+abbrev pub program_if_any : Option TreeProgram → Option Block
+program_if_any None = None
+program_if_any (Some p) = Some (program_of p)

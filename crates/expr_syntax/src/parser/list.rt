@@ -1,0 +1,144 @@
+//! Lists, and the arguments of calls.
+
+ghost use Rattle.std.specs.Prelude.{◌≡◌, ◌∷◌, IfOk};
+ghost use Rattle.expr_frames.specs.declared.frame.Frame.TheVariants as frame;
+ghost use Rattle.expr_frames.specs.Nodes.{given_more, given_program};
+ghost use Rattle.expr_frames.specs.Nodes as machine;
+ghost use Rattle.expr_syntax.specs.Reading.{stack, Stands};
+
+use crate::parser::{Parser, whole};
+use expr_frames::frame::{Caller, Fault, Frame, Holder, Place};
+use expr_frames::read;
+use expr_parts::{Arguments, Lines, Part, ProgramPart};
+use expr_token::{Sign, Token};
+use std::alloc::AllocError;
+
+impl Parser {
+    // A list after an element.
+    pub(super) fn element(
+        &mut self,
+        holder: Holder,
+        mut items: Arguments,
+        last: Part,
+        token: &Token,
+    ) -> Result<Place, Fault>
+        ensures { Stands (machine.listed token.now holder (given_more items last) (stack self.old.frames.items)) self.new.frames.items result }
+    {
+        items.push(last)?;
+        match token {
+            Token::Sign(Sign::Comma) => self.enter(Frame::List(holder, items)),
+            _ => self.end_list(holder, items, token),
+        }
+    }
+
+    // The end of a list.
+    pub(super) fn end_list(
+        &self,
+        holder: Holder,
+        items: Arguments,
+        token: &Token,
+    ) -> Result<Place, Fault>
+        ensures { Stands (machine.list_end holder token.now items (stack self.now.frames.items)) self.now.frames.items result }
+    {
+        match holder {
+            Holder::Array => {
+                let Token::Sign(Sign::SquareClose) = token else {
+                    return Err(Fault::Syntax);
+                };
+                Ok(whole(items.array()))
+            }
+            Holder::Method(left, name) => {
+                let Token::Sign(Sign::ParenClose) = token else {
+                    return Err(Fault::Syntax);
+                };
+                let left = left.into_inner();
+                let method = Part::method(self.alloc, left, name.into_string(), items)?;
+                Ok(whole(method))
+            }
+        }
+    }
+
+    // Arguments after an expression.
+    pub(super) fn argument(
+        &mut self,
+        caller: Caller,
+        mut arguments: Arguments,
+        last: Part,
+        token: &Token,
+    ) -> Result<Place, Fault>
+        ensures { Stands (machine.called token.now caller (given_more arguments last) (stack self.old.frames.items)) self.new.frames.items result }
+    {
+        arguments.push(last)?;
+        self.called(caller, arguments, token)
+    }
+
+    // Arguments after one of them.
+    fn called(
+        &mut self,
+        caller: Caller,
+        arguments: Arguments,
+        token: &Token,
+    ) -> Result<Place, Fault>
+        ensures { Stands (machine.called token.now caller arguments (stack self.old.frames.items)) self.new.frames.items result }
+    {
+        match token {
+            Token::Sign(Sign::Comma) => self.enter(Frame::Call(caller, arguments)),
+            _ => self.end_call(caller, arguments, token),
+        }
+    }
+
+    // The end of the arguments.
+    fn end_call(&self, caller: Caller, arguments: Arguments, token: &Token) -> Result<Place, Fault>
+        ensures { Stands (machine.call_end caller token.now arguments (stack self.now.frames.items)) self.now.frames.items result }
+    {
+        let Token::Sign(Sign::ParenClose) = token else {
+            return Err(Fault::Syntax);
+        };
+        let call = caller.call(self.alloc, arguments)?;
+        Ok(whole(call))
+    }
+
+    // Where an argument is wanted: the end of them, or the dot of a member alone.
+    pub(super) fn end_call_or_member(
+        &mut self,
+        caller: Caller,
+        arguments: Arguments,
+        token: &Token,
+    ) -> Result<Place, Fault>
+        ensures { Stands (machine.without_operand token.now (frame.Call caller arguments ∷ stack self.old.frames.items)) self.new.frames.items result }
+    {
+        match token {
+            Token::Sign(Sign::Dot) => {
+                self.push(Frame::Call(caller, arguments))?;
+                Ok(Place::NamesMember)
+            }
+            _ => self.end_call(caller, arguments, token),
+        }
+    }
+
+    // The word of a member that is a predicate.
+    pub(super) fn member_alone(&self, token: Token) -> Result<Place, Fault>
+        ensures { Stands (machine.member_alone (stack self.now.frames.items) (machine.text_at token)) self.now.frames.items result }
+    {
+        let name = read::word(self.alloc, token)?;
+        let lines = Lines::new(self.alloc);
+        Ok(Place::Argued(lines.answering(Part::name(name.into_string()))))
+    }
+
+    // Arguments after a predicate.
+    pub(super) fn argued(&mut self, program: ProgramPart, token: &Token) -> Result<Place, Fault>
+        ensures { Stands (machine.argued token.now (stack self.old.frames.items) program) self.new.frames.items result }
+    {
+        let Some((caller, arguments)) = self.pop_call() else {
+            return Err(Fault::Syntax);
+        };
+        self.called(caller, with_program(arguments, program)?, token)
+    }
+}
+
+fn with_program(mut arguments: Arguments, program: ProgramPart) -> Result<Arguments, AllocError>
+    ensures { IfOk result (λ a. a ≡ given_program arguments program) }
+{
+    arguments.give(program)?;
+    Ok(arguments)
+}

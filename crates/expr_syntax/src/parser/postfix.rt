@@ -1,0 +1,108 @@
+//! Members, indices, slices and pipes.
+
+ghost use Rattle.std.specs.Prelude.{◌∷◌};
+ghost use Rattle.expr_tree.specs.Term.{postfix, slice};
+ghost use Rattle.expr_parts.specs.Parts.{bound_with};
+ghost use Rattle.expr_frames.specs.declared.frame.Frame.TheVariants as frame;
+ghost use Rattle.expr_frames.specs.declared.frame.Place.TheVariants as place;
+ghost use Rattle.expr_frames.specs.Nodes as machine;
+ghost use Rattle.expr_syntax.specs.Reading.{stack, Stands};
+
+use crate::parser::{Parser, whole};
+use expr_frames::build::member;
+use expr_frames::frame::{Caller, Fault, Frame, Operand, Place};
+use expr_frames::read;
+use expr_parts::{Arguments, Part};
+use expr_token::{Sign, Token};
+use expr_value::{Boxed, Text};
+
+impl Parser {
+    // The word after a dot.
+    pub(super) fn member(&self, left: Part, token: Token) -> Result<Place, Fault>
+        ensures { Stands (machine.word_after_dot (stack self.now.frames.items) left (machine.text_at token)) self.now.frames.items result }
+    {
+        let name = read::word(self.alloc, token)?;
+        Ok(Place::Have(Operand::Member(left, name)))
+    }
+
+    // What follows `?.`: a word, or the bracket of an index.
+    pub(super) fn optional(&mut self, left: Part, token: Token) -> Result<Place, Fault>
+        ensures { Stands (machine.step_on (stack self.old.frames.items) (place.Questioned left) token) self.new.frames.items result }
+    {
+        if let Token::Sign(Sign::SquareOpen) = token {
+            return self.enter(Frame::Index(left, true));
+        }
+        let name = read::word(self.alloc, token)?;
+        let part = member(self.alloc, left, name, true)?;
+        Ok(whole(part))
+    }
+
+    // The end of an index, or the colon that makes it the first bound of a slice.
+    pub(super) fn end_index(
+        &mut self,
+        left: Part,
+        optional: bool,
+        index: Part,
+        token: &Token,
+    ) -> Result<Place, Fault>
+        ensures { Stands (machine.close token.now (frame.Index left optional ∷ stack self.old.frames.items) index) self.new.frames.items result }
+    {
+        match token {
+            Token::Sign(Sign::SquareClose) => {
+                let part = Part::index(self.alloc, left, index, optional)?;
+                Ok(whole(part))
+            }
+            Token::Sign(Sign::Colon) if !optional => {
+                let left = Boxed::new(self.alloc, left)?;
+                self.enter(Frame::Cut(left, Some(index)))
+            }
+            _ => Err(Fault::Syntax),
+        }
+    }
+
+    // The end of a slice.
+    pub(super) fn end_slice(
+        &self,
+        left: Part,
+        from: Option<Part>,
+        to: Option<Part>,
+        token: &Token,
+    ) -> Result<Place, Fault>
+        ensures { Stands (machine.at_square token.now (machine.whole (stack self.now.frames.items) (postfix (slice (bound_with from) (bound_with to)) left)) machine.Fail) self.now.frames.items result }
+    {
+        let Token::Sign(Sign::SquareClose) = token else {
+            return Err(Fault::Syntax);
+        };
+        let part = Part::slice(self.alloc, left, from, to)?;
+        Ok(whole(part))
+    }
+
+    // The function after a bar.
+    pub(super) fn function(&self, left: Part, token: Token) -> Result<Place, Fault>
+        ensures { Stands (machine.word_after_bar (stack self.now.frames.items) left token) self.now.frames.items result }
+    {
+        match token {
+            Token::Word(name) => Ok(Place::Piped(left, name)),
+            _ => Err(Fault::Syntax),
+        }
+    }
+
+    // The parenthesis after a function that follows a bar.
+    pub(super) fn arguments(
+        &mut self,
+        left: Part,
+        name: Text,
+        token: &Token,
+    ) -> Result<Place, Fault>
+        ensures { Stands (machine.open_after_word (stack self.old.frames.items) left name token.now) self.new.frames.items result }
+    {
+        match token {
+            Token::Sign(Sign::ParenOpen) => {
+                let arguments = Arguments::new(self.alloc);
+                let left = Boxed::new(self.alloc, left)?;
+                self.enter(Frame::Call(Caller::Pipe(left, name), arguments))
+            }
+            _ => Err(Fault::Syntax),
+        }
+    }
+}

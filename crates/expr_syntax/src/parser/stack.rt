@@ -1,0 +1,76 @@
+//! The open frames, the innermost on top.
+
+ghost use Rattle.std.specs.Prelude.{◌≡◌, ◌∷◌, [], IfOk, MatchOption, vec_len, ◌<◌};
+ghost use Rattle.expr_frames.specs.Nodes as machine;
+ghost use Rattle.expr_syntax.specs.Reading.{stack, IsBodyOnTop, IsCallOnTop, Stands, PopsAbove};
+
+use crate::parser::Parser;
+use expr_frames::frame::{Caller, Fault, Frame, Operand, Place, Reaching, Section};
+use expr_parts::{Arguments, Lines, Part};
+use std::alloc::AllocError;
+
+impl Parser {
+    // The left part of an operator of this level.
+    pub(super) fn settled(&mut self, level: u8, left: Operand) -> Result<Part, AllocError>
+        ensures { IfOk result (λ p. machine.settle level (stack self.old.frames.items) (machine.make left) ≡ record { stack = stack self.new.frames.items; left = p }) }
+    {
+        let left = left.part(self.alloc)?;
+        self.settle(level, left)
+    }
+
+    // Closes the frames that an operator of this level does not go inside.
+    fn settle(&mut self, level: u8, left: Part) -> Result<Part, AllocError>
+        ensures { IfOk result (λ p. machine.settle level (stack self.old.frames.items) left ≡ record { stack = stack self.new.frames.items; left = p }) }
+    {
+        let mut left = left;
+        while let Some(open) = self.pop_above(level) {
+            left = open.plug(self.alloc, left)?;
+        }
+        Ok(left)
+    }
+
+    fn pop_above(&mut self, level: u8) -> Option<Reaching>
+        ensures { PopsAbove level self.old.frames.items self.new.frames.items result }
+    {
+        match self.frames.last() {
+            Some(frame) if level < frame.reach() => self.pop()?.into_reaching(),
+            _ => None,
+        }
+    }
+
+    // The innermost frame, if arguments are open there.
+    pub(super) fn pop_call(&mut self) -> Option<(Caller, Arguments)>
+        ensures { IsCallOnTop (stack self.old.frames.items) (stack self.new.frames.items) result }
+    {
+        self.pop()?.into_call()
+    }
+
+    // The innermost frame, if a program is open there.
+    pub(super) fn pop_body(&mut self) -> Option<(Section, Lines)>
+        ensures { IsBodyOnTop (stack self.old.frames.items) (stack self.new.frames.items) result }
+    {
+        self.pop()?.into_body()
+    }
+
+    // An operand comes next, inside the frame.
+    pub(super) fn enter(&mut self, frame: Frame) -> Result<Place, Fault>
+        ensures { Stands (machine.wanting (frame ∷ stack self.old.frames.items)) self.new.frames.items result }
+    {
+        self.push(frame)?;
+        Ok(Place::Want)
+    }
+
+    pub(super) fn push(&mut self, frame: Frame) -> Result<(), AllocError>
+        ensures { IfOk result (λ _. stack self.new.frames.items ≡ frame ∷ stack self.old.frames.items) }
+    {
+        self.frames.push(frame)?;
+        Ok(())
+    }
+
+    pub(super) fn pop(&mut self) -> Option<Frame>
+        ensures top { MatchOption result (stack self.old.frames.items ≡ []) (λ f. stack self.old.frames.items ≡ f ∷ stack self.new.frames.items) }
+        ensures len { MatchOption result (vec_len self.new.frames ≡ 0) (λ _. vec_len self.new.frames < vec_len self.old.frames) }
+    {
+        self.frames.pop()
+    }
+}
