@@ -1,4 +1,4 @@
-use Rattle.std.proofs.Common.{◌≡◌, ℕ, ◌<◌, ◌+◌, List, None, Some, drop, length, map, slice_get, string_bytes, sym, ap, ◌∙◌, arith}
+use Rattle.std.proofs.Common.{◌≡◌, ℕ, ◌<◌, ◌+◌, List, None, Some, drop, length, map, slice_get, sym, ap, ◌∙◌, arith}
 use Rattle.std.specs.Option.{option_and_then}
 use Rattle.std.proofs.lemmas.List.{length-map}
 use Rattle.std.proofs.lemmas.Result.{err_from_is_err_and}
@@ -27,12 +27,12 @@ members_data-returns-in_err-json-clause-err t c =
     let es = c.args.pairs.now in
     let v = c.index-values-i.result in
     let within : i < length es = omega (arith, c.loop-i-test.true, ap length c.values-values.ensures, length-map es (λ e. e.1)) in
-    let at : slice_get es i ≡ Some (string_bytes c.index-names-i.result, v) =
-    keyed_at c.keys-names.result.now c.values-values.result.now es i c.index-names-i.result v c.keys-names.ensures.names c.values-values.ensures within c.index-names-i.is c.index-values-i.is in
+    let at : slice_get es i ≡ Some (c.index-names-i.result, v) =
+    keyed_at c.keys-names.result.now c.values-values.result.now es i c.index-names-i.result v c.keys-names.ensures.keys c.values-values.ensures within c.index-names-i.is c.index-values-i.is in
     let p = err_from_is_err_and c.from_residual.result c.from_residual.ensures.1 in
     rw (p.1, p.2) (λ other.
     let r = c.in_err-json.ensures.err other in
-    (r.0, c.loop-i.invariant ∙ stops es i (string_bytes c.index-names-i.result) v (members_view c.loop-i.members.entries) at r.1))
+    (r.0, c.loop-i.invariant ∙ stops es i c.index-names-i.result v (members_view c.loop-i.members.entries) at r.1))
 
 pub members_data-loop-i-preserved : goal.members_data-loop-i-preserved
 members_data-loop-i-preserved t c =
@@ -40,8 +40,8 @@ members_data-loop-i-preserved t c =
     let es = c.args.pairs.now in
     let v = c.index-values-i.result in
     let within : i < length es = omega (arith, c.loop-i-test.true, ap length c.values-values.ensures, length-map es (λ e. e.1)) in
-    let at : slice_get es i ≡ Some (string_bytes c.index-names-i.result, v) =
-    keyed_at c.keys-names.result.now c.values-values.result.now es i c.index-names-i.result v c.keys-names.ensures.names c.values-values.ensures within c.index-names-i.is c.index-values-i.is in
-    let added = c.in_ok-put.ensures.ok ∙ ap (λ k. put k (view c.in_ok-json.json) (members_view c.loop-i.members.entries)) c.as_str-name.ensures.value in
-    c.loop-i.invariant ∙ goes_on_with es i (string_bytes c.index-names-i.result) v (members_view c.loop-i.members.entries) at (view c.in_ok-json.json) c.in_ok-json.ensures.ok
+    let at : slice_get es i ≡ Some (c.index-names-i.result, v) =
+    keyed_at c.keys-names.result.now c.values-values.result.now es i c.index-names-i.result v c.keys-names.ensures.keys c.values-values.ensures within c.index-names-i.is c.index-values-i.is in
+    let added = c.in_ok-put.ensures.ok ∙ ap (λ k. put k (view c.in_ok-json.json) (members_view c.loop-i.members.entries)) c.as_str-name.ensures in
+    c.loop-i.invariant ∙ goes_on_with es i c.index-names-i.result v (members_view c.loop-i.members.entries) at (view c.in_ok-json.json) c.in_ok-json.ensures.ok
     ∙ ap (members_all (map pair_data (drop (i + 1) es))) (sym added)
