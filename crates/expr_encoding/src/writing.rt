@@ -7,6 +7,7 @@ ghost use Rattle.serde_json.specs.Data.{no_members};
 ghost use Rattle.expr_value.specs.Answers.{Is};
 ghost use Rattle.expr_value.specs.Fault.{evaluation, fault_of, memory};
 ghost use Rattle.expr_encoding.specs.Optional.{Refuses, given};
+ghost use Rattle.expr_encoding.specs.ReadBack.{ReadsEqual};
 ghost use Rattle.expr_encoding.specs.Writing.{ReadsBack, all_of, data_of, json_text, members_all, pair_data};
 
 use base64::engine::general_purpose::STANDARD;
@@ -16,10 +17,12 @@ use std::alloc::Global;
 
 /// The JSON text of a value, as `serde_json` writes it without spaces: names rise, bytes are a Base64 text, and
 /// durations, months and days of the week are numbers. A map by keys anywhere in the value is refused, and so are
-/// date-times and zones for now, whose JSON is still to come.
+/// date-times and zones for now, whose JSON is still to come. What is made of nil, booleans, integers, texts, arrays and
+/// maps by names is read from its text as an equal value, unless it nests deeper than 127 levels.
 pub fn to_json(alloc: Global, value: &Value) -> Result<Text>
     ensures text { Is result (given (json_text value.now)) }
     ensures reads_back { IfOk result (λ s. ReadsBack s value.now) }
+    ensures reads_equal { IfOk result (λ s. ReadsEqual s value.now) }
 {
     let json = data_of(alloc, value)?;
     Ok(Text::from_string(json.to_string(alloc)?))
