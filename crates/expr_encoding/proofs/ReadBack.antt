@@ -2,22 +2,22 @@
 use Rattle.std.proofs.Common.{◌≡◌, ◌≤◌, IfSome, ℕ, ℤ, pos, negsuc, Bool, true, false, ◌&&◌, cond, List, [], ◌∷◌, Option, Some, None, option_map, map, bytes_eq, refl, sym, ap, ◌∙◌, subst, rules}
 use Rattle.std.specs.Cmp.{first_so, second_so, int_eq_equiv, bool_eq_equiv}
 use Rattle.std.specs.Cmp.Lexicographic.{nat_list_eq_equiv}
-use Rattle.std.specs.List.{AllByRecursion, list_all}
+use Rattle.std.specs.List.{list_all}
 use Rattle.std.specs.Map.{keys_of, lookup}
 use Rattle.std.specs.Option.{option_and_then}
 use Rattle.std.proofs.lemmas.Bool.{false≢true}
 use Rattle.std.proofs.lemmas.Option.{same_Some}
-use Rattle.serde_json.specs.Data.{Data, Members, no_members, number, depth}
+use Rattle.serde_json.specs.Data.{Data, no_members, number, depth}
 use Rattle.serde_json.specs.Read.{max_depth, read}
-use Rattle.serde_json.specs.Find.{as_i64, get_member, of_integer}
+use Rattle.serde_json.specs.Find.{as_i64, of_integer}
 use Rattle.serde_json.specs.View.{items_of}
 use Rattle.expr_value.specs.Values.{equals, equals_layer, items_pass, passes_at, pairs_pass, tests}
 use Rattle.expr_value.specs.declared.value.Value as value
 use Rattle.expr_value.specs.declared.value.Value.{Value, ind-Value, map-Value, out-Value, roll-Value, fold-roll-Value, the_lemmas}
 use Rattle.expr_value.specs.declared.value.Value.TheOpen.{Value-F}
 use Rattle.expr_encoding.specs.ReadBack.{ReadsEqual, apart, fits, in_json, layer_in_json}
-use Rattle.expr_encoding.specs.Reading.{json_value, pairs_of, value_of, values_of}
-use Rattle.expr_encoding.specs.Writing.{all_of, data_of, layer_data, members_all, pair_data}
+use Rattle.expr_encoding.specs.Reading.{json_value, value_of, values_of}
+use Rattle.expr_encoding.specs.Writing.{all_of, data_of, layer_data}
 use Rattle.expr_encoding.proofs.Written.{AreRead, Made, Pairs, Read, made, member_read, placed}
 
 abbrev Back : Value → Type 0
