@@ -12,7 +12,7 @@ use std::alloc::Global;
 
 /// The value that a JSON text holds, as `serde_json` reads it: objects become maps, by rising names, and a repeated
 /// name has its last value. What is no JSON text, what nests deeper than 127 levels, and what holds a number that is no
-/// integer of 64 bits with a sign is refused.
+/// integer of 64 bits with a sign is refused; `1.0`, `1e2` and `-0` are none, since `serde_json` reads them as floats.
 pub fn from_json(alloc: Global, text: &str) -> Result<Value>
     ensures { Is result (given (json_value text.now)) }
 {
