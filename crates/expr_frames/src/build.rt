@@ -8,7 +8,7 @@ ghost use Rattle.expr_frames.specs.Faults.{HoldsNoBody, HoldsNoCall, HoldsNoOper
 ghost use Rattle.expr_frames.specs.declared.frame.Frame.TheVariants as frame;
 ghost use Rattle.expr_frames.specs.declared.frame.Place.TheVariants as place;
 
-use crate::frame::{Caller, Branches, Fault, Frame, Meaning, Operand, Place, Reaching, Section};
+use crate::frame::{Branches, Caller, Fault, Frame, Meaning, Operand, Place, Reaching, Section};
 use expr_grammar::sign::{InfixSign, PrefixSign};
 use expr_parts::{Arguments, Lines, Part, ProgramPart};
 use expr_tree::operator::{Operator, UnaryOperator};
@@ -221,7 +221,11 @@ pub fn nested(
 }
 
 /// The branches with one more.
-pub fn branched(before: Branches, condition: Part, then: ProgramPart) -> Result<Branches, AllocError>
+pub fn branched(
+    before: Branches,
+    condition: Part,
+    then: ProgramPart,
+) -> Result<Branches, AllocError>
     ensures { IfOk result (λ c. c ≡ before ++ (condition, then) ∷ []) }
 {
     let mut branches = before.into_vec();
