@@ -1,5 +1,5 @@
 -- An answer that one context allows is allowed in each context that agrees with it at the program's operands.
-use Rattle.std.proofs.Common.{◌≡◌, ◌≢◌, ℕ, List, [], ◌∷◌, ◌++◌, ◌||◌, Bool, true, false, Option, Some, None, Result, Ok, MatchBool, bytes_eq, codes, cond, refl, sym, ap, ◌∙◌}
+use Rattle.std.proofs.Common.{◌≡◌, ◌≢◌, ℕ, List, [], ◌∷◌, ◌++◌, ◌||◌, Bool, true, false, Option, Some, None, Result, Ok, bytes_eq, codes, cond, refl, sym, ap, ◌∙◌}
 use Rattle.std.proofs.lemmas.Slice.Eq.{bytes_eq-Decides}
 use Rattle.std.specs.List.{Contains}
 use Rattle.std.specs.Prelude.{ℤ}

@@ -1,6 +1,6 @@
-use Rattle.std.proofs.Common.{◌≡◌, ◌≢◌, IfErr, Err, None, false, bytes_eq, codes, rules, sym, subst}
+use Rattle.std.proofs.Common.{◌≡◌, Err, None, false, bytes_eq, codes, rules}
 use Rattle.expr_predicates.specs.Calls.{SortsItems, asking_named, begun}
-use Rattle.expr_value.specs.Fault.{fault_of, memory}
+use Rattle.expr_value.specs.Fault.{fault_of}
 use Rattle.expr_evaluation.specs.Begun.{RefusesBuiltin}
 use Rattle.expr_evaluation.specs.Calls.{AllowsOnValues}
 use Rattle.expr_evaluation.proofs.Begun.{ByName-on_values, passed_on}

@@ -1,4 +1,4 @@
-use Rattle.std.proofs.Common.{◌≡◌, Ok, Err, false, sym, subst}
+use Rattle.std.proofs.Common.{Ok, Err, false, sym, subst}
 use Rattle.expr_evaluation.specs.Allows.{AllowsCall}
 use Rattle.expr_evaluation.specs.Begun.{Begins}
 use Rattle.expr_evaluation.specs.Host.{Host}

@@ -1,8 +1,6 @@
-use Rattle.std.proofs.Common.{◌≡◌, List, ℕ, Option, None, Some, Result, Ok, Err, false, true, sym, subst}
+use Rattle.std.proofs.Common.{◌≡◌, List, ℕ, Option, None, Result, Ok, Err, false, sym, subst}
 use denote.Ref.{Bor}
 use Rattle.expr_tree.specs.declared.node.Program.{Program}
-use Rattle.expr_tree.specs.Term.{predicate}
-use Rattle.expr_tree.specs.Written.{program_written}
 use Rattle.expr_predicates.specs.Runs.{AsksItself}
 use Rattle.expr_value.specs.Answers.{Gives}
 use Rattle.expr_value.specs.Fault.{fault_of}
