@@ -32,8 +32,8 @@ use Rattle.expr_operators.proofs.Plainly.{Surely-at}
 use Rattle.expr_evaluation.proofs.Plainly.{Ident-plain, Array-plain, Range-plain, Func-plain, Postfix-plain, Conditional-plain, Allows-plain, left-true, no-lines, right-true, written-Operation}
 use Rattle.expr_evaluation.proofs.evaluation.Evaluation.+evaluation.Goals as goal
 
-pub evaluate-returns-in_err-first-in-Operation-clause-plain : goal.evaluate-returns-in_err-first-in-Operation-clause-plain
-evaluate-returns-in_err-first-in-Operation-clause-plain g t c =
+pub evaluate_form-returns-in_err-first-in-Operation-clause-plain : goal.evaluate_form-returns-in_err-first-in-Operation-clause-plain
+evaluate_form-returns-in_err-first-in-Operation-clause-plain g t c =
     let host : Host = g.H.Functions.host c.args.self.now.host.now in
     let base : Context = g.P.ContextProvider.context c.args.self.now.provider in
     let ctx : Context = inside c.args.scope.now base in
@@ -52,8 +52,8 @@ evaluate-returns-in_err-first-in-Operation-clause-plain g t c =
     absurd (cc wrong)
     )
 
-pub evaluate-returns-in-Operation-clause-answer : goal.evaluate-returns-in-Operation-clause-answer
-evaluate-returns-in-Operation-clause-answer g t c =
+pub evaluate_form-returns-in-Operation-clause-answer : goal.evaluate_form-returns-in-Operation-clause-answer
+evaluate_form-returns-in-Operation-clause-answer g t c =
     let host : Host = g.H.Functions.host c.args.self.now.host.now in
     let ctx : Context = inside c.args.scope.now (g.P.ContextProvider.context c.args.self.now.provider) in
     let l = c.in-Operation.left.value in
@@ -69,8 +69,8 @@ evaluate-returns-in-Operation-clause-answer g t c =
     )
     )
 
-pub evaluate-returns-in-Operation-clause-plain : goal.evaluate-returns-in-Operation-clause-plain
-evaluate-returns-in-Operation-clause-plain g t c =
+pub evaluate_form-returns-in-Operation-clause-plain : goal.evaluate_form-returns-in-Operation-clause-plain
+evaluate_form-returns-in-Operation-clause-plain g t c =
     let host : Host = g.H.Functions.host c.args.self.now.host.now in
     let base : Context = g.P.ContextProvider.context c.args.self.now.provider in
     let ctx : Context = inside c.args.scope.now base in
@@ -308,48 +308,51 @@ run_lines-returns g t c =
     λ a p. c.loop-name.invariant a (subst (λ ls. AllowsBlock host (inside inner base) (lines_of ls) a) (sym (drop_all i lines over)) p) in
     Gives-under c.keep-2.result last whole on c.keep-2.ensures
 
-pub evaluate-returns-in_err-items-in-Array-clause-plain : goal.evaluate-returns-in_err-items-in-Array-clause-plain
-evaluate-returns-in_err-items-in-Array-clause-plain g t c = λ v p h. Array-plain _ c.args.node.now c.in-Array.is p
+pub evaluate_form-returns-in_err-items-in-Array-clause-plain : goal.evaluate_form-returns-in_err-items-in-Array-clause-plain
+evaluate_form-returns-in_err-items-in-Array-clause-plain g t c = λ v p h. Array-plain _ c.args.node.now c.in-Array.is p
 
-pub evaluate-returns-in_err-first-in-Range-clause-plain : goal.evaluate-returns-in_err-first-in-Range-clause-plain
-evaluate-returns-in_err-first-in-Range-clause-plain g t c = λ v p h. Range-plain c.args.node.now c.in-Range.is p
+pub evaluate_form-returns-in_err-first-in-Range-clause-plain : goal.evaluate_form-returns-in_err-first-in-Range-clause-plain
+evaluate_form-returns-in_err-first-in-Range-clause-plain g t c = λ v p h. Range-plain c.args.node.now c.in-Range.is p
 
-pub evaluate-returns-in_err-args-in-Func-clause-plain : goal.evaluate-returns-in_err-args-in-Func-clause-plain
-evaluate-returns-in_err-args-in-Func-clause-plain g t c = λ v p h. Func-plain _ _ _ c.args.node.now c.in-Func.is p
+pub evaluate_form-returns-in_err-args-in-Func-clause-plain : goal.evaluate_form-returns-in_err-args-in-Func-clause-plain
+evaluate_form-returns-in_err-args-in-Func-clause-plain g t c = λ v p h. Func-plain _ _ _ c.args.node.now c.in-Func.is p
 
-pub evaluate-returns-in_err-value-in-Postfix-clause-plain : goal.evaluate-returns-in_err-value-in-Postfix-clause-plain
-evaluate-returns-in_err-value-in-Postfix-clause-plain g t c = λ v p h. Postfix-plain c.args.node.now c.in-Postfix.is p
+pub evaluate_form-returns-in_err-value-in-Postfix-clause-plain : goal.evaluate_form-returns-in_err-value-in-Postfix-clause-plain
+evaluate_form-returns-in_err-value-in-Postfix-clause-plain g t c = λ v p h. Postfix-plain c.args.node.now c.in-Postfix.is p
 
-pub evaluate-returns-in_err-condition-in-Conditional-clause-plain : goal.evaluate-returns-in_err-condition-in-Conditional-clause-plain
-evaluate-returns-in_err-condition-in-Conditional-clause-plain g t c = λ v p h. Conditional-plain _ _ _ c.args.node.now c.in-Conditional.is p
+pub evaluate_form-returns-in_err-condition-in-Conditional-clause-plain : goal.evaluate_form-returns-in_err-condition-in-Conditional-clause-plain
+evaluate_form-returns-in_err-condition-in-Conditional-clause-plain g t c = λ v p h. Conditional-plain _ _ _ c.args.node.now c.in-Conditional.is p
 
-pub evaluate-returns-in_err-holds-in-Conditional-clause-plain : goal.evaluate-returns-in_err-holds-in-Conditional-clause-plain
-evaluate-returns-in_err-holds-in-Conditional-clause-plain g t c = λ v p h. Conditional-plain _ _ _ c.args.node.now c.in-Conditional.is p
+pub evaluate_form-returns-in_err-holds-in-Conditional-clause-plain : goal.evaluate_form-returns-in_err-holds-in-Conditional-clause-plain
+evaluate_form-returns-in_err-holds-in-Conditional-clause-plain g t c = λ v p h. Conditional-plain _ _ _ c.args.node.now c.in-Conditional.is p
 
 pub evaluate-returns-in-Ident-clause-plain : goal.evaluate-returns-in-Ident-clause-plain
 evaluate-returns-in-Ident-clause-plain g t c = λ v p h. Ident-plain c.args.node.now c.in-Ident.is p
 
-pub evaluate-returns-in-Array-clause-plain : goal.evaluate-returns-in-Array-clause-plain
-evaluate-returns-in-Array-clause-plain g t c = λ v p h. Array-plain _ c.args.node.now c.in-Array.is p
+pub evaluate_form-returns-in-Ident-clause-plain : goal.evaluate_form-returns-in-Ident-clause-plain
+evaluate_form-returns-in-Ident-clause-plain g t c = λ v p h. Ident-plain c.args.node.now c.in-Ident.is p
 
-pub evaluate-returns-in-Range-clause-plain : goal.evaluate-returns-in-Range-clause-plain
-evaluate-returns-in-Range-clause-plain g t c = λ v p h. Range-plain c.args.node.now c.in-Range.is p
+pub evaluate_form-returns-in-Array-clause-plain : goal.evaluate_form-returns-in-Array-clause-plain
+evaluate_form-returns-in-Array-clause-plain g t c = λ v p h. Array-plain _ c.args.node.now c.in-Array.is p
 
-pub evaluate-returns-in-Func-clause-plain : goal.evaluate-returns-in-Func-clause-plain
-evaluate-returns-in-Func-clause-plain g t c = λ v p h. Func-plain _ _ _ c.args.node.now c.in-Func.is p
+pub evaluate_form-returns-in-Range-clause-plain : goal.evaluate_form-returns-in-Range-clause-plain
+evaluate_form-returns-in-Range-clause-plain g t c = λ v p h. Range-plain c.args.node.now c.in-Range.is p
 
-pub evaluate-returns-in-Postfix-clause-plain : goal.evaluate-returns-in-Postfix-clause-plain
-evaluate-returns-in-Postfix-clause-plain g t c = λ v p h. Postfix-plain c.args.node.now c.in-Postfix.is p
+pub evaluate_form-returns-in-Func-clause-plain : goal.evaluate_form-returns-in-Func-clause-plain
+evaluate_form-returns-in-Func-clause-plain g t c = λ v p h. Func-plain _ _ _ c.args.node.now c.in-Func.is p
 
-pub evaluate-returns-then-branch-clause-plain : goal.evaluate-returns-then-branch-clause-plain
-evaluate-returns-then-branch-clause-plain g t c = λ v p h. Conditional-plain _ _ _ c.args.node.now c.in-Conditional.is p
+pub evaluate_form-returns-in-Postfix-clause-plain : goal.evaluate_form-returns-in-Postfix-clause-plain
+evaluate_form-returns-in-Postfix-clause-plain g t c = λ v p h. Postfix-plain c.args.node.now c.in-Postfix.is p
 
-pub evaluate-returns-clause-plain : goal.evaluate-returns-clause-plain
-evaluate-returns-clause-plain g t c = λ v p h. Conditional-plain _ _ _ c.args.node.now c.in-Conditional.is p
+pub evaluate_form-returns-then-branch-clause-plain : goal.evaluate_form-returns-then-branch-clause-plain
+evaluate_form-returns-then-branch-clause-plain g t c = λ v p h. Conditional-plain _ _ _ c.args.node.now c.in-Conditional.is p
+
+pub evaluate_form-returns-clause-plain : goal.evaluate_form-returns-clause-plain
+evaluate_form-returns-clause-plain g t c = λ v p h. Conditional-plain _ _ _ c.args.node.now c.in-Conditional.is p
 
 -- what a call allows is what the call on its arguments' values allows
-pub evaluate-returns-in-Func-clause-answer : goal.evaluate-returns-in-Func-clause-answer
-evaluate-returns-in-Func-clause-answer g t c =
+pub evaluate_form-returns-in-Func-clause-answer : goal.evaluate_form-returns-in-Func-clause-answer
+evaluate_form-returns-in-Func-clause-answer g t c =
     let host : Host = g.H.Functions.host c.args.self.now.host.now in
     let ctx : Context = inside c.args.scope.now (g.P.ContextProvider.context c.args.self.now.provider) in
     let key = string_bytes c.in-Func.ident in
