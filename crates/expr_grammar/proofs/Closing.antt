@@ -7,8 +7,8 @@ use Rattle.expr_token.specs.declared.reserved.Reserved.TheVariants as reserved
 use Rattle.expr_grammar.specs.declared.sign.InfixSign.TheVariants as infixed
 use Rattle.expr_grammar.specs.declared.role.Role.{Role}
 use Rattle.expr_grammar.specs.declared.role.Role.TheVariants.{Applying, Plain}
-use Rattle.expr_grammar.specs.Grammar.{Word, Usual, Constant, Nil, Key, EntryRow, Tree, Literal, Name, Member, Argument, Expression, MemberAlone, Braces, TreeProgram, Program, Lines, NoLines, MoreLines, key_token, Spells, Fits}
-use Rattle.expr_grammar.specs.Machine.{Start, Bracing, Letting, Other, start_of, constant_at, role_of, role_level, level_at, word_at, key_at, Holder, InArray, InMethod, Branches, Section, Top, Then, Last, Predicate, Frame, Under, After, Otherwise, Inside, Middle, Listed, Calling, Indexed, Cut, Condition, Body, Value, reach, plug, State, Want, Have, Dotted, Questioned, Negated, Barred, Piped, Chosen, Alternate, NamesLine, Named, Argued, NamesMember, Braced, BracedKey, Keys, Colons, Values, Entered, Fail, at_close, at_square, at_colon, at_comma, at_semicolon, at_brace, at_end_brace, at_dot, at_end, argued, after_section, bind, close, apply, after_operand, without_operand, begin_line, begin_brace, begin, want, word_after_dot, at_square_open, in_after_not, word_after_bar, open_after_word, else_after, at_if, word_after_let, equals_after, member_alone, braced, key_in, value_in, step_on, step, parse, first_state}
+use Rattle.expr_grammar.specs.Grammar.{Word, Usual, Constant, Nil, Key, EntryRow, Tree, Literal, Name, Member, Argument, Expression, Braces, TreeProgram, Program, Lines, NoLines, MoreLines, key_token, Spells, Fits}
+use Rattle.expr_grammar.specs.Machine.{Start, Bracing, Letting, Other, start_of, role_of, role_level, level_at, word_at, key_at, Holder, InArray, InMethod, Branches, Section, Top, Then, Last, Predicate, Frame, Under, After, Otherwise, Inside, Middle, Listed, Calling, Indexed, Cut, Condition, Body, Value, Entry, reach, plug, State, Want, Have, Dotted, Questioned, Negated, Barred, Piped, Chosen, Alternate, NamesLine, Named, Argued, NamesField, Braced, BracedKey, Keys, Colons, Fail, at_close, at_square, at_colon, at_comma, at_semicolon, at_brace, at_end_brace, at_end, argued, after_section, bind, close, apply, after_operand, without_operand, begin_line, begin_brace, begin, want, word_after_dot, at_square_open, in_after_not, word_after_bar, open_after_word, else_after, at_if, word_after_let, equals_after, word_of_field, braced, key_in, step_on, step, parse, first_state}
 use Rattle.expr_grammar.specs.Prefixes.{SomeBegins}
 use Rattle.expr_grammar.proofs.Measures.{prefix_above, reach_above}
 use Rattle.expr_grammar.proofs.Complete.{closes}
@@ -53,15 +53,12 @@ IsOn (Chosen k bs c a) = IsOpen k
 IsOn (Alternate k bs c a) = IsOpen k
 IsOn (NamesLine k) = IsBody k × IsOpen k
 IsOn (Named k w) = IsBody k × IsOpen k
-IsOn (Argued k (Expression l)) = ⊥
-IsOn (Argued k a) = IsCall k × IsOpen k
-IsOn (NamesMember k) = IsCall k × IsOpen k
+IsOn (Argued k p) = IsCall k × IsOpen k
+IsOn (NamesField k) = IsOpen k
 IsOn (Braced k) = IsCall k × IsOpen k
 IsOn (BracedKey k key) = IsCall k × IsOpen k
 IsOn (Keys k r) = IsOpen k
 IsOn (Colons k r key) = IsOpen k
-IsOn (Values k r key) = IsOpen k
-IsOn (Entered k r) = IsOpen k
 IsOn Fail = Unit {0}
 
 -- a test of the token
@@ -92,10 +89,6 @@ brace_at t s r h g = g
 end_brace_at : (t : Token) (s r : State) → IsOn s → IsOn r → IsOn (at_end_brace t s r)
 end_brace_at (token.Sign sign.BraceClose) s r h g = h
 end_brace_at t s r h g = g
-
-dot_at : (t : Token) (s r : State) → IsOn s → IsOn r → IsOn (at_dot t s r)
-dot_at (token.Sign sign.Dot) s r h g = h
-dot_at t s r h g = g
 
 square_open_at : (t : Token) (s r : State) → IsOn s → IsOn r → IsOn (at_square_open t s r)
 square_open_at (token.Sign sign.SquareOpen) s r h g = h
@@ -134,6 +127,7 @@ close_on t (Cut x a ∷ k) l h = square_at t _ h
 close_on t (Condition bs ∷ k) l h = brace_at t _ _ h tt
 close_on t (Body b ls ∷ k) l h = end_brace_at t _ _ (section_done b (Program ls l) k h) tt
 close_on t (Value w ∷ k) l h = semicolon_at t _ (line_done k w l h.1)
+close_on t (Entry r key ∷ k) l h = comma_at t _ _ h (end_brace_at t _ _ h tt)
 close_on t k l h = tt
 
 applies : (k : List Frame) (l : Tree) → IsOpen k → IsOn (apply k l)
@@ -155,7 +149,7 @@ under f k e h = absurd (omega arith)
 
 without_operand_on : (t : Token) (k : List Frame) → IsOpen k → IsOn (without_operand t k)
 without_operand_on t (Listed s r ∷ k) h = end_at s t _ h
-without_operand_on t (Calling c r ∷ k) h = dot_at t _ _ (tt, h) (close_at t _ h)
+without_operand_on t (Calling c r ∷ k) h = close_at t _ h
 without_operand_on t (Indexed x false ∷ k) h = colon_at t _ _ h tt
 without_operand_on t (Cut x a ∷ k) h = square_at t _ h
 without_operand_on t k h = tt
@@ -202,9 +196,9 @@ values : (k : List Frame) (w : List ℕ) (t : Token) → IsBody k × IsOpen k �
 values k w (token.Sign sign.Equal) h = h
 values k w t h = tt
 
-members : (k : List Frame) (o : Option Word) → IsCall k × IsOpen k → IsOn (member_alone k o)
-members k (Some w) h = h
-members k None h = tt
+fields : (k : List Frame) (o : Option Word) → IsOpen k → IsOn (word_of_field k o)
+fields k (Some w) h = h
+fields k None h = tt
 
 opens : (k : List Frame) (o : Option Key) (t : Token) → IsCall k × IsOpen k → IsOn (braced k o t)
 opens k (Some key) t h = h
@@ -213,10 +207,6 @@ opens k None t h = end_brace_at t _ _ h.1 (begins (start_of t) t (Body Predicate
 keys : (k : List Frame) (r : Option EntryRow) (o : Option Key) (t : Token) → IsOpen k → IsOn (key_in k r o t)
 keys k r (Some key) t h = h
 keys k r None t h = end_brace_at t _ _ h tt
-
-constants : (k : List Frame) (r : Option EntryRow) (key : Key) (o : Option Constant) → IsOpen k → IsOn (value_in k r key o)
-constants k r key (Some c) h = h
-constants k r key None h = tt
 
 steps_on : (s : State) (t : Token) → IsOn s → IsOn (step_on s t)
 steps_on (Want k) t h = begins (start_of t) t k h
@@ -230,22 +220,17 @@ steps_on (Chosen k bs c a) t h = elses k bs c a t h
 steps_on (Alternate k bs c a) t h = brace_at t _ _ h (if_at t _ h)
 steps_on (NamesLine k) t h = names k t h
 steps_on (Named k w) t h = values k w t h
-steps_on (Argued k (Expression l)) t h = absurd h
-steps_on (Argued k (MemberAlone w)) t h = argues t k (MemberAlone w) h.1
-steps_on (Argued k (Braces p)) t h = argues t k (Braces p) h.1
-steps_on (NamesMember k) t h = members k (word_at t) h
+steps_on (Argued k p) t h = argues t k (Braces p) h.1
+steps_on (NamesField k) t h = fields k (word_at t) h
 steps_on (Braced k) t h = opens k (key_at t) t h
 steps_on (BracedKey k key) t h = tt
 steps_on (Keys k r) t h = keys k r (key_at t) t h
 steps_on (Colons k r key) t h = colon_at t _ _ h tt
-steps_on (Values k r key) t h = constants k r key (constant_at t) h
-steps_on (Entered k r) t h = comma_at t _ _ h (end_brace_at t _ _ h tt)
 steps_on Fail t h = tt
 
 steps : (s : State) (t : Token) → IsOn s → IsOn (step s t)
 steps (BracedKey k key) t h =
     colon_at t _ _ h.1 (steps_on (want (key_token key) (Body Predicate NoLines ∷ k)) t (begins (start_of (key_token key)) (key_token key) (Body Predicate NoLines ∷ k) h))
-steps (Argued k (Expression l)) t h = absurd h
 steps s t h = steps_on s t h
 
 runs : (ts : List Token) (s : State) → IsOn s → IsOn (fold step s ts)
@@ -339,6 +324,7 @@ ends_over (Indexed x false ∷ k) e h l = ends_by _ square_close [] refl (e.0 h 
 ends_over (Cut x a ∷ k) e h l = ends_by _ square_close [] refl (e.0 h _).0
 ends_over (Condition bs ∷ k) e h l = ends_by _ brace_open (nil ∷ brace_close ∷ token.Reserved reserved.Else ∷ brace_open ∷ nil ∷ brace_close ∷ []) refl (e.0 h _).0
 ends_over (Body b ls ∷ k) e h l = ends_body b ls k l e h
+ends_over (Entry r key ∷ k) e h l = ends_by _ brace_close [] refl (e.0 h _).0
 ends_over (Value w ∷ Body b ls ∷ k) e h l = ends_by _ semicolon (nil ∷ []) refl (ends_body b (MoreLines ls w l) k (Literal Nil) e.1 h.1).0
 ends_over (Value w ∷ k) e h l = absurd h.0
 
@@ -366,16 +352,12 @@ goes (Chosen k bs c a) h n = goes_by _ (token.Reserved reserved.Else ∷ brace_o
 goes (Alternate k bs c a) h n = goes_by _ (brace_open ∷ nil ∷ brace_close ∷ []) (operand k _ h)
 goes (NamesLine k) h n = goes_by _ (word ∷ equal ∷ nil ∷ []) (operand (Value [] ∷ k) _ h)
 goes (Named k w) h n = goes_by _ (equal ∷ nil ∷ []) (operand (Value w ∷ k) _ h)
-goes (Argued k (Expression l)) h n = absurd h
-goes (Argued k (MemberAlone w)) h n = goes_by _ (paren_close ∷ []) (argument k (MemberAlone w) h)
-goes (Argued k (Braces p)) h n = goes_by _ (paren_close ∷ []) (argument k (Braces p) h)
-goes (NamesMember k) h n = goes_by _ (word ∷ paren_close ∷ []) (argument k (MemberAlone (Usual [])) h)
+goes (Argued k p) h n = goes_by _ (paren_close ∷ []) (argument k (Braces p) h)
+goes (NamesField k) h n = goes_by _ (word ∷ []) (operand k _ h)
 goes (Braced k) h n = goes_by _ (brace_close ∷ []) (operand k _ h.1)
 goes (BracedKey k key) h n = goes_by _ (colon ∷ nil ∷ brace_close ∷ []) (operand k _ h.1)
 goes (Keys k r) h n = goes_by _ (brace_close ∷ []) (operand k _ h)
 goes (Colons k r key) h n = goes_by _ (colon ∷ nil ∷ brace_close ∷ []) (operand k _ h)
-goes (Values k r key) h n = goes_by _ (nil ∷ brace_close ∷ []) (operand k _ h)
-goes (Entered k r) h n = goes_by _ (brace_close ∷ []) (operand k _ h)
 goes Fail h n = absurd (n refl)
 
 -- where the tokens lead to a state, a program begins with them

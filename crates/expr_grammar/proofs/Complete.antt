@@ -9,8 +9,8 @@ use Rattle.expr_grammar.specs.declared.sign.PrefixSign.{PrefixSign}
 use Rattle.expr_grammar.specs.declared.sign.PrefixSign.TheVariants as prefix
 use Rattle.expr_grammar.specs.declared.sign.InfixSign.{InfixSign}
 use Rattle.expr_grammar.specs.declared.sign.InfixSign.TheVariants as infixed
-use Rattle.expr_grammar.specs.Grammar.{Word, Usual, ReservedWord, Constant, True, Key, WordKey, QuotedKey, EntryRow, OneEntry, MoreEntries, Entries, NoEntries, SomeEntries, Tree, Literal, Name, HashName, Paren, Array, Map, Call, If, Prefix, Infix, Member, Method, Index, Slice, Pipe, Ternary, Items, NoItems, SomeItems, Row, One, More, Arguments, NoArguments, SomeArguments, ArgumentRow, OneArgument, MoreArguments, Argument, Expression, MemberAlone, Braces, Bound, LeftOut, At, ElsePart, Else, ElseIf, TreeProgram, Program, Lines, NoLines, MoreLines, word_token, constant_token, key_token, prefix_token, infix_tokens, comma_tokens, entry_row_tokens, entries_tokens, tokens_of, items_tokens, row_tokens, arguments_tokens, argument_row_tokens, argument_tokens, bound_tokens, else_tokens, program_tokens, lines_tokens, Spells, infix_level, TreeFits, ItemsFit, RowFits, ArgumentsFit, ArgumentRowFits, ArgumentFits, BoundFits, ElseFits, Fits, LinesFit, OneTree}
-use Rattle.expr_grammar.specs.Machine.{role_of, role_level, level_at, word_at, key_at, constant_at, push, push_argument, push_entry, items_end, Holder, InArray, InMethod, holder_tree, holder_end, Caller, InCall, InPipe, caller_tree, Branches, NoBranch, Branch, chosen, Section, Top, Then, Last, Predicate, Frame, Under, After, Otherwise, Inside, Middle, Listed, Calling, Indexed, Cut, Condition, Body, Value, reach, reach_of, plug, settle, State, Want, Have, Dotted, Questioned, Argued, Braced, BracedKey, Values, Entered, Chosen, Fail, at_end_brace, after_section, begin_brace, after_operand, want, braced, step, step_on, whole, parse, first_state, tree_of}
+use Rattle.expr_grammar.specs.Grammar.{Word, Usual, ReservedWord, Constant, True, Key, WordKey, QuotedKey, EntryRow, OneEntry, MoreEntries, Entries, NoEntries, SomeEntries, Tree, Literal, Name, HashName, Field, Paren, Array, Map, Call, If, Prefix, Infix, Member, Method, Index, Slice, Pipe, Ternary, Items, NoItems, SomeItems, Row, One, More, Arguments, NoArguments, SomeArguments, ArgumentRow, OneArgument, MoreArguments, Argument, Expression, Braces, Bound, LeftOut, At, ElsePart, Else, ElseIf, TreeProgram, Program, Lines, NoLines, MoreLines, word_token, constant_token, key_token, prefix_token, infix_tokens, comma_tokens, entry_row_tokens, entries_tokens, tokens_of, items_tokens, row_tokens, arguments_tokens, argument_row_tokens, argument_tokens, bound_tokens, else_tokens, program_tokens, lines_tokens, Spells, infix_level, TreeFits, ItemsFit, RowFits, EntriesFit, EntryRowFits, ArgumentsFit, ArgumentRowFits, ArgumentFits, BoundFits, ElseFits, Fits, LinesFit, OneTree}
+use Rattle.expr_grammar.specs.Machine.{role_of, role_level, level_at, word_at, key_at, push, push_argument, push_entry, items_end, Holder, InArray, InMethod, holder_tree, holder_end, Caller, InCall, InPipe, caller_tree, Branches, NoBranch, Branch, chosen, Section, Top, Then, Last, Predicate, Frame, Under, After, Otherwise, Inside, Middle, Listed, Calling, Indexed, Cut, Condition, Body, Value, Entry, reach, reach_of, plug, settle, State, Want, Have, Dotted, Questioned, Argued, Braced, BracedKey, Keys, Chosen, Fail, at_end_brace, after_section, begin_brace, after_operand, want, braced, step, step_on, whole, parse, first_state, tree_of}
 use Rattle.expr_grammar.proofs.Measures.{StartsAbove, EndsAbove, tight, captured_if, starts_loose, ends_closed, ends_of_none, captures_reach, level_of_sign}
 
 -- a frame that doesn't capture p is closed
@@ -49,10 +49,6 @@ takes_infix o k l ts h = takes_token (first_of_sign (infix_tokens o)) k l ts h
 pub want_constant : (c : Constant) (k : List Frame) → want (constant_token c) k ≡ Have k (Literal c)
 want_constant True k = refl
 want_constant c k = refl
-
-pub constant_there : (c : Constant) → constant_at (constant_token c) ≡ Some c
-constant_there True = refl
-constant_there c = refl
 
 pub key_there : (key : Key) → key_at (key_token key) ≡ Some key
 key_there (WordKey (Usual w)) = refl
@@ -126,18 +122,16 @@ arguments_again (MoreArguments r a) = refl
 -- an argument that has been read
 abbrev argument_state : List Frame → Argument → State
 argument_state k (Expression t) = Have k t
-argument_state k a = Argued k a
+argument_state k (Braces p) = Argued k p
 
 pub comma_after : (a : Argument) (c : Caller) (r : Option ArgumentRow) (k : List Frame) (rest : List Token) → parse (argument_state (Calling c r ∷ k) a) (token.Sign sign.Comma ∷ rest) ≡ parse (Want (Calling c (Some (push_argument r a)) ∷ k)) rest
 unfolding parse
 comma_after (Expression t) c r k rest = refl
-comma_after (MemberAlone w) c r k rest = refl
 comma_after (Braces p) c r k rest = refl
 
 pub close_after : (a : Argument) (c : Caller) (r : Option ArgumentRow) (k : List Frame) (rest : List Token) → parse (argument_state (Calling c r ∷ k) a) (token.Sign sign.ParenClose ∷ rest) ≡ parse (Have k (caller_tree c (SomeArguments (push_argument r a) false))) rest
 unfolding parse
 close_after (Expression t) c r k rest = refl
-close_after (MemberAlone w) c r k rest = refl
 close_after (Braces p) c r k rest = refl
 
 pub tail_arguments : (comma : Bool) (c : Caller) (r : ArgumentRow) (k : List Frame) (rest : List Token) → parse (argument_state (Calling c (arguments_before r) ∷ k) (argument_last r)) (comma_tokens comma ++ token.Sign sign.ParenClose ∷ rest) ≡ parse (Have k (caller_tree c (SomeArguments r comma))) rest
@@ -152,34 +146,39 @@ opens_empty (Calling c r ∷ k) rest = refl
 opens_empty [] rest = refl
 opens_empty k rest = refl
 
-pub opens_map : (k : List Frame) (key : Key) (rest : List Token) → parse (begin_brace k) (key_token key ∷ token.Sign sign.Colon ∷ rest) ≡ parse (Values k None key) rest
+pub opens_map : (k : List Frame) (key : Key) (rest : List Token) → parse (begin_brace k) (key_token key ∷ token.Sign sign.Colon ∷ rest) ≡ parse (Want (Entry None key ∷ k)) rest
 unfolding parse
 opens_map (Calling c r ∷ k) key rest = ap (λ o. parse (braced (Calling c r ∷ k) o (key_token key)) (token.Sign sign.Colon ∷ rest)) (key_there key)
 opens_map [] key rest = rw (key_there key) refl
 opens_map k key rest = rw (key_there key) refl
 
--- one entry after its key
-pub takes_value : (k : List Frame) (r : Option EntryRow) (key : Key) (c : Constant) (rest : List Token) → parse (Values k r key) (constant_token c ∷ rest) ≡ parse (Entered k (push_entry r key c)) rest
-unfolding parse
-takes_value k r key c rest = rw (constant_there c) refl
+-- the entries before the last one, and that one
+abbrev entries_before : EntryRow → Option EntryRow
+entries_before (OneEntry key t) = None
+entries_before (MoreEntries r key t) = Some r
 
-pub reads_entry_row : (r : EntryRow) (k : List Frame) (rest : List Token) → parse (begin_brace k) (entry_row_tokens r ++ rest) ≡ parse (Entered k r) rest
-unfolding parse
-reads_entry_row (OneEntry key c) k rest = opens_map k key (constant_token c ∷ rest) ∙ takes_value k None key c rest
-reads_entry_row (MoreEntries r key c) k rest =
-    ap (λ ts. parse (begin_brace k) ts) (append_assoc (entry_row_tokens r) (token.Sign sign.Comma ∷ key_token key ∷ token.Sign sign.Colon ∷ constant_token c ∷ []) rest)
-    ∙ reads_entry_row r k (token.Sign sign.Comma ∷ key_token key ∷ token.Sign sign.Colon ∷ constant_token c ∷ rest)
-    ∙ rw (key_there key) (takes_value k (Some r) key c rest)
+abbrev key_last : EntryRow → Key
+key_last (OneEntry key t) = key
+key_last (MoreEntries r key t) = key
 
-pub reads_entries : (es : Entries) (k : List Frame) (rest : List Token) → parse (begin_brace k) ((entries_tokens es ++ token.Sign sign.BraceClose ∷ []) ++ rest) ≡ parse (Have k (Map es)) rest
+abbrev value_last : EntryRow → Tree
+value_last (OneEntry key t) = t
+value_last (MoreEntries r key t) = t
+
+pub entries_again : (r : EntryRow) → push_entry (entries_before r) (key_last r) (value_last r) ≡ r
+entries_again (OneEntry key t) = refl
+entries_again (MoreEntries r key t) = refl
+
+-- a comma after an entry, and the next key
+pub comma_entry : (r : EntryRow) (k : List Frame) (key : Key) (rest : List Token) → parse (Have (Entry (entries_before r) (key_last r) ∷ k) (value_last r)) (token.Sign sign.Comma ∷ key_token key ∷ token.Sign sign.Colon ∷ rest) ≡ parse (Want (Entry (Some r) key ∷ k)) rest
 unfolding parse
-reads_entries NoEntries k rest = opens_empty k rest
-reads_entries (SomeEntries r true) k rest =
-    ap (λ ts. parse (begin_brace k) ts) (append_assoc (entry_row_tokens r ++ token.Sign sign.Comma ∷ []) (token.Sign sign.BraceClose ∷ []) rest ∙ append_assoc (entry_row_tokens r) (token.Sign sign.Comma ∷ []) (token.Sign sign.BraceClose ∷ rest))
-    ∙ reads_entry_row r k (token.Sign sign.Comma ∷ token.Sign sign.BraceClose ∷ rest)
-reads_entries (SomeEntries r false) k rest =
-    ap (λ ts. parse (begin_brace k) ts) (append_assoc (entry_row_tokens r ++ []) (token.Sign sign.BraceClose ∷ []) rest ∙ append_assoc (entry_row_tokens r) [] (token.Sign sign.BraceClose ∷ rest))
-    ∙ reads_entry_row r k (token.Sign sign.BraceClose ∷ rest)
+comma_entry r k key rest = ap (λ q. parse (Keys k (Some q)) (key_token key ∷ token.Sign sign.Colon ∷ rest)) (entries_again r) ∙ rw (key_there key) refl
+
+-- the last part of a map literal, after its last value
+pub tail_entries : (comma : Bool) (r : EntryRow) (k : List Frame) (rest : List Token) → parse (Have (Entry (entries_before r) (key_last r) ∷ k) (value_last r)) (comma_tokens comma ++ token.Sign sign.BraceClose ∷ rest) ≡ parse (Have k (Map (SomeEntries r comma))) rest
+unfolding parse
+tail_entries false r k rest = ap (λ q. parse (Have k (Map (SomeEntries q false))) rest) (entries_again r)
+tail_entries true r k rest = ap (λ q. parse (Have k (Map (SomeEntries q true))) rest) (entries_again r)
 
 -- no program begins with a key and a colon
 fails : (ts : List Token) → parse Fail ts ≡ None
@@ -253,11 +252,12 @@ mutual
   reads (Literal c) k rest fits starts ends = ap (λ s. parse s rest) (want_constant c k)
   reads (Name w) k rest fits starts ends = refl
   reads (HashName w) k rest fits starts ends = refl
+  reads (Field w) k rest fits starts ends = rw (word_there w) refl
   reads (Paren t) k rest fits starts ends =
       ap (λ ts. parse (Want (Inside ∷ k)) ts) (append_assoc (tokens_of t) (token.Sign sign.ParenClose ∷ []) rest)
       ∙ reads t (Inside ∷ k) (token.Sign sign.ParenClose ∷ rest) fits (starts_loose 0 (omega arith) t) (ends_closed t)
   reads (Array xs) k rest fits starts ends = reads_items xs InArray k rest fits
-  reads (Map es) k rest fits starts ends = reads_entries es k rest
+  reads (Map es) k rest fits starts ends = reads_entries es k rest fits
   reads (Call w xs) k rest fits starts ends =
       takes_token (token.Sign sign.ParenOpen) k (Name w) ((arguments_tokens xs ++ token.Sign sign.ParenClose ∷ []) ++ rest) (tight k)
       ∙ reads_arguments xs (InCall w) k rest fits
@@ -345,6 +345,23 @@ mutual
       ∙ ap (λ q. parse (Want (Listed s (Some q) ∷ k)) (tokens_of t ++ rest)) (row_again r)
       ∙ reads t (Listed s (Some r) ∷ k) rest fits.1 (starts_loose 0 (omega arith) t) (ends_plain rest h t)
 
+  reads_entries : (es : Entries) (k : List Frame) (rest : List Token) → EntriesFit es → parse (begin_brace k) ((entries_tokens es ++ token.Sign sign.BraceClose ∷ []) ++ rest) ≡ parse (Have k (Map es)) rest
+  reads_entries NoEntries k rest fits = opens_empty k rest
+  reads_entries (SomeEntries r comma) k rest fits =
+      ap (λ ts. parse (begin_brace k) ts) (append_assoc (entry_row_tokens r ++ comma_tokens comma) (token.Sign sign.BraceClose ∷ []) rest ∙ append_assoc (entry_row_tokens r) (comma_tokens comma) (token.Sign sign.BraceClose ∷ rest))
+      ∙ reads_entry_row r k (comma_tokens comma ++ token.Sign sign.BraceClose ∷ rest) fits (plain_brace comma rest)
+      ∙ tail_entries comma r k rest
+
+  reads_entry_row : (r : EntryRow) (k : List Frame) (rest : List Token) → EntryRowFits r → level_at rest ≡ 0 → parse (begin_brace k) (entry_row_tokens r ++ rest) ≡ parse (Have (Entry (entries_before r) (key_last r) ∷ k) (value_last r)) rest
+  reads_entry_row (OneEntry key t) k rest fits h =
+      opens_map k key (tokens_of t ++ rest)
+      ∙ reads t (Entry None key ∷ k) rest fits (starts_loose 0 (omega arith) t) (ends_plain rest h t)
+  reads_entry_row (MoreEntries r key t) k rest fits h =
+      ap (λ ts. parse (begin_brace k) ts) (append_assoc (entry_row_tokens r) (token.Sign sign.Comma ∷ key_token key ∷ token.Sign sign.Colon ∷ tokens_of t) rest)
+      ∙ reads_entry_row r k (token.Sign sign.Comma ∷ key_token key ∷ token.Sign sign.Colon ∷ (tokens_of t ++ rest)) fits.0 refl
+      ∙ comma_entry r k key (tokens_of t ++ rest)
+      ∙ reads t (Entry (Some r) key ∷ k) rest fits.1 (starts_loose 0 (omega arith) t) (ends_plain rest h t)
+
   reads_arguments : (xs : Arguments) (c : Caller) (k : List Frame) (rest : List Token) → ArgumentsFit xs → parse (Want (Calling c None ∷ k)) ((arguments_tokens xs ++ token.Sign sign.ParenClose ∷ []) ++ rest) ≡ parse (Have k (caller_tree c xs)) rest
   reads_arguments NoArguments c k rest fits = refl
   reads_arguments (SomeArguments r comma) c k rest fits =
@@ -363,7 +380,6 @@ mutual
 
   reads_argument : (a : Argument) (c : Caller) (r : Option ArgumentRow) (k : List Frame) (rest : List Token) → ArgumentFits a → level_at rest ≡ 0 → parse (Want (Calling c r ∷ k)) (argument_tokens a ++ rest) ≡ parse (argument_state (Calling c r ∷ k) a) rest
   reads_argument (Expression t) c r k rest fits h = reads t (Calling c r ∷ k) rest fits (starts_loose 0 (omega arith) t) (ends_plain rest h t)
-  reads_argument (MemberAlone w) c r k rest fits h = rw (word_there w) refl
   reads_argument (Braces p) c r k rest fits h =
       ap (λ ts. parse (Braced (Calling c r ∷ k)) ts) (append_assoc (program_tokens p) (token.Sign sign.BraceClose ∷ []) rest)
       ∙ opens_predicate (program_tokens p) rest (Calling c r ∷ k) p (reads_top p fits)

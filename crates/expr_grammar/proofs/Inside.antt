@@ -1,7 +1,7 @@
 -- Brackets round expressions inside a program leave it fit.
 use Rattle.std.proofs.Common.{◌≡◌, ℕ, List, inl, inr, ◌⊎◌, ◌≤◌, sym, subst}
-use Rattle.expr_grammar.specs.Grammar.{Tree, Literal, Name, HashName, Paren, Array, Map, Call, If, Prefix, Infix, Member, Method, Index, Slice, Pipe, Ternary, Items, NoItems, SomeItems, Row, One, More, Arguments, NoArguments, SomeArguments, ArgumentRow, OneArgument, MoreArguments, Argument, Expression, MemberAlone, Braces, Bound, LeftOut, At, ElsePart, Else, ElseIf, TreeProgram, Program, Lines, NoLines, MoreLines, prefix_level, infix_level, InfixCaptures, NoneCaptures, AllCaptured, TreeFits, ItemsFit, RowFits, ArgumentsFit, ArgumentRowFits, ArgumentFits, BoundFits, ElseFits, Fits, LinesFit}
-use Rattle.expr_grammar.specs.Brackets.{tree_with, items_with, row_with, arguments_with, argument_row_with, argument_with, bound_with, else_with, program_with, lines_with, SomeInBrackets}
+use Rattle.expr_grammar.specs.Grammar.{Tree, Literal, Name, HashName, Field, Paren, Array, Map, Call, If, Prefix, Infix, Member, Method, Index, Slice, Pipe, Ternary, Items, NoItems, SomeItems, Row, One, More, Entries, NoEntries, SomeEntries, EntryRow, OneEntry, MoreEntries, Arguments, NoArguments, SomeArguments, ArgumentRow, OneArgument, MoreArguments, Argument, Expression, Braces, Bound, LeftOut, At, ElsePart, Else, ElseIf, TreeProgram, Program, Lines, NoLines, MoreLines, prefix_level, infix_level, InfixCaptures, NoneCaptures, AllCaptured, TreeFits, ItemsFit, RowFits, EntriesFit, EntryRowFits, ArgumentsFit, ArgumentRowFits, ArgumentFits, BoundFits, ElseFits, Fits, LinesFit}
+use Rattle.expr_grammar.specs.Brackets.{tree_with, items_with, row_with, entries_with, entry_row_with, arguments_with, argument_row_with, argument_with, bound_with, else_with, program_with, lines_with, SomeInBrackets}
 
 module _ (at bracketed : List ℕ → Tree) (some : SomeInBrackets at bracketed) where
   -- what holds of an expression and of the same in brackets holds in place of a name
@@ -35,9 +35,10 @@ module _ (at bracketed : List ℕ → Tree) (some : SomeInBrackets at bracketed)
     fits_tree (Literal c) h = tt
     fits_tree (Name w) h = at_name TreeFits w h (λ f. f)
     fits_tree (HashName w) h = tt
+    fits_tree (Field w) h = tt
     fits_tree (Paren t) h = fits_tree t h
     fits_tree (Array xs) h = fits_items xs h
-    fits_tree (Map es) h = tt
+    fits_tree (Map es) h = fits_entries es h
     fits_tree (Call w xs) h = fits_arguments xs h
     fits_tree (If c a e) h = (fits_tree c h.0, fits_program a h.1, fits_else e h.2)
     fits_tree (Prefix o t) h = (fits_tree t h.0, all_captured (λ p. prefix_level o ≤ p) t h.1)
@@ -57,6 +58,14 @@ module _ (at bracketed : List ℕ → Tree) (some : SomeInBrackets at bracketed)
     fits_row (One t) h = fits_tree t h
     fits_row (More r t) h = (fits_row r h.0, fits_tree t h.1)
 
+    fits_entries : (es : Entries) → EntriesFit (entries_with at es) → EntriesFit (entries_with bracketed es)
+    fits_entries NoEntries h = tt
+    fits_entries (SomeEntries r comma) h = fits_entry_row r h
+
+    fits_entry_row : (r : EntryRow) → EntryRowFits (entry_row_with at r) → EntryRowFits (entry_row_with bracketed r)
+    fits_entry_row (OneEntry key t) h = fits_tree t h
+    fits_entry_row (MoreEntries r key t) h = (fits_entry_row r h.0, fits_tree t h.1)
+
     fits_arguments : (xs : Arguments) → ArgumentsFit (arguments_with at xs) → ArgumentsFit (arguments_with bracketed xs)
     fits_arguments NoArguments h = tt
     fits_arguments (SomeArguments r comma) h = fits_argument_row r h
@@ -67,7 +76,6 @@ module _ (at bracketed : List ℕ → Tree) (some : SomeInBrackets at bracketed)
 
     fits_argument : (a : Argument) → ArgumentFits (argument_with at a) → ArgumentFits (argument_with bracketed a)
     fits_argument (Expression t) h = fits_tree t h
-    fits_argument (MemberAlone w) h = tt
     fits_argument (Braces p) h = fits_program p h
 
     fits_bound : (b : Bound) → BoundFits (bound_with at b) → BoundFits (bound_with bracketed b)

@@ -7,8 +7,8 @@ use Rattle.expr_token.specs.declared.sign.Sign.TheVariants as sign
 use Rattle.expr_token.specs.declared.reserved.Reserved.TheVariants as reserved
 use Rattle.expr_grammar.specs.declared.sign.InfixSign.{InfixSign}
 use Rattle.expr_grammar.specs.declared.sign.InfixSign.TheVariants as infixed
-use Rattle.expr_grammar.specs.Grammar.{Word, Constant, True, False, Nil, Integer, Quoted, Raw, Bytes, Key, EntryRow, Entries, NoEntries, SomeEntries, Tree, Literal, Name, HashName, Paren, Array, Map, Call, Member, Method, Index, Slice, Pipe, Items, SomeItems, Row, Arguments, SomeArguments, ArgumentRow, Argument, Expression, LeftOut, At, ElsePart, Else, ElseIf, TreeProgram, Program, NoLines, word_token, constant_token, key_token, prefix_token, infix_tokens, member_token, index_tokens, entry_row_tokens, entries_tokens, tokens_of, items_tokens, row_tokens, arguments_tokens, argument_row_tokens, argument_tokens, bound_tokens, else_tokens, program_tokens, lines_tokens, Spells, infix_level, TreeFits, ItemsFit, RowFits, ArgumentsFit, ArgumentRowFits, ArgumentFits, BoundFits, ElseFits, Fits, LinesFit}
-use Rattle.expr_grammar.specs.Machine.{constant_at, role_of, role_level, word_at, key_at, push, push_argument, push_entry, items_end, arguments_end, entries_end, Holder, InArray, InMethod, holder_tree, holder_end, Caller, InCall, InPipe, caller_tree, Branches, NoBranch, Branch, chosen, Section, Top, Then, Last, Predicate, Frame, Under, After, Otherwise, Inside, Middle, Listed, Calling, Indexed, Cut, Condition, Body, Value, reach, reach_of, plug, settle, State, Want, Have, Dotted, Questioned, Negated, Barred, Piped, Chosen, Alternate, NamesLine, Named, Argued, NamesMember, Braced, BracedKey, Keys, Colons, Values, Entered, Fail, at_close, at_square, at_colon, at_comma, at_semicolon, at_brace, at_end_brace, at_dot, at_end, argued, after_section, bind, close, apply, after_operand, without_operand, begin_line, begin_brace, want, word_after_dot, at_square_open, in_after_not, word_after_bar, open_after_word, else_after, at_if, word_after_let, equals_after, member_alone, braced, key_in, value_in, step_on, step, whole, finish, parse, first_state, tree_of}
+use Rattle.expr_grammar.specs.Grammar.{Word, Constant, True, False, Nil, Integer, Quoted, Raw, Bytes, Key, EntryRow, Entries, NoEntries, SomeEntries, Tree, Literal, Name, HashName, Field, Paren, Array, Map, Call, Member, Method, Index, Slice, Pipe, Items, SomeItems, Row, Arguments, SomeArguments, ArgumentRow, Argument, Expression, Braces, LeftOut, At, ElsePart, Else, ElseIf, TreeProgram, Program, NoLines, word_token, constant_token, key_token, prefix_token, infix_tokens, member_token, index_tokens, entry_row_tokens, entries_tokens, tokens_of, items_tokens, row_tokens, arguments_tokens, argument_row_tokens, argument_tokens, bound_tokens, else_tokens, program_tokens, lines_tokens, Spells, infix_level, TreeFits, ItemsFit, RowFits, EntriesFit, EntryRowFits, ArgumentsFit, ArgumentRowFits, ArgumentFits, BoundFits, ElseFits, Fits, LinesFit}
+use Rattle.expr_grammar.specs.Machine.{role_of, role_level, word_at, key_at, push, push_argument, push_entry, items_end, arguments_end, entries_end, Holder, InArray, InMethod, holder_tree, holder_end, Caller, InCall, InPipe, caller_tree, Branches, NoBranch, Branch, chosen, Section, Top, Then, Last, Predicate, Frame, Under, After, Otherwise, Inside, Middle, Listed, Calling, Indexed, Cut, Condition, Body, Value, Entry, reach, reach_of, plug, settle, State, Want, Have, Dotted, Questioned, Negated, Barred, Piped, Chosen, Alternate, NamesLine, Named, Argued, NamesField, Braced, BracedKey, Keys, Colons, Fail, at_close, at_square, at_colon, at_comma, at_semicolon, at_brace, at_end_brace, at_end, argued, after_section, bind, close, apply, after_operand, without_operand, begin_line, begin_brace, want, word_after_dot, at_square_open, in_after_not, word_after_bar, open_after_word, else_after, at_if, word_after_let, equals_after, word_of_field, braced, key_in, step_on, step, whole, finish, parse, first_state, tree_of}
 use Rattle.expr_grammar.proofs.Measures.{StartsAbove, EndsAbove, infix_above, tight, captured_if, ends_of_none, none_of_ends, reach_captures}
 use Rattle.expr_grammar.proofs.Complete.{key_back}
 
@@ -32,6 +32,10 @@ arguments_front (Some r) = argument_row_tokens r ++ token.Sign sign.Comma ∷ []
 abbrev entries_front : Option EntryRow → List Token
 entries_front None = []
 entries_front (Some r) = entry_row_tokens r ++ token.Sign sign.Comma ∷ []
+
+-- up to the colon of the next value
+abbrev entry_front : Option EntryRow → Key → List Token
+entry_front r key = token.Sign sign.BraceOpen ∷ (entries_front r ++ key_token key ∷ token.Sign sign.Colon ∷ [])
 
 -- up to the `if` of the last branch
 abbrev branches_front : Branches → List Token
@@ -57,6 +61,7 @@ front (Cut l a) = tokens_of l ++ token.Sign sign.SquareOpen ∷ (bound_tokens a 
 front (Condition bs) = branches_front bs
 front (Body b ls) = section_front b ++ lines_tokens ls
 front (Value w) = token.Reserved reserved.Let ∷ token.Word w ∷ token.Sign sign.Equal ∷ []
+front (Entry r key) = entry_front r key
 
 abbrev before : List Frame → List Token
 before [] = []
@@ -87,6 +92,10 @@ abbrev ArgumentRowsFit : Option ArgumentRow → Type 0
 ArgumentRowsFit None = Unit {0}
 ArgumentRowsFit (Some r) = ArgumentRowFits r
 
+abbrev EntryRowsFit : Option EntryRow → Type 0
+EntryRowsFit None = Unit {0}
+EntryRowsFit (Some r) = EntryRowFits r
+
 abbrev BranchesFit : Branches → Type 0
 BranchesFit NoBranch = Unit {0}
 BranchesFit (Branch bs c a) = BranchesFit bs × TreeFits c × Fits a
@@ -110,6 +119,7 @@ IsFrame k (Cut l a) = IsLeftAt 13 k l × BoundFits a
 IsFrame k (Condition bs) = BranchesFit bs
 IsFrame k (Body b ls) = IsSection b × LinesFit ls
 IsFrame k (Value w) = Unit {0}
+IsFrame k (Entry r key) = EntryRowsFit r
 
 abbrev IsStack : List Frame → Type 0
 IsStack [] = Unit {0}
@@ -160,10 +170,6 @@ settled P Q p next makes go (f ∷ k) l a = choose (nat_lt p (reach f)) refl (λ
     choose true e below = below e
     choose false e below = go (f ∷ k) l a (ltb-false p (reach f) e)
 
--- the tokens since a map literal began
-abbrev map_front : List Frame → Option EntryRow → List Token
-map_front k r = before k ++ token.Sign sign.BraceOpen ∷ entries_front r
-
 -- a state, after these tokens
 abbrev IsState : State → List Token → Type 0
 IsState (Want k) seen = IsStack k × (seen ≡ before k)
@@ -177,14 +183,12 @@ IsState (Chosen k bs c a) seen = IsStack k × (BranchesFit bs × TreeFits c × F
 IsState (Alternate k bs c a) seen = IsStack k × (BranchesFit bs × TreeFits c × Fits a) × (seen ≡ before k ++ (branches_front bs ++ (tokens_of c ++ token.Sign sign.BraceOpen ∷ (program_tokens a ++ token.Sign sign.BraceClose ∷ token.Reserved reserved.Else ∷ []))))
 IsState (NamesLine k) seen = IsStack k × (seen ≡ before k ++ token.Reserved reserved.Let ∷ [])
 IsState (Named k w) seen = IsStack k × (seen ≡ before k ++ token.Reserved reserved.Let ∷ token.Word w ∷ [])
-IsState (Argued k a) seen = IsStack k × ArgumentFits a × (seen ≡ before k ++ argument_tokens a)
-IsState (NamesMember k) seen = IsStack k × (seen ≡ before k ++ token.Sign sign.Dot ∷ [])
+IsState (Argued k p) seen = IsStack k × Fits p × (seen ≡ before k ++ argument_tokens (Braces p))
+IsState (NamesField k) seen = IsStack k × (seen ≡ before k ++ token.Sign sign.Dot ∷ [])
 IsState (Braced k) seen = IsStack k × (seen ≡ before k ++ token.Sign sign.BraceOpen ∷ [])
 IsState (BracedKey k key) seen = IsStack k × (seen ≡ before k ++ token.Sign sign.BraceOpen ∷ key_token key ∷ [])
-IsState (Keys k r) seen = IsStack k × (seen ≡ before k ++ token.Sign sign.BraceOpen ∷ entries_front r)
-IsState (Colons k r key) seen = IsStack k × (seen ≡ before k ++ token.Sign sign.BraceOpen ∷ (entries_front r ++ key_token key ∷ []))
-IsState (Values k r key) seen = IsStack k × (seen ≡ before k ++ token.Sign sign.BraceOpen ∷ (entries_front r ++ key_token key ∷ token.Sign sign.Colon ∷ []))
-IsState (Entered k r) seen = IsStack k × (seen ≡ before k ++ token.Sign sign.BraceOpen ∷ entry_row_tokens r)
+IsState (Keys k r) seen = IsStack k × EntryRowsFit r × (seen ≡ before k ++ token.Sign sign.BraceOpen ∷ entries_front r)
+IsState (Colons k r key) seen = IsStack k × EntryRowsFit r × (seen ≡ before k ++ token.Sign sign.BraceOpen ∷ (entries_front r ++ key_token key ∷ []))
 IsState Fail seen = Unit {0}
 
 -- an operand that has no open part at its end
@@ -208,9 +212,13 @@ push_argument_fits : (r : Option ArgumentRow) (a : Argument) → ArgumentRowsFit
 push_argument_fits None a h b = b
 push_argument_fits (Some r) a h b = (h, b)
 
-push_entry_tokens : (r : Option EntryRow) (key : Key) (c : Constant) → entry_row_tokens (push_entry r key c) ≡ entries_front r ++ key_token key ∷ token.Sign sign.Colon ∷ constant_token c ∷ []
-push_entry_tokens None key c = refl
-push_entry_tokens (Some r) key c = sym (append_assoc (entry_row_tokens r) (token.Sign sign.Comma ∷ []) (key_token key ∷ token.Sign sign.Colon ∷ constant_token c ∷ []))
+push_entry_tokens : (r : Option EntryRow) (key : Key) (t : Tree) → entry_row_tokens (push_entry r key t) ≡ entries_front r ++ key_token key ∷ token.Sign sign.Colon ∷ tokens_of t
+push_entry_tokens None key t = refl
+push_entry_tokens (Some r) key t = sym (append_assoc (entry_row_tokens r) (token.Sign sign.Comma ∷ []) (key_token key ∷ token.Sign sign.Colon ∷ tokens_of t))
+
+push_entry_fits : (r : Option EntryRow) (key : Key) (t : Tree) → EntryRowsFit r → TreeFits t → EntryRowFits (push_entry r key t)
+push_entry_fits None key t a b = b
+push_entry_fits (Some r) key t a b = (a, b)
 
 items_end_tokens : (r : Option Row) → items_tokens (items_end r) ≡ row_front r
 items_end_tokens None = refl
@@ -231,6 +239,10 @@ arguments_end_fit (Some r) a = a
 entries_end_tokens : (r : Option EntryRow) → entries_tokens (entries_end r) ≡ entries_front r
 entries_end_tokens None = refl
 entries_end_tokens (Some r) = refl
+
+entries_end_fit : (r : Option EntryRow) → EntryRowsFit r → EntriesFit (entries_end r)
+entries_end_fit None a = tt
+entries_end_fit (Some r) a = a
 
 -- a choice of many branches
 chosen_tokens : (bs : Branches) (c : Tree) (a : TreeProgram) (e : ElsePart) → tokens_of (chosen bs c a e) ≡ branches_front bs ++ (tokens_of c ++ token.Sign sign.BraceOpen ∷ (program_tokens a ++ token.Sign sign.BraceClose ∷ token.Reserved reserved.Else ∷ else_tokens e))
@@ -258,8 +270,8 @@ caller_done : (c : Caller) (k : List Frame) (xs : Arguments) (seen : List Token)
 caller_done (InCall w) k xs seen st sh f e = holds k (Call w xs) seen st f (tt, tt) (λ p. tt) e
 caller_done (InPipe l w) k xs seen st sh f e = holds k (Pipe l w xs) seen st (sh.0.fits, none_of_ends 2 (omega arith) l sh.0.ends, f) (sh.1, sh.0.starts) (λ p. tt) (e ∙ ap (λ q. before k ++ q) (append_assoc (tokens_of l) (token.Sign sign.Bar ∷ token.Word w ∷ token.Sign sign.ParenOpen ∷ []) (arguments_tokens xs ++ token.Sign sign.ParenClose ∷ [])))
 
-map_done : (k : List Frame) (es : Entries) (seen : List Token) → IsStack k → seen ≡ before k ++ token.Sign sign.BraceOpen ∷ (entries_tokens es ++ token.Sign sign.BraceClose ∷ []) → IsState (Have k (Map es)) seen
-map_done k es seen st e = holds k (Map es) seen st tt (tt, tt) (λ p. tt) e
+map_done : (k : List Frame) (es : Entries) (seen : List Token) → IsStack k → EntriesFit es → seen ≡ before k ++ token.Sign sign.BraceOpen ∷ (entries_tokens es ++ token.Sign sign.BraceClose ∷ []) → IsState (Have k (Map es)) seen
+map_done k es seen st f e = holds k (Map es) seen st f (tt, tt) (λ p. tt) e
 
 -- a test of the token
 close_at : (s : State) (seen : List Token) → IsState s (seen ++ token.Sign sign.ParenClose ∷ []) → (t : Token) → IsState (at_close t s) (seen ++ t ∷ [])
@@ -289,10 +301,6 @@ brace_at s r seen a t b = b
 end_brace_at : (s r : State) (seen : List Token) → IsState s (seen ++ token.Sign sign.BraceClose ∷ []) → (t : Token) → IsState r (seen ++ t ∷ []) → IsState (at_end_brace t s r) (seen ++ t ∷ [])
 end_brace_at s r seen a (token.Sign sign.BraceClose) b = a
 end_brace_at s r seen a t b = b
-
-dot_at : (s r : State) (seen : List Token) → IsState s (seen ++ token.Sign sign.Dot ∷ []) → (t : Token) → IsState r (seen ++ t ∷ []) → IsState (at_dot t s r) (seen ++ t ∷ [])
-dot_at s r seen a (token.Sign sign.Dot) b = a
-dot_at s r seen a t b = b
 
 square_open_at : (s r : State) (seen : List Token) → IsState s (seen ++ token.Sign sign.SquareOpen ∷ []) → (t : Token) → IsState r (seen ++ t ∷ []) → IsState (at_square_open t s r) (seen ++ t ∷ [])
 square_open_at s r seen a (token.Sign sign.SquareOpen) b = a
@@ -355,6 +363,11 @@ close_state t (Condition bs ∷ k) l seen a = brace_at _ _ seen ((((a.stack.0, a
 close_state t (Body b ls ∷ k) l seen a =
     end_brace_at _ _ seen (section_done b (Program ls l) k _ a.stack.1 a.stack.0.0 (a.stack.0.1, a.left.fits) (more (Body b ls ∷ k) l seen (token.Sign sign.BraceClose) a.spelled ∙ simp append_assoc)) t tt
 close_state t (Value w ∷ k) l seen a = semicolon_at _ seen (line_done k w l _ a.stack.1 a.left.fits (more (Value w ∷ k) l seen (token.Sign sign.Semicolon) a.spelled ∙ append_assoc (before k) (front (Value w)) _)) t
+close_state t (Entry r key ∷ k) l seen a =
+    comma_at _ _ seen
+    (a.stack.1, push_entry_fits r key l a.stack.0 a.left.fits, more (Entry r key ∷ k) l seen (token.Sign sign.Comma) a.spelled ∙ simp (push_entry_tokens, append_assoc))
+    t
+    (end_brace_at _ _ seen (map_done k (SomeEntries (push_entry r key l) false) _ a.stack.1 (push_entry_fits r key l a.stack.0 a.left.fits) (more (Entry r key ∷ k) l seen (token.Sign sign.BraceClose) a.spelled ∙ simp (push_entry_tokens, append_assoc, append-nil))) t tt)
 close_state t k l seen a = tt
 
 applies : (k : List Frame) (l : Tree) (seen : List Token) → Holds 13 k l seen → IsState (apply k l) (seen ++ token.Sign sign.ParenOpen ∷ [])
@@ -404,8 +417,7 @@ after_operand_state t k l seen a r = close_state t k l seen a
 without_operand_state : (t : Token) (k : List Frame) (seen : List Token) → IsStack k → seen ≡ before k → IsState (without_operand t k) (seen ++ t ∷ [])
 without_operand_state t (Listed s r ∷ k) seen st e = end_at s _ seen (holder_done s k (items_end r) _ st.1 st.0.0 (items_end_fit r st.0.1) (ap (λ x. x ++ holder_end s ∷ []) e ∙ simp (items_end_tokens, append_assoc))) t
 without_operand_state t (Calling c r ∷ k) seen st e =
-    dot_at _ _ seen (st, ap (λ x. x ++ token.Sign sign.Dot ∷ []) e) t
-    (close_at _ seen (caller_done c k (arguments_end r) _ st.1 st.0.0 (arguments_end_fit r st.0.1) (ap (λ x. x ++ token.Sign sign.ParenClose ∷ []) e ∙ simp (arguments_end_tokens, append_assoc))) t)
+    close_at _ seen (caller_done c k (arguments_end r) _ st.1 st.0.0 (arguments_end_fit r st.0.1) (ap (λ x. x ++ token.Sign sign.ParenClose ∷ []) e ∙ simp (arguments_end_tokens, append_assoc))) t
 without_operand_state t (Indexed x false ∷ k) seen st e = colon_at _ _ seen (((st.0, tt), st.1), ap (λ x. x ++ token.Sign sign.Colon ∷ []) e ∙ simp append_assoc) t tt
 without_operand_state t (Cut x b ∷ k) seen st e =
     let f = st.0 in
@@ -417,9 +429,9 @@ begins (Body b ls ∷ k) seen st e = (st, ap (λ x. x ++ token.Reserved reserved
 begins k seen st e = tt
 
 begins_brace : (k : List Frame) (seen : List Token) → IsStack k → seen ≡ before k → IsState (begin_brace k) (seen ++ token.Sign sign.BraceOpen ∷ [])
-begins_brace [] seen st e = (st, ap (λ x. x ++ token.Sign sign.BraceOpen ∷ []) e)
+begins_brace [] seen st e = (st, tt, ap (λ x. x ++ token.Sign sign.BraceOpen ∷ []) e)
 begins_brace (Calling c r ∷ k) seen st e = (st, ap (λ x. x ++ token.Sign sign.BraceOpen ∷ []) e)
-begins_brace (f ∷ k) seen st e = (st, ap (λ x. x ++ token.Sign sign.BraceOpen ∷ []) e)
+begins_brace (f ∷ k) seen st e = (st, tt, ap (λ x. x ++ token.Sign sign.BraceOpen ∷ []) e)
 
 -- a literal is its token
 literal_there : (c : Constant) (t : Token) (k : List Frame) (seen : List Token) → IsStack k → seen ≡ before k → constant_token c ≡ t → IsState (Have k (Literal c)) (seen ++ t ∷ [])
@@ -438,6 +450,7 @@ wants (token.Hash w) k seen s e = holds k (HashName w) _ s tt (tt, tt) (λ p. tt
 wants (token.Sign sign.ParenOpen) k seen s e = ((tt, s), ap (λ x. x ++ token.Sign sign.ParenOpen ∷ []) e)
 wants (token.Sign sign.SquareOpen) k seen s e = (((tt, tt), s), ap (λ x. x ++ token.Sign sign.SquareOpen ∷ []) e)
 wants (token.Sign sign.BraceOpen) k seen s e = begins_brace k seen s e
+wants (token.Sign sign.Dot) k seen s e = (s, ap (λ x. x ++ token.Sign sign.Dot ∷ []) e)
 wants (token.Reserved reserved.If) k seen s e = ((tt, s), ap (λ x. x ++ token.Reserved reserved.If ∷ []) e)
 wants (token.Reserved reserved.Let) k seen s e = begins k seen s e
 wants (token.Reserved reserved.Not) k seen s e = ((tt, s), ap (λ x. x ++ token.Reserved reserved.Not ∷ []) e)
@@ -446,22 +459,11 @@ wants (token.Sign sign.Plus) k seen s e = ((tt, s), ap (λ x. x ++ token.Sign si
 wants (token.Sign sign.Minus) k seen s e = ((tt, s), ap (λ x. x ++ token.Sign sign.Minus ∷ []) e)
 wants t k seen s e = without_operand_state t k seen s e
 
--- a word and a literal are their tokens
+-- a word is its token
 word_back : (t : Token) (w : Word) → word_at t ≡ Some w → word_token w ≡ t
 word_back (token.Word w) v h = cc
 word_back (token.Reserved r) v h = cc
 word_back t w h = let e : ⊥ = cc in absurd e
-
-constant_back : (t : Token) (c : Constant) → constant_at t ≡ Some c → constant_token c ≡ t
-constant_back (token.Integer n) c h = cc
-constant_back (token.Quoted n) c h = cc
-constant_back (token.Raw n) c h = cc
-constant_back (token.Bytes n) c h = cc
-constant_back (token.Reserved reserved.True) c h = cc
-constant_back (token.Reserved reserved.False) c h = cc
-constant_back (token.Reserved reserved.Nil) c h = cc
-constant_back (token.Sign sign.Comma) c h = let e : ⊥ = cc in absurd e
-constant_back t c h = let e : ⊥ = cc in absurd e
 
 dots : (k : List Frame) (l : Tree) (optional : Bool) (t : Token) (seen : List Token) (o : Option Word) → word_at t ≡ o → IsStack k → IsLeftAt 13 k l → seen ≡ before k ++ (tokens_of l ++ member_token optional ∷ []) → IsState (word_after_dot k l optional o) (seen ++ t ∷ [])
 dots k l optional t seen (Some w) h st a e = holds k (Member l optional w) _ st (a.0.fits, none_of_ends 13 (omega arith) l a.0.ends) (a.1, a.0.starts) (λ p. tt) (ap (λ x. x ++ t ∷ []) e ∙ ap (λ u. (before k ++ (tokens_of l ++ member_token optional ∷ [])) ++ u ∷ []) (sym (word_back t w h)) ∙ simp append_assoc)
@@ -496,28 +498,23 @@ values : (k : List Frame) (w : List ℕ) (t : Token) (seen : List Token) → IsS
 values k w (token.Sign sign.Equal) seen a = ((tt, a.0), ap (λ x. x ++ token.Sign sign.Equal ∷ []) a.1 ∙ simp append_assoc)
 values k w t seen a = tt
 
-members : (k : List Frame) (t : Token) (seen : List Token) (o : Option Word) → word_at t ≡ o → IsState (NamesMember k) seen → IsState (member_alone k o) (seen ++ t ∷ [])
-members k t seen (Some w) h a = (a.0, tt, ap (λ x. x ++ t ∷ []) a.1 ∙ ap (λ u. (before k ++ token.Sign sign.Dot ∷ []) ++ u ∷ []) (sym (word_back t w h)) ∙ simp append_assoc)
-members k t seen None h a = tt
+fields : (k : List Frame) (t : Token) (seen : List Token) (o : Option Word) → word_at t ≡ o → IsState (NamesField k) seen → IsState (word_of_field k o) (seen ++ t ∷ [])
+fields k t seen (Some w) h a = holds k (Field w) _ a.0 tt (tt, tt) (λ p. tt) (ap (λ x. x ++ t ∷ []) a.1 ∙ ap (λ u. (before k ++ token.Sign sign.Dot ∷ []) ++ u ∷ []) (sym (word_back t w h)) ∙ simp append_assoc)
+fields k t seen None h a = tt
 
 opens : (k : List Frame) (t : Token) (seen : List Token) (o : Option Key) → key_at t ≡ o → IsState (Braced k) seen → IsState (braced k o t) (seen ++ t ∷ [])
 opens k t seen (Some key) h a = (a.0, ap (λ x. x ++ t ∷ []) a.1 ∙ ap (λ u. (before k ++ token.Sign sign.BraceOpen ∷ []) ++ u ∷ []) (sym (key_back t key h)) ∙ simp append_assoc)
 opens k t seen None h a =
-    end_brace_at _ _ seen (map_done k NoEntries _ a.0 (ap (λ x. x ++ token.Sign sign.BraceClose ∷ []) a.1 ∙ simp append_assoc)) t
+    end_brace_at _ _ seen (map_done k NoEntries _ a.0 tt (ap (λ x. x ++ token.Sign sign.BraceClose ∷ []) a.1 ∙ simp append_assoc)) t
     (wants t (Body Predicate NoLines ∷ k) seen ((tt, tt), a.0) a.1)
 
 keys : (k : List Frame) (r : Option EntryRow) (t : Token) (seen : List Token) (o : Option Key) → key_at t ≡ o → IsState (Keys k r) seen → IsState (key_in k r o t) (seen ++ t ∷ [])
-keys k r t seen (Some key) h a = (a.0, ap (λ x. x ++ t ∷ []) a.1 ∙ ap (λ u. (before k ++ token.Sign sign.BraceOpen ∷ entries_front r) ++ u ∷ []) (sym (key_back t key h)) ∙ simp append_assoc)
-keys k r t seen None h a = end_brace_at _ _ seen (map_done k (entries_end r) _ a.0 (ap (λ x. x ++ token.Sign sign.BraceClose ∷ []) a.1 ∙ simp (entries_end_tokens, append_assoc))) t tt
+keys k r t seen (Some key) h a = (a.0, a.1, ap (λ x. x ++ t ∷ []) a.2 ∙ ap (λ u. (before k ++ token.Sign sign.BraceOpen ∷ entries_front r) ++ u ∷ []) (sym (key_back t key h)) ∙ simp append_assoc)
+keys k r t seen None h a = end_brace_at _ _ seen (map_done k (entries_end r) _ a.0 (entries_end_fit r a.1) (ap (λ x. x ++ token.Sign sign.BraceClose ∷ []) a.2 ∙ simp (entries_end_tokens, append_assoc))) t tt
 
-constants : (k : List Frame) (r : Option EntryRow) (key : Key) (t : Token) (seen : List Token) (o : Option Constant) → constant_at t ≡ o → IsState (Values k r key) seen → IsState (value_in k r key o) (seen ++ t ∷ [])
-constants k r key t seen (Some c) h a = (a.0, ap (λ x. x ++ t ∷ []) a.1 ∙ ap (λ u. (before k ++ token.Sign sign.BraceOpen ∷ (entries_front r ++ key_token key ∷ token.Sign sign.Colon ∷ [])) ++ u ∷ []) (sym (constant_back t c h)) ∙ simp (push_entry_tokens, append_assoc))
-constants k r key t seen None h a = tt
-
-entereds : (k : List Frame) (r : EntryRow) (t : Token) (seen : List Token) → IsState (Entered k r) seen → IsState (step_on (Entered k r) t) (seen ++ t ∷ [])
-entereds k r t seen a =
-    comma_at _ _ seen (a.0, ap (λ x. x ++ token.Sign sign.Comma ∷ []) a.1 ∙ simp append_assoc) t
-    (end_brace_at _ _ seen (map_done k (SomeEntries r false) _ a.0 (ap (λ x. x ++ token.Sign sign.BraceClose ∷ []) a.1 ∙ simp (append_assoc, append-nil))) t tt)
+-- the value of a key comes next
+enters : (k : List Frame) (r : Option EntryRow) (key : Key) (seen : List Token) → IsState (Colons k r key) seen → IsState (Want (Entry r key ∷ k)) (seen ++ token.Sign sign.Colon ∷ [])
+enters k r key seen a = ((a.1, a.0), ap (λ x. x ++ token.Sign sign.Colon ∷ []) a.2 ∙ simp append_assoc)
 
 steps_on : (s : State) (t : Token) (seen : List Token) → IsState s seen → IsState (step_on s t) (seen ++ t ∷ [])
 steps_on (Want k) t seen a = wants t k seen a.0 a.1
@@ -533,21 +530,18 @@ steps_on (Chosen k bs c p) t seen a = elses k bs c p t seen a
 steps_on (Alternate k bs c p) t seen a = alternates k bs c p t seen a
 steps_on (NamesLine k) t seen a = names k t seen a
 steps_on (Named k w) t seen a = values k w t seen a
-steps_on (Argued k (Expression l)) t seen a = tt
-steps_on (Argued k x) t seen a = argues t k x seen a.0 a.1 a.2
-steps_on (NamesMember k) t seen a = members k t seen (word_at t) refl a
+steps_on (Argued k p) t seen a = argues t k (Braces p) seen a.0 a.1 a.2
+steps_on (NamesField k) t seen a = fields k t seen (word_at t) refl a
 steps_on (Braced k) t seen a = opens k t seen (key_at t) refl a
 steps_on (BracedKey k key) t seen a = tt
 steps_on (Keys k r) t seen a = keys k r t seen (key_at t) refl a
-steps_on (Colons k r key) t seen a = colon_at _ _ seen (a.0, ap (λ x. x ++ token.Sign sign.Colon ∷ []) a.1 ∙ simp append_assoc) t tt
-steps_on (Values k r key) t seen a = constants k r key t seen (constant_at t) refl a
-steps_on (Entered k r) t seen a = entereds k r t seen a
+steps_on (Colons k r key) t seen a = colon_at _ _ seen (enters k r key seen a) t tt
 steps_on Fail t seen a = tt
 
 -- a key that began a predicate
 steps_key : (k : List Frame) (key : Key) (t : Token) (seen : List Token) → IsState (BracedKey k key) seen → IsState (step (BracedKey k key) t) (seen ++ t ∷ [])
 steps_key k key t seen a =
-    colon_at _ _ seen (a.0, ap (λ x. x ++ token.Sign sign.Colon ∷ []) a.1 ∙ simp append_assoc) t
+    colon_at _ _ seen (enters k None key seen (a.0, tt, a.1)) t
     (steps_on (want (key_token key) (Body Predicate NoLines ∷ k)) t seen
     (rw (a.1 ∙ sym (append_assoc (before k) (token.Sign sign.BraceOpen ∷ []) (key_token key ∷ []))) (wants (key_token key) (Body Predicate NoLines ∷ k) (before k ++ token.Sign sign.BraceOpen ∷ []) ((tt, tt), a.0) refl)))
 

@@ -1,6 +1,6 @@
 -- Brackets inside a program: expressions in place of its names, and where brackets may stand round them.
 use Rattle.std.specs.Prelude.{◌≡◌, ◌⊎◌, ℕ, List}
-use Rattle.expr_grammar.specs.Grammar.{Tree, Literal, Name, HashName, Paren, Array, Map, Call, If, Prefix, Infix, Member, Method, Index, Slice, Pipe, Ternary, Items, NoItems, SomeItems, Row, One, More, Arguments, NoArguments, SomeArguments, ArgumentRow, OneArgument, MoreArguments, Argument, Expression, MemberAlone, Braces, Bound, LeftOut, At, ElsePart, Else, ElseIf, TreeProgram, Program, Lines, NoLines, MoreLines, Fits}
+use Rattle.expr_grammar.specs.Grammar.{Tree, Literal, Name, HashName, Field, Paren, Array, Map, Call, If, Prefix, Infix, Member, Method, Index, Slice, Pipe, Ternary, Items, NoItems, SomeItems, Row, One, More, Entries, NoEntries, SomeEntries, EntryRow, OneEntry, MoreEntries, Arguments, NoArguments, SomeArguments, ArgumentRow, OneArgument, MoreArguments, Argument, Expression, Braces, Bound, LeftOut, At, ElsePart, Else, ElseIf, TreeProgram, Program, Lines, NoLines, MoreLines, Fits}
 
 -- Expressions in place of names: of those that are expressions themselves, and so not those of calls, members and lines.
 abbrev mutual
@@ -8,9 +8,10 @@ abbrev mutual
   tree_with at (Literal c) = Literal c
   tree_with at (Name w) = at w
   tree_with at (HashName w) = HashName w
+  tree_with at (Field w) = Field w
   tree_with at (Paren t) = Paren (tree_with at t)
   tree_with at (Array xs) = Array (items_with at xs)
-  tree_with at (Map es) = Map es
+  tree_with at (Map es) = Map (entries_with at es)
   tree_with at (Call w xs) = Call w (arguments_with at xs)
   tree_with at (If c a e) = If (tree_with at c) (program_with at a) (else_with at e)
   tree_with at (Prefix o t) = Prefix o (tree_with at t)
@@ -30,6 +31,14 @@ abbrev mutual
   row_with at (One t) = One (tree_with at t)
   row_with at (More r t) = More (row_with at r) (tree_with at t)
 
+  pub entries_with : (List ℕ → Tree) → Entries → Entries
+  entries_with at NoEntries = NoEntries
+  entries_with at (SomeEntries r comma) = SomeEntries (entry_row_with at r) comma
+
+  pub entry_row_with : (List ℕ → Tree) → EntryRow → EntryRow
+  entry_row_with at (OneEntry key t) = OneEntry key (tree_with at t)
+  entry_row_with at (MoreEntries r key t) = MoreEntries (entry_row_with at r) key (tree_with at t)
+
   pub arguments_with : (List ℕ → Tree) → Arguments → Arguments
   arguments_with at NoArguments = NoArguments
   arguments_with at (SomeArguments r comma) = SomeArguments (argument_row_with at r) comma
@@ -40,7 +49,6 @@ abbrev mutual
 
   pub argument_with : (List ℕ → Tree) → Argument → Argument
   argument_with at (Expression t) = Expression (tree_with at t)
-  argument_with at (MemberAlone w) = MemberAlone w
   argument_with at (Braces p) = Braces (program_with at p)
 
   pub bound_with : (List ℕ → Tree) → Bound → Bound

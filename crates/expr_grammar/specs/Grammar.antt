@@ -31,20 +31,12 @@ pub data Key : Type 0 where
   WordKey : (w : Word) → Key
   QuotedKey : (s : List ℕ) → Key
 
-pub data EntryRow : Type 0 where
-  OneEntry : (key : Key) (c : Constant) → EntryRow
-  MoreEntries : (r : EntryRow) (key : Key) (c : Constant) → EntryRow
-
--- keys and values between braces; a comma may end them, where there are any
-pub data Entries : Type 0 where
-  NoEntries : Entries
-  SomeEntries : (r : EntryRow) (comma : Bool) → Entries
-
 mutual
   pub data Tree : Type 0 where
     Literal : (c : Constant) → Tree
     Name : (w : List ℕ) → Tree
     HashName : (w : List ℕ) → Tree
+    Field : (w : Word) → Tree
     Paren : (t : Tree) → Tree
     Array : (xs : Items) → Tree
     Map : (es : Entries) → Tree
@@ -68,6 +60,15 @@ mutual
     One : (t : Tree) → Row
     More : (r : Row) (t : Tree) → Row
 
+  -- keys and values between braces, likewise
+  pub data Entries : Type 0 where
+    NoEntries : Entries
+    SomeEntries : (r : EntryRow) (comma : Bool) → Entries
+
+  pub data EntryRow : Type 0 where
+    OneEntry : (key : Key) (t : Tree) → EntryRow
+    MoreEntries : (r : EntryRow) (key : Key) (t : Tree) → EntryRow
+
   -- the arguments of a call, likewise
   pub data Arguments : Type 0 where
     NoArguments : Arguments
@@ -77,10 +78,9 @@ mutual
     OneArgument : (a : Argument) → ArgumentRow
     MoreArguments : (r : ArgumentRow) (a : Argument) → ArgumentRow
 
-  -- an expression, or a predicate: a member alone, or a program in braces
+  -- an expression, or a predicate: a program in braces
   pub data Argument : Type 0 where
     Expression : (t : Tree) → Argument
-    MemberAlone : (w : Word) → Argument
     Braces : (p : TreeProgram) → Argument
 
   -- a bound of a slice, which may be left out
@@ -167,20 +167,13 @@ abbrev pub index_tokens : Bool → List Token
 index_tokens true = token.Sign sign.QuestionDot ∷ token.Sign sign.SquareOpen ∷ []
 index_tokens false = token.Sign sign.SquareOpen ∷ []
 
-abbrev pub entry_row_tokens : EntryRow → List Token
-entry_row_tokens (OneEntry key c) = key_token key ∷ token.Sign sign.Colon ∷ constant_token c ∷ []
-entry_row_tokens (MoreEntries r key c) = entry_row_tokens r ++ token.Sign sign.Comma ∷ key_token key ∷ token.Sign sign.Colon ∷ constant_token c ∷ []
-
-abbrev pub entries_tokens : Entries → List Token
-entries_tokens NoEntries = []
-entries_tokens (SomeEntries r comma) = entry_row_tokens r ++ comma_tokens comma
-
 -- What a tree spells: its parts and signs in order.
 abbrev mutual
   pub tokens_of : Tree → List Token
   tokens_of (Literal c) = constant_token c ∷ []
   tokens_of (Name w) = token.Word w ∷ []
   tokens_of (HashName w) = token.Hash w ∷ []
+  tokens_of (Field w) = token.Sign sign.Dot ∷ word_token w ∷ []
   tokens_of (Paren t) = token.Sign sign.ParenOpen ∷ (tokens_of t ++ token.Sign sign.ParenClose ∷ [])
   tokens_of (Array xs) = token.Sign sign.SquareOpen ∷ (items_tokens xs ++ token.Sign sign.SquareClose ∷ [])
   tokens_of (Map es) = token.Sign sign.BraceOpen ∷ (entries_tokens es ++ token.Sign sign.BraceClose ∷ [])
@@ -203,6 +196,14 @@ abbrev mutual
   row_tokens (One t) = tokens_of t
   row_tokens (More r t) = row_tokens r ++ token.Sign sign.Comma ∷ tokens_of t
 
+  pub entries_tokens : Entries → List Token
+  entries_tokens NoEntries = []
+  entries_tokens (SomeEntries r comma) = entry_row_tokens r ++ comma_tokens comma
+
+  pub entry_row_tokens : EntryRow → List Token
+  entry_row_tokens (OneEntry key t) = key_token key ∷ token.Sign sign.Colon ∷ tokens_of t
+  entry_row_tokens (MoreEntries r key t) = entry_row_tokens r ++ token.Sign sign.Comma ∷ key_token key ∷ token.Sign sign.Colon ∷ tokens_of t
+
   pub arguments_tokens : Arguments → List Token
   arguments_tokens NoArguments = []
   arguments_tokens (SomeArguments r comma) = argument_row_tokens r ++ comma_tokens comma
@@ -213,7 +214,6 @@ abbrev mutual
 
   pub argument_tokens : Argument → List Token
   argument_tokens (Expression t) = tokens_of t
-  argument_tokens (MemberAlone w) = token.Sign sign.Dot ∷ word_token w ∷ []
   argument_tokens (Braces p) = token.Sign sign.BraceOpen ∷ (program_tokens p ++ token.Sign sign.BraceClose ∷ [])
 
   pub bound_tokens : Bound → List Token
@@ -322,9 +322,10 @@ abbrev mutual
   TreeFits (Literal c) = ⊤
   TreeFits (Name w) = ⊤
   TreeFits (HashName w) = ⊤
+  TreeFits (Field w) = ⊤
   TreeFits (Paren t) = TreeFits t
   TreeFits (Array xs) = ItemsFit xs
-  TreeFits (Map es) = ⊤
+  TreeFits (Map es) = EntriesFit es
   TreeFits (Call w xs) = ArgumentsFit xs
   TreeFits (If c a e) = TreeFits c × Fits a × ElseFits e
   TreeFits (Prefix o t) = TreeFits t × AllCaptured (λ p. prefix_level o ≤ p) t
@@ -344,6 +345,14 @@ abbrev mutual
   RowFits (One t) = TreeFits t
   RowFits (More r t) = RowFits r × TreeFits t
 
+  pub EntriesFit : Entries → Type 0
+  EntriesFit NoEntries = ⊤
+  EntriesFit (SomeEntries r comma) = EntryRowFits r
+
+  pub EntryRowFits : EntryRow → Type 0
+  EntryRowFits (OneEntry key t) = TreeFits t
+  EntryRowFits (MoreEntries r key t) = EntryRowFits r × TreeFits t
+
   pub ArgumentsFit : Arguments → Type 0
   ArgumentsFit NoArguments = ⊤
   ArgumentsFit (SomeArguments r comma) = ArgumentRowFits r
@@ -354,7 +363,6 @@ abbrev mutual
 
   pub ArgumentFits : Argument → Type 0
   ArgumentFits (Expression t) = TreeFits t
-  ArgumentFits (MemberAlone w) = ⊤
   ArgumentFits (Braces p) = Fits p
 
   pub BoundFits : Bound → Type 0

@@ -13,7 +13,7 @@ use Rattle.expr_grammar.specs.declared.sign.InfixSign.{InfixSign}
 use Rattle.expr_grammar.specs.declared.sign.InfixSign.TheVariants as infixed
 use Rattle.expr_grammar.specs.declared.role.Role.{Role}
 use Rattle.expr_grammar.specs.declared.role.Role.TheVariants.{Binary, Negating, Asking, Piping, Dotting, Questioning, Applying, Picking, Plain}
-use Rattle.expr_grammar.specs.Grammar.{Word, Usual, ReservedWord, Constant, True, False, Nil, Integer, Quoted, Raw, Bytes, Key, WordKey, QuotedKey, EntryRow, OneEntry, MoreEntries, Entries, NoEntries, SomeEntries, Tree, Literal, Name, HashName, Paren, Array, Map, Call, If, Prefix, Infix, Member, Method, Index, Slice, Pipe, Ternary, Items, NoItems, SomeItems, Row, One, More, Arguments, NoArguments, SomeArguments, ArgumentRow, OneArgument, MoreArguments, Argument, Expression, MemberAlone, Braces, Bound, LeftOut, At, ElsePart, Else, ElseIf, TreeProgram, Program, Lines, NoLines, MoreLines, key_token, prefix_level, infix_level}
+use Rattle.expr_grammar.specs.Grammar.{Word, Usual, ReservedWord, Constant, True, False, Nil, Integer, Quoted, Raw, Bytes, Key, WordKey, QuotedKey, EntryRow, OneEntry, MoreEntries, Entries, NoEntries, SomeEntries, Tree, Literal, Name, HashName, Field, Paren, Array, Map, Call, If, Prefix, Infix, Member, Method, Index, Slice, Pipe, Ternary, Items, NoItems, SomeItems, Row, One, More, Arguments, NoArguments, SomeArguments, ArgumentRow, OneArgument, MoreArguments, Argument, Expression, Braces, Bound, LeftOut, At, ElsePart, Else, ElseIf, TreeProgram, Program, Lines, NoLines, MoreLines, key_token, prefix_level, infix_level}
 
 -- What a token is where an operand is wanted.
 pub data Start : Type 0 where
@@ -24,6 +24,7 @@ pub data Start : Type 0 where
   Grouping : Start
   Listing : Start
   Bracing : Start
+  Fielding : Start
   Choosing : Start
   Letting : Start
   Other : Start
@@ -32,6 +33,7 @@ abbrev pub sign_start : Sign → Start
 sign_start sign.ParenOpen = Grouping
 sign_start sign.SquareOpen = Listing
 sign_start sign.BraceOpen = Bracing
+sign_start sign.Dot = Fielding
 sign_start sign.Bang = Signing prefix.Bang
 sign_start sign.Plus = Signing prefix.Positive
 sign_start sign.Minus = Signing prefix.Negative
@@ -121,7 +123,7 @@ infix_reach infixed.Caret = infix_level infixed.Caret
 infix_reach infixed.StarStar = infix_level infixed.StarStar
 infix_reach o = infix_level o + 1
 
--- the word, key or literal that a token is
+-- the word or key that a token is
 abbrev pub word_at : Token → Option Word
 word_at (token.Word w) = Some (Usual w)
 word_at (token.Reserved r) = Some (ReservedWord r)
@@ -133,13 +135,6 @@ key_at (token.Reserved r) = Some (WordKey (ReservedWord r))
 key_at (token.Quoted s) = Some (QuotedKey s)
 key_at t = None
 
-abbrev pub constant_of_start : Start → Option Constant
-constant_of_start (Constantly c) = Some c
-constant_of_start s = None
-
-abbrev pub constant_at : Token → Option Constant
-constant_at t = constant_of_start (start_of t)
-
 -- one more, after those that are there
 abbrev pub push : Option Row → Tree → Row
 push None t = One t
@@ -149,9 +144,9 @@ abbrev pub push_argument : Option ArgumentRow → Argument → ArgumentRow
 push_argument None a = OneArgument a
 push_argument (Some r) a = MoreArguments r a
 
-abbrev pub push_entry : Option EntryRow → Key → Constant → EntryRow
-push_entry None key c = OneEntry key c
-push_entry (Some r) key c = MoreEntries r key c
+abbrev pub push_entry : Option EntryRow → Key → Tree → EntryRow
+push_entry None key t = OneEntry key t
+push_entry (Some r) key t = MoreEntries r key t
 
 -- a list that ends after its last comma, or that is empty
 abbrev pub items_end : Option Row → Items
@@ -219,6 +214,7 @@ pub data Frame : Type 0 where
   Condition : (bs : Branches) → Frame
   Body : (b : Section) (ls : Lines) → Frame
   Value : (w : List ℕ) → Frame
+  Entry : (r : Option EntryRow) (key : Key) → Frame
 
 -- The least level that a frame captures: 0 where only its own tokens end it.
 abbrev pub reach : Frame → ℕ
@@ -255,14 +251,12 @@ pub data State : Type 0 where
   Alternate : (k : List Frame) (bs : Branches) (c : Tree) (a : TreeProgram) → State
   NamesLine : (k : List Frame) → State
   Named : (k : List Frame) (w : List ℕ) → State
-  Argued : (k : List Frame) (a : Argument) → State
-  NamesMember : (k : List Frame) → State
+  Argued : (k : List Frame) (p : TreeProgram) → State
+  NamesField : (k : List Frame) → State
   Braced : (k : List Frame) → State
   BracedKey : (k : List Frame) (key : Key) → State
   Keys : (k : List Frame) (r : Option EntryRow) → State
   Colons : (k : List Frame) (r : Option EntryRow) (key : Key) → State
-  Values : (k : List Frame) (r : Option EntryRow) (key : Key) → State
-  Entered : (k : List Frame) (r : EntryRow) → State
   Fail : State
 
 -- The state s where the token is that sign, else the other one.
@@ -294,10 +288,6 @@ abbrev pub at_end_brace : Token → State → State → State
 at_end_brace (token.Sign sign.BraceClose) s r = s
 at_end_brace t s r = r
 
-abbrev pub at_dot : Token → State → State → State
-at_dot (token.Sign sign.Dot) s r = s
-at_dot t s r = r
-
 abbrev pub at_end : Holder → Token → State → State
 at_end InArray t s = at_square t s
 at_end (InMethod l w) t s = at_close t s
@@ -312,7 +302,7 @@ abbrev pub after_section : Section → TreeProgram → List Frame → State
 after_section Top p k = Fail
 after_section (Then bs c) p k = Chosen k bs c p
 after_section (Last bs c a) p k = Have k (chosen bs c a (Else p))
-after_section Predicate p k = Argued k (Braces p)
+after_section Predicate p k = Argued k p
 
 -- a line is whole
 abbrev pub bind : List Frame → List ℕ → Tree → State
@@ -331,6 +321,7 @@ close t (Cut x a ∷ k) l = at_square t (Have k (Slice x a (At l)))
 close t (Condition bs ∷ k) l = at_brace t (Want (Body (Then bs l) NoLines ∷ k)) Fail
 close t (Body b ls ∷ k) l = at_end_brace t (after_section b (Program ls l) k) Fail
 close t (Value w ∷ k) l = at_semicolon t (bind k w l)
+close t (Entry r key ∷ k) l = at_comma t (Keys k (Some (push_entry r key l))) (at_end_brace t (Have k (Map (SomeEntries (push_entry r key l) false))) Fail)
 close t k l = Fail
 
 -- an opening parenthesis after an operand
@@ -354,7 +345,7 @@ after_operand Plain t k l = close t k l
 -- A token that begins no operand, where one is wanted.
 abbrev pub without_operand : Token → List Frame → State
 without_operand t (Listed s r ∷ k) = at_end s t (Have k (holder_tree s (items_end r)))
-without_operand t (Calling c r ∷ k) = at_dot t (NamesMember (Calling c r ∷ k)) (at_close t (Have k (caller_tree c (arguments_end r))))
+without_operand t (Calling c r ∷ k) = at_close t (Have k (caller_tree c (arguments_end r)))
 without_operand t (Indexed x false ∷ k) = at_colon t (Want (Cut x LeftOut ∷ k)) Fail
 without_operand t (Cut x a ∷ k) = at_square t (Have k (Slice x a LeftOut))
 without_operand t k = Fail
@@ -376,6 +367,7 @@ begin (Signing o) t k = Want (Under o ∷ k)
 begin Grouping t k = Want (Inside ∷ k)
 begin Listing t k = Want (Listed InArray None ∷ k)
 begin Bracing t k = begin_brace k
+begin Fielding t k = NamesField k
 begin Choosing t k = Want (Condition NoBranch ∷ k)
 begin Letting t k = begin_line k
 begin Other t k = without_operand t k
@@ -420,9 +412,9 @@ abbrev pub equals_after : List Frame → List ℕ → Token → State
 equals_after k w (token.Sign sign.Equal) = Want (Value w ∷ k)
 equals_after k w t = Fail
 
-abbrev pub member_alone : List Frame → Option Word → State
-member_alone k (Some w) = Argued k (MemberAlone w)
-member_alone k None = Fail
+abbrev pub word_of_field : List Frame → Option Word → State
+word_of_field k (Some w) = Have k (Field w)
+word_of_field k None = Fail
 
 -- the first token after an opening brace, where an argument begins
 abbrev pub braced : List Frame → Option Key → Token → State
@@ -432,15 +424,6 @@ braced k None t = at_end_brace t (Have k (Map NoEntries)) (want t (Body Predicat
 abbrev pub key_in : List Frame → Option EntryRow → Option Key → Token → State
 key_in k r (Some key) t = Colons k r key
 key_in k r None t = at_end_brace t (Have k (Map (entries_end r))) Fail
-
-abbrev pub value_in : List Frame → Option EntryRow → Key → Option Constant → State
-value_in k r key (Some c) = Entered k (push_entry r key c)
-value_in k r key None = Fail
-
--- a token after a predicate
-abbrev pub argue : Token → List Frame → Argument → State
-argue t k (Expression l) = Fail
-argue t k a = argued t k a
 
 -- the next state, but after a key that may begin a predicate
 abbrev pub step_on : State → Token → State
@@ -455,18 +438,16 @@ step_on (Chosen k bs c a) t = else_after k bs c a t
 step_on (Alternate k bs c a) t = at_brace t (Want (Body (Last bs c a) NoLines ∷ k)) (at_if t (Want (Condition (Branch bs c a) ∷ k)))
 step_on (NamesLine k) t = word_after_let k t
 step_on (Named k w) t = equals_after k w t
-step_on (Argued k a) t = argue t k a
-step_on (NamesMember k) t = member_alone k (word_at t)
+step_on (Argued k p) t = argued t k (Braces p)
+step_on (NamesField k) t = word_of_field k (word_at t)
 step_on (Braced k) t = braced k (key_at t) t
 step_on (BracedKey k key) t = Fail
 step_on (Keys k r) t = key_in k r (key_at t) t
-step_on (Colons k r key) t = at_colon t (Values k r key) Fail
-step_on (Values k r key) t = value_in k r key (constant_at t)
-step_on (Entered k r) t = at_comma t (Keys k (Some r)) (at_end_brace t (Have k (Map (SomeEntries r false))) Fail)
+step_on (Colons k r key) t = at_colon t (Want (Entry r key ∷ k)) Fail
 step_on Fail t = Fail
 
 abbrev pub step : State → Token → State
-step (BracedKey k key) t = at_colon t (Values k None key) (step_on (want (key_token key) (Body Predicate NoLines ∷ k)) t)
+step (BracedKey k key) t = at_colon t (Want (Entry None key ∷ k)) (step_on (want (key_token key) (Body Predicate NoLines ∷ k)) t)
 step s t = step_on s t
 
 abbrev pub whole : List Frame → Tree → Option TreeProgram
