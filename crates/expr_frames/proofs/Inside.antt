@@ -2,10 +2,11 @@
 use Rattle.std.proofs.Common.{◌≡◌, ℕ, List, [], ◌∷◌, ◌++◌, inl, inr, ◌⊎◌, refl, ap}
 use Rattle.expr_tree.specs.Term.{list, unary, postfix, choice, index, slice, pipe, ternary, method, bound, predicate, answers, block_with}
 use Rattle.expr_tree.specs.Written.{terms_of}
+use Rattle.expr_parts.specs.Maps.{map_term}
 use Rattle.expr_parts.specs.Promotion.{call_of}
-use Rattle.expr_grammar.specs.Brackets.{tree_with, items_with, row_with, arguments_with, argument_row_with, argument_with, bound_with, else_with, program_with, lines_with, SomeInBrackets}
-use Rattle.expr_grammar.specs.Grammar.{Tree, Literal, Name, HashName, Paren, Array, Map, Call, If, Prefix, Infix, Member, Method, Index, Slice, Pipe, Ternary, Items, NoItems, SomeItems, Row, One, More, Arguments, NoArguments, SomeArguments, ArgumentRow, OneArgument, MoreArguments, Argument, Expression, MemberAlone, Braces, Bound, LeftOut, At, ElsePart, Else, ElseIf, TreeProgram, Program, Lines, NoLines, MoreLines}
-use Rattle.expr_frames.specs.Programs.{term_of, items_terms, row_terms, argument_terms, argument_row_terms, expression_terms, last_predicate, last_predicate_in_row, argument_predicate, else_before, bound_term, else_block, program_of, line_terms, word_text, prefix_operator, infix_meaning, joined, member_term}
+use Rattle.expr_grammar.specs.Brackets.{tree_with, items_with, row_with, entries_with, entry_row_with, arguments_with, argument_row_with, argument_with, bound_with, else_with, program_with, lines_with, SomeInBrackets}
+use Rattle.expr_grammar.specs.Grammar.{Tree, Literal, Name, HashName, Field, Paren, Array, Map, Call, If, Prefix, Infix, Member, Method, Index, Slice, Pipe, Ternary, Items, NoItems, SomeItems, Row, One, More, Entries, NoEntries, SomeEntries, EntryRow, OneEntry, MoreEntries, Arguments, NoArguments, SomeArguments, ArgumentRow, OneArgument, MoreArguments, Argument, Expression, Braces, Bound, LeftOut, At, ElsePart, Else, ElseIf, TreeProgram, Program, Lines, NoLines, MoreLines}
+use Rattle.expr_frames.specs.Programs.{term_of, items_terms, row_terms, entries_pairs, entry_row_pairs, argument_terms, argument_row_terms, expression_terms, last_predicate, last_predicate_in_row, argument_predicate, else_before, bound_term, else_block, program_of, line_terms, word_text, key_text, prefix_operator, infix_meaning, joined, member_term}
 
 module _ (at bracketed : List ℕ → Tree) (some : SomeInBrackets at bracketed) where
   same_name : (w : List ℕ) → term_of (bracketed w) ≡ term_of (at w)
@@ -20,9 +21,10 @@ module _ (at bracketed : List ℕ → Tree) (some : SomeInBrackets at bracketed)
     same_tree (Literal c) = refl
     same_tree (Name w) = same_name w
     same_tree (HashName w) = refl
+    same_tree (Field w) = refl
     same_tree (Paren t) = same_tree t
     same_tree (Array xs) = λ i. list (terms_of (same_items xs i))
-    same_tree (Map es) = refl
+    same_tree (Map es) = λ i. map_term (same_entries es i)
     same_tree (Call w xs) = λ i. call_of w (same_terms xs i) (same_predicate xs i)
     same_tree (If c a e) = λ i. choice (same_tree c i) (same_program a i) (same_else e i)
     same_tree (Prefix o t) = λ i. unary (prefix_operator o) (same_tree t i)
@@ -42,6 +44,14 @@ module _ (at bracketed : List ℕ → Tree) (some : SomeInBrackets at bracketed)
     same_row (One t) = λ i. same_tree t i ∷ []
     same_row (More r t) = λ i. same_row r i ++ same_tree t i ∷ []
 
+    same_entries : (es : Entries) → entries_pairs (entries_with bracketed es) ≡ entries_pairs (entries_with at es)
+    same_entries NoEntries = refl
+    same_entries (SomeEntries r comma) = same_entry_row r
+
+    same_entry_row : (r : EntryRow) → entry_row_pairs (entry_row_with bracketed r) ≡ entry_row_pairs (entry_row_with at r)
+    same_entry_row (OneEntry key t) = λ i. (key_text key, same_tree t i) ∷ []
+    same_entry_row (MoreEntries r key t) = λ i. same_entry_row r i ++ (key_text key, same_tree t i) ∷ []
+
     same_terms : (xs : Arguments) → argument_terms (arguments_with bracketed xs) ≡ argument_terms (arguments_with at xs)
     same_terms NoArguments = refl
     same_terms (SomeArguments r comma) = same_row_terms r
@@ -52,7 +62,6 @@ module _ (at bracketed : List ℕ → Tree) (some : SomeInBrackets at bracketed)
 
     same_expression : (a : Argument) → expression_terms (argument_with bracketed a) ≡ expression_terms (argument_with at a)
     same_expression (Expression t) = λ i. same_tree t i ∷ []
-    same_expression (MemberAlone w) = refl
     same_expression (Braces p) = refl
 
     same_predicate : (xs : Arguments) → last_predicate (arguments_with bracketed xs) ≡ last_predicate (arguments_with at xs)
@@ -65,7 +74,6 @@ module _ (at bracketed : List ℕ → Tree) (some : SomeInBrackets at bracketed)
 
     same_argument : (a : Argument) → argument_predicate (argument_with bracketed a) ≡ argument_predicate (argument_with at a)
     same_argument (Expression t) = refl
-    same_argument (MemberAlone w) = refl
     same_argument (Braces p) = λ i. predicate (same_program p i)
 
     same_bound : (b : Bound) → bound_term (bound_with bracketed b) ≡ bound_term (bound_with at b)

@@ -1,9 +1,8 @@
 -- The machine over what a program keeps: a state and the next token give the next state.
--- It models the grammar's `Machine`, so what a word or function names there (`Start`, `Holder`, `Caller`, `Section`, `Frame`, `State`, `close`, `settle`) it names here, with terms in place of trees: the types are those of `frame`.
+-- It models the grammar's `Machine`, so what a word or function names there (`Start`, `Holder`, `Caller`, `Section`, `Frame`, `State`, `close`, `settle`) it names here, with terms and heights in place of trees: the types are those of `frame`.
 use Rattle.std.specs.Prelude.{ℕ, true, false, List, [], ◌∷◌, ◌++◌, Option, Some, None, nat_lt, if◌then◌else◌, fold}
 use Rattle.expr_value.specs.declared.value.Value.{Value}
 use Rattle.expr_value.specs.declared.value.Value.TheVariants as value
-use Rattle.expr_value.specs.Names.{put}
 use Rattle.expr_token.specs.declared.token.Token.{Token}
 use Rattle.expr_token.specs.declared.token.Token.TheVariants as token
 use Rattle.expr_token.specs.declared.sign.Sign.{Sign}
@@ -11,10 +10,8 @@ use Rattle.expr_token.specs.declared.sign.Sign.TheVariants as sign
 use Rattle.expr_token.specs.declared.reserved.Reserved.{Reserved}
 use Rattle.expr_token.specs.declared.reserved.Reserved.TheVariants as reserved
 use Rattle.expr_token.specs.Spellings.{reserved_text}
-use Rattle.expr_tree.specs.Term.{Term, name, literal, list, unary, postfix, choice, index, slice, pipe, ternary, method, bound, unbounded, no_predicate, predicate, Block, answers, block_with}
-use Rattle.expr_tree.specs.Written.{terms_of}
-use Rattle.expr_parts.specs.Parts.{Given, bound_with}
-use Rattle.expr_parts.specs.Promotion.{call_of}
+use Rattle.expr_tree.specs.Term.{name, literal}
+use Rattle.expr_parts.specs.Parts.{Measured, MeasuredBlock, MeasuredLines, MeasuredPairs, Given, leaf, bracketed, prefixed, ranged, operated, coalesced, chosen, indexed, member_of, field_of, sliced, piped, ternary_of, method_of, array_of, called, mapped, answering, no_lines, none_given, no_pairs, line_more, given_more, given_program, pair_more}
 use Rattle.expr_grammar.specs.declared.sign.PrefixSign.TheVariants as prefix
 use Rattle.expr_grammar.specs.declared.sign.InfixSign.TheVariants as infixed
 use Rattle.expr_grammar.specs.declared.role.Role.{Role}
@@ -37,13 +34,16 @@ use Rattle.expr_frames.specs.declared.frame.Place.{Place}
 use Rattle.expr_frames.specs.declared.frame.Place.TheVariants as place
 use Rattle.expr_grammar.specs.Grammar.{prefix_level}
 use Rattle.expr_grammar.specs.Machine.{infix_reach, role_of, role_level}
-use Rattle.expr_frames.specs.Programs.{integer_value, prefix_operator, infix_meaning, joined, member_term}
+use Rattle.expr_frames.specs.declared.frame.Meaning.{Meaning}
+use Rattle.expr_frames.specs.declared.frame.Meaning.TheVariants as meaning
+use Rattle.expr_frames.specs.Programs.{integer_value, prefix_operator, infix_meaning}
 
 -- what a token is where an operand is wanted
 abbrev pub sign_start : Sign → Start
 sign_start sign.ParenOpen = start.Group
 sign_start sign.SquareOpen = start.List
 sign_start sign.BraceOpen = start.Brace
+sign_start sign.Dot = start.Field
 sign_start sign.Bang = start.Sign prefix.Bang
 sign_start sign.Plus = start.Sign prefix.Positive
 sign_start sign.Minus = start.Sign prefix.Negative
@@ -68,7 +68,7 @@ start_of (token.Raw s) = start.Literal (value.String s)
 start_of (token.Bytes s) = start.Literal (value.Bytes s)
 start_of (token.Sign s) = sign_start s
 
--- the text of a word, of a key, and the value of a literal
+-- the text of a word, and of a key
 abbrev pub text_at : Token → Option (List ℕ)
 text_at (token.Word w) = Some w
 text_at (token.Reserved r) = Some (reserved_text r)
@@ -80,17 +80,16 @@ key_text_at (token.Reserved r) = Some (reserved_text r)
 key_text_at (token.Quoted s) = Some s
 key_text_at t = None
 
-abbrev pub value_of_start : Start → Option Value
-value_of_start (start.Literal v) = Some v
-value_of_start s = None
-
-abbrev pub value_at : Token → Option Value
-value_at t = value_of_start (start_of t)
-
-abbrev pub make : Operand → Term
-make (operand.Name w) = name w
-make (operand.Member l w) = member_term l false w
+abbrev pub make : Operand → Measured
+make (operand.Name w) = leaf (name w)
+make (operand.Member l w) = member_of l false w
 make (operand.Whole l) = l
+
+-- what an infix makes of its operands
+abbrev pub joined_part : Meaning → Measured → Measured → Measured
+joined_part (meaning.Operator o) l r = operated o l r
+joined_part meaning.Range l r = ranged l r
+joined_part meaning.Default l r = coalesced l r
 
 abbrev pub reaches : Reaching → ℕ
 reaches (reaching.Under o) = prefix_level o
@@ -101,17 +100,17 @@ abbrev pub reach : Frame → ℕ
 reach (frame.Reaching r) = reaches r
 reach f = 0
 
-abbrev pub plug : Reaching → Term → Term
-plug (reaching.Under o) t = unary (prefix_operator o) t
-plug (reaching.After l o) t = joined (infix_meaning o) l t
-plug (reaching.Otherwise c a) t = postfix (ternary a t) c
+abbrev pub plug : Reaching → Measured → Measured
+plug (reaching.Under o) t = prefixed (prefix_operator o) t
+plug (reaching.After l o) t = joined_part (infix_meaning o) l t
+plug (reaching.Otherwise c a) t = ternary_of c a t
 
 pub record Settled : Type 0 where
   pub stack : List Frame
-  pub left : Term
+  pub left : Measured
 
 -- Closes the frames that don't capture level p.
-abbrev pub settle : ℕ → List Frame → Term → Settled
+abbrev pub settle : ℕ → List Frame → Measured → Settled
 settle p [] l = record { stack = []; left = l }
 settle p (frame.Reaching r ∷ k) l = if nat_lt p (reaches r) then settle p k (plug r l) else record { stack = frame.Reaching r ∷ k; left = l }
 settle p (f ∷ k) l = record { stack = f ∷ k; left = l }
@@ -124,7 +123,7 @@ pub data State : Type 0 where
 abbrev pub wanting : List Frame → State
 wanting k = On k place.Want
 
-abbrev pub whole : List Frame → Term → State
+abbrev pub whole : List Frame → Measured → State
 whole k t = On k (place.Have (operand.Whole t))
 
 -- The state s where the token is that sign, else the other one.
@@ -156,80 +155,64 @@ abbrev pub at_end_brace : Token → State → State → State
 at_end_brace (token.Sign sign.BraceClose) s r = s
 at_end_brace t s r = r
 
-abbrev pub at_dot : Token → State → State → State
-at_dot (token.Sign sign.Dot) s r = s
-at_dot t s r = r
-
 abbrev pub at_square_open : Token → State → State → State
 at_square_open (token.Sign sign.SquareOpen) s r = s
 at_square_open t s r = r
 
--- arguments so far: an expression is one more, a predicate takes the place of the one before
-abbrev pub none_given : Given
-none_given = record { terms = []; program = no_predicate }
-
-abbrev pub given_more : Given → Term → Given
-given_more g t = record { terms = g.terms ++ t ∷ []; program = g.program }
-
-abbrev pub given_program : Given → Block → Given
-given_program g b = record { terms = g.terms; program = predicate b }
-
-abbrev pub call_given : List ℕ → Given → Term
-call_given w g = call_of w g.terms g.program
-
 -- a list at a token that isn't a comma
 abbrev pub list_end : Holder → Token → Given → List Frame → State
-list_end holder.Array t g k = at_square t (whole k (list (terms_of g.terms))) Fail
-list_end (holder.Method l w) t g k = at_close t (whole k (postfix (method w (terms_of g.terms)) l)) Fail
+list_end holder.Array t g k = at_square t (whole k (array_of g)) Fail
+list_end (holder.Method l w) t g k = at_close t (whole k (method_of l w g)) Fail
 
 -- a list after an element
 abbrev pub listed : Token → Holder → Given → List Frame → State
 listed t h g k = at_comma t (wanting (frame.List h g ∷ k)) (list_end h t g k)
 
-abbrev pub call_term : Caller → Given → Term
-call_term (caller.Function w) g = call_given w g
-call_term (caller.Pipe l w) g = postfix (pipe (call_given w g)) l
+abbrev pub call_part : Caller → Given → Measured
+call_part (caller.Function w) g = called w g
+call_part (caller.Pipe l w) g = piped l (called w g)
 
 -- arguments at a token that isn't a comma, and after one of them
 abbrev pub call_end : Caller → Token → Given → List Frame → State
-call_end c t g k = at_close t (whole k (call_term c g)) Fail
+call_end c t g k = at_close t (whole k (call_part c g)) Fail
 
-abbrev pub called : Token → Caller → Given → List Frame → State
-called t c g k = at_comma t (wanting (frame.Call c g ∷ k)) (call_end c t g k)
+abbrev pub argument_end : Token → Caller → Given → List Frame → State
+argument_end t c g k = at_comma t (wanting (frame.Call c g ∷ k)) (call_end c t g k)
 
-abbrev pub argued : Token → List Frame → Block → State
-argued t (frame.Call c g ∷ k) b = called t c (given_program g b) k
+abbrev pub argued : Token → List Frame → MeasuredBlock → State
+argued t (frame.Call c g ∷ k) b = argument_end t c (given_program g b) k
 argued t k b = Fail
 
 -- a choice inside the branches before it
-abbrev pub nest : List (Term × Block) → Term → Term
+abbrev pub nest : List (Measured × MeasuredBlock) → Measured → Measured
 nest [] t = t
-nest (b ∷ bs) t = choice b.0 b.1 (answers (nest bs t))
+nest (b ∷ bs) t = chosen b.0 b.1 (answering no_lines (nest bs t))
 
 -- a program between braces is whole
-abbrev pub after_section : Section → Block → List Frame → State
+abbrev pub after_section : Section → MeasuredBlock → List Frame → State
 after_section section.Top p k = Fail
 after_section (section.Then bs c) p k = On k (place.Chosen bs c p)
-after_section (section.Last bs c a) p k = whole k (nest bs (choice c a p))
+after_section (section.Last bs c a) p k = whole k (nest bs (chosen c a p))
 after_section section.Predicate p k = On k (place.Argued p)
 
 -- a line is whole
-abbrev pub bind : List Frame → List ℕ → Term → State
-bind (frame.Body b ls ∷ k) w t = wanting (frame.Body b (ls ++ (w, t) ∷ []) ∷ k)
+abbrev pub bind : List Frame → List ℕ → Measured → State
+bind (frame.Body b ls ∷ k) w t = wanting (frame.Body b (line_more ls w t) ∷ k)
 bind k w t = Fail
 
 -- A token that is no operator, after an operand: it ends what the innermost frame waits for.
-abbrev pub close : Token → List Frame → Term → State
-close t (frame.Inside ∷ k) l = at_close t (whole k l) Fail
+abbrev pub close : Token → List Frame → Measured → State
+close t (frame.Inside ∷ k) l = at_close t (whole k (bracketed l)) Fail
 close t (frame.Middle c ∷ k) l = at_colon t (wanting (frame.Reaching (reaching.Otherwise c l) ∷ k)) Fail
 close t (frame.List h g ∷ k) l = listed t h (given_more g l) k
-close t (frame.Call c g ∷ k) l = called t c (given_more g l) k
-close t (frame.Index x true ∷ k) l = at_square t (whole k (postfix (index l true) x)) Fail
-close t (frame.Index x false ∷ k) l = at_colon t (wanting (frame.Cut x (Some l) ∷ k)) (at_square t (whole k (postfix (index l false) x)) Fail)
-close t (frame.Cut x a ∷ k) l = at_square t (whole k (postfix (slice (bound_with a) (bound l)) x)) Fail
-close t (frame.Condition bs ∷ k) l = at_brace t (wanting (frame.Body (section.Then bs l) [] ∷ k)) Fail
-close t (frame.Body b ls ∷ k) l = at_end_brace t (after_section b (block_with ls l) k) Fail
+close t (frame.Call c g ∷ k) l = argument_end t c (given_more g l) k
+close t (frame.Index x true ∷ k) l = at_square t (whole k (indexed x l true)) Fail
+close t (frame.Index x false ∷ k) l = at_colon t (wanting (frame.Cut x (Some l) ∷ k)) (at_square t (whole k (indexed x l false)) Fail)
+close t (frame.Cut x a ∷ k) l = at_square t (whole k (sliced x a (Some l))) Fail
+close t (frame.Condition bs ∷ k) l = at_brace t (wanting (frame.Body (section.Then bs l) no_lines ∷ k)) Fail
+close t (frame.Body b ls ∷ k) l = at_end_brace t (after_section b (answering ls l) k) Fail
 close t (frame.Value w ∷ k) l = at_semicolon t (bind k w l) Fail
+close t (frame.Entry m key ∷ k) l = at_comma t (On k (place.Keys (pair_more m key l))) (at_end_brace t (whole k (mapped (pair_more m key l))) Fail)
 close t k l = Fail
 
 -- an opening parenthesis after an operand
@@ -239,7 +222,7 @@ apply k (operand.Member l w) = wanting (frame.List (holder.Method l w) none_give
 apply k (operand.Whole l) = Fail
 
 -- A token after an operand, once the frames are settled.
-abbrev pub after_operand : Role → Token → List Frame → Term → State
+abbrev pub after_operand : Role → Token → List Frame → Measured → State
 after_operand (Binary o) t k l = wanting (frame.Reaching (reaching.After l o) ∷ k)
 after_operand Negating t k l = On k (place.Negated l)
 after_operand Asking t k l = wanting (frame.Middle l ∷ k)
@@ -262,9 +245,9 @@ follow r t k h = after_settled r t (settle (role_level r) k (make h))
 -- A token that begins no operand, where one is wanted.
 abbrev pub without_operand : Token → List Frame → State
 without_operand t (frame.List h g ∷ k) = list_end h t g k
-without_operand t (frame.Call c g ∷ k) = at_dot t (On (frame.Call c g ∷ k) place.NamesMember) (call_end c t g k)
+without_operand t (frame.Call c g ∷ k) = call_end c t g k
 without_operand t (frame.Index x false ∷ k) = at_colon t (wanting (frame.Cut x None ∷ k)) Fail
-without_operand t (frame.Cut x a ∷ k) = at_square t (whole k (postfix (slice (bound_with a) unbounded) x)) Fail
+without_operand t (frame.Cut x a ∷ k) = at_square t (whole k (sliced x a None)) Fail
 without_operand t k = Fail
 
 abbrev pub begin_line : List Frame → State
@@ -273,16 +256,17 @@ begin_line k = Fail
 
 abbrev pub begin_brace : List Frame → State
 begin_brace (frame.Call c g ∷ k) = On (frame.Call c g ∷ k) place.Braced
-begin_brace k = On k (place.Keys [])
+begin_brace k = On k (place.Keys no_pairs)
 
 abbrev pub begin : Start → List Frame → State
-begin (start.Literal v) k = whole k (literal v)
+begin (start.Literal v) k = whole k (leaf (literal v))
 begin (start.Name w) k = On k (place.Have (operand.Name w))
-begin (start.HashName w) k = whole k (name w)
+begin (start.HashName w) k = whole k (leaf (name w))
 begin (start.Sign o) k = wanting (frame.Reaching (reaching.Under o) ∷ k)
 begin start.Group k = wanting (frame.Inside ∷ k)
 begin start.List k = wanting (frame.List holder.Array none_given ∷ k)
 begin start.Brace k = begin_brace k
+begin start.Field k = On k place.NamesField
 begin start.Choice k = wanting (frame.Condition [] ∷ k)
 begin start.Line k = begin_line k
 begin (start.Other t) k = without_operand t k
@@ -291,33 +275,33 @@ begin (start.Other t) k = without_operand t k
 abbrev pub want : Token → List Frame → State
 want t k = begin (start_of t) k
 
-abbrev pub word_after_dot : List Frame → Term → Option (List ℕ) → State
+abbrev pub word_after_dot : List Frame → Measured → Option (List ℕ) → State
 word_after_dot k l (Some w) = On k (place.Have (operand.Member l w))
 word_after_dot k l None = Fail
 
-abbrev pub word_after_question : List Frame → Term → Option (List ℕ) → State
-word_after_question k l (Some w) = whole k (member_term l true w)
+abbrev pub word_after_question : List Frame → Measured → Option (List ℕ) → State
+word_after_question k l (Some w) = whole k (member_of l true w)
 word_after_question k l None = Fail
 
-abbrev pub in_after_not : List Frame → Term → Token → State
+abbrev pub in_after_not : List Frame → Measured → Token → State
 in_after_not k l (token.Reserved reserved.In) = wanting (frame.Reaching (reaching.After l infixed.NotIn) ∷ k)
 in_after_not k l t = Fail
 
-abbrev pub word_after_bar : List Frame → Term → Token → State
+abbrev pub word_after_bar : List Frame → Measured → Token → State
 word_after_bar k l (token.Word w) = On k (place.Piped l w)
 word_after_bar k l t = Fail
 
-abbrev pub open_after_word : List Frame → Term → List ℕ → Token → State
+abbrev pub open_after_word : List Frame → Measured → List ℕ → Token → State
 open_after_word k l w (token.Sign sign.ParenOpen) = wanting (frame.Call (caller.Pipe l w) none_given ∷ k)
 open_after_word k l w t = Fail
 
-abbrev pub else_after : List Frame → List (Term × Block) → Term → Block → Token → State
+abbrev pub else_after : List Frame → List (Measured × MeasuredBlock) → Measured → MeasuredBlock → Token → State
 else_after k bs c a (token.Reserved reserved.Else) = On k (place.Alternate bs c a)
 else_after k bs c a t = Fail
 
 -- a program or another condition, after `else`
-abbrev pub alternative : List Frame → List (Term × Block) → Term → Block → Token → State
-alternative k bs c a (token.Sign sign.BraceOpen) = wanting (frame.Body (section.Last bs c a) [] ∷ k)
+abbrev pub alternative : List Frame → List (Measured × MeasuredBlock) → Measured → MeasuredBlock → Token → State
+alternative k bs c a (token.Sign sign.BraceOpen) = wanting (frame.Body (section.Last bs c a) no_lines ∷ k)
 alternative k bs c a (token.Reserved reserved.If) = wanting (frame.Condition (bs ++ (c, a) ∷ []) ∷ k)
 alternative k bs c a t = Fail
 
@@ -329,29 +313,25 @@ abbrev pub equals_after : List Frame → List ℕ → Token → State
 equals_after k w (token.Sign sign.Equal) = wanting (frame.Value w ∷ k)
 equals_after k w t = Fail
 
-abbrev pub member_alone : List Frame → Option (List ℕ) → State
-member_alone k (Some w) = On k (place.Argued (answers (name w)))
-member_alone k None = Fail
+abbrev pub word_of_field : List Frame → Option (List ℕ) → State
+word_of_field k (Some w) = whole k (field_of w)
+word_of_field k None = Fail
 
 -- the first token after an opening brace, where an argument begins
 abbrev pub braced : List Frame → Token → State
 braced k (token.Word w) = On k (place.BracedKey (token.Word w))
 braced k (token.Reserved r) = On k (place.BracedKey (token.Reserved r))
 braced k (token.Quoted s) = On k (place.BracedKey (token.Quoted s))
-braced k (token.Sign sign.BraceClose) = whole k (literal (value.Map []))
-braced k t = want t (frame.Body section.Predicate [] ∷ k)
+braced k (token.Sign sign.BraceClose) = whole k (mapped no_pairs)
+braced k t = want t (frame.Body section.Predicate no_lines ∷ k)
 
 -- a key or the end, after a comma or an opening brace
-abbrev pub key_in : List Frame → List (List ℕ × Value) → Option (List ℕ) → Token → State
+abbrev pub key_in : List Frame → MeasuredPairs → Option (List ℕ) → Token → State
 key_in k m (Some key) t = On k (place.Colons m key)
-key_in k m None t = at_end_brace t (whole k (literal (value.Map m))) Fail
-
-abbrev pub value_in : List Frame → List (List ℕ × Value) → List ℕ → Option Value → State
-value_in k m key (Some v) = On k (place.Entered (put key v m))
-value_in k m key None = Fail
+key_in k m None t = at_end_brace t (whole k (mapped m)) Fail
 
 abbrev pub value_after_key : List Frame → Option (List ℕ) → State
-value_after_key k (Some key) = On k (place.Values [] key)
+value_after_key k (Some key) = wanting (frame.Entry no_pairs key ∷ k)
 value_after_key k None = Fail
 
 abbrev pub step_on : List Frame → Place → Token → State
@@ -367,44 +347,42 @@ step_on k (place.Alternate bs c a) t = alternative k bs c a t
 step_on k place.NamesLine t = word_after_let k t
 step_on k (place.Named w) t = equals_after k w t
 step_on k (place.Argued b) t = argued t k b
-step_on k place.NamesMember t = member_alone k (text_at t)
+step_on k place.NamesField t = word_of_field k (text_at t)
 step_on k place.Braced t = braced k t
 step_on k (place.BracedKey key) t = Fail
 step_on k (place.Keys m) t = key_in k m (key_text_at t) t
-step_on k (place.Colons m key) t = at_colon t (On k (place.Values m key)) Fail
-step_on k (place.Values m key) t = value_in k m key (value_at t)
-step_on k (place.Entered m) t = at_comma t (On k (place.Keys m)) (at_end_brace t (whole k (literal (value.Map m))) Fail)
+step_on k (place.Colons m key) t = at_colon t (wanting (frame.Entry m key ∷ k)) Fail
 
 abbrev pub steps_on : State → Token → State
 steps_on (On k p) t = step_on k p t
 steps_on Fail t = Fail
 
 abbrev pub step_in : List Frame → Place → Token → State
-step_in k (place.BracedKey key) t = at_colon t (value_after_key k (key_text_at key)) (steps_on (want key (frame.Body section.Predicate [] ∷ k)) t)
+step_in k (place.BracedKey key) t = at_colon t (value_after_key k (key_text_at key)) (steps_on (want key (frame.Body section.Predicate no_lines ∷ k)) t)
 step_in k p t = step_on k p t
 
 abbrev pub step : State → Token → State
 step (On k p) t = step_in k p t
 step Fail t = Fail
 
-abbrev pub whole_in : List Frame → Term → Option Block
-whole_in (frame.Body section.Top ls ∷ []) l = Some (block_with ls l)
+abbrev pub whole_in : List Frame → Measured → Option MeasuredBlock
+whole_in (frame.Body section.Top ls ∷ []) l = Some (answering ls l)
 whole_in k l = None
 
-abbrev pub whole_of : Settled → Option Block
+abbrev pub whole_of : Settled → Option MeasuredBlock
 whole_of a = whole_in a.stack a.left
 
-abbrev pub finish_in : List Frame → Place → Option Block
+abbrev pub finish_in : List Frame → Place → Option MeasuredBlock
 finish_in k (place.Have h) = whole_of (settle 0 k (make h))
 finish_in k p = None
 
-abbrev pub finish : State → Option Block
+abbrev pub finish : State → Option MeasuredBlock
 finish (On k p) = finish_in k p
 finish Fail = None
 
 abbrev pub first_state : State
-first_state = wanting (frame.Body section.Top [] ∷ [])
+first_state = wanting (frame.Body section.Top no_lines ∷ [])
 
--- the program of a token list, if it has one
-abbrev pub block_of_tokens : List Token → Option Block
+-- the program of a token list, if it has one, and its height
+abbrev pub block_of_tokens : List Token → Option MeasuredBlock
 block_of_tokens ts = finish (fold step first_state ts)

@@ -1,14 +1,14 @@
 -- The program of a tree: brackets, commas and spellings are dropped.
-use Rattle.std.specs.Prelude.{◌≡◌, ℕ, ℤ, pos, Bool, true, false, List, [], ◌∷◌, ◌++◌, Option, Some, None}
+use Rattle.std.specs.Prelude.{◌≡◌, ℕ, ℤ, pos, Bool, true, false, List, [], ◌∷◌, ◌++◌, Option, Some, None, codes}
 use Rattle.expr_value.specs.declared.value.Value.{Value}
 use Rattle.expr_value.specs.declared.value.Value.TheVariants as value
-use Rattle.expr_value.specs.Names.{put}
 use Rattle.expr_token.specs.Spellings.{reserved_text}
 use Rattle.expr_tree.specs.declared.operator.UnaryOperator.{UnaryOperator}
 use Rattle.expr_tree.specs.declared.operator.UnaryOperator.TheVariants as prefixed
 use Rattle.expr_tree.specs.declared.operator.Operator.TheVariants as operator
 use Rattle.expr_tree.specs.Term.{Term, name, literal, list, range, unary, operation, postfix, choice, index, slice, coalesce, pipe, ternary, method, Bound as BoundTerm, unbounded, bound, Predicate, no_predicate, predicate, Block, answers, LineTerms, block_with}
 use Rattle.expr_tree.specs.Written.{terms_of}
+use Rattle.expr_parts.specs.Maps.{map_term}
 use Rattle.expr_parts.specs.Promotion.{call_of}
 use Rattle.expr_grammar.specs.declared.sign.PrefixSign.{PrefixSign}
 use Rattle.expr_grammar.specs.declared.sign.PrefixSign.TheVariants as prefix
@@ -17,7 +17,7 @@ use Rattle.expr_grammar.specs.declared.sign.InfixSign.TheVariants as infixed
 use Rattle.expr_frames.specs.declared.frame.Meaning.{Meaning}
 use Rattle.expr_frames.specs.declared.frame.Meaning.TheVariants as meaning
 use Rattle.expr_grammar.specs.Brackets.{program_with, SomeInBrackets}
-use Rattle.expr_grammar.specs.Grammar.{Word, Usual, ReservedWord, Constant, True, False, Nil, Integer, Quoted, Raw, Bytes, Key, WordKey, QuotedKey, EntryRow, OneEntry, MoreEntries, Entries, NoEntries, SomeEntries, Tree, Literal, Name, HashName, Paren, Array, Map, Call, If, Prefix, Infix, Member, Method, Index, Slice, Pipe, Ternary, Items, NoItems, SomeItems, Row, One, More, Arguments, NoArguments, SomeArguments, ArgumentRow, OneArgument, MoreArguments, Argument, Expression, MemberAlone, Braces, Bound, LeftOut, At, ElsePart, Else, ElseIf, TreeProgram, Program, Lines, NoLines, MoreLines}
+use Rattle.expr_grammar.specs.Grammar.{Word, Usual, ReservedWord, Constant, True, False, Nil, Integer, Quoted, Raw, Bytes, Key, WordKey, QuotedKey, EntryRow, OneEntry, MoreEntries, Entries, NoEntries, SomeEntries, Tree, Literal, Name, HashName, Field, Paren, Array, Map, Call, If, Prefix, Infix, Member, Method, Index, Slice, Pipe, Ternary, Items, NoItems, SomeItems, Row, One, More, Arguments, NoArguments, SomeArguments, ArgumentRow, OneArgument, MoreArguments, Argument, Expression, Braces, Bound, LeftOut, At, ElsePart, Else, ElseIf, TreeProgram, Program, Lines, NoLines, MoreLines}
 
 abbrev pub word_text : Word → List ℕ
 word_text (Usual w) = w
@@ -40,15 +40,6 @@ constant_value (Integer n) = integer_value n
 constant_value (Quoted s) = value.String s
 constant_value (Raw s) = value.String s
 constant_value (Bytes s) = value.Bytes s
-
--- A repeated key keeps its place and takes the later value.
-abbrev pub entry_row_pairs : EntryRow → List (List ℕ × Value)
-entry_row_pairs (OneEntry key c) = put (key_text key) (constant_value c) []
-entry_row_pairs (MoreEntries r key c) = put (key_text key) (constant_value c) (entry_row_pairs r)
-
-abbrev pub entries_pairs : Entries → List (List ℕ × Value)
-entries_pairs NoEntries = []
-entries_pairs (SomeEntries r comma) = entry_row_pairs r
 
 -- what the signs stand for
 abbrev pub prefix_operator : PrefixSign → UnaryOperator
@@ -93,6 +84,10 @@ joined meaning.Default l r = postfix (coalesce r) l
 abbrev pub member_term : Term → Bool → List ℕ → Term
 member_term l optional w = postfix (index (literal (value.String w)) optional) l
 
+-- `.word` is the member of the hash name `#`
+abbrev pub field_term : List ℕ → Term
+field_term w = member_term (name (codes "#")) false w
+
 -- the predicate of an argument, else the one before it
 abbrev pub else_before : Predicate → Predicate → Predicate
 else_before no_predicate before = before
@@ -103,9 +98,10 @@ abbrev mutual
   term_of (Literal c) = literal (constant_value c)
   term_of (Name w) = name w
   term_of (HashName w) = name w
+  term_of (Field w) = field_term (word_text w)
   term_of (Paren t) = term_of t
   term_of (Array xs) = list (terms_of (items_terms xs))
-  term_of (Map es) = literal (value.Map (entries_pairs es))
+  term_of (Map es) = map_term (entries_pairs es)
   term_of (Call w xs) = call_of w (argument_terms xs) (last_predicate xs)
   term_of (If c a e) = choice (term_of c) (program_of a) (else_block e)
   term_of (Prefix o t) = unary (prefix_operator o) (term_of t)
@@ -125,6 +121,15 @@ abbrev mutual
   row_terms (One t) = term_of t ∷ []
   row_terms (More r t) = row_terms r ++ term_of t ∷ []
 
+  -- the keys and values of a map literal, in order, repeated keys included
+  pub entries_pairs : Entries → List (List ℕ × Term)
+  entries_pairs NoEntries = []
+  entries_pairs (SomeEntries r comma) = entry_row_pairs r
+
+  pub entry_row_pairs : EntryRow → List (List ℕ × Term)
+  entry_row_pairs (OneEntry key t) = (key_text key, term_of t) ∷ []
+  entry_row_pairs (MoreEntries r key t) = entry_row_pairs r ++ (key_text key, term_of t) ∷ []
+
   -- the expressions among a call's arguments, in order
   pub argument_terms : Arguments → List Term
   argument_terms NoArguments = []
@@ -136,7 +141,6 @@ abbrev mutual
 
   pub expression_terms : Argument → List Term
   expression_terms (Expression t) = term_of t ∷ []
-  expression_terms (MemberAlone w) = []
   expression_terms (Braces p) = []
 
   -- the last predicate among a call's arguments, if there is one
@@ -150,7 +154,6 @@ abbrev mutual
 
   pub argument_predicate : Argument → Predicate
   argument_predicate (Expression t) = no_predicate
-  argument_predicate (MemberAlone w) = predicate (answers (name (word_text w)))
   argument_predicate (Braces p) = predicate (program_of p)
 
   pub bound_term : Bound → BoundTerm
@@ -179,8 +182,3 @@ BracketsLeaveProgram = (ls : Lines) (t : Tree) → program_of (Program ls (Paren
 -- Brackets round expressions inside a program leave it.
 abbrev pub BracketsLeaveInside : Type 0
 BracketsLeaveInside = (p : TreeProgram) (at bracketed : List ℕ → Tree) → SomeInBrackets at bracketed → program_of (program_with bracketed p) ≡ program_of (program_with at p)
-
--- the program of a tree, if there is one
-abbrev pub program_if_any : Option TreeProgram → Option Block
-program_if_any None = None
-program_if_any (Some p) = Some (program_of p)

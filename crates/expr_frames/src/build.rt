@@ -1,8 +1,8 @@
 //! What a sign, a word and a token stand for.
 
 ghost use Rattle.std.specs.Prelude.{◌≡◌, ◌∷◌, [], ◌++◌, IfOk, MatchOption};
-ghost use Rattle.expr_tree.specs.Term.{choice};
-ghost use Rattle.expr_frames.specs.Programs.{prefix_operator, infix_meaning, joined, member_term};
+ghost use Rattle.expr_parts.specs.Parts.{chosen};
+ghost use Rattle.expr_frames.specs.Programs.{prefix_operator, infix_meaning};
 ghost use Rattle.expr_frames.specs.Nodes as machine;
 ghost use Rattle.expr_frames.specs.Faults.{HoldsNoBody, HoldsNoCall, HoldsNoOperand};
 ghost use Rattle.expr_frames.specs.declared.frame.Frame.TheVariants as frame;
@@ -12,7 +12,7 @@ use crate::frame::{Branches, Caller, Fault, Frame, Meaning, Operand, Place, Reac
 use expr_grammar::sign::{InfixSign, PrefixSign};
 use expr_parts::{Arguments, Lines, Part, ProgramPart};
 use expr_tree::operator::{Operator, UnaryOperator};
-use expr_value::{Items, Text, Value};
+use expr_value::Items;
 use std::alloc::{AllocError, AllocFailed, Global};
 
 impl From<AllocError> for Fault {
@@ -77,7 +77,7 @@ fn meaning(sign: InfixSign) -> Meaning
 }
 
 fn join(alloc: Global, sign: InfixSign, left: Part, right: Part) -> Result<Part, AllocError>
-    ensures { IfOk result (λ p. p ≡ joined (infix_meaning sign) left right) }
+    ensures { IfOk result (λ p. p ≡ machine.joined_part (infix_meaning sign) left right) }
 {
     match meaning(sign) {
         Meaning::Operator(operator) => Part::operation(alloc, operator, left, right),
@@ -173,7 +173,7 @@ impl Operand {
     {
         match self {
             Operand::Name(name) => Ok(Part::name(name.into_string())),
-            Operand::Member(left, name) => member(alloc, left, name, false),
+            Operand::Member(left, name) => Part::member(alloc, left, name, false),
             Operand::Whole(part) => Ok(part),
         }
     }
@@ -182,7 +182,7 @@ impl Operand {
 impl Caller {
     /// The call with these arguments.
     pub fn call(self, alloc: Global, arguments: Arguments) -> Result<Part, AllocError>
-        ensures { IfOk result (λ p. p ≡ machine.call_term self arguments) }
+        ensures { IfOk result (λ p. p ≡ machine.call_part self arguments) }
     {
         match self {
             Caller::Function(name) => arguments.call(name.into_string()),
@@ -194,13 +194,6 @@ impl Caller {
     }
 }
 
-/// A member is an index by the text of its word.
-pub fn member(alloc: Global, left: Part, name: Text, optional: bool) -> Result<Part, AllocError>
-    ensures { IfOk result (λ p. p ≡ member_term left optional name) }
-{
-    Part::index(alloc, left, Part::literal(Value::String(name)), optional)
-}
-
 /// A choice, inside the branches before it.
 pub fn nested(
     alloc: Global,
@@ -209,7 +202,7 @@ pub fn nested(
     then: ProgramPart,
     otherwise: ProgramPart,
 ) -> Result<Part, AllocError>
-    ensures { IfOk result (λ p. p ≡ machine.nest before (choice condition then otherwise)) }
+    ensures { IfOk result (λ p. p ≡ machine.nest before (chosen condition then otherwise)) }
 {
     let mut branches = before.into_vec();
     let mut inner = Part::conditional(alloc, condition, then, otherwise)?;

@@ -2,14 +2,14 @@
 //! stands in a box.
 //!
 //! A type here bears the name of what it models in the grammar's machine (`Start`, `Holder`, `Caller`, `Branches`,
-//! `Section`, `Frame`): parts stand here where trees stand there. So do `Arguments` and `Lines`, which are of the
-//! grammar there.
+//! `Section`, `Frame`): parts stand here where trees stand there. So do `Arguments`, `Entries` and `Lines`, which are
+//! of the grammar there.
 
 use expr_grammar::sign::{InfixSign, PrefixSign};
-use expr_parts::{Arguments, Lines, Part, ProgramPart};
+use expr_parts::{Arguments, Entries, Lines, Part, ProgramPart};
 use expr_token::Token;
 use expr_tree::operator::Operator;
-use expr_value::{Boxed, Items, Text, Value, ValueMap};
+use expr_value::{Boxed, Items, Text, Value};
 
 /// The branches of a choice before its last one.
 pub type Branches = Items<(Part, ProgramPart)>;
@@ -58,6 +58,7 @@ pub enum Frame {
     Condition(Branches),
     Body(Section, Lines),
     Value(Text),
+    Entry(Entries, Text),
 }
 
 /// An operand, as far as arguments may follow it.
@@ -83,13 +84,11 @@ pub enum Place {
     NamesLine,
     Named(Text),
     Argued(ProgramPart),
-    NamesMember,
+    NamesField,
     Braced,
     BracedKey(Token),
-    Keys(ValueMap),
-    Colons(ValueMap, Text),
-    Values(ValueMap, Text),
-    Entered(ValueMap),
+    Keys(Entries),
+    Colons(Entries, Text),
 }
 
 /// What a token is where an operand is wanted.
@@ -102,6 +101,7 @@ pub enum Start {
     Group,
     List,
     Brace,
+    Field,
     Choice,
     Line,
     Other(Token),

@@ -3,7 +3,8 @@
 ghost use Rattle.std.specs.Prelude.{◌≡◌, List};
 ghost use Rattle.expr_token.specs.declared.token.Token.{Token};
 ghost use Rattle.expr_grammar.specs.Machine.{tree_of};
-ghost use Rattle.expr_frames.specs.Programs.{program_if_any, BracketsLeaveExpression, BracketsLeaveInside, BracketsLeaveProgram};
+ghost use Rattle.expr_frames.specs.Measures.{measured_if_any};
+ghost use Rattle.expr_frames.specs.Programs.{BracketsLeaveExpression, BracketsLeaveInside, BracketsLeaveProgram};
 ghost use Rattle.expr_frames.specs.Nodes.{block_of_tokens};
 
 /// Brackets round an expression leave its program, also round expressions inside a program.
@@ -13,7 +14,7 @@ pub fn brackets_leave_program()
     ensures inside { BracketsLeaveInside }
 {}
 
-// The machine over what is kept answers the program of that tree.
+// The machine over what is kept answers the program of that tree, and its height.
 fn erasure()
-    ensures { (ts : List Token) → block_of_tokens ts ≡ program_if_any (tree_of ts) }
+    ensures { (ts : List Token) → block_of_tokens ts ≡ measured_if_any (tree_of ts) }
 {}

@@ -65,6 +65,7 @@ fn start_of_sign(sign: Sign) -> Start
         Sign::ParenOpen => Start::Group,
         Sign::SquareOpen => Start::List,
         Sign::BraceOpen => Start::Brace,
+        Sign::Dot => Start::Field,
         Sign::Bang => Start::Sign(PrefixSign::Bang),
         Sign::Plus => Start::Sign(PrefixSign::Positive),
         Sign::Minus => Start::Sign(PrefixSign::Negative),
@@ -92,15 +93,5 @@ pub fn key(alloc: Global, token: Token) -> Result<Text, Fault>
         Token::Reserved(word) => Ok(Text::copy(alloc, word.spelling())?),
         Token::Quoted(text) => Ok(text),
         _ => Err(Fault::Syntax),
-    }
-}
-
-/// The value of a literal.
-pub fn constant(token: Token) -> Option<Value>
-    ensures { result ≡ machine.value_at token }
-{
-    match start(token) {
-        Start::Literal(value) => Some(value),
-        _ => None,
     }
 }

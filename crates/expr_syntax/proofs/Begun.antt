@@ -3,7 +3,7 @@ use Rattle.std.proofs.Common.{◌≡◌, ℕ, ◌≤◌, List, [], ◌∷◌, �
 use Rattle.std.proofs.lemmas.List.{map-id}
 use Rattle.std.proofs.Math.Seq.{take-append_seam}
 use Rattle.expr_token.specs.declared.token.Token.{Token}
-use Rattle.expr_tree.specs.declared.node.Program.{Program as NodeProgram}
+use Rattle.expr_parts.specs.Parts.{MeasuredBlock}
 use Rattle.expr_frames.specs.declared.frame.Frame.{Frame as NodeFrame}
 use Rattle.expr_frames.specs.declared.frame.Place.{Place}
 use Rattle.expr_frames.specs.Nodes as node
@@ -40,7 +40,7 @@ module _ (ts seen : List Token) (i : ℕ) (k : List NodeFrame) (p : Place) (coun
       (omega arith, (begun [] (same ∙ sym (append-nil seen)), λ less. absurd (omega arith)))
 
 -- a program of these tokens begins with them
-pub begins_parse : (ts : List Token) (n : NodeProgram) → IsParse ts n → SomeBegins ts
+pub begins_parse : (ts : List Token) (n : MeasuredBlock) → IsParse ts n → SomeBegins ts
 begins_parse ts n h = record { tree = h.tree; rest = []; spells = h.spells ∙ sym (append-nil ts); fits = h.fits }
 
 pub begins_large : (ts : List Token) → IsTooLarge ts → SomeBegins ts

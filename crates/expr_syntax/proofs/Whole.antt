@@ -4,13 +4,11 @@ use Rattle.std.proofs.lemmas.List.{length-append}
 use Rattle.std.proofs.Math.Seq.{take-append_seam}
 use Rattle.std.proofs.lemmas.List.Sums.{fold-append}
 use Rattle.expr_token.specs.declared.token.Token.{Token}
-use Rattle.expr_tree.specs.declared.node.Program.{Program}
-use Rattle.expr_tree.specs.Term.{Block}
-use Rattle.expr_tree.specs.Written.{program_written}
+use Rattle.expr_parts.specs.Parts.{MeasuredBlock}
 use Rattle.expr_grammar.specs.Grammar.{TreeProgram, Spells, Fits, LiteralsFit, IntegerFits}
 use Rattle.std.specs.List.{AllByRecursion}
 use Rattle.expr_grammar.specs.Machine.{tree_of}
-use Rattle.expr_frames.specs.Programs.{program_of, program_if_any}
+use Rattle.expr_frames.specs.Measures.{measured_program, measured_if_any}
 use Rattle.expr_frames.specs.Nodes.{State, first_state, Fail, step, finish, block_of_tokens}
 use Rattle.expr_grammar.specs.Prefixes.{NoneBegins}
 use Rattle.expr_syntax.specs.Reading.{IsParse, IsTooLarge}
@@ -22,8 +20,8 @@ use Rattle.expr_frames.proofs.Erase.{erases}
 abbrev pub after : List Token → State
 after ts = fold step first_state ts
 
-pub program_is : (ts : List Token) (t : TreeProgram) → Spells t ts → Fits t → block_of_tokens ts ≡ Some (program_of t)
-program_is ts t s f = erases ts ∙ ap program_if_any (complete t ts s f)
+pub program_is : (ts : List Token) (t : TreeProgram) → Spells t ts → Fits t → block_of_tokens ts ≡ Some (measured_program t)
+program_is ts t s f = erases ts ∙ ap measured_if_any (complete t ts s f)
 
 -- a tree's literals are those of its tokens
 pub literals_of : (ts : List Token) (t : TreeProgram) → Spells t ts → AllByRecursion IntegerFits ts → LiteralsFit t
@@ -32,27 +30,27 @@ literals_of ts t s h = subst (λ us. AllByRecursion IntegerFits us) (sym s) h
 pub literals_in : (ts : List Token) (t : TreeProgram) → Spells t ts → LiteralsFit t → AllByRecursion IntegerFits ts
 literals_in ts t s h = subst (λ us. AllByRecursion IntegerFits us) s h
 
-pub parsed : (ts : List Token) (n : Program) (b : Block) → AllByRecursion IntegerFits ts → program_written n ≡ b → block_of_tokens ts ≡ Some b → IsParse ts n
-parsed ts n b l w h = choose (tree_of ts) refl
+pub parsed : (ts : List Token) (b : MeasuredBlock) → AllByRecursion IntegerFits ts → block_of_tokens ts ≡ Some b → IsParse ts b
+parsed ts b l h = choose (tree_of ts) refl
   where
-    choose : (o : Option TreeProgram) → tree_of ts ≡ o → IsParse ts n
-    choose None e = let c : None ≡ Some b = sym (erases ts ∙ ap program_if_any e) ∙ h in let d : ⊥ = cc in absurd d
+    choose : (o : Option TreeProgram) → tree_of ts ≡ o → IsParse ts b
+    choose None e = let c : None ≡ Some b = sym (erases ts ∙ ap measured_if_any e) ∙ h in let d : ⊥ = cc in absurd d
     choose (Some t) e =
         let s = sound t ts e in
-        let c : Some (program_of t) ≡ Some b = sym (erases ts ∙ ap program_if_any e) ∙ h in
+        let c : Some (measured_program t) ≡ Some b = sym (erases ts ∙ ap measured_if_any e) ∙ h in
         record { tree = t; spells = s.0; fits = s.1; literals = literals_of ts t s.0 l; same = cc }
 
-pub too_large : (ts : List Token) (b : Block) → ¬ AllByRecursion IntegerFits ts → block_of_tokens ts ≡ Some b → IsTooLarge ts
+pub too_large : (ts : List Token) (b : MeasuredBlock) → ¬ AllByRecursion IntegerFits ts → block_of_tokens ts ≡ Some b → IsTooLarge ts
 too_large ts b l h = choose (tree_of ts) refl
   where
     choose : (o : Option TreeProgram) → tree_of ts ≡ o → IsTooLarge ts
-    choose None e = let c : None ≡ Some b = sym (erases ts ∙ ap program_if_any e) ∙ h in let d : ⊥ = cc in absurd d
+    choose None e = let c : None ≡ Some b = sym (erases ts ∙ ap measured_if_any e) ∙ h in let d : ⊥ = cc in absurd d
     choose (Some t) e =
         let s = sound t ts e in
         record { tree = t; spells = s.0; fits = s.1; literals = λ f. l (literals_in ts t s.0 f) }
 
-pub only_program : (ts : List Token) (n : Program) (b : Block) → AllByRecursion IntegerFits ts → program_written n ≡ b → block_of_tokens ts ≡ Some b → (t : TreeProgram) → Spells t ts → Fits t → (program_written n ≡ program_of t) × LiteralsFit t
-only_program ts n b l w h t s f = let p = program_is ts t s f in (cc, literals_of ts t s l)
+pub only_program : (ts : List Token) (b : MeasuredBlock) → AllByRecursion IntegerFits ts → block_of_tokens ts ≡ Some b → (t : TreeProgram) → Spells t ts → Fits t → (b ≡ measured_program t) × LiteralsFit t
+only_program ts b l h t s f = let p = program_is ts t s f in (cc, literals_of ts t s l)
 
 pub no_tree : (ts : List Token) → block_of_tokens ts ≡ None → (t : TreeProgram) → Spells t ts → Fits t → ⊥
 no_tree ts h t s f = let p = program_is ts t s f in cc

@@ -1,10 +1,7 @@
 -- What the functions of the parser do, in the words of the machine.
 use Rattle.std.specs.Prelude.{◌≡◌, ℕ, ◌<◌, ◌≤◌, List, [], ◌∷◌, length, Option, Some, None, Result, Ok, Err, fold}
 use Rattle.expr_token.specs.declared.token.Token.{Token}
-use Rattle.expr_tree.specs.declared.node.Program.{Program}
-use Rattle.expr_tree.specs.Term.{Term, Block}
-use Rattle.expr_tree.specs.Written.{program_written}
-use Rattle.expr_parts.specs.Parts.{Given}
+use Rattle.expr_parts.specs.Parts.{Measured, MeasuredBlock, MeasuredLines, Given}
 use Rattle.expr_frames.specs.declared.frame.Caller.{Caller}
 use Rattle.expr_frames.specs.declared.frame.Frame.{Frame}
 use Rattle.expr_frames.specs.declared.frame.Frame.TheVariants as frame
@@ -16,7 +13,7 @@ use Rattle.expr_frames.specs.declared.frame.Fault.TheVariants as fault
 use Rattle.expr_syntax.specs.declared.parser.ParseError.{ParseError}
 use Rattle.expr_syntax.specs.declared.parser.ParseError.TheVariants as error
 use Rattle.expr_grammar.specs.Grammar.{TreeProgram, Spells, Fits, LiteralsFit}
-use Rattle.expr_frames.specs.Programs.{program_of}
+use Rattle.expr_frames.specs.Measures.{measured_program}
 use Rattle.expr_frames.specs.Nodes.{plug, settle, argued, bind, whole_in, State, On, Fail}
 use Rattle.expr_grammar.specs.Prefixes.{StopsAt}
 
@@ -33,26 +30,26 @@ Stands s fs (Err fault.Memory) = Unit {0}
 -- after the top frame is popped where arguments are open there
 abbrev pub IsCallOnTop : List Frame → List Frame → Option (Caller × Given) → Type 0
 IsCallOnTop old new (Some p) = old ≡ frame.Call p.0 p.1 ∷ new
-IsCallOnTop old new None = (t : Token) (b : Block) → argued t old b ≡ Fail
+IsCallOnTop old new None = (t : Token) (b : MeasuredBlock) → argued t old b ≡ Fail
 
 -- after the top frame is popped where a program is open there
-abbrev pub IsBodyOnTop : List Frame → List Frame → Option (Section × List (List ℕ × Term)) → Type 0
+abbrev pub IsBodyOnTop : List Frame → List Frame → Option (Section × MeasuredLines) → Type 0
 IsBodyOnTop old new (Some p) = old ≡ frame.Body p.0 p.1 ∷ new
-IsBodyOnTop old new None = ((w : List ℕ) (l : Term) → bind old w l ≡ Fail) × ((l : Term) → whole_in old l ≡ None)
+IsBodyOnTop old new None = ((w : List ℕ) (l : Measured) → bind old w l ≡ Fail) × ((l : Measured) → whole_in old l ≡ None)
 
 -- after the top frame is popped where it reaches above the level
 abbrev pub PopsAbove : ℕ → List Frame → List Frame → Option Reaching → Type 0
-PopsAbove p old new None = (l : Term) → settle p (stack old) l ≡ record { stack = stack new; left = l }
+PopsAbove p old new None = (l : Measured) → settle p (stack old) l ≡ record { stack = stack new; left = l }
 PopsAbove p old new (Some f) =
-    ((l : Term) → settle p (stack old) l ≡ settle p (stack new) (plug f l)) × (length new < length old)
+    ((l : Measured) → settle p (stack old) l ≡ settle p (stack new) (plug f l)) × (length new < length old)
 
--- the program of a tree that spells these tokens and fits, as do its literals
-pub record IsParse (ts : List Token) (n : Program) : Type 0 where
+-- the program and the height of a tree that spells these tokens and fits, as do its literals
+pub record IsParse (ts : List Token) (n : MeasuredBlock) : Type 0 where
   pub tree : TreeProgram
   pub spells : Spells tree ts
   pub fits : Fits tree
   pub literals : LiteralsFit tree
-  pub same : program_written n ≡ program_of tree
+  pub same : n ≡ measured_program tree
 
 -- a tree spells these tokens and fits, but a literal of it doesn't
 pub record IsTooLarge (ts : List Token) : Type 0 where
@@ -62,21 +59,21 @@ pub record IsTooLarge (ts : List Token) : Type 0 where
   pub literals : ¬ LiteralsFit tree
 
 -- the answer for a token list that has the tree t
-abbrev pub IsAnswer : TreeProgram → Result Program ParseError → Type 0
-IsAnswer t (Ok n) = (program_written n ≡ program_of t) × LiteralsFit t
+abbrev pub IsAnswer : TreeProgram → Result MeasuredBlock ParseError → Type 0
+IsAnswer t (Ok n) = (n ≡ measured_program t) × LiteralsFit t
 IsAnswer t (Err (error.Syntax place)) = ⊥
 IsAnswer t (Err error.Literal) = ¬ LiteralsFit t
 IsAnswer t (Err error.Memory) = Unit {0}
 
 -- where a literal is refused, there is a tree
-abbrev pub IsLiteralFault : List Token → Result Program ParseError → Type 0
+abbrev pub IsLiteralFault : List Token → Result MeasuredBlock ParseError → Type 0
 IsLiteralFault ts (Ok n) = Unit {0}
 IsLiteralFault ts (Err (error.Syntax place)) = Unit {0}
 IsLiteralFault ts (Err error.Literal) = IsTooLarge ts
 IsLiteralFault ts (Err error.Memory) = Unit {0}
 
 -- A fault's place is at the first token with which no program goes on, or the end.
-abbrev pub IsAtFault : List Token → Result Program ParseError → Type 0
+abbrev pub IsAtFault : List Token → Result MeasuredBlock ParseError → Type 0
 IsAtFault ts (Ok n) = Unit {0}
 IsAtFault ts (Err (error.Syntax place)) = (place ≤ length ts) × StopsAt ts place
 IsAtFault ts (Err error.Literal) = Unit {0}

@@ -8,7 +8,10 @@ use Rattle.expr_tree.specs.declared.node.Program.{Program}
 use Rattle.expr_value.specs.declared.error.Error.{Error}
 use Rattle.expr_value.specs.declared.error.Error.TheVariants.{PestError, ParseError, ExprError, RegexError, MemoryError}
 use Rattle.expr_grammar.specs.Grammar.{TreeProgram, Spells, Fits, LiteralsFit}
+use Rattle.expr_parts.specs.Parts.{MeasuredBlock}
+use Rattle.expr_frames.specs.Measures.{measured_program}
 use Rattle.expr_frames.specs.Programs.{program_of}
+use Rattle.expr_grammar.specs.Height.{program_height}
 use Rattle.expr_grammar.specs.Prefixes.{SomeBegins, NoneBegins}
 
 -- the tree spells what the text reads as, and fits
@@ -56,6 +59,62 @@ IsAnswerFor t (Err (ExprError message)) = ⊥
 IsAnswerFor t (Err (RegexError error)) = ⊥
 IsAnswerFor t (Err MemoryError) = Unit {0}
 
+-- A bound on height: the same, but that a tree program may be no higher.
+abbrev pub FitsWithin : TreeProgram → ℕ → Type 0
+FitsWithin t height = LiteralsFit t × (program_height t ≤ height)
+
+-- the program of a tree of the text that fits the bound
+pub record IsProgramWithin (text : List ℕ) (height : ℕ) (b : Block) : Type 0 where
+  pub tree : TreeProgram
+  pub is_tree : IsTreeOf text tree
+  pub within : FitsWithin tree height
+  pub same : b ≡ program_of tree
+
+-- the text has a tree, and it doesn't fit the bound
+pub record IsBeyond (text : List ℕ) (height : ℕ) : Type 0 where
+  pub tree : TreeProgram
+  pub is_tree : IsTreeOf text tree
+  pub beyond : ¬ FitsWithin tree height
+
+abbrev pub IsCompiledWithin : List ℕ → ℕ → Result Program Error → Type 0
+IsCompiledWithin text height (Ok p) = IsProgramWithin text height (program_written p)
+IsCompiledWithin text height (Err (PestError place)) = HasNoTree text
+IsCompiledWithin text height (Err (ParseError message)) = IsBeyond text height
+IsCompiledWithin text height (Err (ExprError message)) = ⊥
+IsCompiledWithin text height (Err (RegexError error)) = ⊥
+IsCompiledWithin text height (Err MemoryError) = Unit {0}
+
+abbrev pub IsAnswerWithin : TreeProgram → ℕ → Result Program Error → Type 0
+IsAnswerWithin t height (Ok p) = (program_written p ≡ program_of t) × FitsWithin t height
+IsAnswerWithin t height (Err (PestError place)) = ⊥
+IsAnswerWithin t height (Err (ParseError message)) = ¬ FitsWithin t height
+IsAnswerWithin t height (Err (ExprError message)) = ⊥
+IsAnswerWithin t height (Err (RegexError error)) = ⊥
+IsAnswerWithin t height (Err MemoryError) = Unit {0}
+
+-- What is read of a text, before it is known whether a bound is asked for: the program of its tree, and the height.
+pub record IsMeasureOf (text : List ℕ) (m : MeasuredBlock) : Type 0 where
+  pub tree : TreeProgram
+  pub is_tree : IsTreeOf text tree
+  pub literals : LiteralsFit tree
+  pub same : m ≡ measured_program tree
+
+abbrev pub IsRead : List ℕ → Result MeasuredBlock Error → Type 0
+IsRead text (Ok m) = IsMeasureOf text m
+IsRead text (Err (PestError place)) = HasNoTree text
+IsRead text (Err (ParseError message)) = HasLargeLiteral text
+IsRead text (Err (ExprError message)) = ⊥
+IsRead text (Err (RegexError error)) = ⊥
+IsRead text (Err MemoryError) = Unit {0}
+
+abbrev pub IsReadFor : TreeProgram → Result MeasuredBlock Error → Type 0
+IsReadFor t (Ok m) = (m ≡ measured_program t) × LiteralsFit t
+IsReadFor t (Err (PestError place)) = ⊥
+IsReadFor t (Err (ParseError message)) = ¬ LiteralsFit t
+IsReadFor t (Err (ExprError message)) = ⊥
+IsReadFor t (Err (RegexError error)) = ⊥
+IsReadFor t (Err MemoryError) = Unit {0}
+
 -- the place of the first fault of a text
 pub data FaultPlace (text : List ℕ) (place : ℕ) : Type 0 where
   -- the first byte of a token: a program begins with the tokens before it, and none goes on with it
@@ -65,7 +124,7 @@ pub data FaultPlace (text : List ℕ) (place : ℕ) : Type 0 where
   -- what is no token and no gap, after tokens that a program begins with
   AtUnreadable : (tokens : List Token) (starts : List ℕ) → Begins text place tokens starts → SomeBegins tokens → NoPiece (drop place text) → FaultPlace text place
 
-abbrev pub IsPlaced : List ℕ → Result Program Error → Type 0
+abbrev pub IsPlaced : {A : Type 0} → List ℕ → Result A Error → Type 0
 IsPlaced text (Ok p) = Unit {0}
 IsPlaced text (Err (PestError place)) = (place ≤ length text) × FaultPlace text place
 IsPlaced text (Err (ParseError message)) = Unit {0}
@@ -73,10 +132,10 @@ IsPlaced text (Err (ExprError message)) = Unit {0}
 IsPlaced text (Err (RegexError error)) = Unit {0}
 IsPlaced text (Err MemoryError) = Unit {0}
 
--- a literal is refused, or memory for saying so
-abbrev pub IsLiteralRefusal : Error → Type 0
-IsLiteralRefusal (PestError place) = ⊥
-IsLiteralRefusal (ParseError message) = Unit {0}
-IsLiteralRefusal (ExprError message) = ⊥
-IsLiteralRefusal (RegexError error) = ⊥
-IsLiteralRefusal MemoryError = Unit {0}
+-- what can't be held is refused, or memory for saying so
+abbrev pub IsParseRefusal : Error → Type 0
+IsParseRefusal (PestError place) = ⊥
+IsParseRefusal (ParseError message) = Unit {0}
+IsParseRefusal (ExprError message) = ⊥
+IsParseRefusal (RegexError error) = ⊥
+IsParseRefusal MemoryError = Unit {0}

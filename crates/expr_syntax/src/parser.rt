@@ -1,6 +1,7 @@
 //! From tokens to a program, with a stack of what is open.
 
 ghost use Rattle.std.specs.Prelude.{◌≡◌, ◌∷◌, [], IfOk};
+ghost use Rattle.expr_parts.specs.Parts.{no_lines};
 ghost use Rattle.expr_frames.specs.declared.frame.Frame.TheVariants as frame;
 ghost use Rattle.expr_frames.specs.declared.frame.Place.TheVariants as place;
 ghost use Rattle.expr_frames.specs.declared.frame.Section.TheVariants as section;
@@ -25,7 +26,6 @@ use expr_frames::read;
 use expr_grammar::literals::literals_fit;
 use expr_parts::{Lines, Part, ProgramPart};
 use expr_token::Token;
-use expr_tree::node::Program;
 use std::alloc::Global;
 
 /// Why no program was made.
@@ -50,7 +50,7 @@ struct Parser {
 
 impl Parser {
     fn new(alloc: Global) -> Result<Parser, Fault>
-        ensures { IfOk result (λ p. stack p.frames.items ≡ frame.Body section.Top [] ∷ []) }
+        ensures { IfOk result (λ p. stack p.frames.items ≡ frame.Body section.Top no_lines ∷ []) }
     {
         let mut frames = Vec::with_capacity(alloc, DEPTH)?;
         frames.push(Frame::Body(Section::Top, Lines::new(alloc)))?;
@@ -88,13 +88,11 @@ impl Parser {
             Place::NamesLine => self.line_name(read::taken(token)),
             Place::Named(name) => self.line_value(name, token),
             Place::Argued(program) => self.argued(program, token),
-            Place::NamesMember => self.member_alone(read::taken(token)),
+            Place::NamesField => self.field(read::taken(token)),
             Place::Braced => self.braced(read::taken(token)),
             Place::BracedKey(_) => Err(Fault::Syntax),
-            Place::Keys(map) => self.map_key(map, read::taken(token)),
-            Place::Colons(map, key) => self.map_colon(map, key, token),
-            Place::Values(map, key) => self.map_value(map, key, read::taken(token)),
-            Place::Entered(map) => self.map_end(map, token),
+            Place::Keys(entries) => self.map_key(entries, read::taken(token)),
+            Place::Colons(entries, key) => self.map_colon(entries, key, token),
         }
     }
 
@@ -138,13 +136,13 @@ fn whole(part: Part) -> Place
     Place::Have(Operand::Whole(part))
 }
 
-/// The program that spells the tokens and fits.
+/// The program that spells the tokens and fits, and its height.
 ///
 /// # Errors
 ///
 /// `Syntax` if there is none, at the index of the first token with which none goes on, or the number of tokens;
 /// `Literal` if there is one and an integer literal of it is 2^63 or more; `Memory` if memory was refused.
-pub fn parse(alloc: Global, tokens: Vec<Token>) -> Result<Program, ParseError>
+pub fn parse(alloc: Global, tokens: Vec<Token>) -> Result<ProgramPart, ParseError>
     // The answer is the program of a tree that spells the tokens and fits, as do its literals.
     ensures found { IfOk result (IsParse tokens.items) }
     // Each tree that does is that one; there is none where the answer is a syntax fault.
@@ -168,7 +166,7 @@ pub fn parse(alloc: Global, tokens: Vec<Token>) -> Result<Program, ParseError>
         index += 1;
     }
     match parser.finish(place) {
-        Ok(program) if literals_fit => Ok(program.into_program()),
+        Ok(program) if literals_fit => Ok(program),
         Ok(_) => Err(ParseError::Literal),
         Err(Fault::Syntax) => Err(ParseError::Syntax(index)),
         Err(Fault::Memory) => Err(ParseError::Memory),

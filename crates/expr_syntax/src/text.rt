@@ -2,7 +2,7 @@
 ghost use Rattle.std.specs.Prelude.{◌≡◌, ◌≤◌, ℕ, List, Err, length, drop, slice_get, unwrap_or, IfOk, IfErr, MatchOption};
 ghost use Rattle.expr_grammar.specs.Grammar.{TreeProgram};
 ghost use Rattle.expr_grammar.specs.Prefixes.{SomeBegins, StopsAt};
-ghost use Rattle.expr_syntax.specs.Texts.{IsAnswerFor, IsCompiled, IsLiteralRefusal, IsPlaced, IsTreeOf};
+ghost use Rattle.expr_syntax.specs.Texts.{IsAnswerFor, IsAnswerWithin, IsCompiled, IsCompiledWithin, IsParseRefusal, IsPlaced, IsRead, IsReadFor, IsTreeOf};
 ghost use Rattle.expr_token.specs.Reading.{Begins, NoPiece, Reads, ReadsAt};
 ghost use Rattle.expr_token.specs.declared.token.Token.{Token};
 ghost use Rattle.std.specs.List.{All};
@@ -12,6 +12,7 @@ ghost use Rattle.std.specs.Prelude.{◌<◌};
 
 use crate::parser::{ParseError, parse};
 use expr_token::{Reading, Token, read};
+use expr_parts::ProgramPart;
 use expr_tree::node::Program;
 use expr_value::{Error, Result};
 use std::alloc::Global;
@@ -34,6 +35,41 @@ pub fn compile(alloc: Global, code: &str) -> Result<Program>
     // The text may be cut at that place: a character begins there, or the text ends.
     ensures boundary { (place : ℕ) → result ≡ Err (Error.PestError place) → IsCharBoundary code.now place }
 {
+    let program = read_program(alloc, code)?;
+    Ok(program.into_program())
+}
+
+/// The program of a text whose tree is no higher than the bound: the greatest number of trees one inside another,
+/// brackets, lines and predicates included. `1` is of height 1, `(1)` and `-1` of 2, `1 + 2 * 3` of 3.
+///
+/// # Errors
+///
+/// Those of [`compile`], and `ParseError` where the text's tree is higher. A text without a tree is a `PestError`
+/// whatever the bound.
+pub fn compile_within(alloc: Global, code: &str, height: usize) -> Result<Program>
+    // Each answer says of the text what it means: a program that of a tree within the bound, a syntax fault that there is no tree.
+    ensures answer { IsCompiledWithin code.now height result }
+    // Where the text has a tree, no other answer is given but that tree's.
+    ensures only { (t : TreeProgram) → IsTreeOf code.now t → IsAnswerWithin t height result }
+    // A syntax fault's place is that of the first: some program begins with the tokens before it, and none goes on there.
+    ensures place { IsPlaced code.now result }
+    // The text may be cut at that place: a character begins there, or the text ends.
+    ensures boundary { (place : ℕ) → result ≡ Err (Error.PestError place) → IsCharBoundary code.now place }
+{
+    let program = read_program(alloc, code)?;
+    if program.height() > height {
+        return Err(refusal(alloc, "the expression nests deeper than is allowed"));
+    }
+    Ok(program.into_program())
+}
+
+// The program of a text, and the height of its tree.
+fn read_program(alloc: Global, code: &str) -> Result<ProgramPart>
+    ensures answer { IsRead code.now result }
+    ensures only { (t : TreeProgram) → IsTreeOf code.now t → IsReadFor t result }
+    ensures place { IsPlaced code.now result }
+    ensures boundary { (place : ℕ) → result ≡ Err (Error.PestError place) → IsCharBoundary code.now place }
+{
     let Reading {
         tokens,
         starts,
@@ -46,12 +82,12 @@ pub fn compile(alloc: Global, code: &str) -> Result<Program>
 }
 
 /// The program of a text that reads as the tokens.
-fn readable(alloc: Global, code: &str, tokens: Vec<Token>, starts: &[usize]) -> Result<Program>
+fn readable(alloc: Global, code: &str, tokens: Vec<Token>, starts: &[usize]) -> Result<ProgramPart>
     requires reads { ReadsAt code.now tokens.items starts.now }
     requires within { All (λ start. start < length code.now) starts.now }
     requires paired { length starts.now ≡ length tokens.items }
-    ensures answer { IsCompiled code.now result }
-    ensures only { (t : TreeProgram) → IsTreeOf code.now t → IsAnswerFor t result }
+    ensures answer { IsRead code.now result }
+    ensures only { (t : TreeProgram) → IsTreeOf code.now t → IsReadFor t result }
     ensures place { IsPlaced code.now result }
 {
     match parse(alloc, tokens) {
@@ -60,7 +96,7 @@ fn readable(alloc: Global, code: &str, tokens: Vec<Token>, starts: &[usize]) -> 
             let place = place_of(starts, index, code.len());
             Err(Error::PestError(place))
         }
-        Err(ParseError::Literal) => Err(too_large(alloc)),
+        Err(ParseError::Literal) => Err(refusal(alloc, "an integer literal is 2^63 or more")),
         Err(ParseError::Memory) => Err(Error::MemoryError),
     }
 }
@@ -72,15 +108,15 @@ fn unreadable(
     tokens: Vec<Token>,
     starts: &[usize],
     place: usize,
-) -> Result<Program>
+) -> Result<ProgramPart>
     requires begins { Begins code.now place tokens.items starts.now }
     requires stuck { NoPiece (drop place code.now) }
     requires refused { (ts : List Token) → Reads code.now ts → ⊥ }
     requires within { All (λ start. start < length code.now) starts.now }
     requires paired { length starts.now ≡ length tokens.items }
     requires place { place ≤ length code.now }
-    ensures answer { IsCompiled code.now result }
-    ensures only { (t : TreeProgram) → IsTreeOf code.now t → IsAnswerFor t result }
+    ensures answer { IsRead code.now result }
+    ensures only { (t : TreeProgram) → IsTreeOf code.now t → IsReadFor t result }
     ensures place { IsPlaced code.now result }
 {
     prove!(place <= code.len());
@@ -113,11 +149,11 @@ fn place_of(starts: &[usize], index: usize, end: usize) -> usize
     starts.get(index).copied().unwrap_or(end)
 }
 
-/// The refusal of an integer literal of 2^63 or more.
-fn too_large(alloc: Global) -> Error
-    ensures { IsLiteralRefusal result }
+// The refusal of a text that has a tree.
+fn refusal(alloc: Global, message: &str) -> Error
+    ensures { IsParseRefusal result }
 {
-    match String::from_str(alloc, "an integer literal is 2^63 or more") {
+    match String::from_str(alloc, message) {
         Ok(text) => Error::ParseError(text),
         Err(_) => Error::MemoryError,
     }

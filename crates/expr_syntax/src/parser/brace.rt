@@ -1,6 +1,7 @@
 //! An opening brace where an operand is wanted: of a map, or of a predicate where an argument begins.
 
-ghost use Rattle.std.specs.Prelude.{◌∷◌, []};
+ghost use Rattle.std.specs.Prelude.{◌∷◌};
+ghost use Rattle.expr_parts.specs.Parts.{no_lines};
 ghost use Rattle.expr_frames.specs.declared.frame.Frame.TheVariants as frame;
 ghost use Rattle.expr_frames.specs.declared.frame.Place.TheVariants as place;
 ghost use Rattle.expr_frames.specs.declared.frame.Section.TheVariants as section;
@@ -8,13 +9,11 @@ ghost use Rattle.expr_frames.specs.Nodes as machine;
 ghost use Rattle.expr_syntax.specs.Reading.{stack, Stands};
 ghost use Rattle.expr_token.specs.declared.token.Token.TheVariants as token;
 
-use crate::parser::Parser;
-use crate::parser::map::map_literal;
+use crate::parser::{Parser, whole};
 use expr_frames::frame::{Fault, Frame, Place, Section};
 use expr_frames::read;
-use expr_parts::Lines;
+use expr_parts::{Entries, Lines};
 use expr_token::{Sign, Token};
-use expr_value::ValueMap;
 
 impl Parser {
     // An opening brace: of a predicate or a map where an argument begins, else of a map.
@@ -23,7 +22,7 @@ impl Parser {
     {
         match self.frames.last() {
             Some(Frame::Call(..)) => Ok(Place::Braced),
-            _ => Ok(Place::Keys(ValueMap::new(self.alloc))),
+            _ => Ok(Place::Keys(Entries::new(self.alloc))),
         }
     }
 
@@ -44,14 +43,17 @@ impl Parser {
         ensures { Stands (machine.braced (stack self.old.frames.items) (token.Sign sign)) self.new.frames.items result }
     {
         match sign {
-            Sign::BraceClose => Ok(map_literal(ValueMap::new(self.alloc))),
+            Sign::BraceClose => {
+                let empty = Entries::new(self.alloc).map()?;
+                Ok(whole(empty))
+            }
             _ => self.body(Token::Sign(sign)),
         }
     }
 
     // The first token of a predicate.
     fn body(&mut self, first: Token) -> Result<Place, Fault>
-        ensures { Stands (machine.want first (frame.Body section.Predicate [] ∷ stack self.old.frames.items)) self.new.frames.items result }
+        ensures { Stands (machine.want first (frame.Body section.Predicate no_lines ∷ stack self.old.frames.items)) self.new.frames.items result }
     {
         self.push(Frame::Body(Section::Predicate, Lines::new(self.alloc)))?;
         self.want(first)
@@ -75,16 +77,16 @@ impl Parser {
     }
 
     // A map literal after its first key and the colon.
-    fn first_key(&self, key: Token) -> Result<Place, Fault>
-        ensures { Stands (machine.value_after_key (stack self.now.frames.items) (machine.key_text_at key)) self.now.frames.items result }
+    fn first_key(&mut self, key: Token) -> Result<Place, Fault>
+        ensures { Stands (machine.value_after_key (stack self.old.frames.items) (machine.key_text_at key)) self.new.frames.items result }
     {
         let key = read::key(self.alloc, key)?;
-        Ok(Place::Values(ValueMap::new(self.alloc), key))
+        self.enter(Frame::Entry(Entries::new(self.alloc), key))
     }
 
     // A predicate after its first token.
     fn after_first(&mut self, first: Token, next: &mut Token) -> Result<Place, Fault>
-        ensures { Stands (machine.steps_on (machine.want first (frame.Body section.Predicate [] ∷ stack self.old.frames.items)) next.old) self.new.frames.items result }
+        ensures { Stands (machine.steps_on (machine.want first (frame.Body section.Predicate no_lines ∷ stack self.old.frames.items)) next.old) self.new.frames.items result }
     {
         let place = self.body(first)?;
         self.step_on(place, next)

@@ -94,7 +94,8 @@ impl Parser {
                 let Token::Sign(Sign::ParenClose) = token else {
                     return Err(Fault::Syntax);
                 };
-                Ok(whole(last))
+                let group = last.bracketed()?;
+                Ok(whole(group))
             }
             Frame::Middle(condition) => {
                 let Token::Sign(Sign::Colon) = token else {
@@ -126,6 +127,7 @@ impl Parser {
                 };
                 self.bind(name, last)
             }
+            Frame::Entry(entries, key) => self.entry(entries, key, last, token),
             Frame::Reaching(_) => Err(Fault::Syntax),
         }
     }

@@ -1,15 +1,13 @@
 //! Lists, and the arguments of calls.
 
 ghost use Rattle.std.specs.Prelude.{◌≡◌, ◌∷◌, IfOk};
-ghost use Rattle.expr_frames.specs.declared.frame.Frame.TheVariants as frame;
-ghost use Rattle.expr_frames.specs.Nodes.{given_more, given_program};
+ghost use Rattle.expr_parts.specs.Parts.{given_more, given_program};
 ghost use Rattle.expr_frames.specs.Nodes as machine;
 ghost use Rattle.expr_syntax.specs.Reading.{stack, Stands};
 
 use crate::parser::{Parser, whole};
 use expr_frames::frame::{Caller, Fault, Frame, Holder, Place};
-use expr_frames::read;
-use expr_parts::{Arguments, Lines, Part, ProgramPart};
+use expr_parts::{Arguments, Part, ProgramPart};
 use expr_token::{Sign, Token};
 use std::alloc::AllocError;
 
@@ -45,7 +43,8 @@ impl Parser {
                 let Token::Sign(Sign::SquareClose) = token else {
                     return Err(Fault::Syntax);
                 };
-                Ok(whole(items.array()))
+                let array = items.array()?;
+                Ok(whole(array))
             }
             Holder::Method(left, name) => {
                 let Token::Sign(Sign::ParenClose) = token else {
@@ -66,7 +65,7 @@ impl Parser {
         last: Part,
         token: &Token,
     ) -> Result<Place, Fault>
-        ensures { Stands (machine.called token.now caller (given_more arguments last) (stack self.old.frames.items)) self.new.frames.items result }
+        ensures { Stands (machine.argument_end token.now caller (given_more arguments last) (stack self.old.frames.items)) self.new.frames.items result }
     {
         arguments.push(last)?;
         self.called(caller, arguments, token)
@@ -79,7 +78,7 @@ impl Parser {
         arguments: Arguments,
         token: &Token,
     ) -> Result<Place, Fault>
-        ensures { Stands (machine.called token.now caller arguments (stack self.old.frames.items)) self.new.frames.items result }
+        ensures { Stands (machine.argument_end token.now caller arguments (stack self.old.frames.items)) self.new.frames.items result }
     {
         match token {
             Token::Sign(Sign::Comma) => self.enter(Frame::Call(caller, arguments)),
@@ -88,7 +87,7 @@ impl Parser {
     }
 
     // The end of the arguments.
-    fn end_call(&self, caller: Caller, arguments: Arguments, token: &Token) -> Result<Place, Fault>
+    pub(super) fn end_call(&self, caller: Caller, arguments: Arguments, token: &Token) -> Result<Place, Fault>
         ensures { Stands (machine.call_end caller token.now arguments (stack self.now.frames.items)) self.now.frames.items result }
     {
         let Token::Sign(Sign::ParenClose) = token else {
@@ -96,33 +95,6 @@ impl Parser {
         };
         let call = caller.call(self.alloc, arguments)?;
         Ok(whole(call))
-    }
-
-    // Where an argument is wanted: the end of them, or the dot of a member alone.
-    pub(super) fn end_call_or_member(
-        &mut self,
-        caller: Caller,
-        arguments: Arguments,
-        token: &Token,
-    ) -> Result<Place, Fault>
-        ensures { Stands (machine.without_operand token.now (frame.Call caller arguments ∷ stack self.old.frames.items)) self.new.frames.items result }
-    {
-        match token {
-            Token::Sign(Sign::Dot) => {
-                self.push(Frame::Call(caller, arguments))?;
-                Ok(Place::NamesMember)
-            }
-            _ => self.end_call(caller, arguments, token),
-        }
-    }
-
-    // The word of a member that is a predicate.
-    pub(super) fn member_alone(&self, token: Token) -> Result<Place, Fault>
-        ensures { Stands (machine.member_alone (stack self.now.frames.items) (machine.text_at token)) self.now.frames.items result }
-    {
-        let name = read::word(self.alloc, token)?;
-        let lines = Lines::new(self.alloc);
-        Ok(Place::Argued(lines.answering(Part::name(name.into_string()))))
     }
 
     // Arguments after a predicate.

@@ -1,74 +1,64 @@
 //! Map literals.
 
-ghost use Rattle.std.specs.Prelude.{◌≡◌};
-ghost use Rattle.expr_tree.specs.Term.{literal};
+ghost use Rattle.std.specs.Prelude.{◌∷◌};
+ghost use Rattle.expr_frames.specs.declared.frame.Frame.TheVariants as frame;
 ghost use Rattle.expr_frames.specs.declared.frame.Place.TheVariants as place;
-ghost use Rattle.expr_frames.specs.declared.frame.Operand.TheVariants as operand;
-ghost use Rattle.expr_value.specs.declared.value.Value.TheVariants as value;
 ghost use Rattle.expr_frames.specs.Nodes as machine;
 ghost use Rattle.expr_syntax.specs.Reading.{stack, Stands};
 
 use crate::parser::{Parser, whole};
-use expr_frames::frame::{Fault, Place};
+use expr_frames::frame::{Fault, Frame, Place};
 use expr_frames::read;
-use expr_parts::Part;
+use expr_parts::{Entries, Part};
 use expr_token::{Sign, Token};
-use expr_value::{Text, Value, ValueMap};
+use expr_value::Text;
 
 impl Parser {
     // A key of a map literal, or its end.
-    pub(super) fn map_key(&self, map: ValueMap, token: Token) -> Result<Place, Fault>
-        ensures { Stands (machine.key_in (stack self.now.frames.items) map (machine.key_text_at token) token) self.now.frames.items result }
+    pub(super) fn map_key(&self, entries: Entries, token: Token) -> Result<Place, Fault>
+        ensures { Stands (machine.key_in (stack self.now.frames.items) entries (machine.key_text_at token) token) self.now.frames.items result }
     {
         if let Token::Sign(Sign::BraceClose) = token {
-            return Ok(map_literal(map));
+            let map = entries.map()?;
+            return Ok(whole(map));
         }
         let key = read::key(self.alloc, token)?;
-        Ok(Place::Colons(map, key))
+        Ok(Place::Colons(entries, key))
     }
 
     // The colon after a key.
-    pub(super) fn map_colon(&self, map: ValueMap, key: Text, token: &Token) -> Result<Place, Fault>
-        ensures { Stands (machine.step_on (stack self.now.frames.items) (place.Colons map key) token.now) self.now.frames.items result }
+    pub(super) fn map_colon(
+        &mut self,
+        entries: Entries,
+        key: Text,
+        token: &Token,
+    ) -> Result<Place, Fault>
+        ensures { Stands (machine.step_on (stack self.old.frames.items) (place.Colons entries key) token.now) self.new.frames.items result }
     {
         match token {
-            Token::Sign(Sign::Colon) => Ok(Place::Values(map, key)),
+            Token::Sign(Sign::Colon) => self.enter(Frame::Entry(entries, key)),
             _ => Err(Fault::Syntax),
-        }
-    }
-
-    // The value of a key.
-    pub(super) fn map_value(
-        &self,
-        mut map: ValueMap,
-        key: Text,
-        token: Token,
-    ) -> Result<Place, Fault>
-        ensures { Stands (machine.value_in (stack self.now.frames.items) map key (machine.value_at token)) self.now.frames.items result }
-    {
-        match read::constant(token) {
-            Some(value) => match map.insert(key, value) {
-                Ok(()) => Ok(Place::Entered(map)),
-                Err(_) => Err(Fault::Memory),
-            },
-            None => Err(Fault::Syntax),
         }
     }
 
     // What follows a value: one more key, or the end.
-    pub(super) fn map_end(&self, map: ValueMap, token: &Token) -> Result<Place, Fault>
-        ensures { Stands (machine.step_on (stack self.now.frames.items) (place.Entered map) token.now) self.now.frames.items result }
+    pub(super) fn entry(
+        &self,
+        mut entries: Entries,
+        key: Text,
+        value: Part,
+        token: &Token,
+    ) -> Result<Place, Fault>
+        ensures { Stands (machine.close token.now (frame.Entry entries key ∷ stack self.now.frames.items) value) self.now.frames.items result }
     {
+        entries.push(key, value)?;
         match token {
-            Token::Sign(Sign::Comma) => Ok(Place::Keys(map)),
-            Token::Sign(Sign::BraceClose) => Ok(map_literal(map)),
+            Token::Sign(Sign::Comma) => Ok(Place::Keys(entries)),
+            Token::Sign(Sign::BraceClose) => {
+                let map = entries.map()?;
+                Ok(whole(map))
+            }
             _ => Err(Fault::Syntax),
         }
     }
-}
-
-pub(super) fn map_literal(map: ValueMap) -> Place
-    ensures { result ≡ place.Have (operand.Whole (literal (value.Map map))) }
-{
-    whole(Part::literal(Value::Map(map)))
 }

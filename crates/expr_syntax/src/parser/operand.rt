@@ -30,6 +30,7 @@ impl Parser {
             Start::Group => self.enter(Frame::Inside),
             Start::List => self.enter(Frame::List(Holder::Array, Arguments::new(self.alloc))),
             Start::Brace => self.brace(),
+            Start::Field => Ok(Place::NamesField),
             Start::Choice => self.enter(Frame::Condition(Items::from_vec(Vec::new(self.alloc)))),
             Start::Line => self.line(),
             Start::Other(token) => self.without_operand(&token),
@@ -51,7 +52,7 @@ impl Parser {
     {
         match frame {
             Frame::List(holder, items) => self.end_list(holder, items, token),
-            Frame::Call(caller, arguments) => self.end_call_or_member(caller, arguments, token),
+            Frame::Call(caller, arguments) => self.end_call(caller, arguments, token),
             Frame::Index(left, false) => {
                 let Token::Sign(Sign::Colon) = token else {
                     return Err(Fault::Syntax);
@@ -61,5 +62,14 @@ impl Parser {
             Frame::Cut(left, from) => self.end_slice(left.into_inner(), from, None, token),
             _ => Err(Fault::Syntax),
         }
+    }
+
+    // The word of a field, after its dot.
+    pub(super) fn field(&self, token: Token) -> Result<Place, Fault>
+        ensures { Stands (machine.word_of_field (stack self.now.frames.items) (machine.text_at token)) self.now.frames.items result }
+    {
+        let name = read::word(self.alloc, token)?;
+        let field = Part::field(self.alloc, name)?;
+        Ok(whole(field))
     }
 }

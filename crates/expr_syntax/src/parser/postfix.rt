@@ -1,15 +1,13 @@
 //! Members, indices, slices and pipes.
 
 ghost use Rattle.std.specs.Prelude.{◌∷◌};
-ghost use Rattle.expr_tree.specs.Term.{postfix, slice};
-ghost use Rattle.expr_parts.specs.Parts.{bound_with};
+ghost use Rattle.expr_parts.specs.Parts.{sliced};
 ghost use Rattle.expr_frames.specs.declared.frame.Frame.TheVariants as frame;
 ghost use Rattle.expr_frames.specs.declared.frame.Place.TheVariants as place;
 ghost use Rattle.expr_frames.specs.Nodes as machine;
 ghost use Rattle.expr_syntax.specs.Reading.{stack, Stands};
 
 use crate::parser::{Parser, whole};
-use expr_frames::build::member;
 use expr_frames::frame::{Caller, Fault, Frame, Operand, Place};
 use expr_frames::read;
 use expr_parts::{Arguments, Part};
@@ -33,7 +31,7 @@ impl Parser {
             return self.enter(Frame::Index(left, true));
         }
         let name = read::word(self.alloc, token)?;
-        let part = member(self.alloc, left, name, true)?;
+        let part = Part::member(self.alloc, left, name, true)?;
         Ok(whole(part))
     }
 
@@ -68,7 +66,7 @@ impl Parser {
         to: Option<Part>,
         token: &Token,
     ) -> Result<Place, Fault>
-        ensures { Stands (machine.at_square token.now (machine.whole (stack self.now.frames.items) (postfix (slice (bound_with from) (bound_with to)) left)) machine.Fail) self.now.frames.items result }
+        ensures { Stands (machine.at_square token.now (machine.whole (stack self.now.frames.items) (sliced left from to)) machine.Fail) self.now.frames.items result }
     {
         let Token::Sign(Sign::SquareClose) = token else {
             return Err(Fault::Syntax);

@@ -1,5 +1,5 @@
 use Rattle.std.proofs.Common.{ap, ◌∙◌, sym}
-use Rattle.expr_tree.specs.Term.{choice}
+use Rattle.expr_parts.specs.Parts.{chosen}
 use Rattle.expr_frames.specs.Nodes.{nest}
 use Rattle.expr_frames.proofs.Branches.{nest_more}
 use Rattle.expr_frames.proofs.build.nested.Goals as goal
@@ -10,4 +10,4 @@ loop-condition-preserved c =
     c.loop-condition.invariant
     ∙ ap (λ bs. nest bs c.loop-condition.inner) c.in-Some.ensures.items
     ∙ nest_more c.pop.new.self.items _ _ c.loop-condition.inner
-    ∙ ap (λ t. nest c.pop.new.self.items t) (sym (c.in_ok-inner-2.ensures ∙ ap (λ b. choice c.in-Some.condition c.in-Some.then b) inner))
+    ∙ ap (λ t. nest c.pop.new.self.items t) (sym (c.in_ok-inner-2.ensures ∙ ap (λ b. chosen c.in-Some.condition c.in-Some.then b) inner))

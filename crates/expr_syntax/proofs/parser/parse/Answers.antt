@@ -38,7 +38,7 @@ returns-in-Ok-finish-clause-found c =
     let all = YieldsList-end e c.loop-token.yielded c.loop-token.token-iterator c.loop-token.yielded_by c.next.result c.next.new.self c.in-None.is c.next.ensures.steps in
     let at = ended c.args.tokens.items c.loop-token.yielded (On (stack c.loop-token.parser.frames.items) c.loop-token.place) all.0 c.loop-token.invariant.stands in
     let fit : AllByRecursion IntegerFits c.args.tokens.items = search rules in
-    parsed c.args.tokens.items c.into_program.result c.in-Ok-finish.program fit c.into_program.ensures (at ∙ c.in-Ok-finish.ensures)
+    parsed c.args.tokens.items c.in-Ok-finish.program fit (at ∙ c.in-Ok-finish.ensures)
 
 pub returns-in-Ok-finish-clause-only : goal.returns-in-Ok-finish-clause-only
 returns-in-Ok-finish-clause-only c =
@@ -46,7 +46,7 @@ returns-in-Ok-finish-clause-only c =
     let all = YieldsList-end e c.loop-token.yielded c.loop-token.token-iterator c.loop-token.yielded_by c.next.result c.next.new.self c.in-None.is c.next.ensures.steps in
     let at = ended c.args.tokens.items c.loop-token.yielded (On (stack c.loop-token.parser.frames.items) c.loop-token.place) all.0 c.loop-token.invariant.stands in
     let fit : AllByRecursion IntegerFits c.args.tokens.items = search rules in
-    only_program c.args.tokens.items c.into_program.result c.in-Ok-finish.program fit c.into_program.ensures (at ∙ c.in-Ok-finish.ensures)
+    only_program c.args.tokens.items c.in-Ok-finish.program fit (at ∙ c.in-Ok-finish.ensures)
 
 pub returns-in-Ok-2-clause-literal : goal.returns-in-Ok-2-clause-literal
 returns-in-Ok-2-clause-literal c =

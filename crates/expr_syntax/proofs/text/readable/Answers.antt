@@ -1,6 +1,6 @@
 use Rattle.std.proofs.Common.{length, le_refl, refl}
 use Rattle.expr_syntax.specs.Texts.{AtEnd}
-use Rattle.expr_syntax.proofs.Compiled.{spells, begins_whole, placed, IsAnswerFor-literal}
+use Rattle.expr_syntax.proofs.Compiled.{spells, begins_whole, placed, IsReadFor-literal}
 use Rattle.expr_syntax.proofs.text.readable.Goals as goal
 
 pub returns-in-Ok-clause-only : goal.returns-in-Ok-clause-only
@@ -23,6 +23,6 @@ returns-in-Err-Syntax-clause-place c =
 
 pub returns-in-Err-Literal-clause-only : goal.returns-in-Err-Literal-clause-only
 returns-in-Err-Literal-clause-only c = λ t h.
-    IsAnswerFor-literal t c.too_large.result c.too_large.ensures (
+    IsReadFor-literal t c.too_large.result c.too_large.ensures (
     (rw c.in-Err-Literal.field-0-is at c.in-Err-Literal.ensures.only) t (spells c.args.code.now c.args.tokens.items c.args.starts.now c.requires.reads t h) h.fits
     )
