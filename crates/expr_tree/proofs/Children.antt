@@ -1,10 +1,10 @@
 -- What a tree's operands and weight are, by the trees right below it.
 use Rattle.std.proofs.Common.{◌≡◌, ◌+◌, ℕ, List, [], ◌∷◌, ◌++◌, map, Global, String, refl, sym, ap, ◌∙◌, append_assoc, arith}
 use Rattle.std.proofs.lemmas.List.{append-nil}
-use Rattle.expr_tree.specs.Children.{listed, children, block_children, predicate_children, bound_children, postfix_children, own_name}
-use Rattle.expr_tree.specs.Names.{operands, all_operands, postfix_operands, bound_operands, predicate_operands, block_operands}
-use Rattle.expr_tree.specs.Term.{Term, name, literal, list, range, call, unary, operation, postfix, choice, Postfix, index, slice, coalesce, pipe, ternary, method, Bound, unbounded, bound, Terms, no_terms, term, Predicate, no_predicate, predicate, Block, answers, line, block_with}
-use Rattle.expr_tree.specs.Weight.{weight, terms_weight, postfix_weight, bound_weight, predicate_weight, block_weight}
+use Rattle.expr_tree.specs.Children.{listed, children, pairs_children, block_children, predicate_children, bound_children, postfix_children, own_name}
+use Rattle.expr_tree.specs.Names.{operands, all_operands, postfix_operands, bound_operands, pairs_operands, predicate_operands, block_operands}
+use Rattle.expr_tree.specs.Term.{Term, name, literal, list, mapping, range, call, unary, operation, postfix, choice, Postfix, index, slice, coalesce, pipe, ternary, method, Bound, unbounded, bound, Terms, no_terms, term, Pairs, pairs_end, pair, Predicate, no_predicate, predicate, Block, answers, line, LineTerms, block_with, pairs_of}
+use Rattle.expr_tree.specs.Weight.{weight, terms_weight, postfix_weight, bound_weight, pairs_weight, predicate_weight, block_weight}
 use Rattle.expr_tree.specs.Inside.{program_children}
 use Rattle.expr_tree.specs.Written.{written, line_written, terms_of}
 use Rattle.expr_tree.specs.declared.node.Node.{Node}
@@ -41,6 +41,10 @@ pub operands-block : (b : Block) → block_operands b ≡ operands_of (block_chi
 operands-block (answers t) = sym (append-nil (operands t))
 operands-block (line key t b) = ap (λ ns. operands t ++ ns) (operands-block b)
 
+operands-pairs : (ps : Pairs) → pairs_operands ps ≡ operands_of (pairs_children ps)
+operands-pairs pairs_end = refl
+operands-pairs (pair key t ps) = ap (λ ns. operands t ++ ns) (operands-pairs ps)
+
 operands-predicate : (p : Predicate) → predicate_operands p ≡ operands_of (predicate_children p)
 operands-predicate no_predicate = refl
 operands-predicate (predicate b) = operands-block b
@@ -61,6 +65,7 @@ pub operands-inside : (t : Term) → operands t ≡ own_name t ++ operands_of (c
 operands-inside (name key) = refl
 operands-inside (literal v) = refl
 operands-inside (list ts) = operands-listed ts
+operands-inside (mapping ps) = operands-pairs ps
 operands-inside (range first last) = ap (λ ns. operands first ++ ns) (sym (append-nil (operands last)))
 operands-inside (call key ts p) = both (operands-listed ts) (operands-predicate p) ∙ sym (operands_of-append (listed ts) (predicate_children p))
 operands-inside (unary o t) = sym (append-nil (operands t))
@@ -75,6 +80,10 @@ weight-listed ts = ap terms_weight (sym (terms_of-listed ts))
 pub weight-block : (b : Block) → block_weight b ≡ weight_of (block_children b)
 weight-block (answers t) = omega arith
 weight-block (line key t b) = omega (arith, weight-block b)
+
+weight-pairs : (ps : Pairs) → pairs_weight ps ≡ weight_of (pairs_children ps)
+weight-pairs pairs_end = refl
+weight-pairs (pair key t ps) = omega (arith, weight-pairs ps)
 
 weight-predicate : (p : Predicate) → predicate_weight p ≡ weight_of (predicate_children p)
 weight-predicate no_predicate = refl
@@ -96,6 +105,7 @@ pub weight-inside : (t : Term) → weight t ≡ 1 + weight_of (children t)
 weight-inside (name key) = refl
 weight-inside (literal v) = refl
 weight-inside (list ts) = omega (arith, weight-listed ts)
+weight-inside (mapping ps) = omega (arith, weight-pairs ps)
 weight-inside (range first last) = omega arith
 weight-inside (call key ts p) = omega (arith, weight-listed ts, weight-predicate p, weight_of-append (listed ts) (predicate_children p))
 weight-inside (unary o t) = omega arith
@@ -112,3 +122,7 @@ with_lines (l ∷ ls) last = ap (λ ts. written l.1 ∷ ts) (with_lines ls last)
 
 pub children-program : (p : Program) → program_children p ≡ map (λ l. written l.1) p.lines.items ++ written p.expr ∷ []
 children-program p = ap block_children (written-parts p) ∙ with_lines p.lines.items (written p.expr)
+
+pub pairs-same : (ps : List (String Global × Node)) → map (λ p. written p.1) ps ≡ pairs_children (pairs_of (map line_written ps))
+pairs-same [] = refl
+pairs-same (p ∷ ps) = ap (λ ts. written p.1 ∷ ts) (pairs-same ps)

@@ -1,10 +1,10 @@
 -- Whether `$env` stands in a tree and what a tree weighs, by the parts right inside it.
-use Rattle.std.proofs.Common.{◌≡◌, ℕ, zero, suc, ◌+◌, ◌<◌, ◌≤◌, Bool, true, false, ◌||◌, List, [], ◌∷◌, ◌++◌, length, get_or, Global, String, refl, sym, ap, ◌∙◌, arith}
+use Rattle.std.proofs.Common.{◌≡◌, ℕ, zero, suc, ◌+◌, ◌<◌, ◌≤◌, Bool, true, false, ◌||◌, List, [], ◌∷◌, ◌++◌, map, length, get_or, Global, String, refl, sym, ap, ◌∙◌, arith}
 use Rattle.expr_tree.specs.Children.{children, block_children, own_name}
-use Rattle.expr_tree.specs.Names.{operands, block_operands, has_env}
+use Rattle.expr_tree.specs.Names.{operands, block_operands, lines_operands, has_env}
 use Rattle.expr_tree.specs.Term.{Term, Block}
 use Rattle.expr_tree.specs.Weight.{weight, block_weight}
-use Rattle.expr_tree.specs.Written.{written}
+use Rattle.expr_tree.specs.Written.{written, line_written}
 use Rattle.expr_tree.specs.declared.node.Node.{Node}
 use Rattle.expr_tree.proofs.Children.{operands_of, weight_of, operands_of-append, weight_of-append, operands-block, operands-inside, weight-block, weight-inside}
 use Rattle.expr_tree.proofs.Gathered.{both, has_env-append}
@@ -18,6 +18,21 @@ parts-weight t xs ys zs e = omega (arith, weight-inside t, ap weight_of e, weigh
 
 pub choice-weight : (t a : Term) (p q : Block) → (a ∷ (block_children p ++ block_children q)) ≡ children t → weight t ≡ 1 + (weight a + (block_weight p + block_weight q))
 choice-weight t a p q e = omega (arith, parts-weight t (a ∷ []) (block_children p) (block_children q) e, weight-block p, weight-block q)
+
+-- pairs of a map literal
+values-weight : (ps : List (String Global × Node)) → weight_of (map (λ p. written p.1) ps) ≡ named_weight ps
+values-weight [] = refl
+values-weight (p ∷ ps) = ap (λ n. weight (written p.1) + n) (values-weight ps)
+
+values-operands : (ps : List (String Global × Node)) → operands_of (map (λ p. written p.1) ps) ≡ lines_operands (map line_written ps)
+values-operands [] = refl
+values-operands (p ∷ ps) = ap (λ ns. operands (written p.1) ++ ns) (values-operands ps)
+
+pub named-inside : (t : Term) (ps : List (String Global × Node)) → map (λ p. written p.1) ps ≡ children t → weight t ≡ 1 + named_weight ps
+named-inside t ps e = omega (arith, weight-inside t, ap weight_of e, values-weight ps)
+
+pub named-env : (t : Term) (ps : List (String Global × Node)) → [] ≡ own_name t → map (λ p. written p.1) ps ≡ children t → has_env (operands t) ≡ has_env (lines_operands (map line_written ps))
+named-env t ps none e = ap has_env (operands-inside t ∙ both (sym none) (ap operands_of (sym e)) ∙ values-operands ps)
 
 pub item-weight : (ns : List Node) (i : ℕ) (n : Node) → i < length ns → n ≡ get_or ns i n → weight (written n) ≤ items_weight ns
 item-weight [] i n within at = absurd (omega (arith, within))

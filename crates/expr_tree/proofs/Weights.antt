@@ -1,17 +1,17 @@
 -- How the weight of a tree is made up of its parts'.
-use Rattle.std.proofs.Common.{◌≡◌, ◌+◌, ℕ, List, [], ◌∷◌, ◌++◌, map, Option, Vec, Box, Global, String, arith, ap, ◌∙◌}
-use Rattle.expr_tree.specs.Term.{Term, LineTerms, block_with}
-use Rattle.expr_tree.specs.Weight.{weight, terms_weight, predicate_weight, postfix_weight, block_weight, lines_weight}
+use Rattle.std.proofs.Common.{◌≡◌, ◌+◌, ℕ, List, [], ◌∷◌, ◌++◌, map, Option, Vec, Box, Global, String, arith, refl, ap, ◌∙◌}
+use Rattle.expr_tree.specs.Term.{Term, LineTerms, block_with, pairs_of}
+use Rattle.expr_tree.specs.Weight.{weight, terms_weight, predicate_weight, postfix_weight, block_weight, lines_weight, pairs_weight}
 use Rattle.expr_tree.specs.Written.{written, postfix_written, predicate_written, program_written, line_written, terms_of}
 use Rattle.expr_tree.specs.declared.node.Node.{Node}
 use Rattle.expr_tree.specs.declared.node.Node.TheVariants as node
-use Rattle.expr_tree.specs.declared.node.Pattern.{Pattern}
+use Rattle.expr_pattern.specs.declared.pattern.Pattern.{Pattern}
 use Rattle.expr_tree.specs.declared.node.PostfixOperator.{PostfixOperator}
 use Rattle.expr_tree.specs.declared.node.Program.{Program}
 use Rattle.expr_tree.specs.declared.operator.Operator.{Operator}
 use Rattle.expr_tree.specs.declared.node.Node.TheViews.{roll-Program}
 use Rattle.expr_tree.proofs.Programs.{written-parts, written-program}
-use Rattle.expr_tree.proofs.Shapes.{written-Array, written-Range, written-Func, written-Operation, written-Postfix, written-Conditional}
+use Rattle.expr_tree.proofs.Shapes.{written-Array, written-Map, written-Range, written-Func, written-Operation, written-Postfix, written-Conditional}
 
 abbrev pub node_weight : Node → ℕ
 node_weight n = weight (written n)
@@ -43,13 +43,20 @@ rolled-parts lines expr = ap block_weight (written-program lines expr) ∙ block
 pub weight-Array : (ns : Vec Node Global) → weight (written (node.Array ns)) ≡ 1 + items_weight ns.items
 weight-Array ns = ap weight (written-Array ns)
 
+pairs-weight : (ps : LineTerms) → pairs_weight (pairs_of ps) ≡ lines_weight ps
+pairs-weight [] = refl
+pairs-weight (p ∷ ps) = ap (λ n. weight p.1 + n) (pairs-weight ps)
+
+pub weight-Map : (ps : Vec (String Global × Node) Global) → weight (written (node.Map ps)) ≡ 1 + named_weight ps.items
+weight-Map ps = ap weight (written-Map ps) ∙ ap (λ n. 1 + n) (pairs-weight (map line_written ps.items))
+
 pub weight-Range : (a b : Box Node Global) → weight (written (node.Range a b)) ≡ 1 + (weight (written a.value) + weight (written b.value))
 weight-Range a b = ap weight (written-Range a b)
 
 pub weight-Func : (s : String Global) (ns : Vec Node Global) (p : Option (Box Program Global)) → weight (written (node.Func s ns p)) ≡ 1 + (items_weight ns.items + predicate_weight (predicate_written p))
 weight-Func s ns p = ap weight (written-Func s ns p)
 
-pub weight-Operation : (o : Operator) (l r : Box Node Global) (kept : Option Pattern) → weight (written (node.Operation o l r kept)) ≡ 1 + (weight (written l.value) + weight (written r.value))
+pub weight-Operation : (o : Operator) (l r : Box Node Global) (kept : Option (Box Pattern Global)) → weight (written (node.Operation o l r kept)) ≡ 1 + (weight (written l.value) + weight (written r.value))
 weight-Operation o l r kept = ap weight (written-Operation o l r kept)
 
 pub weight-Postfix : (p : PostfixOperator) (n : Box Node Global) → weight (written (node.Postfix p n)) ≡ 1 + (weight (written n.value) + postfix_weight (postfix_written p))

@@ -1,10 +1,14 @@
 -- The trees right below a tree, from the left.
 use Rattle.std.specs.Prelude.{ℕ, List, [], ◌∷◌, ◌++◌}
-use Rattle.expr_tree.specs.Term.{Term, name, literal, list, range, call, unary, operation, postfix, choice, Postfix, index, slice, coalesce, pipe, ternary, method, Bound, unbounded, bound, Terms, no_terms, term, Predicate, no_predicate, predicate, Block, answers, line}
+use Rattle.expr_tree.specs.Term.{Term, name, literal, list, mapping, range, call, unary, operation, postfix, choice, Postfix, index, slice, coalesce, pipe, ternary, method, Bound, unbounded, bound, Terms, no_terms, term, Pairs, pairs_end, pair, Predicate, no_predicate, predicate, Block, answers, line}
 
 abbrev pub listed : Terms → List Term
 listed no_terms = []
 listed (term t ts) = t ∷ listed ts
+
+abbrev pub pairs_children : Pairs → List Term
+pairs_children pairs_end = []
+pairs_children (pair key t ps) = t ∷ pairs_children ps
 
 abbrev pub block_children : Block → List Term
 block_children (answers t) = t ∷ []
@@ -30,6 +34,7 @@ abbrev pub children : Term → List Term
 children (name key) = []
 children (literal v) = []
 children (list ts) = listed ts
+children (mapping ps) = pairs_children ps
 children (range first last) = first ∷ last ∷ []
 children (call key ts p) = listed ts ++ predicate_children p
 children (unary o t) = t ∷ []
@@ -42,6 +47,7 @@ abbrev pub own_name : Term → List (List ℕ)
 own_name (name key) = key ∷ []
 own_name (literal v) = []
 own_name (list ts) = []
+own_name (mapping ps) = []
 own_name (range first last) = []
 own_name (call key ts p) = []
 own_name (unary o t) = []

@@ -8,7 +8,7 @@ use Rattle.expr_tree.specs.declared.operator.Operator.{Operator}
 use Rattle.expr_tree.specs.declared.operator.UnaryOperator.{UnaryOperator}
 use Rattle.expr_tree.specs.contracts.operator.Operator.{the_row as operator_row}
 use Rattle.expr_tree.specs.contracts.operator.UnaryOperator.{the_row as unary_row}
-use Rattle.expr_tree.specs.Term.{Term, name, literal, list, range, call, unary, operation, postfix, choice, Postfix, index, slice, coalesce, pipe, ternary, method, Bound, unbounded, bound, Terms, no_terms, term, Predicate, no_predicate, predicate, Block, answers, line}
+use Rattle.expr_tree.specs.Term.{Term, name, literal, list, mapping, range, call, unary, operation, postfix, choice, Postfix, index, slice, coalesce, pipe, ternary, method, Bound, unbounded, bound, Terms, no_terms, term, Pairs, pairs_end, pair, Predicate, no_predicate, predicate, Block, answers, line}
 
 -- a form by its number and its name, or a form with its payload
 abbrev pub Symbol : Type 0
@@ -26,6 +26,7 @@ abbrev mutual
   term_symbols (name key) rest = inl (0, key) ∷ rest
   term_symbols (literal v) rest = inr (inl v) ∷ rest
   term_symbols (list ts) rest = terms_symbols ts (form 1 ∷ rest)
+  term_symbols (mapping ps) rest = pairs_symbols ps (form 21 ∷ rest)
   term_symbols (range a b) rest = term_symbols a (term_symbols b (form 2 ∷ rest))
   term_symbols (call key ts p) rest = terms_symbols ts (predicate_symbols p (inl (3, key) ∷ rest))
   term_symbols (unary o t) rest = term_symbols t (inr (inr (inl o)) ∷ rest)
@@ -50,6 +51,10 @@ abbrev mutual
   terms_symbols no_terms rest = form 15 ∷ rest
   terms_symbols (term t ts) rest = term_symbols t (terms_symbols ts (form 16 ∷ rest))
 
+  pub pairs_symbols : Pairs → Symbols → Symbols
+  pairs_symbols pairs_end rest = form 22 ∷ rest
+  pairs_symbols (pair key t ps) rest = term_symbols t (pairs_symbols ps (inl (23, key) ∷ rest))
+
   pub predicate_symbols : Predicate → Symbols → Symbols
   predicate_symbols no_predicate rest = form 17 ∷ rest
   predicate_symbols (predicate b) rest = block_symbols b (form 18 ∷ rest)
@@ -62,13 +67,14 @@ abbrev mutual
 pub record Stacks : Type 0 where
   pub terms : List Term
   pub lists : List Terms
+  pub maps : List Pairs
   pub blocks : List Block
   pub predicates : List Predicate
   pub bounds : List Bound
   pub postfixes : List Postfix
 
 abbrev pub nothing : Stacks
-nothing = record { terms = []; lists = []; blocks = []; predicates = []; bounds = []; postfixes = [] }
+nothing = record { terms = []; lists = []; maps = []; blocks = []; predicates = []; bounds = []; postfixes = [] }
 
 abbrev pub top : {X : Type 0} → X → List X → X
 top d [] = d
@@ -110,7 +116,10 @@ formed n key s =
     else (if n == 17 then record s { predicates = no_predicate ∷ s.predicates }
     else (if n == 18 then record s { blocks = below s.blocks; predicates = predicate (last_block s) ∷ s.predicates }
     else (if n == 19 then record s { terms = below s.terms; blocks = answers (last_term s) ∷ s.blocks }
-    else record s { terms = below s.terms; blocks = line key (last_term s) (last_block s) ∷ below s.blocks })))))))))))))))))))
+    else (if n == 20 then record s { terms = below s.terms; blocks = line key (last_term s) (last_block s) ∷ below s.blocks }
+    else (if n == 21 then record s { maps = below s.maps; terms = mapping (top pairs_end s.maps) ∷ s.terms }
+    else (if n == 22 then record s { maps = pairs_end ∷ s.maps }
+    else record s { terms = below s.terms; maps = pair key (last_term s) (top pairs_end s.maps) ∷ below s.maps }))))))))))))))))))))))
 
 abbrev pub read_symbol : Symbol → Stacks → Stacks
 read_symbol (inl f) s = formed f.0 f.1 s
@@ -127,6 +136,7 @@ mutual
   read-term (name key) rest s = refl
   read-term (literal v) rest s = refl
   read-term (list ts) rest s = read-terms ts (form 1 ∷ rest) s
+  read-term (mapping ps) rest s = read-pairs ps (form 21 ∷ rest) s
   read-term (range a b) rest s = read-term a (term_symbols b (form 2 ∷ rest)) s ∙ read-term b (form 2 ∷ rest) (record s { terms = a ∷ s.terms })
   read-term (call key ts p) rest s =
       read-terms ts (predicate_symbols p (inl (3, key) ∷ rest)) s ∙ read-predicate p (inl (3, key) ∷ rest) (record s { lists = ts ∷ s.lists })
@@ -155,6 +165,10 @@ mutual
   pub read-terms : (ts : Terms) (rest : Symbols) (s : Stacks) → read (terms_symbols ts rest) s ≡ read rest (record s { lists = ts ∷ s.lists })
   read-terms no_terms rest s = refl
   read-terms (term t ts) rest s = read-term t (terms_symbols ts (form 16 ∷ rest)) s ∙ read-terms ts (form 16 ∷ rest) (record s { terms = t ∷ s.terms })
+
+  pub read-pairs : (ps : Pairs) (rest : Symbols) (s : Stacks) → read (pairs_symbols ps rest) s ≡ read rest (record s { maps = ps ∷ s.maps })
+  read-pairs pairs_end rest s = refl
+  read-pairs (pair key t ps) rest s = read-term t (pairs_symbols ps (inl (23, key) ∷ rest)) s ∙ read-pairs ps (inl (23, key) ∷ rest) (record s { terms = t ∷ s.terms })
 
   pub read-predicate : (p : Predicate) (rest : Symbols) (s : Stacks) → read (predicate_symbols p rest) s ≡ read rest (record s { predicates = p ∷ s.predicates })
   read-predicate no_predicate rest s = refl

@@ -5,7 +5,7 @@ use Rattle.expr_tree.specs.Children.{block_children}
 use Rattle.expr_tree.specs.Term.{Term}
 use Rattle.expr_tree.specs.Written.{written, program_written}
 use Rattle.expr_tree.specs.declared.inside.Inside.{Inside}
-use Rattle.expr_tree.specs.declared.inside.Inside.TheVariants.{Name, Nodes, Items, Choice}
+use Rattle.expr_tree.specs.declared.inside.Inside.TheVariants.{Name, Nodes, Items, Pairs, Choice}
 use Rattle.expr_tree.specs.declared.node.Node.{Node}
 use Rattle.expr_tree.specs.declared.node.Program.{Program}
 
@@ -24,12 +24,14 @@ abbrev pub children_inside : Inside → List Term
 children_inside (Name key) = []
 children_inside (Nodes first second third) = maybe_child first ++ (maybe_child second ++ maybe_child third)
 children_inside (Items first items program) = maybe_child first ++ (map written items.now ++ maybe_children program)
+children_inside (Pairs pairs) = map (λ p. written p.1) pairs.now
 children_inside (Choice condition consequent alternative) = written condition.now ∷ (program_children consequent.now ++ program_children alternative.now)
 
 abbrev pub name_inside : Inside → List (List ℕ)
 name_inside (Name key) = key.now ∷ []
 name_inside (Nodes first second third) = []
 name_inside (Items first items program) = []
+name_inside (Pairs pairs) = []
 name_inside (Choice condition consequent alternative) = []
 
 -- the trees that borrowed nodes stand for

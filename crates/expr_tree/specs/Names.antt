@@ -5,7 +5,7 @@ use Rattle.std.specs.List.Sorted.{IsStrictlySortedBy}
 use Rattle.std.specs.Cmp.Lexicographic.{slice_cmp}
 use Rattle.std.specs.Ordering.{nat_cmp}
 use Rattle.std.specs.BTreeSet.{insert_key}
-use Rattle.expr_tree.specs.Term.{Term, name, literal, list, range, call, unary, operation, postfix, choice, Postfix, index, slice, coalesce, pipe, ternary, method, Bound, unbounded, bound, Terms, no_terms, term, Predicate, no_predicate, predicate, Block, answers, line, LineTerms}
+use Rattle.expr_tree.specs.Term.{Term, name, literal, list, mapping, range, call, unary, operation, postfix, choice, Postfix, index, slice, coalesce, pipe, ternary, method, Bound, unbounded, bound, Terms, no_terms, term, Pairs, pairs_end, pair, Predicate, no_predicate, predicate, Block, answers, line, LineTerms}
 
 -- the names and hash names that stand as operands, in order
 abbrev mutual
@@ -13,6 +13,7 @@ abbrev mutual
   operands (name key) = key ∷ []
   operands (literal v) = []
   operands (list ts) = all_operands ts
+  operands (mapping ps) = pairs_operands ps
   operands (range first last) = operands first ++ operands last
   operands (call key ts p) = all_operands ts ++ predicate_operands p
   operands (unary o t) = operands t
@@ -35,6 +36,10 @@ abbrev mutual
   pub all_operands : Terms → List (List ℕ)
   all_operands no_terms = []
   all_operands (term t ts) = operands t ++ all_operands ts
+
+  pub pairs_operands : Pairs → List (List ℕ)
+  pairs_operands pairs_end = []
+  pairs_operands (pair key t ps) = operands t ++ pairs_operands ps
 
   pub predicate_operands : Predicate → List (List ℕ)
   predicate_operands no_predicate = []

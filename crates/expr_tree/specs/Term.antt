@@ -9,6 +9,7 @@ mutual
     name : (key : List ℕ) → Term
     literal : (v : Value) → Term
     list : (ts : Terms) → Term
+    mapping : (ps : Pairs) → Term
     range : (first last : Term) → Term
     call : (key : List ℕ) (ts : Terms) (p : Predicate) → Term
     unary : (o : UnaryOperator) (t : Term) → Term
@@ -34,6 +35,11 @@ mutual
     no_terms : Terms
     term : (t : Term) (ts : Terms) → Terms
 
+  -- the keys of a map literal, each with its value
+  pub data Pairs : Type 0 where
+    pairs_end : Pairs
+    pair : (key : List ℕ) (t : Term) (ps : Pairs) → Pairs
+
   -- the program that a call is given, if it is given one
   pub data Predicate : Type 0 where
     no_predicate : Predicate
@@ -44,7 +50,7 @@ mutual
     answers : (t : Term) → Block
     line : (key : List ℕ) (t : Term) (b : Block) → Block
 
--- the names and values of lines, in order
+-- names with their trees, in order: the lines of a program, or the pairs of a map literal
 abbrev pub LineTerms : Type 0
 LineTerms = List (List ℕ × Term)
 
@@ -52,3 +58,8 @@ LineTerms = List (List ℕ × Term)
 abbrev pub block_with : LineTerms → Term → Block
 block_with [] last = answers last
 block_with (l ∷ ls) last = line l.0 l.1 (block_with ls last)
+
+-- the pairs of a map literal
+abbrev pub pairs_of : LineTerms → Pairs
+pairs_of [] = pairs_end
+pairs_of (p ∷ ps) = pair p.0 p.1 (pairs_of ps)

@@ -1,12 +1,13 @@
 -- How many nodes a tree has.
 use Rattle.std.specs.Prelude.{ℕ, ◌+◌, [], ◌∷◌}
-use Rattle.expr_tree.specs.Term.{Term, name, literal, list, range, call, unary, operation, postfix, choice, Postfix, index, slice, coalesce, pipe, ternary, method, Bound, unbounded, bound, Terms, no_terms, term, Predicate, no_predicate, predicate, Block, answers, line, LineTerms}
+use Rattle.expr_tree.specs.Term.{Term, name, literal, list, mapping, range, call, unary, operation, postfix, choice, Postfix, index, slice, coalesce, pipe, ternary, method, Bound, unbounded, bound, Terms, no_terms, term, Pairs, pairs_end, pair, Predicate, no_predicate, predicate, Block, answers, line, LineTerms}
 
 abbrev mutual
   pub weight : Term → ℕ
   weight (name key) = 1
   weight (literal v) = 1
   weight (list ts) = 1 + terms_weight ts
+  weight (mapping ps) = 1 + pairs_weight ps
   weight (range first last) = 1 + (weight first + weight last)
   weight (call key ts p) = 1 + (terms_weight ts + predicate_weight p)
   weight (unary o t) = 1 + weight t
@@ -29,6 +30,10 @@ abbrev mutual
   pub terms_weight : Terms → ℕ
   terms_weight no_terms = 0
   terms_weight (term t ts) = weight t + terms_weight ts
+
+  pub pairs_weight : Pairs → ℕ
+  pairs_weight pairs_end = 0
+  pairs_weight (pair key t ps) = weight t + pairs_weight ps
 
   pub predicate_weight : Predicate → ℕ
   predicate_weight no_predicate = 0

@@ -2,7 +2,7 @@
 use Rattle.std.specs.Prelude.{ℕ, List, [], ◌∷◌, Option, Some, None, String, string_bytes}
 use Rattle.std.specs.declared.alloc.Global.{Global}
 use Rattle.std.specs.declared.boxed.Box.{Box}
-use Rattle.expr_tree.specs.Term.{Term, name, literal, list, range, call, unary, operation, postfix, choice, Postfix, index, slice, coalesce, pipe, ternary, method, Bound, unbounded, bound, Terms, no_terms, term, Predicate, no_predicate, predicate, Block, answers, line}
+use Rattle.expr_tree.specs.Term.{Term, name, literal, list, mapping, range, call, unary, operation, postfix, choice, Postfix, index, slice, coalesce, pipe, ternary, method, Bound, unbounded, bound, Terms, no_terms, term, Pairs, pairs_end, pair, Predicate, no_predicate, predicate, Block, answers, line}
 use Rattle.expr_tree.specs.declared.node.Node.{Node, fold-Node}
 use Rattle.expr_tree.specs.declared.node.Node.TheOpen.{Node-F, PostfixOperator-F, Program-F}
 use Rattle.expr_tree.specs.declared.node.PostfixOperator.{PostfixOperator, fold-PostfixOperator}
@@ -11,6 +11,10 @@ use Rattle.expr_tree.specs.declared.node.Program.{Program, fold-Program}
 abbrev pub terms_of : List Term → Terms
 terms_of [] = no_terms
 terms_of (t ∷ ts) = term t (terms_of ts)
+
+abbrev pub mapping_of : List (String Global × Term) → Pairs
+mapping_of [] = pairs_end
+mapping_of (p ∷ ps) = pair (string_bytes p.0) p.1 (mapping_of ps)
 
 abbrev pub block_of : List (String Global × Term) → Term → Block
 block_of [] last = answers last
@@ -28,6 +32,7 @@ bound_of (Some t) = bound t.value
 abbrev pub node_step : Node-F Term Postfix Block → Term
 node_step (Node-F.Ident s) = name (string_bytes s)
 node_step (Node-F.Array ns) = list (terms_of ns.items)
+node_step (Node-F.Map ps) = mapping (mapping_of ps.items)
 node_step (Node-F.«Node::Range» a b) = range a.value b.value
 node_step (Node-F.Value v) = literal v
 node_step (Node-F.Func s ns p) = call (string_bytes s) (terms_of ns.items) (predicate_of p)
@@ -61,7 +66,7 @@ abbrev pub bound_written : Option (Box Node Global) → Bound
 bound_written None = unbounded
 bound_written (Some n) = bound (written n.value)
 
--- a line in memory
+-- a line, or a pair of a map literal, in memory
 abbrev pub line_written : String Global × Node → List ℕ × Term
 line_written l = (string_bytes l.0, written l.1)
 

@@ -38,6 +38,40 @@ pub(crate) fn shortened_items(mut items: Vec<Node>) -> Option<Node>
     }
 }
 
+// As `linked`, of a map with these pairs.
+pub(crate) fn linked_pairs(
+    mut pairs: Vec<(String, Node)>,
+    chain: Node,
+) -> Result<(Node, Node), Node>
+    ensures parts { IfOk result (λ r. weight (written r.0) + weight (written r.1) ≤ 1 + lines_weight (map line_written pairs.items) + weight (written chain)) }
+    ensures first { IfOk result (λ r. weight (written r.0) ≤ lines_weight (map line_written pairs.items)) }
+    ensures chain { IfErr result (λ n. n ≡ chain) }
+{
+    match pairs.pop() {
+        None => {
+            pairs.destroy_empty();
+            Err(chain)
+        }
+        Some((key, node)) => {
+            pairs.push_reserved((key, chain));
+            Ok((node, Node::Map(pairs)))
+        }
+    }
+}
+
+// As `shortened`, of a map with these pairs.
+pub(crate) fn shortened_pairs(mut pairs: Vec<(String, Node)>) -> Option<Node>
+    ensures { IfSome result (λ n. weight (written n) ≤ lines_weight (map line_written pairs.items)) }
+{
+    match pairs.pop() {
+        None => {
+            pairs.destroy_empty();
+            None
+        }
+        Some((_key, chain)) => Some(hung_lines(pairs, chain)),
+    }
+}
+
 pub(crate) fn hung_items(mut items: Vec<Node>, chain: Node) -> Node
     ensures { weight (written result) ≤ terms_weight (terms_of (map written items.items)) + weight (written chain) }
 {

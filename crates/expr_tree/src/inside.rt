@@ -13,6 +13,7 @@ pub(crate) enum Inside<'a> {
     Name(&'a str),
     Nodes(Option<&'a Node>, Option<&'a Node>, Option<&'a Node>),
     Items(Option<&'a Node>, &'a [Node], Option<&'a Program>),
+    Pairs(&'a [(String, Node)]),
     Choice(&'a Node, &'a Program, &'a Program),
 }
 
@@ -23,6 +24,7 @@ pub(crate) fn look_inside<'a>(node: &'a Node) -> Inside<'a>
     match node {
         Node::Ident(name) => Inside::Name(name.as_str()),
         Node::Array(items) => Inside::Items(None, items, None),
+        Node::Map(pairs) => Inside::Pairs(pairs),
         Node::Range(first, last) => Inside::Nodes(Some(first), Some(last), None),
         Node::Value(_) => Inside::Nodes(None, None, None),
         Node::Func {

@@ -2,6 +2,7 @@
 #![tactic(auto)]
 
 mod chain;
+mod clone;
 mod inside;
 mod names;
 pub mod node;

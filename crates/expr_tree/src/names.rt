@@ -129,6 +129,7 @@ fn gather<'a>(
                 Some(program) => wait_for_program(program, waiting),
             }
         }
+        Inside::Pairs(pairs) => wait_for_values(pairs, waiting),
         Inside::Choice(condition, consequent, alternative) => {
             waiting.push(condition)?;
             wait_for_program(consequent, waiting)?;
@@ -170,10 +171,20 @@ fn wait_for_program<'a>(
 ) -> std::result::Result<(), AllocError>
     ensures { OnOk result (lent_terms waiting.new.items ≡ lent_terms waiting.old.items ++ program_children program.now) }
 {
-    for (_name, value) in &program.lines {
+    wait_for_values(&program.lines, waiting)?;
+    waiting.push(&program.expr)?;
+    Ok(())
+}
+
+fn wait_for_values<'a>(
+    named: &'a [(String, Node)],
+    waiting: &mut Vec<&'a Node>,
+) -> std::result::Result<(), AllocError>
+    ensures { OnOk result (lent_terms waiting.new.items ≡ lent_terms waiting.old.items ++ map (λ l. written l.1) named.now) }
+{
+    for (_name, value) in named {
         waiting.push(value)?;
     }
-    waiting.push(&program.expr)?;
     Ok(())
 }
 
@@ -194,6 +205,7 @@ fn node_uses_env(node: &Node) -> bool
                     Some(program) => program_uses_env(program),
                 }
         }
+        Inside::Pairs(pairs) => values_use_env(pairs),
         Inside::Choice(condition, consequent, alternative) => {
             node_uses_env(condition)
                 || program_uses_env(consequent)
@@ -228,11 +240,11 @@ fn any_uses_env(nodes: &[Node]) -> bool
 fn program_uses_env(program: &Program) -> bool
     ensures { result ≡ has_env (block_operands (program_written program.now)) }
 {
-    lines_use_env(&program.lines) || node_uses_env(&program.expr)
+    values_use_env(&program.lines) || node_uses_env(&program.expr)
 }
 
 #[cycle(uses)]
-fn lines_use_env(lines: &[(String, Node)]) -> bool
+fn values_use_env(lines: &[(String, Node)]) -> bool
     ensures { result ≡ has_env (lines_operands (map line_written lines.now)) }
 {
     for (_name, value) in lines {

@@ -4,15 +4,13 @@ ghost use Rattle.expr_tree.specs.Weight.{weight};
 ghost use Rattle.expr_tree.specs.Written.{written};
 
 use crate::chain::{
-    hung_items, hung_lines, hung_postfix, hung_program, linked_items, shortened_items,
+    hung_items, hung_lines, hung_postfix, hung_program, linked_items, linked_pairs, shortened_items,
+    shortened_pairs,
 };
 use crate::operator::{Operator, UnaryOperator};
+pub use expr_pattern::Pattern;
 use expr_value::Value;
 use std::mem;
-
-/// A built pattern. There are none yet.
-#[derive(Clone, Copy)]
-pub enum Pattern {}
 
 /// An expression.
 #[cycle(tree)]
@@ -21,6 +19,8 @@ pub enum Node {
     Ident(String),
     /// The items of an array, in order.
     Array(Vec<Node>),
+    /// The keys of a map, each with its value, in the order of the text, repeated keys included. A map of literals alone is a `Value`.
+    Map(Vec<(String, Node)>),
     /// The integers from the first to the second, both in.
     Range(Box<Node>, Box<Node>),
     /// A literal.
@@ -36,12 +36,12 @@ pub enum Node {
         operator: UnaryOperator,
         node: Box<Node>,
     },
-    /// An operator between its operands.
+    /// An operator between its operands. The pattern is one that was built beforehand, of the text on the right of `matches`; one of any other text is passed over.
     Operation {
         operator: Operator,
         left: Box<Node>,
         right: Box<Node>,
-        compiled_regex: Option<Pattern>,
+        compiled_regex: Option<Box<Pattern>>,
     },
     /// What stands behind its operand.
     Postfix {
@@ -74,6 +74,7 @@ impl Node {
         match self {
             Node::Ident(_) | Node::Value(_) => None,
             Node::Array(items) => shortened_items(items),
+            Node::Map(pairs) => shortened_pairs(pairs),
             Node::Range(first, last) => Some(Box::into_inner(last).hung(Box::into_inner(first))),
             Node::Func {
                 ident: _,
@@ -131,6 +132,7 @@ impl Node {
         match self {
             Node::Ident(_) | Node::Value(_) => Err(chain),
             Node::Array(items) => linked_items(items, chain),
+            Node::Map(pairs) => linked_pairs(pairs, chain),
             Node::Range(mut first, last) => {
                 let node = mem::replace(first.as_mut(), chain);
                 Ok((node, Node::Range(first, last)))

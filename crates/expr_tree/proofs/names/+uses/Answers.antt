@@ -6,7 +6,7 @@ use Rattle.expr_tree.specs.Written.{written, program_written, line_written}
 use Rattle.expr_tree.proofs.Children.{weight_of, weight-block}
 use Rattle.expr_tree.proofs.Gathered.{nodes_without, lines_without, nodes_with, lines_with, block_env}
 use Rattle.expr_tree.proofs.Programs.{written-parts}
-use Rattle.expr_tree.proofs.Uses.{uses, parts-weight, choice-weight, item-weight, line-weight, parts-env, block-env, or_then, or_else}
+use Rattle.expr_tree.proofs.Uses.{uses, parts-weight, choice-weight, named-inside, named-env, item-weight, line-weight, parts-env, block-env, or_then, or_else}
 use Rattle.expr_tree.proofs.Weights.{program-parts, named_weight}
 use Rattle.expr_tree.proofs.names.+uses.Goals.{node_uses_env-then-child_uses_env, node_uses_env-else-child_uses_env, node_uses_env-then-child_uses_env-3, node_uses_env-else-child_uses_env-3, node_uses_env-then-node_uses_env, node_uses_env-else-node_uses_env}
 use Rattle.expr_tree.proofs.names.+uses.Goals as goal
@@ -19,36 +19,36 @@ pub any_uses_env-loop-node-preserved : goal.any_uses_env-loop-node-preserved
 any_uses_env-loop-node-preserved t c =
     nodes_without c.args.nodes.now c.loop-node.node-index c.node-item.result c.loop-node-test.true c.node-item.is c.loop-node.invariant (sym c.node_uses_env.ensures ∙ c.if-node_uses_env.false)
 
-pub lines_use_env-returns-then-node_uses_env : goal.lines_use_env-returns-then-node_uses_env
-lines_use_env-returns-then-node_uses_env t c =
+pub values_use_env-returns-then-node_uses_env : goal.values_use_env-returns-then-node_uses_env
+values_use_env-returns-then-node_uses_env t c =
     sym (lines_with c.args.lines.now c.loop-name._name-index c.loop-name-item.result c.loop-name-test.true c.loop-name-item.is (sym c.node_uses_env.ensures ∙ c.if-node_uses_env.true))
 
-pub lines_use_env-loop-name-preserved : goal.lines_use_env-loop-name-preserved
-lines_use_env-loop-name-preserved t c =
+pub values_use_env-loop-name-preserved : goal.values_use_env-loop-name-preserved
+values_use_env-loop-name-preserved t c =
     lines_without c.args.lines.now c.loop-name._name-index c.loop-name-item.result c.loop-name-test.true c.loop-name-item.is c.loop-name.invariant (sym c.node_uses_env.ensures ∙ c.if-node_uses_env.false)
 
-pub program_uses_env-returns-then-lines_use_env : goal.program_uses_env-returns-then-lines_use_env
-program_uses_env-returns-then-lines_use_env t c =
+pub program_uses_env-returns-then-values_use_env : goal.program_uses_env-returns-then-values_use_env
+program_uses_env-returns-then-values_use_env t c =
     let p = c.args.program.now in
-    let lines : has_env (lines_operands (map line_written p.lines.items)) ≡ c.lines_use_env.result =
-    ap (λ ls. has_env (lines_operands (map line_written ls))) (sym c.deref.ensures.value) ∙ sym c.lines_use_env.ensures in
-    c.if-lines_use_env.true ∙ sym (ap (λ b. has_env (block_operands b)) (written-parts p) ∙ block_env (map line_written p.lines.items) (written p.expr)
-    ∙ ap (λ b. b || has_env (operands (written p.expr))) (lines ∙ c.if-lines_use_env.true))
+    let lines : has_env (lines_operands (map line_written p.lines.items)) ≡ c.values_use_env.result =
+    ap (λ ls. has_env (lines_operands (map line_written ls))) (sym c.deref.ensures.value) ∙ sym c.values_use_env.ensures in
+    c.if-values_use_env.true ∙ sym (ap (λ b. has_env (block_operands b)) (written-parts p) ∙ block_env (map line_written p.lines.items) (written p.expr)
+    ∙ ap (λ b. b || has_env (operands (written p.expr))) (lines ∙ c.if-values_use_env.true))
 
-pub program_uses_env-returns-else-lines_use_env : goal.program_uses_env-returns-else-lines_use_env
-program_uses_env-returns-else-lines_use_env t c =
+pub program_uses_env-returns-else-values_use_env : goal.program_uses_env-returns-else-values_use_env
+program_uses_env-returns-else-values_use_env t c =
     let p = c.args.program.now in
-    let lines : has_env (lines_operands (map line_written p.lines.items)) ≡ c.lines_use_env.result =
-    ap (λ ls. has_env (lines_operands (map line_written ls))) (sym c.deref.ensures.value) ∙ sym c.lines_use_env.ensures in
+    let lines : has_env (lines_operands (map line_written p.lines.items)) ≡ c.values_use_env.result =
+    ap (λ ls. has_env (lines_operands (map line_written ls))) (sym c.deref.ensures.value) ∙ sym c.values_use_env.ensures in
     c.node_uses_env.ensures ∙ sym (ap (λ b. has_env (block_operands b)) (written-parts p) ∙ block_env (map line_written p.lines.items) (written p.expr)
-    ∙ ap (λ b. b || has_env (operands (written p.expr))) (lines ∙ c.if-lines_use_env.false))
+    ∙ ap (λ b. b || has_env (operands (written p.expr))) (lines ∙ c.if-values_use_env.false))
 
 pub any_uses_env-node_uses_env-requires : goal.any_uses_env-node_uses_env-requires
 any_uses_env-node_uses_env-requires t c =
     (omega (arith, c.decreases, item-weight c.args.nodes.now c.loop-node.node-index c.node-item.result c.loop-node-test.true c.node-item.is), tt)
 
-pub lines_use_env-node_uses_env-requires : goal.lines_use_env-node_uses_env-requires
-lines_use_env-node_uses_env-requires t c =
+pub values_use_env-node_uses_env-requires : goal.values_use_env-node_uses_env-requires
+values_use_env-node_uses_env-requires t c =
     (omega (arith, c.decreases, line-weight c.args.lines.now c.loop-name._name-index c.loop-name-item.result c.loop-name-test.true c.loop-name-item.is), tt)
 
 pub node_uses_env-child_uses_env-requires : goal.node_uses_env-child_uses_env-requires
@@ -95,8 +95,14 @@ pub node_uses_env-program_uses_env-requires-else-program_uses_env : goal.node_us
 node_uses_env-program_uses_env-requires-else-program_uses_env t c =
     (omega (arith, c.decreases, choice-weight (written c.args.node.now) (written c.in-Choice.condition.now) (program_written c.in-Choice.consequent.now) (program_written c.in-Choice.alternative.now) c.in-Choice.ensures.children), tt)
 
-pub program_uses_env-lines_use_env-requires : goal.program_uses_env-lines_use_env-requires
-program_uses_env-lines_use_env-requires t c = (omega (arith, c.decreases, program-parts c.args.program.now, ap named_weight c.deref.ensures.value), tt)
+pub node_uses_env-values_use_env-requires : goal.node_uses_env-values_use_env-requires
+node_uses_env-values_use_env-requires t c = (omega (arith, c.decreases, named-inside (written c.args.node.now) c.in-Pairs.pairs.now c.in-Pairs.ensures.children), tt)
+
+pub node_uses_env-returns-in-Pairs : goal.node_uses_env-returns-in-Pairs
+node_uses_env-returns-in-Pairs t c = c.values_use_env.ensures ∙ sym (named-env (written c.args.node.now) c.in-Pairs.pairs.now c.in-Pairs.ensures.name c.in-Pairs.ensures.children)
+
+pub program_uses_env-values_use_env-requires : goal.program_uses_env-values_use_env-requires
+program_uses_env-values_use_env-requires t c = (omega (arith, c.decreases, program-parts c.args.program.now, ap named_weight c.deref.ensures.value), tt)
 
 pub program_uses_env-node_uses_env-requires : goal.program_uses_env-node_uses_env-requires
 program_uses_env-node_uses_env-requires t c = (omega (arith, c.decreases, program-parts c.args.program.now), tt)

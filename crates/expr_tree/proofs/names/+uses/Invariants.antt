@@ -10,8 +10,8 @@ use Rattle.expr_tree.proofs.names.+uses.Given as goal
 abbrev pub invariant-any_uses_env-loop-node : goal.invariant-any_uses_env-loop-node
 invariant-any_uses_env-loop-node l = has_env (all_operands (terms_of (map written (take l.node-index l.nodes)))) ≡ false
 
-abbrev pub invariant-lines_use_env-loop-name : goal.invariant-lines_use_env-loop-name
-invariant-lines_use_env-loop-name l = has_env (lines_operands (map line_written (take l._name-index l.lines))) ≡ false
+abbrev pub invariant-values_use_env-loop-name : goal.invariant-values_use_env-loop-name
+invariant-values_use_env-loop-name l = has_env (lines_operands (map line_written (take l._name-index l.lines))) ≡ false
 
 abbrev pub decreases-any_uses_env : goal.decreases-any_uses_env
 decreases-any_uses_env l = 3 * items_weight l.nodes.now + 1
@@ -19,8 +19,8 @@ decreases-any_uses_env l = 3 * items_weight l.nodes.now + 1
 abbrev pub decreases-child_uses_env : goal.decreases-child_uses_env
 decreases-child_uses_env l = 3 * weight_of (maybe_child l.child) + 1
 
-abbrev pub decreases-lines_use_env : goal.decreases-lines_use_env
-decreases-lines_use_env l = 3 * named_weight l.lines.now + 1
+abbrev pub decreases-values_use_env : goal.decreases-values_use_env
+decreases-values_use_env l = 3 * named_weight l.lines.now + 1
 
 abbrev pub decreases-node_uses_env : goal.decreases-node_uses_env
 decreases-node_uses_env l = 3 * weight (written l.node.now)

@@ -1,5 +1,4 @@
 use Rattle.std.proofs.Common.{◌++◌, [], ◌∷◌, map, sym, ap, ◌∙◌, append_assoc}
-use Rattle.std.proofs.lemmas.List.{take_all}
 use Rattle.expr_tree.specs.Inside.{lent_terms}
 use Rattle.expr_tree.specs.Written.{written}
 use Rattle.expr_tree.proofs.Children.{children-program}
@@ -10,7 +9,6 @@ pub returns : goal.returns
 returns c =
     let p = c.args.program.now in
     let old = lent_terms c.args.waiting.now.items in
-    ap lent_terms c.in_ok-push-2.ensures.items ∙ lent-push c.loop-name.waiting.items _
-    ∙ ap (λ l. l ++ written p.expr ∷ [])
-    (c.loop-name.invariant ∙ ap (λ ls. old ++ map (λ l. written l.1) ls) (take_all c.loop-name._name-index c.deref-name-items.result.now c.loop-name-test.false ∙ c.deref-name-items.ensures.value))
+    ap lent_terms c.in_ok-push.ensures.items ∙ lent-push c.wait_for_values.new.waiting.items _
+    ∙ ap (λ l. l ++ written p.expr ∷ []) (c.in_ok-wait_for_values.ensures ∙ ap (λ ls. old ++ map (λ l. written l.1) ls) c.deref.ensures.value)
     ∙ append_assoc old (map (λ l. written l.1) p.lines.items) (written p.expr ∷ []) ∙ ap (λ ts. old ++ ts) (sym (children-program p))
