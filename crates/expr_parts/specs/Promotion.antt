@@ -1,7 +1,7 @@
 -- Which argument of a call is the program that it runs, where none is given in braces.
 use Rattle.std.specs.Prelude.{ℕ, Bool, false, ◌==◌, ◌||◌, bytes_eq, codes, List, [], ◌∷◌, if◌then◌else◌}
 use Rattle.std.specs.List.{list_any}
-use Rattle.expr_tree.specs.Term.{Term, name, literal, list, range, call, unary, operation, postfix, choice, Postfix, index, slice, coalesce, pipe, ternary, method, Bound, unbounded, bound, Terms, no_terms, term, Predicate, no_predicate, predicate, Block, answers, line, LineTerms}
+use Rattle.expr_tree.specs.Term.{Term, name, literal, list, mapping, range, call, unary, operation, postfix, choice, Postfix, index, slice, coalesce, pipe, ternary, method, Bound, unbounded, bound, Terms, no_terms, term, Pairs, pairs_end, pair, Predicate, no_predicate, predicate, Block, answers, line, LineTerms}
 use Rattle.expr_tree.specs.Written.{terms_of}
 
 -- a hash name begins with `#`
@@ -15,6 +15,7 @@ abbrev mutual
   has_free_hash (name key) = is_hash_name key
   has_free_hash (literal v) = false
   has_free_hash (list ts) = any_free_hash ts
+  has_free_hash (mapping ps) = pairs_have_free_hash ps
   has_free_hash (range first last) = has_free_hash first || has_free_hash last
   has_free_hash (call key ts p) = any_free_hash ts
   has_free_hash (unary o t) = has_free_hash t
@@ -38,11 +39,15 @@ abbrev mutual
   any_free_hash no_terms = false
   any_free_hash (term t ts) = has_free_hash t || any_free_hash ts
 
+  pub pairs_have_free_hash : Pairs → Bool
+  pairs_have_free_hash pairs_end = false
+  pairs_have_free_hash (pair key t ps) = has_free_hash t || pairs_have_free_hash ps
+
   pub block_has_free_hash : Block → Bool
   block_has_free_hash (answers t) = has_free_hash t
   block_has_free_hash (line key t b) = has_free_hash t || block_has_free_hash b
 
--- whether a hash name stands in a line's value outside predicates
+-- whether a hash name stands outside predicates in the value of a line, or of a pair of a map literal
 abbrev pub lines_have_free_hash : LineTerms → Bool
 lines_have_free_hash ls = list_any (λ l. has_free_hash l.1) ls
 

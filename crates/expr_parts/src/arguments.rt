@@ -1,10 +1,11 @@
 //! Arguments of a call or items of an array, one after another, and the call or array of them.
-ghost use Rattle.std.specs.Prelude.{◌≡◌, ◌∷◌, ◌++◌, [], IfOk, OnOk, OnErr, map, string_bytes};
-ghost use Rattle.expr_tree.specs.Term.{list, call, no_predicate, predicate};
+ghost use Rattle.std.specs.Prelude.{◌≡◌, IfOk, OnOk, OnErr, map, string_bytes};
+ghost use Rattle.expr_tree.specs.Term.{call, predicate};
 ghost use Rattle.expr_tree.specs.Written.{written, program_written, terms_of};
-ghost use Rattle.expr_parts.specs.Promotion.{call_of, any_free_hash};
+ghost use Rattle.expr_parts.specs.Parts.{none_given, given_more, given_program, array_of, called};
+ghost use Rattle.expr_parts.specs.Promotion.{any_free_hash};
 
-use crate::part::Part;
+use crate::part::{Part, above};
 use crate::program::ProgramPart;
 use crate::promotion::Marks;
 use expr_tree::node::{Node, Program};
@@ -16,6 +17,7 @@ pub struct Arguments {
     nodes: Vec<Node>,
     marks: Marks,
     program: Option<Box<Program>>,
+    pub(crate) height: usize,
 }
 
 // Written out so that letting go of one is a single step in the proofs above.
@@ -25,6 +27,7 @@ impl Drop for Arguments {
             nodes: _,
             marks: _,
             program: _,
+            height: _,
         } = self;
     }
 }
@@ -39,7 +42,7 @@ impl Model for Arguments {
 
     ghost coded = { given_code };
 
-    ghost view = { λ a. record { terms = map written a.nodes.items; program = predicate_written a.program } };
+    ghost view = { λ a. record { terms = map written a.nodes.items; program = predicate_written a.program; height = a.height } };
 
     ghost invariant = { λ a. a.marks ≡ marks_of (map written a.nodes.items) };
 }
@@ -47,34 +50,39 @@ impl Model for Arguments {
 impl Arguments {
     /// No arguments.
     pub fn new(alloc: Global) -> Arguments
-        ensures { result ≡ record { terms = []; program = no_predicate } }
+        ensures { result ≡ none_given }
     {
         Arguments {
             nodes: Vec::new(alloc),
             marks: Marks::none(),
             program: None,
+            height: 0,
         }
     }
 
     /// Adds an argument.
     pub fn push(&mut self, part: Part) -> Result<(), AllocError>
-        ensures ok { OnOk result (self.new ≡ record self.old { terms = self.old.terms ++ part ∷ [] }) }
+        ensures ok { OnOk result (self.new ≡ given_more self.old part) }
         ensures err { OnErr result (self.new ≡ self.old) }
     {
         let count = self.nodes.len();
         let is_free = part.has_free_hash;
+        let height = part.height;
         self.nodes.push(part.into_node())?;
         self.marks.add(count, is_free);
+        self.height = self.height.max(height);
         Ok(())
     }
 
-    /// Gives the call a program, in place of one given before.
+    /// Gives the call a program, in place of one given before, which still counts for the height.
     pub fn give(&mut self, program: ProgramPart) -> Result<(), AllocError>
-        ensures ok { OnOk result (self.new ≡ record self.old { program = predicate program }) }
+        ensures ok { OnOk result (self.new ≡ given_program self.old program) }
         ensures err { OnErr result (self.new ≡ self.old) }
     {
         let alloc = *self.nodes.allocator();
+        let height = program.height;
         self.program = Some(Box::new(alloc, program.into_program())?);
+        self.height = self.height.max(height);
         Ok(())
     }
 
@@ -92,32 +100,37 @@ impl Arguments {
             nodes,
             marks: _,
             program: _,
+            height: _,
         } = self;
         nodes
     }
 
     /// The array of these items.
-    pub fn array(self) -> Part
-        ensures { result ≡ list (terms_of self.terms) }
+    pub fn array(self) -> Result<Part, AllocError>
+        ensures { IfOk result (λ p. p ≡ array_of self) }
     {
         let has_free_hash = self.has_free_hash();
-        Part {
+        let height = above(self.height)?;
+        Ok(Part {
             node: Node::Array(self.into_nodes()),
             has_free_hash,
-        }
+            height,
+        })
     }
 
     /// The call of a function, after promotion.
     pub fn call(self, ident: String) -> Result<Part, AllocError>
-        ensures { IfOk result (λ p. p ≡ call_of (string_bytes ident) self.terms self.program) }
+        ensures { IfOk result (λ p. p ≡ called (string_bytes ident) self) }
     {
         let Arguments {
             mut nodes,
             marks,
             program,
+            height,
         } = self;
+        let height = above(height)?;
         if let Some(program) = program {
-            return Ok(call_with(ident, nodes, marks.free > 0, program));
+            return Ok(call_with(ident, nodes, marks.free > 0, program, height));
         }
         match marks.promoted_place(ident.as_str(), nodes.len()) {
             None => Ok(Part {
@@ -127,22 +140,29 @@ impl Arguments {
                     predicate: None,
                 },
                 has_free_hash: marks.free > 0,
+                height,
             }),
             Some(place) => {
                 let alloc = *nodes.allocator();
                 let expr = nodes.remove(place);
                 let lines = Vec::new(alloc);
                 let program = Box::new(alloc, Program { lines, expr })?;
-                Ok(call_with(ident, nodes, marks.free > 1, program))
+                Ok(call_with(ident, nodes, marks.free > 1, program, height))
             }
         }
     }
 }
 
-// The call with these arguments and this program.
-fn call_with(ident: String, args: Vec<Node>, has_free_hash: bool, program: Box<Program>) -> Part
+// The call with these arguments and this program, at a height.
+fn call_with(
+    ident: String,
+    args: Vec<Node>,
+    has_free_hash: bool,
+    program: Box<Program>,
+    height: usize,
+) -> Part
     requires { has_free_hash ≡ any_free_hash (terms_of (map written args.items)) }
-    ensures { result ≡ call (string_bytes ident) (terms_of (map written args.items)) (predicate (program_written program.value)) }
+    ensures { result ≡ record { term = call (string_bytes ident) (terms_of (map written args.items)) (predicate (program_written program.value)); height = height } }
 {
     Part {
         node: Node::Func {
@@ -151,5 +171,6 @@ fn call_with(ident: String, args: Vec<Node>, has_free_hash: bool, program: Box<P
             predicate: Some(program),
         },
         has_free_hash,
+        height,
     }
 }

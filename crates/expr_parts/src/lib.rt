@@ -2,10 +2,12 @@
 #![tactic(auto)]
 
 mod arguments;
+mod entries;
 mod part;
 mod program;
 mod promotion;
 
 pub use arguments::Arguments;
+pub use entries::Entries;
 pub use part::Part;
 pub use program::{Lines, ProgramPart};

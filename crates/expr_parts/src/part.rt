@@ -1,22 +1,25 @@
-//! Nodes made from parts. Beside each stands whether a hash name is free in it, so that promotion walks no tree.
-ghost use Rattle.std.specs.Prelude.{◌≡◌, IfOk, string_bytes};
-ghost use Rattle.expr_tree.specs.Term.{name, literal, range, unary, operation, postfix, choice, index, slice, coalesce, pipe, ternary, method};
-ghost use Rattle.expr_tree.specs.Written.{written, postfix_written, bound_written, terms_of};
+//! Nodes made from parts. Beside each stands whether a hash name is free in it, so that promotion walks no tree, and the height of the tree that it was read from.
+ghost use Rattle.std.specs.Prelude.{◌≡◌, suc, IfOk, IfSome, string_bytes};
+ghost use Rattle.expr_tree.specs.Term.{name, literal, postfix};
+ghost use Rattle.expr_tree.specs.Written.{written, postfix_written, bound_written};
+ghost use Rattle.expr_parts.specs.Kept.{IsKept};
 ghost use Rattle.expr_parts.specs.Promotion.{bound_has_free_hash, postfix_has_free_hash};
-ghost use Rattle.expr_parts.specs.Parts.{bound_with};
+ghost use Rattle.expr_parts.specs.Parts.{bound_with, leaf, bracketed, prefixed, ranged, operated, coalesced, chosen, indexed, member_of, field_of, sliced, piped, ternary_of, method_of};
+ghost use Rattle.expr_parts.specs.Parts as parts;
 
 use crate::arguments::Arguments;
 use crate::program::ProgramPart;
-use expr_tree::node::{Node, PostfixOperator};
+use expr_tree::node::{Node, Pattern, PostfixOperator};
 use expr_tree::operator::{Operator, UnaryOperator};
-use expr_value::Value;
+use expr_value::{Text, Value};
 use std::alloc::{AllocError, Global};
 use std::marker::Model;
 
-/// A node and whether a hash name is free in it, which contracts see as the node's tree.
+/// A node, whether a hash name is free in it, and the height of the tree that it was read from. Contracts see the node's tree and the height.
 pub struct Part {
     pub(crate) node: Node,
     pub(crate) has_free_hash: bool,
+    pub(crate) height: usize,
 }
 
 // Written out so that letting go of one is a single step in the proofs above.
@@ -25,81 +28,120 @@ impl Drop for Part {
         let Part {
             node: _,
             has_free_hash: _,
+            height: _,
         } = self;
     }
 }
 
 impl Model for Part {
-    ghost use Rattle.expr_tree.specs.Term.{Term};
-    ghost use Rattle.expr_tree.specs.Codes.{term_code};
+    ghost use Rattle.expr_parts.specs.Parts.{Measured, measured_code};
 
-    ghost Value = { Term };
+    ghost Value = { Measured };
 
-    ghost coded = { term_code };
+    ghost coded = { measured_code };
 
     ghost use Rattle.std.specs.Prelude.{◌≡◌};
     ghost use Rattle.expr_tree.specs.Written.{written};
     ghost use Rattle.expr_parts.specs.Promotion.{has_free_hash as hash_stands_free};
 
-    ghost view = { λ p. written p.node };
+    ghost view = { λ p. record { term = written p.node; height = p.height } };
 
     ghost invariant = { λ p. p.has_free_hash ≡ hash_stands_free (written p.node) };
+}
+
+// The height of a tree by that of the highest inside it. One that doesn't fit is refused, though no memory holds the tokens of so high a tree.
+pub(crate) fn above(height: usize) -> Result<usize, AllocError>
+    ensures { IfOk result (λ h. h ≡ suc height) }
+{
+    height.checked_add(1).ok_or(AllocError)
 }
 
 impl Part {
     /// A name or hash name.
     pub fn name(ident: String) -> Part
-        ensures { result ≡ name (string_bytes ident) }
+        ensures { result ≡ leaf (name (string_bytes ident)) }
     {
         let has_free_hash = ident.as_bytes().first() == Some(&b'#');
         Part {
             node: Node::Ident(ident),
             has_free_hash,
+            height: 1,
         }
     }
 
     /// A literal.
     pub fn literal(value: Value) -> Part
-        ensures { result ≡ literal value }
+        ensures { result ≡ leaf (literal value) }
     {
         Part {
             node: Node::Value(value),
             has_free_hash: false,
+            height: 1,
         }
+    }
+
+    /// A field of the item at hand: the member of `#`.
+    ///
+    /// # Errors
+    ///
+    /// `AllocError`, if a growth is refused.
+    pub fn field(alloc: Global, name: Text) -> Result<Part, AllocError>
+        ensures { IfOk result (λ p. p ≡ field_of name) }
+    {
+        let hash = String::from_str(alloc, "#")?;
+        let idx = Box::new(alloc, Node::Value(Value::String(name)))?;
+        let operator = PostfixOperator::Index {
+            idx,
+            optional: false,
+        };
+        Part::name(hash).followed(alloc, operator, false, 1)
+    }
+
+    /// An expression in brackets.
+    pub fn bracketed(self) -> Result<Part, AllocError>
+        ensures { IfOk result (λ p. p ≡ bracketed self) }
+    {
+        let height = above(self.height)?;
+        Ok(Part { height, ..self })
     }
 
     /// The integers from the first to the last.
     pub fn range(alloc: Global, first: Part, last: Part) -> Result<Part, AllocError>
-        ensures { IfOk result (λ p. p ≡ range first last) }
+        ensures { IfOk result (λ p. p ≡ ranged first last) }
     {
         let has_free_hash = first.has_free_hash || last.has_free_hash;
+        let height = above(first.height.max(last.height))?;
         let first = Box::new(alloc, first.into_node())?;
         let last = Box::new(alloc, last.into_node())?;
         Ok(Part {
             node: Node::Range(first, last),
             has_free_hash,
+            height,
         })
     }
 
     /// An operator before its operand.
     pub fn unary(alloc: Global, operator: UnaryOperator, operand: Part) -> Result<Part, AllocError>
-        ensures { IfOk result (λ p. p ≡ unary operator operand) }
+        ensures { IfOk result (λ p. p ≡ prefixed operator operand) }
     {
         let has_free_hash = operand.has_free_hash;
+        let height = above(operand.height)?;
         let node = Box::new(alloc, operand.into_node())?;
         Ok(Part {
             node: Node::Unary { operator, node },
             has_free_hash,
+            height,
         })
     }
 
     /// The node, alone.
     pub fn into_node(self) -> Node
-        ensures { written result ≡ self }
+        ensures { written result ≡ self.term }
     {
         let Part {
             node,
             has_free_hash: _,
+            height: _,
         } = self;
         node
     }
@@ -111,19 +153,23 @@ impl Part {
         left: Part,
         right: Part,
     ) -> Result<Part, AllocError>
-        ensures { IfOk result (λ p. p ≡ operation operator left right) }
+        ensures { IfOk result (λ p. p ≡ operated operator left right) }
     {
         let has_free_hash = left.has_free_hash || right.has_free_hash;
+        let height = above(left.height.max(right.height))?;
+        let right = right.into_node();
+        let compiled_regex = kept_pattern(alloc, operator, &right)?;
         let left = Box::new(alloc, left.into_node())?;
-        let right = Box::new(alloc, right.into_node())?;
+        let right = Box::new(alloc, right)?;
         Ok(Part {
             node: Node::Operation {
                 operator,
                 left,
                 right,
-                compiled_regex: None,
+                compiled_regex,
             },
             has_free_hash,
+            height,
         })
     }
 
@@ -134,11 +180,17 @@ impl Part {
         consequent: ProgramPart,
         alternative: ProgramPart,
     ) -> Result<Part, AllocError>
-        ensures { IfOk result (λ p. p ≡ choice condition consequent alternative) }
+        ensures { IfOk result (λ p. p ≡ chosen condition consequent alternative) }
     {
         let has_free_hash = condition.has_free_hash
             || consequent.has_free_hash
             || alternative.has_free_hash;
+        let height = above(
+            condition
+                .height
+                .max(consequent.height)
+                .max(alternative.height),
+        )?;
         let condition = Box::new(alloc, condition.into_node())?;
         let consequent = Box::new(alloc, consequent.into_program())?;
         let alternative = Box::new(alloc, alternative.into_program())?;
@@ -149,6 +201,7 @@ impl Part {
                 alternative,
             },
             has_free_hash,
+            height,
         })
     }
 
@@ -159,11 +212,36 @@ impl Part {
         key: Part,
         optional: bool,
     ) -> Result<Part, AllocError>
-        ensures { IfOk result (λ p. p ≡ postfix (index key optional) operand) }
+        ensures { IfOk result (λ p. p ≡ indexed operand key optional) }
     {
         let in_key = key.has_free_hash;
+        let height = above(operand.height.max(key.height))?;
         let idx = Box::new(alloc, key.into_node())?;
-        operand.followed(alloc, PostfixOperator::Index { idx, optional }, in_key)
+        operand.followed(
+            alloc,
+            PostfixOperator::Index { idx, optional },
+            in_key,
+            height,
+        )
+    }
+
+    /// An operand and its member.
+    pub fn member(
+        alloc: Global,
+        operand: Part,
+        name: Text,
+        optional: bool,
+    ) -> Result<Part, AllocError>
+        ensures { IfOk result (λ p. p ≡ member_of operand optional name) }
+    {
+        let height = above(operand.height)?;
+        let idx = Box::new(alloc, Node::Value(Value::String(name)))?;
+        operand.followed(
+            alloc,
+            PostfixOperator::Index { idx, optional },
+            false,
+            height,
+        )
     }
 
     /// An operand and the bounds of its slice, either of which may be left out.
@@ -173,30 +251,39 @@ impl Part {
         start: Option<Part>,
         end: Option<Part>,
     ) -> Result<Part, AllocError>
-        ensures { IfOk result (λ p. p ≡ postfix (slice (bound_with start) (bound_with end)) operand) }
+        ensures { IfOk result (λ p. p ≡ sliced operand start end) }
     {
         let in_bounds = is_free_in(&start) || is_free_in(&end);
+        let bounds = bound_height(&start).max(bound_height(&end));
+        let height = above(operand.height.max(bounds))?;
         let start = boxed(alloc, start)?;
         let end = boxed(alloc, end)?;
-        operand.followed(alloc, PostfixOperator::Range { start, end }, in_bounds)
+        operand.followed(
+            alloc,
+            PostfixOperator::Range { start, end },
+            in_bounds,
+            height,
+        )
     }
 
     /// An operand, and what stands in for it where it is nil.
     pub fn coalesce(alloc: Global, operand: Part, other: Part) -> Result<Part, AllocError>
-        ensures { IfOk result (λ p. p ≡ postfix (coalesce other) operand) }
+        ensures { IfOk result (λ p. p ≡ coalesced operand other) }
     {
         let in_other = other.has_free_hash;
+        let height = above(operand.height.max(other.height))?;
         let other = Box::new(alloc, other.into_node())?;
-        operand.followed(alloc, PostfixOperator::Default(other), in_other)
+        operand.followed(alloc, PostfixOperator::Default(other), in_other, height)
     }
 
     /// An operand, passed to a call.
     pub fn pipe(alloc: Global, operand: Part, call: Part) -> Result<Part, AllocError>
-        ensures { IfOk result (λ p. p ≡ postfix (pipe call) operand) }
+        ensures { IfOk result (λ p. p ≡ piped operand call) }
     {
         let in_call = call.has_free_hash;
+        let height = above(operand.height.max(call.height))?;
         let call = Box::new(alloc, call.into_node())?;
-        operand.followed(alloc, PostfixOperator::Pipe(call), in_call)
+        operand.followed(alloc, PostfixOperator::Pipe(call), in_call, height)
     }
 
     /// A condition, and what it chooses from.
@@ -206,12 +293,18 @@ impl Part {
         left: Part,
         right: Part,
     ) -> Result<Part, AllocError>
-        ensures { IfOk result (λ p. p ≡ postfix (ternary left right) condition) }
+        ensures { IfOk result (λ p. p ≡ ternary_of condition left right) }
     {
         let in_parts = left.has_free_hash || right.has_free_hash;
+        let height = above(condition.height.max(left.height.max(right.height)))?;
         let left = Box::new(alloc, left.into_node())?;
         let right = Box::new(alloc, right.into_node())?;
-        condition.followed(alloc, PostfixOperator::Ternary { left, right }, in_parts)
+        condition.followed(
+            alloc,
+            PostfixOperator::Ternary { left, right },
+            in_parts,
+            height,
+        )
     }
 
     /// A receiver and the call of its method.
@@ -221,28 +314,36 @@ impl Part {
         ident: String,
         arguments: Arguments,
     ) -> Result<Part, AllocError>
-        ensures { IfOk result (λ p. p ≡ postfix (method (string_bytes ident) (terms_of arguments.terms)) receiver) }
+        ensures { IfOk result (λ p. p ≡ method_of receiver (string_bytes ident) arguments) }
     {
         let in_arguments = arguments.has_free_hash();
+        let height = above(receiver.height.max(arguments.height))?;
         let args = arguments.into_nodes();
-        receiver.followed(alloc, PostfixOperator::Method { ident, args }, in_arguments)
+        receiver.followed(
+            alloc,
+            PostfixOperator::Method { ident, args },
+            in_arguments,
+            height,
+        )
     }
 
-    // The node with what stands behind it.
+    // The node with what stands behind it, at a height.
     fn followed(
         self,
         alloc: Global,
         operator: PostfixOperator,
         in_operator: bool,
+        height: usize,
     ) -> Result<Part, AllocError>
         requires { in_operator ≡ postfix_has_free_hash (postfix_written operator) }
-        ensures { IfOk result (λ p. p ≡ postfix (postfix_written operator) self) }
+        ensures { IfOk result (λ p. p ≡ record { term = postfix (postfix_written operator) self.term; height = height }) }
     {
         let has_free_hash = self.has_free_hash || in_operator;
         let node = Box::new(alloc, self.into_node())?;
         Ok(Part {
             node: Node::Postfix { operator, node },
             has_free_hash,
+            height,
         })
     }
 }
@@ -254,6 +355,32 @@ fn is_free_in(bound: &Option<Part>) -> bool
     match bound {
         None => false,
         Some(part) => part.has_free_hash,
+    }
+}
+
+fn bound_height(bound: &Option<Part>) -> usize
+    ensures { result ≡ parts.bound_height bound.now }
+{
+    match bound {
+        None => 0,
+        Some(part) => part.height,
+    }
+}
+
+// The pattern of a text that is the literal on the right of `matches`, if it builds.
+fn kept_pattern(
+    alloc: Global,
+    operator: Operator,
+    right: &Node,
+) -> Result<Option<Box<Pattern>>, AllocError>
+    ensures { IfOk result (λ kept. IfSome kept (λ p. IsKept operator (written right.now) p.value)) }
+{
+    let (Operator::Matches, Node::Value(Value::String(text))) = (operator, right) else {
+        return Ok(None);
+    };
+    match Pattern::kept(alloc, text.as_str())? {
+        None => Ok(None),
+        Some(pattern) => Ok(Some(Box::new(alloc, pattern)?)),
     }
 }
 

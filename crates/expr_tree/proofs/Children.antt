@@ -3,7 +3,7 @@ use Rattle.std.proofs.Common.{◌≡◌, ◌+◌, ℕ, List, [], ◌∷◌, ◌+
 use Rattle.std.proofs.lemmas.List.{append-nil}
 use Rattle.expr_tree.specs.Children.{listed, children, pairs_children, block_children, predicate_children, bound_children, postfix_children, own_name}
 use Rattle.expr_tree.specs.Names.{operands, all_operands, postfix_operands, bound_operands, pairs_operands, predicate_operands, block_operands}
-use Rattle.expr_tree.specs.Term.{Term, name, literal, list, mapping, range, call, unary, operation, postfix, choice, Postfix, index, slice, coalesce, pipe, ternary, method, Bound, unbounded, bound, Terms, no_terms, term, Pairs, pairs_end, pair, Predicate, no_predicate, predicate, Block, answers, line, LineTerms, block_with, pairs_of}
+use Rattle.expr_tree.specs.Term.{Term, name, literal, list, mapping, range, call, unary, operation, postfix, choice, Postfix, index, slice, coalesce, pipe, ternary, method, Bound, unbounded, bound, Terms, no_terms, term, Pairs, pairs_end, pair, Predicate, no_predicate, predicate, Block, answers, line, block_with, pairs_of}
 use Rattle.expr_tree.specs.Weight.{weight, terms_weight, postfix_weight, bound_weight, pairs_weight, predicate_weight, block_weight}
 use Rattle.expr_tree.specs.Inside.{program_children}
 use Rattle.expr_tree.specs.Written.{written, line_written, terms_of}

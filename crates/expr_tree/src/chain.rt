@@ -44,7 +44,7 @@ pub(crate) fn linked_pairs(
     chain: Node,
 ) -> Result<(Node, Node), Node>
     ensures parts { IfOk result (λ r. weight (written r.0) + weight (written r.1) ≤ 1 + lines_weight (map line_written pairs.items) + weight (written chain)) }
-    ensures first { IfOk result (λ r. weight (written r.0) ≤ lines_weight (map line_written pairs.items)) }
+    ensures first { IfOk result (λ r. weight (written r.0) < 1 + lines_weight (map line_written pairs.items)) }
     ensures chain { IfErr result (λ n. n ≡ chain) }
 {
     match pairs.pop() {
@@ -61,7 +61,7 @@ pub(crate) fn linked_pairs(
 
 // As `shortened`, of a map with these pairs.
 pub(crate) fn shortened_pairs(mut pairs: Vec<(String, Node)>) -> Option<Node>
-    ensures { IfSome result (λ n. weight (written n) ≤ lines_weight (map line_written pairs.items)) }
+    ensures { IfSome result (λ n. weight (written n) < 1 + lines_weight (map line_written pairs.items)) }
 {
     match pairs.pop() {
         None => {

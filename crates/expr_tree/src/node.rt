@@ -4,8 +4,8 @@ ghost use Rattle.expr_tree.specs.Weight.{weight};
 ghost use Rattle.expr_tree.specs.Written.{written};
 
 use crate::chain::{
-    hung_items, hung_lines, hung_postfix, hung_program, linked_items, linked_pairs, shortened_items,
-    shortened_pairs,
+    hung_items, hung_lines, hung_postfix, hung_program, linked_items, linked_pairs,
+    shortened_items, shortened_pairs,
 };
 use crate::operator::{Operator, UnaryOperator};
 pub use expr_pattern::Pattern;

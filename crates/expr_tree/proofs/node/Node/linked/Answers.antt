@@ -1,11 +1,20 @@
-use Rattle.std.proofs.Common.{Some, arith, ap, ◌∙◌}
+use Rattle.std.proofs.Common.{◌+◌, ◌<◌, ◌≤◌, IfOk, Some, arith, sym, subst, ap, ◌∙◌}
 use Rattle.std.specs.Box as Box
-use Rattle.expr_tree.specs.Weight.{predicate_weight}
-use Rattle.expr_tree.specs.Written.{predicate_written}
+use Rattle.expr_tree.specs.Weight.{weight, predicate_weight}
+use Rattle.expr_tree.specs.Written.{written, predicate_written}
 use Rattle.expr_tree.specs.declared.node.Node.TheViews.{roll-Program}
 use Rattle.expr_tree.specs.declared.node.Program.{Program}
-use Rattle.expr_tree.proofs.Weights.{node_weight, named_weight, program-parts, rolled-parts, weight-Range, weight-Func, weight-Operation, weight-Postfix, weight-Conditional}
+use Rattle.expr_tree.proofs.Weights.{node_weight, named_weight, program-parts, rolled-parts, weight-Map, weight-Range, weight-Func, weight-Operation, weight-Postfix, weight-Conditional}
 use Rattle.expr_tree.proofs.node.Node.linked.Goals as goal
+
+pub returns-in-Map-clause-parts : goal.returns-in-Map-clause-parts
+returns-in-Map-clause-parts c =
+    subst (λ n. IfOk c.linked_pairs.result (λ r. weight (written r.0) + weight (written r.1) ≤ n + weight (written c.args.chain)))
+    (sym (ap node_weight c.in-Map.is ∙ weight-Map c.in-Map.pairs)) c.linked_pairs.ensures.parts
+
+pub returns-in-Map-clause-first : goal.returns-in-Map-clause-first
+returns-in-Map-clause-first c =
+    subst (λ n. IfOk c.linked_pairs.result (λ r. weight (written r.0) < n)) (sym (ap node_weight c.in-Map.is ∙ weight-Map c.in-Map.pairs)) c.linked_pairs.ensures.first
 
 pub returns-in-Range-clause-parts : goal.returns-in-Range-clause-parts
 returns-in-Range-clause-parts c =

@@ -1,9 +1,12 @@
-use Rattle.std.proofs.Common.{arith, ap, ◌∙◌}
-use Rattle.expr_tree.specs.Weight.{predicate_weight}
-use Rattle.expr_tree.specs.Written.{predicate_written}
+use Rattle.std.proofs.Common.{◌<◌, IfSome, arith, sym, subst, ap, ◌∙◌}
+use Rattle.expr_tree.specs.Weight.{weight, predicate_weight}
+use Rattle.expr_tree.specs.Written.{written, predicate_written}
 use Rattle.expr_tree.specs.declared.node.Program.{Program}
-use Rattle.expr_tree.proofs.Weights.{node_weight, named_weight, program-parts, weight-Func}
+use Rattle.expr_tree.proofs.Weights.{node_weight, named_weight, program-parts, weight-Map, weight-Func}
 use Rattle.expr_tree.proofs.node.Node.shortened.Goals as goal
+
+pub returns-in-Map : goal.returns-in-Map
+returns-in-Map c = subst (λ n. IfSome c.shortened_pairs.result (λ m. weight (written m) < n)) (sym (ap node_weight c.in-Map.is ∙ weight-Map c.in-Map.pairs)) c.shortened_pairs.ensures
 
 pub returns-in-Some : goal.returns-in-Some
 returns-in-Some c =

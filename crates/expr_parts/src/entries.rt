@@ -1,0 +1,145 @@
+//! The pairs of a map literal, one after another, and the literal of them.
+ghost use Rattle.std.specs.Prelude.{◌≡◌, [], IfOk, OnOk, OnErr, is_none, map};
+ghost use Rattle.expr_tree.specs.Written.{line_written, written};
+ghost use Rattle.expr_value.specs.Names.{put_all};
+ghost use Rattle.expr_parts.specs.Maps.{literals, value_of};
+ghost use Rattle.expr_parts.specs.Parts.{no_pairs, pair_more, mapped};
+
+use crate::part::{Part, above};
+use expr_tree::node::Node;
+use expr_value::{Text, Value, ValueMap};
+use std::alloc::{AllocError, Global};
+use std::marker::Model;
+
+/// The pairs of a map literal as far as they have been read, repeated keys included.
+pub struct Entries {
+    alloc: Global,
+    pairs: Vec<(String, Node)>,
+    has_expression: bool,
+    has_free_hash: bool,
+    height: usize,
+}
+
+// Written out so that letting go of one is a single step in the proofs above.
+impl Drop for Entries {
+    fn drop(self) {
+        let Entries {
+            alloc: _,
+            pairs: _,
+            has_expression: _,
+            has_free_hash: _,
+            height: _,
+        } = self;
+    }
+}
+
+impl Model for Entries {
+    ghost use Rattle.std.specs.Prelude.{◌≡◌, map};
+    ghost use Rattle.expr_tree.specs.Written.{line_written};
+    ghost use Rattle.expr_parts.specs.Maps as maps;
+    ghost use Rattle.expr_parts.specs.Parts.{MeasuredPairs, pairs_code};
+    ghost use Rattle.expr_parts.specs.Promotion.{lines_have_free_hash};
+
+    ghost Value = { MeasuredPairs };
+
+    ghost coded = { pairs_code };
+
+    ghost view = { λ e. record { pairs = map line_written e.pairs.items; height = e.height } };
+
+    ghost invariant = { λ e. (e.has_expression ≡ maps.has_expression (map line_written e.pairs.items)) × (e.has_free_hash ≡ lines_have_free_hash (map line_written e.pairs.items)) };
+}
+
+impl Entries {
+    /// No pairs.
+    pub fn new(alloc: Global) -> Entries
+        ensures { result ≡ no_pairs }
+    {
+        Entries {
+            alloc,
+            pairs: Vec::new(alloc),
+            has_expression: false,
+            has_free_hash: false,
+            height: 0,
+        }
+    }
+
+    /// Adds a key and its value.
+    pub fn push(&mut self, key: Text, value: Part) -> Result<(), AllocError>
+        ensures ok { OnOk result (self.new ≡ pair_more self.old key value) }
+        ensures err { OnErr result (self.new ≡ self.old) }
+    {
+        let has_expression = is_expression(&value.node);
+        let has_free_hash = value.has_free_hash;
+        let height = value.height;
+        self.pairs.push((key.into_string(), value.into_node()))?;
+        self.has_expression = self.has_expression || has_expression;
+        self.has_free_hash = self.has_free_hash || has_free_hash;
+        self.height = self.height.max(height);
+        Ok(())
+    }
+
+    /// The map literal of these pairs: a literal, where each value is one.
+    ///
+    /// # Errors
+    ///
+    /// `AllocError`, if a growth is refused.
+    pub fn map(self) -> Result<Part, AllocError>
+        ensures { IfOk result (λ p. p ≡ mapped self) }
+    {
+        let Entries {
+            alloc,
+            pairs,
+            has_expression,
+            has_free_hash,
+            height,
+        } = self;
+        let height = above(height)?;
+        if has_expression {
+            return Ok(Part {
+                node: Node::Map(pairs),
+                has_free_hash,
+                height,
+            });
+        }
+        let map = literal_map(alloc, pairs)?;
+        Ok(Part {
+            node: Node::Value(Value::Map(map)),
+            has_free_hash: false,
+            height,
+        })
+    }
+}
+
+// Whether a node is no literal.
+fn is_expression(node: &Node) -> bool
+    ensures { result ≡ is_none (value_of (written node.now)) }
+{
+    match node {
+        Node::Value(_) => false,
+        _ => true,
+    }
+}
+
+fn into_value(node: Node) -> Option<Value>
+    ensures { result ≡ value_of (written node) }
+{
+    match node {
+        Node::Value(value) => Some(value),
+        _ => None,
+    }
+}
+
+// The map of the keys whose values are literals. A repeated key keeps its place and takes its later value.
+fn literal_map(alloc: Global, pairs: Vec<(String, Node)>) -> Result<ValueMap, AllocError>
+    ensures { IfOk result (λ m. m ≡ put_all [] (literals (map line_written pairs.items))) }
+{
+    let mut map = ValueMap::new(alloc);
+    for (key, node) in pairs {
+        if let Some(value) = into_value(node) {
+            if map.insert(Text::from_string(key), value).is_err() {
+                return Err(AllocError);
+            }
+        }
+    }
+    Ok(map)
+}
