@@ -6,8 +6,8 @@ use Rattle.std.specs.Prelude.{ℤ}
 use Rattle.expr_tree.proofs.Agreement.{Agree-left, Agree-right, AgreeFor-from_names}
 use Rattle.expr_tree.proofs.Rising.{Contains-from_has}
 use Rattle.expr_tree.specs.Context.{Agree}
-use Rattle.expr_tree.specs.Names.{AreNamesOf, env, operands, postfix_operands, bound_operands, all_operands, predicate_operands, block_operands}
-use Rattle.expr_tree.specs.Term.{Term, name, literal, list, range, call, unary, operation, postfix, choice, Postfix, index, slice, coalesce, pipe, ternary, method, Bound, unbounded, bound, Terms, no_terms, term, Predicate, no_predicate, predicate, Block, answers, line}
+use Rattle.expr_tree.specs.Names.{AreNamesOf, env, operands, postfix_operands, bound_operands, all_operands, pairs_operands, predicate_operands, block_operands}
+use Rattle.expr_tree.specs.Term.{Term, name, literal, list, mapping, range, call, unary, operation, postfix, choice, Postfix, index, slice, coalesce, pipe, ternary, method, Bound, unbounded, bound, Terms, no_terms, term, Pairs, pairs_end, pair, Predicate, no_predicate, predicate, Block, answers, line}
 use Rattle.expr_tree.specs.declared.operator.Operator.{Operator}
 use Rattle.expr_operators.specs.Sides.{sides_of}
 use Rattle.expr_operators.specs.declared.sides.Sides.{Sides}
@@ -16,7 +16,7 @@ use Rattle.expr_value.specs.Fault.{Fault}
 use Rattle.expr_value.specs.declared.value.Value as value
 use Rattle.expr_value.specs.declared.value.Value.{Value, out-Value}
 use Rattle.expr_value.specs.declared.value.Value.TheOpen.{Value-F}
-use Rattle.expr_evaluation.specs.Allows.{Allows, AllowsAll, AllowsAsked, AllowsBlock, AllowsBound, AllowsCall, AllowsPiped, AllowsPostfix, AndThenLayer, ContinuedAs, OrElseLayer, ChosenLayer, DefaultsLayer, is_given}
+use Rattle.expr_evaluation.specs.Allows.{Allows, AllowsAll, AllowsAsked, AllowsBlock, AllowsBound, AllowsCall, AllowsPairs, AllowsPiped, AllowsPostfix, AndThenLayer, ContinuedAs, OrElseLayer, ChosenLayer, DefaultsLayer, is_given}
 use Rattle.expr_evaluation.specs.Calls.{AllowsBuiltin, asked_in, told}
 use Rattle.expr_evaluation.proofs.Begun.{AllowsBuiltin-keeps, either-keeps}
 use Rattle.expr_predicates.specs.Tasks.{Question}
@@ -105,6 +105,7 @@ mutual
   Allows-keeps host one other (name key) h a p = p ∙ looked_up-same one other key h
   Allows-keeps host one other (literal v) h a p = p
   Allows-keeps host one other (list ts) h a p = first-keeps (AllowsAll host one ts) (AllowsAll host other ts) _ (AllowsAll-keeps host one other ts h) a p
+  Allows-keeps host one other (mapping ps) h a p = first-keeps (AllowsPairs host one ps) (AllowsPairs host other ps) _ (AllowsPairs-keeps host one other ps h) a p
   Allows-keeps host one other (range first last) h a p =
       After-keeps (Allows host one first) (Allows host other first) _ _ (Allows-keeps host one other first (Agree-left one other (operands first) (operands last) h)) (
       λ x s q. first-keeps (Allows host one last) (Allows host other last) _ (Allows-keeps host one other last (Agree-right one other (operands first) (operands last) h)) s q
@@ -171,6 +172,13 @@ mutual
   AllowsAll-keeps host one other (term t ts) h r p =
       After-keeps (Allows host one t) (Allows host other t) _ _ (Allows-keeps host one other t (Agree-left one other (operands t) (all_operands ts) h)) (
       λ v s q. first-keeps (AllowsAll host one ts) (AllowsAll host other ts) _ (AllowsAll-keeps host one other ts (Agree-right one other (operands t) (all_operands ts) h)) s q
+      ) r p
+
+  AllowsPairs-keeps : (host : Host) (one other : Context) (ps : Pairs) → Agree one other (pairs_operands ps) → (r : Result (List (List ℕ × Value)) Fault) → AllowsPairs host one ps r → AllowsPairs host other ps r
+  AllowsPairs-keeps host one other pairs_end h r p = p
+  AllowsPairs-keeps host one other (pair key t ps) h r p =
+      After-keeps (Allows host one t) (Allows host other t) _ _ (Allows-keeps host one other t (Agree-left one other (operands t) (pairs_operands ps) h)) (
+      λ v s q. first-keeps (AllowsPairs host one ps) (AllowsPairs host other ps) _ (AllowsPairs-keeps host one other ps (Agree-right one other (operands t) (pairs_operands ps) h)) s q
       ) r p
 
   pub AllowsBlock-keeps : (host : Host) (one other : Context) (b : Block) → Agree one other (block_operands b) → (a : Answer) → AllowsBlock host one b a → AllowsBlock host other b a

@@ -1,15 +1,15 @@
 -- What plain nodes answer is plain, and how it follows from what their parts answer.
 use Rattle.std.proofs.Common.{◌≡◌, Bool, true, ◌&&◌, IsTrue, Option, Ok, refl, subst, rules, Global, false, ap, ◌∙◌, String, string_bytes, map, Vec, List, [], ◌∷◌}
 use Rattle.expr_tree.proofs.Programs.{written-parts}
-use Rattle.expr_tree.proofs.Shapes.{written-Ident, written-Array, written-Range, written-Func, written-Postfix, written-Conditional}
+use Rattle.expr_tree.proofs.Shapes.{written-Ident, written-Array, written-Map, written-Range, written-Func, written-Postfix, written-Conditional}
 use Rattle.expr_tree.specs.declared.node.PostfixOperator.{PostfixOperator}
 use Rattle.expr_tree.specs.declared.node.Program.{Program}
-use Rattle.expr_tree.specs.Term.{Term, name, literal, list, range, call, unary, operation, postfix, choice, block_with, Block, answers, line}
+use Rattle.expr_tree.specs.Term.{Term, name, literal, list, mapping, range, call, unary, operation, postfix, choice, pairs_of, block_with, Block, answers, line}
 use Rattle.expr_tree.specs.declared.operator.Operator.{Operator}
 use Rattle.expr_tree.specs.Written.{written, line_written, postfix_written, program_written, predicate_written, terms_of}
 use Rattle.expr_tree.specs.declared.node.Node as node
 use Rattle.expr_tree.specs.declared.node.Node.{Node, the_lemmas as node_lemmas}
-use Rattle.expr_tree.specs.declared.node.Pattern.{Pattern as Kept}
+use Rattle.expr_pattern.specs.declared.pattern.Pattern.{Pattern as Kept}
 use Rattle.std.specs.declared.boxed.Box.{Box}
 use Rattle.expr_value.specs.declared.value.Value as value
 use Rattle.expr_value.specs.declared.value.Value.{Value, out-Value}
@@ -27,7 +27,7 @@ use Rattle.expr_value.proofs.Answered.{first_of-After}
 use Rattle.expr_evaluation.specs.Plain.{is_plain, is_plain_program}
 use Rattle.expr_operators.specs.Plain.{is_plain_operator, is_plain_value}
 
-pub written-Operation : (op : Operator) (l r : Box Node Global) (k : Option Kept) → written (node.Operation op l r k) ≡ operation op (written l.value) (written r.value)
+pub written-Operation : (op : Operator) (l r : Box Node Global) (k : Option (Box Kept Global)) → written (node.Operation op l r k) ≡ operation op (written l.value) (written r.value)
 written-Operation op l r k = search (rules, node_lemmas)
 
 pub left-true : (a b : Bool) → IsTrue (a && b) → IsTrue a
@@ -94,6 +94,9 @@ Ident-plain {s = s} n e p = not-plain (written n) (name (string_bytes s)) (ap wr
 
 pub Array-plain : {A : Type 0} (ns : Vec Node Global) (n : Node) → n ≡ node.Array ns → IsTrue (is_plain (written n)) → A
 Array-plain ns n e p = not-plain (written n) (list (terms_of (map written ns.items))) (ap written e ∙ written-Array ns) refl p
+
+pub Map-plain : {A : Type 0} (ps : Vec (String Global × Node) Global) (n : Node) → n ≡ node.Map ps → IsTrue (is_plain (written n)) → A
+Map-plain ps n e p = not-plain (written n) (mapping (pairs_of (map line_written ps.items))) (ap written e ∙ written-Map ps) refl p
 
 pub Range-plain : {A : Type 0} {a b : Box Node Global} (n : Node) → n ≡ node.Range a b → IsTrue (is_plain (written n)) → A
 Range-plain {a = a} {b = b} n e p = not-plain (written n) (range (written a.value) (written b.value)) (ap written e ∙ written-Range a b) refl p

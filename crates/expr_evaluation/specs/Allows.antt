@@ -1,11 +1,12 @@
 -- What a program may answer, by cases on its tree. Parts are asked in order, and the first refusal is the answer.
 use Rattle.std.specs.Prelude.{◌≡◌, ℕ, ℤ, Bool, List, [], ◌∷◌, ◌++◌, true, false, Option, Some, None, Result, Ok, Err, MatchBool}
-use Rattle.expr_tree.specs.Term.{Term, name, literal, list, range, call, unary, operation, postfix, choice, Postfix, index, slice, coalesce, pipe, ternary, method, Bound, unbounded, bound, Terms, no_terms, term, Predicate, no_predicate, predicate, Block, answers, line}
+use Rattle.expr_tree.specs.Term.{Term, name, literal, list, mapping, range, call, unary, operation, postfix, choice, Postfix, index, slice, coalesce, pipe, ternary, method, Bound, unbounded, bound, Terms, no_terms, term, Pairs, pairs_end, pair, Predicate, no_predicate, predicate, Block, answers, line}
 use Rattle.expr_tree.specs.declared.operator.Operator.{Operator}
 use Rattle.expr_operators.specs.Sides.{sides_of}
 use Rattle.expr_operators.specs.declared.sides.Sides.{Sides}
 use Rattle.expr_operators.specs.declared.sides.Sides.TheVariants.{Both, EndsAtFalse, EndsAtTrue, Pattern}
 use Rattle.expr_value.specs.Fault.{Fault, evaluation}
+use Rattle.expr_value.specs.Names.{put_all}
 use Rattle.expr_value.specs.declared.value.Value as value
 use Rattle.expr_value.specs.declared.value.Value.{Value, out-Value}
 use Rattle.expr_value.specs.declared.value.Value.TheOpen.{Value-F}
@@ -82,6 +83,7 @@ abbrev mutual
   Allows host ctx (name key) answer = answer ≡ looked_up ctx key
   Allows host ctx (literal v) answer = answer ≡ Ok v
   Allows host ctx (list ts) answer = After (AllowsAll host ctx ts) (λ vs a. a ≡ Ok (value.Array vs)) answer
+  Allows host ctx (mapping ps) answer = After (AllowsPairs host ctx ps) (λ ms a. a ≡ Ok (value.Map (put_all [] ms))) answer
   Allows host ctx (range first last) answer = After (Allows host ctx first) (λ x. After (Allows host ctx last) (λ y a. a ≡ ranged x y)) answer
   Allows host ctx (call key ts p) answer = After (AllowsAll host ctx ts) (λ vs. AllowsCall host key vs (is_given p) (AllowsAsked host ctx p)) answer
   Allows host ctx (unary op t) answer = After (Allows host ctx t) (λ v a. a ≡ prefixed op v) answer
@@ -119,6 +121,12 @@ abbrev mutual
   AllowsAll host ctx no_terms answer = answer ≡ Ok []
   AllowsAll host ctx (term t ts) answer =
       After (Allows host ctx t) (λ v. After (AllowsAll host ctx ts) (λ vs a. a ≡ Ok (v ∷ vs))) answer
+
+  -- the keys of a map literal with their values, from the first to the last; put into a map in turn, a repeated key keeps its place and takes the later value
+  pub AllowsPairs : Host → Context → Pairs → Result (List (List ℕ × Value)) Fault → Type 0
+  AllowsPairs host ctx pairs_end answer = answer ≡ Ok []
+  AllowsPairs host ctx (pair key t ps) answer =
+      After (Allows host ctx t) (λ v. After (AllowsPairs host ctx ps) (λ ms a. a ≡ Ok ((key, v) ∷ ms))) answer
 
   -- a program: each line's value stands for its name in what follows
   pub AllowsBlock : Host → Context → Block → Answer → Type 0

@@ -1,13 +1,17 @@
--- The trees of several nodes, and of a program that may be lent.
-use Rattle.std.specs.Prelude.{List, Option, Some, None, map}
+-- The trees of several nodes, of the pairs of a map literal, and of a program that may be lent.
+use Rattle.std.specs.Prelude.{List, Option, Some, None, String, map}
+use Rattle.std.specs.declared.alloc.Global.{Global}
 use denote.Ref.{Bor}
-use Rattle.expr_tree.specs.Term.{Terms, Predicate, no_predicate, predicate}
-use Rattle.expr_tree.specs.Written.{written, program_written, terms_of}
+use Rattle.expr_tree.specs.Term.{Terms, Pairs, Predicate, no_predicate, predicate}
+use Rattle.expr_tree.specs.Written.{written, program_written, mapping_of, terms_of}
 use Rattle.expr_tree.specs.declared.node.Node.{Node}
 use Rattle.expr_tree.specs.declared.node.Program.{Program}
 
 abbrev pub terms_written : List Node → Terms
 terms_written ns = terms_of (map written ns)
+
+abbrev pub pairs_written : List (String Global × Node) → Pairs
+pairs_written ps = mapping_of (map (λ p. (p.0, written p.1)) ps)
 
 -- the program that a call is lent, if it is lent one
 abbrev pub predicate_lent : Option (Bor Program) → Predicate

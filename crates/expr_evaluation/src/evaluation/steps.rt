@@ -1,5 +1,5 @@
 //! What an evaluation does with the values of parts.
-ghost use Rattle.std.specs.Prelude.{◌≡◌, ◌≢◌, Err, IfErr, IfOk, IsTrue};
+ghost use Rattle.std.specs.Prelude.{◌≡◌, ◌≢◌, [], Ok, Err, IfErr, IfOk, IsTrue};
 ghost use Rattle.expr_evaluation.specs.Allows.{given_bound, listed};
 ghost use Rattle.expr_evaluation.specs.Calls.{AllowsMethod};
 ghost use Rattle.expr_evaluation.specs.Context.{looked_up};
@@ -9,6 +9,8 @@ ghost use Rattle.expr_operators.specs.Plain.{is_plain_operator, is_plain_value, 
 ghost use Rattle.expr_operators.specs.Positions.{bound_checked, indexed, ranged, sliced};
 ghost use Rattle.expr_value.specs.Answers.{Gives, Is};
 ghost use Rattle.expr_value.specs.Fault.{fault_of, memory};
+ghost use Rattle.expr_value.specs.Names.{put_all};
+ghost use Rattle.expr_value.specs.declared.value.Value as value;
 
 use crate::messages::{unknown_method, unknown_name};
 use crate::scope::{Scope, look_up};
@@ -16,7 +18,7 @@ use expr_operators::{
     Held, apply, as_condition, as_truth, match_pattern, part_of, prefix, range, slice_bound,
 };
 use expr_tree::operator::{Operator, UnaryOperator};
-use expr_value::{ContextProvider, Items, Result, Value};
+use expr_value::{ContextProvider, Items, Result, Text, Value, ValueMap};
 use std::alloc::Global;
 
 /// The value of a name.
@@ -153,6 +155,18 @@ pub fn list_of<'s>(alloc: Global, first: Option<Held<'s>>, more: usize) -> Resul
     let mut values = Vec::with_capacity(alloc, more.saturating_add(1))?;
     values.push(value)?;
     Ok(values)
+}
+
+/// The map of these pairs: a repeated key keeps its place and takes the later value.
+#[inline(never)]
+pub fn map_of<'s>(alloc: Global, pairs: Items<(Text, Value)>) -> Result<Held<'s>>
+    ensures { Is result (Ok (value.Map (put_all [] pairs))) }
+{
+    let mut map = ValueMap::with_capacity(alloc, pairs.len())?;
+    for (key, value) in pairs.into_vec() {
+        map.insert(key, value)?;
+    }
+    Ok(Held::own(Value::Map(map)))
 }
 
 /// What a method answers of a value, on these arguments. No value has methods yet.
