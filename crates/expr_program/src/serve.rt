@@ -10,7 +10,7 @@ ghost use Rattle.expr_value.specs.Names.{put};
 ghost use Rattle.expr_value.specs.Values.{text_of};
 ghost use Rattle.expr_value.specs.declared.value.Value.{Value};
 
-use expr::{Context, Error, Result, Value, eval};
+use expr::{Context, Error, Result, Value, compile_within, run};
 use std::alloc::Global;
 use std::io::Write;
 
@@ -47,11 +47,15 @@ fn are_bindings(words: &[String]) -> bool
     true
 }
 
+/// The greatest height of a code's tree: evaluation, printing and letting go of values take stack by depth.
+const HEIGHT: usize = 500;
+
 /// The value of a code under some names.
 fn value_under(alloc: Global, code: &str, names: &Context) -> Result<Value>
     ensures { Gives result (MayGive names.now code.now) }
 {
-    eval(alloc, code, names)
+    let program = compile_within(alloc, code, HEIGHT)?;
+    run(alloc, &program, names)
 }
 
 /// Puts the value of a binding under its name. Its code is evaluated in an empty context.
@@ -131,7 +135,8 @@ fn print<O: Write>(out: &mut O, value: &Value) -> u8
 /// Each binding is cut at its first `=`. No word, a binding without `=` or an empty NAME: `usage` on `err`, status 2.
 /// Else the bindings are evaluated from left to right, each in an empty context (a repeated NAME takes the later value),
 /// then CODE in the context of the bindings. Its value's `Display` goes to `out`, status 0. The first refusal is one word
-/// on `err`, status 1: `syntax`, `literal`, `evaluation`, `pattern` or `memory`. `out` is written to at status 0 alone, is
+/// on `err`, status 1: `syntax`, `literal` (an integer of 2^63 or more, or a tree higher than 500), `evaluation`, `pattern`
+/// or `memory`. `out` is written to at status 0 alone, is
 /// flushed then, and fails with status 1; a failing `err` changes no status.
 pub fn serve<O: Write, E: Write>(alloc: Global, words: &[String], out: &mut O, err: &mut E) -> u8
     ensures status { result ≤ 2 }

@@ -5,4 +5,4 @@ pub mod laws;
 pub mod parser;
 mod text;
 
-pub use text::compile;
+pub use text::{compile, compile_within};

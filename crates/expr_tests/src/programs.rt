@@ -1,7 +1,7 @@
 //! Programs of texts, their refusals and their names.
 use crate::page::Page;
 use crate::shown::show_program;
-use expr::{Error, Result, compile};
+use expr::{Error, Result, compile, compile_within};
 use std::alloc::Global;
 use std::test::Fail;
 
@@ -50,7 +50,24 @@ const PROGRAMS: &[(&[&str], &str)] = &[
     ),
     (&["map(xs, # + 1)", "map(xs, {# + 1})"], "map[xs,]{(# + 1)}"),
     (&["map(xs, {a}, {b})", "map({b}, xs)"], "map[xs,]{b}"),
-    (&["map(xs, .v)", "map(xs, {v},)"], "map[xs,]{v}"),
+    (
+        &["map(xs, .v)", "map(xs, #.v)", "map(xs, {.v},)"],
+        r#"map[xs,]{(#["v"])}"#,
+    ),
+    (
+        &["sum(xs, .p.q * 10)", "sum(xs, #.p.q * 10)"],
+        r#"sum[xs,]{((((#["p"])["q"]) * 10)}"#,
+    ),
+    (
+        &["sortBy(xs, .n, \"desc\")", "sortBy(xs, #.n, \"desc\")"],
+        r#"sortBy[xs,(#["n"]),"desc",]"#,
+    ),
+    (&["map(1...n)", "map(1 .. #.n)"], r#"map[]{(1 .. (#["n"]))}"#),
+    (&["f(1 + .x)", "f(1 + #.x)"], r#"f[(1 + (#["x"])),]"#),
+    (&["{a: 1, b: [2], a: 3}"], "{a: 1,b: [2,],a: 3,}"),
+    (&["{a: 1, b: {c: 2}, a: 3}"], "{a: 3, b: {c: 2}}"),
+    (&["{a: (1)}"], "{a: 1}"),
+    (&["map(xs, {a: #, b: 1})"], "map[xs,]{{a: #,b: 1,}}"),
     (
         &[
             "if a { let b = 1; b } else if c { 2 } else { 3 }",
@@ -61,17 +78,19 @@ const PROGRAMS: &[(&[&str], &str)] = &[
     (&["ifx { 1 } else { 2 }"], "syntax fault at 4"),
     (&["[1, 2"], "syntax fault at 5"),
     (&["[,]"], "syntax fault at 1"),
-    (&["{a: -1}"], "syntax fault at 4"),
-    (&["{a: [1]}"], "syntax fault at 4"),
+    (&["{a: 1 2}"], "syntax fault at 6"),
+    (&["{a: }"], "syntax fault at 4"),
+    (&["{a: 1, b}"], "syntax fault at 8"),
     (&["if true { 1 }"], "syntax fault at 13"),
     (&["if true { 1 } elseif { 2 }"], "syntax fault at 14"),
     (&["let x = 1 x"], "syntax fault at 10"),
     (&["f(,)"], "syntax fault at 2"),
     (&["a?.b()"], "syntax fault at 4"),
     (&["1 + "], "syntax fault at 4"),
-    (&[".5"], "syntax fault at 0"),
+    (&[".5"], "syntax fault at 1"),
+    (&[".a(1)"], "syntax fault at 2"),
+    (&["true ?.a : 1"], "syntax fault at 9"),
     (&["a b"], "syntax fault at 2"),
-    (&["f(1 + .x)"], "syntax fault at 6"),
     (&["a b \""], "syntax fault at 2"),
     (&["a + \""], "syntax fault at 4"),
     (&["-9223372036854775808"], "literal out of range"),
@@ -84,6 +103,45 @@ fn texts_have_their_programs(rt: HostRuntime) -> Tested {
         for text in *texts {
             assert_eq!(rt; shown(rt.alloc(), text)?.as_str(), *program, "{text}");
         }
+    }
+    Ok(())
+}
+
+/// Texts, a bound on the height of their trees, and what each is read as: a program, `high` or `syntax`.
+const HEIGHTS: &[(&str, usize, &str)] = &[
+    ("1", 0, "high"),
+    ("(1)", 1, "high"),
+    ("1 + 2 * 3", 2, "high"),
+    ("a | f(b)", 2, "high"),
+    ("if a { b } else if c { d } else { e }", 2, "high"),
+    ("map(xs, {let y = (1); y})", 2, "high"),
+    ("{k: {k: (1)}}", 3, "high"),
+    ("1", 1, "program"),
+    ("(1)", 2, "program"),
+    ("1 + 2 * 3", 3, "program"),
+    ("a | f(b)", 3, "program"),
+    ("let a = (1); a", 2, "program"),
+    ("if a { b } else if c { d } else { e }", 3, "program"),
+    ("map(xs, {let y = (1); y})", 3, "program"),
+    ("{k: {k: (1)}}", 4, "program"),
+    ("-.a", 2, "program"),
+    ("1 +", 0, "syntax"),
+];
+
+/// What a text is read as under a bound on height.
+fn read_within(alloc: Global, text: &str, height: usize) -> Result<&'static str> {
+    match compile_within(alloc, text, height) {
+        Ok(_program) => Ok("program"),
+        Err(Error::ParseError(_message)) => Ok("high"),
+        Err(Error::PestError(_place)) => Ok("syntax"),
+        Err(other) => Err(other),
+    }
+}
+
+#[test]
+fn trees_are_read_within_a_height(rt: HostRuntime) -> Tested {
+    for (text, height, expected) in HEIGHTS {
+        assert_eq!(rt; read_within(rt.alloc(), text, *height)?, *expected, "{text}");
     }
     Ok(())
 }
@@ -108,7 +166,8 @@ const NAMES: &[(&str, &str)] = &[
     ("f({a})", "a"),
     ("f({a: 1})", ""),
     ("map(xs, {a}, {b})", "b xs"),
-    ("map(xs, .v)", "v xs"),
+    ("map(xs, .v)", "# xs"),
+    ("{k: v, w: {z: q}}", "q v"),
 ];
 
 #[test]

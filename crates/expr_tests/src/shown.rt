@@ -24,6 +24,16 @@ fn show_node(node: &Node, page: &mut Page) {
         Node::Ident(name) => page.put(name),
         Node::Value(value) => page.put_made(value.to_string(page.allocator())),
         Node::Array(items) => show_nodes(items, page),
+        Node::Map(entries) => {
+            page.put("{");
+            for (key, value) in entries {
+                page.put(key);
+                page.put(": ");
+                show_node(value, page);
+                page.put(",");
+            }
+            page.put("}");
+        }
         Node::Range(first, last) => {
             page.put("(");
             show_node(first, page);

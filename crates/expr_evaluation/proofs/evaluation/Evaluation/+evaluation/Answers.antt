@@ -12,7 +12,7 @@ use Rattle.expr_tree.specs.Written.{written, bound_written, postfix_written, pre
 use Rattle.expr_tree.specs.declared.node.Node.{Node}
 use Rattle.expr_value.specs.Fault.{fault_of}
 use Rattle.expr_value.specs.declared.value.Value.{Value}
-use Rattle.expr_evaluation.specs.Allows.{Allows, AllowsAll, AllowsAsked, AllowsBlock, AllowsBound, AllowsCall, AllowsMore, AllowsPiped, AllowsPostfix, Continued, ContinuedAs, is_given, listed}
+use Rattle.expr_evaluation.specs.Allows.{Allows, AllowsAll, AllowsAsked, AllowsBlock, AllowsBound, AllowsCall, AllowsMore, AllowsPairs, AllowsPiped, AllowsPostfix, Continued, ContinuedAs, is_given, listed}
 use Rattle.expr_value.specs.Answers.{After, Answer, Gives}
 use Rattle.expr_evaluation.specs.Context.{Context}
 use Rattle.expr_evaluation.specs.Host.{Host}
@@ -23,13 +23,13 @@ use Rattle.expr_operators.specs.Positions.{sliced}
 use Rattle.expr_evaluation.specs.Plain.{is_plain}
 use Rattle.expr_operators.specs.Plain.{is_plain_operator, is_plain_value}
 use Rattle.expr_evaluation.specs.Scope.{inside}
-use Rattle.expr_evaluation.specs.Several.{terms_written}
+use Rattle.expr_evaluation.specs.Several.{pairs_written, terms_written}
 use Rattle.expr_evaluation.specs.declared.scope.Binding.{Binding}
 use Rattle.expr_evaluation.specs.declared.scope.Scope.{Scope, Scope-F, out-Scope, roll-Scope, out-roll-Scope}
-use Rattle.expr_evaluation.proofs.Allowed.{prepended, drop-at, loop-step, loop-failed, loop-done, AllowsAll-first, AllowsBlock-line, AllowsMore-all, AllowsMore-rest}
+use Rattle.expr_evaluation.proofs.Allowed.{prepended, drop-at, loop-step, loop-failed, loop-done, AllowsAll-first, AllowsPairs-first, AllowsBlock-line, AllowsMore-all, AllowsMore-rest}
 use Rattle.expr_value.proofs.Answered.{Gives-of-Is, Gives-passed, Gives-under, first_of-After}
 use Rattle.expr_operators.proofs.Plainly.{Surely-at}
-use Rattle.expr_evaluation.proofs.Plainly.{Ident-plain, Array-plain, Range-plain, Func-plain, Postfix-plain, Conditional-plain, Allows-plain, left-true, no-lines, right-true, written-Operation}
+use Rattle.expr_evaluation.proofs.Plainly.{Ident-plain, Array-plain, Map-plain, Range-plain, Func-plain, Postfix-plain, Conditional-plain, Allows-plain, left-true, no-lines, right-true, written-Operation}
 use Rattle.expr_evaluation.proofs.evaluation.Evaluation.+evaluation.Goals as goal
 
 pub evaluate_form-returns-in_err-first-in-Operation-clause-plain : goal.evaluate_form-returns-in_err-first-in-Operation-clause-plain
@@ -204,6 +204,45 @@ items-returns g t c =
     loop-done (λ ns. AllowsAll host ctx (terms_written ns)) all c.args.nodes.now c.loop-node.node-index c.loop-node.values.items c.loop-node.invariant c.loop-node-test.false refl
     )
 
+pub entries-loop-key-preserved : goal.entries-loop-key-preserved
+entries-loop-key-preserved g t c =
+    let host : Host = g.H.Functions.host c.args.self.now.host.now in
+    let base : Context = g.P.ContextProvider.context c.args.self.now.provider in
+    let ctx : Context = inside c.args.scope.now base in
+    let v = c.in_ok-value.value in
+    let p = c.loop-key-item.result in
+    let i = c.loop-key.key-index in
+    let all = AllowsPairs host ctx (pairs_written c.args.entries.now) in
+    let pushed : c.push.new.self.items ≡ c.loop-key.pairs.items ++ (string_bytes p.0, v) ∷ [] = search rules in
+    λ rest q. subst (λ ms. all (prepended ms rest)) (sym pushed) (
+    loop-step (λ ps. AllowsPairs host ctx (pairs_written ps)) all c.args.entries.now i c.loop-key.pairs.items c.loop-key.invariant p (string_bytes p.0, v) c.loop-key-item.is c.loop-key-test.true (AllowsPairs-first host ctx (string_bytes p.0) (written p.1) (pairs_written (drop (i + 1) c.args.entries.now)) v c.in_ok-value.ensures) rest q
+    )
+
+pub entries-returns-in_err-value : goal.entries-returns-in_err-value
+entries-returns-in_err-value g t c =
+    let host : Host = g.H.Functions.host c.args.self.now.host.now in
+    let base : Context = g.P.ContextProvider.context c.args.self.now.provider in
+    let ctx : Context = inside c.args.scope.now base in
+    let k = fault_of c.in_err-value.field-0.0 in
+    let all = AllowsPairs host ctx (pairs_written c.args.entries.now) in
+    Gives-passed _ c.in_err-value.field-0.0 all c.from_residual-in_err-value.ensures.1 (
+    λ m. loop-failed (λ ps. AllowsPairs host ctx (pairs_written ps)) all c.args.entries.now c.loop-key.key-index c.loop-key.pairs.items c.loop-key.invariant c.loop-key-item.result k c.loop-key-item.is c.loop-key-test.true (
+      Err k,
+      c.in_err-value.ensures m,
+      refl,
+    )
+    )
+
+pub entries-returns : goal.entries-returns
+entries-returns g t c =
+    let host : Host = g.H.Functions.host c.args.self.now.host.now in
+    let base : Context = g.P.ContextProvider.context c.args.self.now.provider in
+    let ctx : Context = inside c.args.scope.now base in
+    let all = AllowsPairs host ctx (pairs_written c.args.entries.now) in
+    subst (λ ms. all (Ok ms)) (sym c.from_vec.ensures) (
+    loop-done (λ ps. AllowsPairs host ctx (pairs_written ps)) all c.args.entries.now c.loop-key.key-index c.loop-key.pairs.items c.loop-key.invariant c.loop-key-test.false refl
+    )
+
 pub arguments-loop-node-init : goal.arguments-loop-node-init
 arguments-loop-node-init g t c =
     let host : Host = g.H.Functions.host c.args.self.now.host.now in
@@ -310,6 +349,9 @@ run_lines-returns g t c =
 
 pub evaluate_form-returns-in_err-items-in-Array-clause-plain : goal.evaluate_form-returns-in_err-items-in-Array-clause-plain
 evaluate_form-returns-in_err-items-in-Array-clause-plain g t c = λ v p h. Array-plain _ c.args.node.now c.in-Array.is p
+
+pub evaluate_form-returns-in_err-entries-in-Map-clause-plain : goal.evaluate_form-returns-in_err-entries-in-Map-clause-plain
+evaluate_form-returns-in_err-entries-in-Map-clause-plain g t c = λ v p h. Map-plain _ c.args.node.now c.in-Map.is p
 
 pub evaluate_form-returns-in_err-first-in-Range-clause-plain : goal.evaluate_form-returns-in_err-first-in-Range-clause-plain
 evaluate_form-returns-in_err-first-in-Range-clause-plain g t c = λ v p h. Range-plain c.args.node.now c.in-Range.is p

@@ -1,4 +1,4 @@
-use Rattle.std.proofs.Common.{List, [], Result, drop, map}
+use Rattle.std.proofs.Common.{ℕ, List, [], Result, drop, map}
 use Rattle.expr_predicates.proofs.Turns.{Leads}
 use Rattle.expr_predicates.specs.Gathered.{Stands, left, to_ask}
 use Rattle.expr_predicates.specs.Runs.{Asks}
@@ -7,12 +7,12 @@ use Rattle.expr_tree.specs.Term.{predicate}
 use Rattle.expr_tree.specs.Written.{block_of, written, program_written}
 use Rattle.expr_value.specs.Fault.{Fault}
 use Rattle.expr_value.specs.declared.value.Value.{Value}
-use Rattle.expr_evaluation.specs.Allows.{AllowsAll, AllowsAsked, AllowsBlock, AllowsMore, listed}
+use Rattle.expr_evaluation.specs.Allows.{AllowsAll, AllowsAsked, AllowsBlock, AllowsMore, AllowsPairs, listed}
 use Rattle.expr_value.specs.Answers.{Answer}
 use Rattle.expr_evaluation.specs.Context.{Context}
 use Rattle.expr_evaluation.specs.Host.{Host}
 use Rattle.expr_evaluation.specs.Scope.{inside}
-use Rattle.expr_evaluation.specs.Several.{terms_written}
+use Rattle.expr_evaluation.specs.Several.{pairs_written, terms_written}
 use Rattle.expr_evaluation.proofs.Allowed.{prepended}
 use Rattle.expr_evaluation.proofs.evaluation.Evaluation.+evaluation.Given as goal
 
@@ -22,6 +22,13 @@ invariant-items-loop-node g l =
     let ctx : Context = inside l.scope (g.P.ContextProvider.context l.self.provider) in
     (rest : Result (List Value) Fault) → AllowsAll host ctx (terms_written (drop l.node-index l.nodes)) rest
     → AllowsAll host ctx (terms_written l.nodes) (prepended l.values.items rest)
+
+abbrev pub invariant-entries-loop-key : goal.invariant-entries-loop-key
+invariant-entries-loop-key g l =
+    let host : Host = g.H.Functions.host l.self.host.now in
+    let ctx : Context = inside l.scope (g.P.ContextProvider.context l.self.provider) in
+    (rest : Result (List (List ℕ × Value)) Fault) → AllowsPairs host ctx (pairs_written (drop l.key-index l.entries)) rest
+    → AllowsPairs host ctx (pairs_written l.entries) (prepended l.pairs.items rest)
 
 abbrev pub invariant-arguments-loop-node : goal.invariant-arguments-loop-node
 invariant-arguments-loop-node g l =
