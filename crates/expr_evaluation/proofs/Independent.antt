@@ -157,6 +157,7 @@ mutual
   AllowsPiped-keeps host one other (name key) h v a p = p
   AllowsPiped-keeps host one other (literal w) h v a p = p
   AllowsPiped-keeps host one other (list ts) h v a p = p
+  AllowsPiped-keeps host one other (mapping ps) h v a p = p
   AllowsPiped-keeps host one other (range first last) h v a p = p
   AllowsPiped-keeps host one other (unary op t) h v a p = p
   AllowsPiped-keeps host one other (operation op l r) h v a p = p
