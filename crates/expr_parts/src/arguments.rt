@@ -17,7 +17,7 @@ pub struct Arguments {
     nodes: Vec<Node>,
     marks: Marks,
     program: Option<Box<Program>>,
-    pub(crate) height: usize,
+    height: usize,
 }
 
 // Written out so that letting go of one is a single step in the proofs above.
@@ -67,7 +67,7 @@ impl Arguments {
     {
         let count = self.nodes.len();
         let is_free = part.has_free_hash;
-        let height = part.height;
+        let height = part.height();
         self.nodes.push(part.into_node())?;
         self.marks.add(count, is_free);
         self.height = self.height.max(height);
@@ -80,7 +80,7 @@ impl Arguments {
         ensures err { OnErr result (self.new ≡ self.old) }
     {
         let alloc = *self.nodes.allocator();
-        let height = program.height;
+        let height = program.height();
         self.program = Some(Box::new(alloc, program.into_program())?);
         self.height = self.height.max(height);
         Ok(())
@@ -91,6 +91,13 @@ impl Arguments {
         ensures { result ≡ any_free_hash (terms_of self.now.terms) }
     {
         self.marks.free > 0
+    }
+
+    // The height of the highest of them.
+    pub(crate) fn height(&self) -> usize
+        ensures { result ≡ self.now.height }
+    {
+        self.height
     }
 
     pub(crate) fn into_nodes(self) -> Vec<Node>
@@ -110,7 +117,7 @@ impl Arguments {
         ensures { IfOk result (λ p. p ≡ array_of self) }
     {
         let has_free_hash = self.has_free_hash();
-        let height = above(self.height)?;
+        let height = above(self.height())?;
         Ok(Part {
             node: Node::Array(self.into_nodes()),
             has_free_hash,

@@ -10,6 +10,7 @@ use expr_tree::node::Node;
 use expr_value::{Text, Value, ValueMap};
 use std::alloc::{AllocError, Global};
 use std::marker::Model;
+use std::mem;
 
 /// The pairs of a map literal as far as they have been read, repeated keys included.
 pub struct Entries {
@@ -70,7 +71,7 @@ impl Entries {
     {
         let has_expression = is_expression(&value.node);
         let has_free_hash = value.has_free_hash;
-        let height = value.height;
+        let height = value.height();
         self.pairs.push((key.into_string(), value.into_node()))?;
         self.has_expression = self.has_expression || has_expression;
         self.has_free_hash = self.has_free_hash || has_free_hash;
@@ -120,11 +121,11 @@ fn is_expression(node: &Node) -> bool
     }
 }
 
-fn into_value(node: Node) -> Option<Value>
+fn into_value(mut node: Node) -> Option<Value>
     ensures { result ≡ value_of (written node) }
 {
-    match node {
-        Node::Value(value) => Some(value),
+    match &mut node {
+        Node::Value(value) => Some(mem::replace(value, Value::Nil)),
         _ => None,
     }
 }

@@ -57,6 +57,13 @@ pub(crate) fn above(height: usize) -> Result<usize, AllocError>
 }
 
 impl Part {
+    // The height of the tree that it was read from.
+    pub(crate) fn height(&self) -> usize
+        ensures { result ≡ self.now.height }
+    {
+        self.height
+    }
+
     /// A name or hash name.
     pub fn name(ident: String) -> Part
         ensures { result ≡ leaf (name (string_bytes ident)) }
@@ -101,8 +108,17 @@ impl Part {
     pub fn bracketed(self) -> Result<Part, AllocError>
         ensures { IfOk result (λ p. p ≡ bracketed self) }
     {
-        let height = above(self.height)?;
-        Ok(Part { height, ..self })
+        let height = above(self.height())?;
+        let Part {
+            node,
+            has_free_hash,
+            height: _,
+        } = self;
+        Ok(Part {
+            node,
+            has_free_hash,
+            height,
+        })
     }
 
     /// The integers from the first to the last.
@@ -110,7 +126,7 @@ impl Part {
         ensures { IfOk result (λ p. p ≡ ranged first last) }
     {
         let has_free_hash = first.has_free_hash || last.has_free_hash;
-        let height = above(first.height.max(last.height))?;
+        let height = above(first.height().max(last.height()))?;
         let first = Box::new(alloc, first.into_node())?;
         let last = Box::new(alloc, last.into_node())?;
         Ok(Part {
@@ -125,7 +141,7 @@ impl Part {
         ensures { IfOk result (λ p. p ≡ prefixed operator operand) }
     {
         let has_free_hash = operand.has_free_hash;
-        let height = above(operand.height)?;
+        let height = above(operand.height())?;
         let node = Box::new(alloc, operand.into_node())?;
         Ok(Part {
             node: Node::Unary { operator, node },
@@ -156,7 +172,7 @@ impl Part {
         ensures { IfOk result (λ p. p ≡ operated operator left right) }
     {
         let has_free_hash = left.has_free_hash || right.has_free_hash;
-        let height = above(left.height.max(right.height))?;
+        let height = above(left.height().max(right.height()))?;
         let right = right.into_node();
         let compiled_regex = kept_pattern(alloc, operator, &right)?;
         let left = Box::new(alloc, left.into_node())?;
@@ -185,12 +201,8 @@ impl Part {
         let has_free_hash = condition.has_free_hash
             || consequent.has_free_hash
             || alternative.has_free_hash;
-        let height = above(
-            condition
-                .height
-                .max(consequent.height)
-                .max(alternative.height),
-        )?;
+        let highest = condition.height().max(consequent.height());
+        let height = above(highest.max(alternative.height()))?;
         let condition = Box::new(alloc, condition.into_node())?;
         let consequent = Box::new(alloc, consequent.into_program())?;
         let alternative = Box::new(alloc, alternative.into_program())?;
@@ -215,7 +227,7 @@ impl Part {
         ensures { IfOk result (λ p. p ≡ indexed operand key optional) }
     {
         let in_key = key.has_free_hash;
-        let height = above(operand.height.max(key.height))?;
+        let height = above(operand.height().max(key.height()))?;
         let idx = Box::new(alloc, key.into_node())?;
         operand.followed(
             alloc,
@@ -234,7 +246,7 @@ impl Part {
     ) -> Result<Part, AllocError>
         ensures { IfOk result (λ p. p ≡ member_of operand optional name) }
     {
-        let height = above(operand.height)?;
+        let height = above(operand.height())?;
         let idx = Box::new(alloc, Node::Value(Value::String(name)))?;
         operand.followed(
             alloc,
@@ -255,7 +267,7 @@ impl Part {
     {
         let in_bounds = is_free_in(&start) || is_free_in(&end);
         let bounds = bound_height(&start).max(bound_height(&end));
-        let height = above(operand.height.max(bounds))?;
+        let height = above(operand.height().max(bounds))?;
         let start = boxed(alloc, start)?;
         let end = boxed(alloc, end)?;
         operand.followed(
@@ -271,7 +283,7 @@ impl Part {
         ensures { IfOk result (λ p. p ≡ coalesced operand other) }
     {
         let in_other = other.has_free_hash;
-        let height = above(operand.height.max(other.height))?;
+        let height = above(operand.height().max(other.height()))?;
         let other = Box::new(alloc, other.into_node())?;
         operand.followed(alloc, PostfixOperator::Default(other), in_other, height)
     }
@@ -281,7 +293,7 @@ impl Part {
         ensures { IfOk result (λ p. p ≡ piped operand call) }
     {
         let in_call = call.has_free_hash;
-        let height = above(operand.height.max(call.height))?;
+        let height = above(operand.height().max(call.height()))?;
         let call = Box::new(alloc, call.into_node())?;
         operand.followed(alloc, PostfixOperator::Pipe(call), in_call, height)
     }
@@ -296,7 +308,7 @@ impl Part {
         ensures { IfOk result (λ p. p ≡ ternary_of condition left right) }
     {
         let in_parts = left.has_free_hash || right.has_free_hash;
-        let height = above(condition.height.max(left.height.max(right.height)))?;
+        let height = above(condition.height().max(left.height().max(right.height())))?;
         let left = Box::new(alloc, left.into_node())?;
         let right = Box::new(alloc, right.into_node())?;
         condition.followed(
@@ -317,7 +329,7 @@ impl Part {
         ensures { IfOk result (λ p. p ≡ method_of receiver (string_bytes ident) arguments) }
     {
         let in_arguments = arguments.has_free_hash();
-        let height = above(receiver.height.max(arguments.height))?;
+        let height = above(receiver.height().max(arguments.height()))?;
         let args = arguments.into_nodes();
         receiver.followed(
             alloc,

@@ -12,7 +12,7 @@ use std::marker::Model;
 pub struct ProgramPart {
     program: Program,
     pub(crate) has_free_hash: bool,
-    pub(crate) height: usize,
+    height: usize,
 }
 
 // Written out so that letting go of one is a single step in the proofs above.
@@ -115,7 +115,7 @@ impl Lines {
         ensures err { OnErr result (self.new ≡ self.old) }
     {
         let has_free_hash = value.has_free_hash;
-        let height = value.height;
+        let height = value.height();
         self.lines.push((name, value.into_node()))?;
         self.has_free_hash = self.has_free_hash || has_free_hash;
         self.height = self.height.max(height);
@@ -132,7 +132,7 @@ impl Lines {
             height,
         } = self;
         let has_free_hash = has_free_hash || last.has_free_hash;
-        let height = height.max(last.height);
+        let height = height.max(last.height());
         ProgramPart {
             program: Program {
                 lines,
