@@ -1,4 +1,4 @@
-use Rattle.std.proofs.Common.{◌≡◌, suc, ◌<◌, Some, None, IfOk, length, map, subst, sym, ap, ◌∙◌, arith, rules, string_bytes}
+use Rattle.std.proofs.Common.{◌≡◌, suc, ◌<◌, Some, None, length, map, sym, ap, ◌∙◌, arith, rules, string_bytes}
 use Rattle.std.proofs.lemmas.List.{get_or-map, length-map}
 use Rattle.expr_tree.specs.Term.{call, list, no_terms, predicate, block_with}
 use Rattle.expr_tree.specs.Written.{predicate_written, program_written, written, line_written, terms_of}

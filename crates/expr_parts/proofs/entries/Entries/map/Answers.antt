@@ -1,4 +1,4 @@
-use Rattle.std.proofs.Common.{◌≡◌, suc, Bool, true, [], map, if◌then◌else◌, sym, ap, ◌∙◌}
+use Rattle.std.proofs.Common.{suc, Bool, [], map, if◌then◌else◌, sym, ap, ◌∙◌}
 use Rattle.expr_value.specs.Names.{put_all}
 use Rattle.expr_value.specs.declared.value.Value.TheVariants as value
 use Rattle.expr_tree.specs.Term.{literal, mapping, pairs_of}
