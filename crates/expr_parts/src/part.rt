@@ -201,12 +201,8 @@ impl Part {
         let has_free_hash = condition.has_free_hash
             || consequent.has_free_hash
             || alternative.has_free_hash;
-        let height = above(
-            condition
-                .height
-                .max(consequent.height())
-                .max(alternative.height()),
-        )?;
+        let highest = condition.height().max(consequent.height());
+        let height = above(highest.max(alternative.height()))?;
         let condition = Box::new(alloc, condition.into_node())?;
         let consequent = Box::new(alloc, consequent.into_program())?;
         let alternative = Box::new(alloc, alternative.into_program())?;

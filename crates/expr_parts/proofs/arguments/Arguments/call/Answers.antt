@@ -1,4 +1,4 @@
-use Rattle.std.proofs.Common.{◌≡◌, ◌<◌, Some, None, IfOk, length, map, subst, sym, ap, ◌∙◌, arith, rules, string_bytes}
+use Rattle.std.proofs.Common.{◌≡◌, suc, ◌<◌, Some, None, length, map, sym, ap, ◌∙◌, arith, rules, string_bytes}
 use Rattle.std.proofs.lemmas.List.{get_or-map, length-map}
 use Rattle.expr_tree.specs.Term.{call, list, no_terms, predicate, block_with}
 use Rattle.expr_tree.specs.Written.{predicate_written, program_written, written, line_written, terms_of}
@@ -6,7 +6,7 @@ use Rattle.expr_tree.proofs.Programs.{written-program}
 use Rattle.expr_tree.proofs.Shapes.{written-Func}
 use Rattle.expr_parts.specs.Parts.{Given}
 use Rattle.expr_parts.specs.Promotion.{any_free_hash, call_of, has_free_hash}
-use Rattle.expr_parts.proofs.Parts.{map-remove}
+use Rattle.expr_parts.proofs.Parts.{map-remove, same_measured}
 use Rattle.expr_parts.proofs.Places.{any_marked, call_found, found_free, free_within, rest_marked}
 use Rattle.expr_parts.proofs.arguments.Arguments.call.Goals as goal
 
@@ -43,10 +43,12 @@ returns-in-None c =
     let key = string_bytes c.args.ident in
     let count = c.len.ensures ∙ ns.ok.0 ∙ sym (length-map ns.items written) in
     let none : c.self.inside.program ≡ None = search rules in
-    written-Func c.args.ident ns None
+    same_measured
+    (written-Func c.args.ident ns None
     ∙ call_found key ts c.self.inside.marks c.len.result c.promoted_place.result None c.self.invariant count (rw c.as_str.ensures.value at c.promoted_place.ensures) c.in-None.is
     ∙ ap (λ o. call_of key ts (predicate_written o)) (sym none)
-    ∙ ap (λ (g : Given). call_of key g.terms g.program) c.self.view_is
+    ∙ ap (λ (g : Given). call_of key g.terms g.program) c.self.view_is)
+    (c.in_ok-height.ensures ∙ ap (λ (g : Given). suc g.height) c.self.view_is)
 
 pub returns-in_ok-program-in-Some-promoted_place : goal.returns-in_ok-program-in-Some-promoted_place
 returns-in_ok-program-in-Some-promoted_place c =
@@ -65,7 +67,9 @@ returns-in_ok-program-in-Some-promoted_place c =
     let program = written-program c.new-lines.result expr ∙ (λ i. block_with (map line_written (c.new-lines.ensures.items i)) (taken i)) in
     let step = ap program_written c.in_ok-program-in-Some-promoted_place.ensures.ok ∙ program in
     c.call_with-in-Some-promoted_place.ensures
-    ∙ (λ i. call key (terms_of (rest i)) (predicate (step i)))
+    ∙ same_measured
+    ((λ i. call key (terms_of (rest i)) (predicate (step i)))
     ∙ call_found key ts c.self.inside.marks c.len.result c.promoted_place.result (Some place) c.self.invariant count found c.in-Some-promoted_place.is
     ∙ ap (λ o. call_of key ts (predicate_written o)) (sym none)
-    ∙ ap (λ (g : Given). call_of key g.terms g.program) c.self.view_is
+    ∙ ap (λ (g : Given). call_of key g.terms g.program) c.self.view_is)
+    (c.in_ok-height.ensures ∙ ap (λ (g : Given). suc g.height) c.self.view_is)
