@@ -24,8 +24,12 @@ use Rattle.expr_operators.specs.Operators.{Matched, applied, truth, prefixed}
 use Rattle.expr_operators.specs.declared.sides.Sides.{Sides}
 use Rattle.expr_operators.specs.declared.sides.Sides.TheVariants.{Both, EndsAtFalse, EndsAtTrue, Pattern}
 use Rattle.expr_value.proofs.Answered.{first_of-After}
+use Rattle.expr_evaluation.specs.Several.{pairs_written}
 use Rattle.expr_evaluation.specs.Plain.{is_plain, is_plain_program}
 use Rattle.expr_operators.specs.Plain.{is_plain_operator, is_plain_value}
+
+pub written-pairs : (ps : Vec (String Global × Node) Global) → written (node.Map ps) ≡ mapping (pairs_written ps.items)
+written-pairs ps = search (rules, node_lemmas)
 
 pub written-Operation : (op : Operator) (l r : Box Node Global) (k : Option (Box Kept Global)) → written (node.Operation op l r k) ≡ operation op (written l.value) (written r.value)
 written-Operation op l r k = search (rules, node_lemmas)
@@ -79,6 +83,7 @@ Allows-plain host ctx (operation op l r) v p h =
     ) q.2
 Allows-plain host ctx (name key) v p h = cc
 Allows-plain host ctx (list ts) v p h = cc
+Allows-plain host ctx (mapping ps) v p h = cc
 Allows-plain host ctx (range a b) v p h = cc
 Allows-plain host ctx (call key ts q) v p h = cc
 Allows-plain host ctx (postfix q t) v p h = cc

@@ -1,5 +1,6 @@
 -- The machine over what is kept does as the machine over trees.
-use Rattle.std.proofs.Common.{◌≡◌, ℕ, max, List, [], ◌∷◌, ◌++◌, append-nil, Bool, true, false, cond, nat_lt, Option, Some, None, arith, sym, ap, ◌∙◌, refl, fold}
+use native.Mathlib.Numerals.{unary_clauses}
+use Rattle.std.proofs.Common.{◌≡◌, ℕ, suc, max, List, [], ◌∷◌, ◌++◌, append-nil, Bool, true, false, cond, nat_lt, Option, Some, None, arith, sym, ap, ◌∙◌, refl, fold}
 use Rattle.expr_token.specs.declared.token.Token.{Token}
 use Rattle.expr_token.specs.declared.token.Token.TheVariants as token
 use Rattle.expr_token.specs.declared.sign.Sign.TheVariants as sign
@@ -25,7 +26,7 @@ use Rattle.expr_frames.specs.declared.frame.Place.TheVariants as place
 use Rattle.expr_grammar.specs.Grammar.{Word, Usual, ReservedWord, Key, WordKey, QuotedKey, EntryRow, Tree, Name, Paren, Map, Member, Infix, Index, Slice, Row, NoEntries, SomeEntries, SomeItems, SomeArguments, ArgumentRow, Argument, Expression, Braces, Bound, LeftOut, At, Else, ElseIf, TreeProgram, Program, NoLines, key_token}
 use Rattle.expr_grammar.specs.Machine as tree
 use Rattle.expr_grammar.specs.Machine.{role_of, role_level, word_at, key_at, push, push_argument, push_entry, items_end, arguments_end, entries_end, InArray, InMethod, holder_tree, InCall, InPipe, caller_tree, Branches, NoBranch, Branch, chosen, Top, Then, Last, Predicate, tree_of}
-use Rattle.expr_grammar.specs.Height.{height, items_height, row_height, entries_height, entry_row_height, arguments_height, argument_row_height, else_height, lines_height}
+use Rattle.expr_grammar.specs.Height.{height, items_height, row_height, entries_height, entry_row_height, arguments_height, argument_row_height, else_height, program_height, lines_height}
 use Rattle.expr_frames.specs.Measures.{measured, measured_program, measured_if_any}
 use Rattle.expr_frames.specs.Programs.{word_text, key_text, entry_row_pairs, entries_pairs, term_of, items_terms, row_terms, argument_terms, argument_row_terms, last_predicate, last_predicate_in_row, infix_meaning, joined, else_block, line_terms}
 use Rattle.expr_frames.specs.Nodes as node
@@ -137,14 +138,18 @@ makes (Member l false w) = refl
 makes (Member l true w) = refl
 makes l = refl
 
+-- nothing is lower than what is empty
+no_lower : (n : ℕ) → max 0 n ≡ n
+no_lower n = simp unary_clauses refl
+
 -- one more in a list
 more_items : (r : Option Row) (l : Tree) → given_more (items_given r) (measured l) ≡ items_given (Some (push r l))
-more_items None l = refl
+more_items None l = ap (λ h. record { terms = term_of l ∷ []; program = none_given.program; height = h }) (no_lower (height l))
 more_items (Some r) l = refl
 
 more_arguments : (r : Option ArgumentRow) (a : Argument) → with_argument a (row_given r) ≡ row_given (Some (push_argument r a))
-more_arguments None (Expression t) = refl
-more_arguments None (Braces p) = refl
+more_arguments None (Expression t) = ap (λ h. record { terms = term_of t ∷ []; program = none_given.program; height = h }) (no_lower (height t))
+more_arguments None (Braces p) = ap (λ h. record { terms = []; program = predicate (measured_program p).block; height = h }) (no_lower (program_height p))
 more_arguments (Some r) (Expression t) = refl
 more_arguments (Some r) (Braces p) = ap (λ ts. record { terms = ts; program = predicate (measured_program p).block; height = max (argument_row_height r) (measured_program p).height }) (sym (append-nil (argument_row_terms r)))
 
@@ -161,7 +166,7 @@ end_pairs None = refl
 end_pairs (Some r) = refl
 
 more_pairs : (r : Option EntryRow) (key : Key) (l : Tree) → pair_more (pairs r) (key_text key) (measured l) ≡ pairs (Some (push_entry r key l))
-more_pairs None key l = refl
+more_pairs None key l = ap (λ h. record { pairs = (key_text key, term_of l) ∷ []; height = h }) (no_lower (height l))
 more_pairs (Some r) key l = refl
 
 -- the bounds of a slice
@@ -179,7 +184,10 @@ joins meaning.Default l r = refl
 
 nests : (bs : Branches) (c : Tree) (a : TreeProgram) (e : Rattle.expr_grammar.specs.Grammar.ElsePart) → nest (branches bs) (chosen_part (measured c) (measured_program a) (record { block = else_block e; height = else_height e })) ≡ measured (chosen bs c a e)
 nests NoBranch c a e = refl
-nests (Branch bs d b) c a e = nest_more (branches bs) (measured d) (measured_program b) (chosen_part (measured c) (measured_program a) (record { block = else_block e; height = else_height e })) ∙ nests bs d b (ElseIf c a e)
+nests (Branch bs d b) c a e =
+    nest_more (branches bs) (measured d) (measured_program b) (chosen_part (measured c) (measured_program a) (record { block = else_block e; height = else_height e }))
+    ∙ ap (λ h. nest (branches bs) (chosen_part (measured d) (measured_program b) (record { block = else_block (ElseIf c a e); height = h }))) (no_lower (else_height (ElseIf c a e)))
+    ∙ nests bs d b (ElseIf c a e)
 
 -- a choice is no name and no member
 chosen_head : (bs : Branches) (c : Tree) (a : TreeProgram) (e : Rattle.expr_grammar.specs.Grammar.ElsePart) → head (chosen bs c a e) ≡ operand.Whole (measured (chosen bs c a e))
@@ -286,7 +294,7 @@ either done kept true x y u v e f = e
 either done kept false x y u v e f = f
 
 -- after settling, for what agrees on each stack
-settles : {R S : Type 0} (p : ℕ) (next : List tree.Frame → Tree → S) (kept : S → R) (done : node.Settled → R) → ((k : List tree.Frame) (l : Tree) → done (record { stack = frames k; left = term_of l }) ≡ kept (next k l)) → (k : List tree.Frame) (l : Tree) → done (node.settle p (frames k) (measured l)) ≡ kept (tree.settle p next k l)
+settles : {R S : Type 0} (p : ℕ) (next : List tree.Frame → Tree → S) (kept : S → R) (done : node.Settled → R) → ((k : List tree.Frame) (l : Tree) → done (record { stack = frames k; left = measured l }) ≡ kept (next k l)) → (k : List tree.Frame) (l : Tree) → done (node.settle p (frames k) (measured l)) ≡ kept (tree.settle p next k l)
 settles p next kept done h [] l = h [] l
 settles p next kept done h (tree.Under o ∷ k) l = either done kept (nat_lt p (tree.reach (tree.Under o))) _ _ _ _ (settles p next kept done h k (tree.plug (tree.Under o) l)) (h (tree.Under o ∷ k) l)
 settles p next kept done h (tree.After x o ∷ k) l = either done kept (nat_lt p (tree.reach (tree.After x o))) _ _ _ _ (ap (λ q. done (node.settle p (frames k) q)) (joins (infix_meaning o) (measured x) (measured l)) ∙ settles p next kept done h k (tree.plug (tree.After x o) l)) (h (tree.After x o ∷ k) l)

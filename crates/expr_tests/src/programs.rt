@@ -56,7 +56,7 @@ const PROGRAMS: &[(&[&str], &str)] = &[
     ),
     (
         &["sum(xs, .p.q * 10)", "sum(xs, #.p.q * 10)"],
-        r#"sum[xs,]{((((#["p"])["q"]) * 10)}"#,
+        r#"sum[xs,]{(((#["p"])["q"]) * 10)}"#,
     ),
     (
         &["sortBy(xs, .n, \"desc\")", "sortBy(xs, #.n, \"desc\")"],

@@ -1,16 +1,18 @@
-use Rattle.std.proofs.Common.{◌≡◌, ◌&&◌, IsTrue, ◌+◌, ◌≤◌, List, [], ◌∷◌, length, map, drop, rules, true, sym, ap, ◌∙◌, subst, refl, Ok, Err, String, Global, string_bytes}
+use Rattle.std.proofs.Common.{◌≡◌, ◌&&◌, IsTrue, ◌+◌, ◌≤◌, ◌++◌, List, [], ◌∷◌, length, map, drop, rules, true, sym, ap, ◌∙◌, subst, refl, Ok, Err, String, Global, string_bytes}
 use Rattle.std.proofs.lemmas.List.{drop_all}
 use Rattle.expr_tree.proofs.Shapes.{written-Func, written-Slice}
 use Rattle.expr_predicates.proofs.Turns.{turn_on, turn_refused, turn_misanswered, turn_done}
 use Rattle.expr_predicates.specs.Gathered.{left, question_of}
 use Rattle.expr_predicates.specs.Runs.{Asks}
 use Rattle.expr_predicates.specs.Tasks.{Question}
-use Rattle.expr_tree.specs.Term.{call, operation, predicate, slice}
+use Rattle.expr_tree.specs.Term.{call, mapping, operation, predicate, slice}
 use Rattle.expr_evaluation.specs.Begun.{Begins}
 use Rattle.expr_evaluation.proofs.Begun.{AllowsCall-answered, AllowsCall-refused, AllowsCall-run}
 use Rattle.expr_tree.specs.Written.{written, bound_written, postfix_written, predicate_written, program_written, block_of}
 use Rattle.expr_tree.specs.declared.node.Node.{Node}
 use Rattle.expr_value.specs.Fault.{fault_of}
+use Rattle.expr_value.specs.Names.{put_all}
+use Rattle.expr_value.specs.declared.value.Value as value
 use Rattle.expr_value.specs.declared.value.Value.{Value}
 use Rattle.expr_evaluation.specs.Allows.{Allows, AllowsAll, AllowsAsked, AllowsBlock, AllowsBound, AllowsCall, AllowsMore, AllowsPairs, AllowsPiped, AllowsPostfix, Continued, ContinuedAs, is_given, listed}
 use Rattle.expr_value.specs.Answers.{After, Answer, Gives}
@@ -29,7 +31,7 @@ use Rattle.expr_evaluation.specs.declared.scope.Scope.{Scope, Scope-F, out-Scope
 use Rattle.expr_evaluation.proofs.Allowed.{prepended, drop-at, loop-step, loop-failed, loop-done, AllowsAll-first, AllowsPairs-first, AllowsBlock-line, AllowsMore-all, AllowsMore-rest}
 use Rattle.expr_value.proofs.Answered.{Gives-of-Is, Gives-passed, Gives-under, first_of-After}
 use Rattle.expr_operators.proofs.Plainly.{Surely-at}
-use Rattle.expr_evaluation.proofs.Plainly.{Ident-plain, Array-plain, Map-plain, Range-plain, Func-plain, Postfix-plain, Conditional-plain, Allows-plain, left-true, no-lines, right-true, written-Operation}
+use Rattle.expr_evaluation.proofs.Plainly.{Ident-plain, Array-plain, Map-plain, Range-plain, Func-plain, Postfix-plain, Conditional-plain, Allows-plain, left-true, no-lines, right-true, written-Operation, written-pairs}
 use Rattle.expr_evaluation.proofs.evaluation.Evaluation.+evaluation.Goals as goal
 
 pub evaluate_form-returns-in_err-first-in-Operation-clause-plain : goal.evaluate_form-returns-in_err-first-in-Operation-clause-plain
@@ -350,8 +352,8 @@ run_lines-returns g t c =
 pub evaluate_form-returns-in_err-items-in-Array-clause-plain : goal.evaluate_form-returns-in_err-items-in-Array-clause-plain
 evaluate_form-returns-in_err-items-in-Array-clause-plain g t c = λ v p h. Array-plain _ c.args.node.now c.in-Array.is p
 
-pub evaluate_form-returns-in_err-entries-in-Map-clause-plain : goal.evaluate_form-returns-in_err-entries-in-Map-clause-plain
-evaluate_form-returns-in_err-entries-in-Map-clause-plain g t c = λ v p h. Map-plain _ c.args.node.now c.in-Map.is p
+pub evaluate_form-returns-in_err-pairs-in-Map-clause-plain : goal.evaluate_form-returns-in_err-pairs-in-Map-clause-plain
+evaluate_form-returns-in_err-pairs-in-Map-clause-plain g t c = λ v p h. Map-plain _ c.args.node.now c.in-Map.is p
 
 pub evaluate_form-returns-in_err-first-in-Range-clause-plain : goal.evaluate_form-returns-in_err-first-in-Range-clause-plain
 evaluate_form-returns-in_err-first-in-Range-clause-plain g t c = λ v p h. Range-plain c.args.node.now c.in-Range.is p
@@ -391,6 +393,32 @@ evaluate_form-returns-then-branch-clause-plain g t c = λ v p h. Conditional-pla
 
 pub evaluate_form-returns-clause-plain : goal.evaluate_form-returns-clause-plain
 evaluate_form-returns-clause-plain g t c = λ v p h. Conditional-plain _ _ _ c.args.node.now c.in-Conditional.is p
+
+-- a map literal is the map of its pairs
+pub evaluate_form-returns-in-Map-clause-answer : goal.evaluate_form-returns-in-Map-clause-answer
+evaluate_form-returns-in-Map-clause-answer g t c =
+    let host : Host = g.H.Functions.host c.args.self.now.host.now in
+    let ctx : Context = inside c.args.scope.now (g.P.ContextProvider.context c.args.self.now.provider) in
+    let ps = pairs_written c.in-Map.entries.items in
+    let is : written c.args.node.now ≡ mapping ps = ap written c.in-Map.is ∙ written-pairs c.in-Map.entries in
+    let ms = c.in_ok-pairs-in-Map.pairs in
+    let allowed = subst (λ ns. AllowsPairs host ctx (pairs_written ns) (Ok ms)) c.deref-in-Map.ensures.value c.in_ok-pairs-in-Map.ensures in
+    subst (λ n. Gives c.map_of.result (Allows host ctx n)) (sym is) (
+    Gives-of-Is c.map_of.result (Ok (value.Map (put_all [] ms))) (Allows host ctx (mapping ps)) c.map_of.ensures (Ok ms, allowed, refl)
+    )
+
+pub evaluate_form-returns-in_err-pairs-in-Map-clause-answer : goal.evaluate_form-returns-in_err-pairs-in-Map-clause-answer
+evaluate_form-returns-in_err-pairs-in-Map-clause-answer g t c =
+    let host : Host = g.H.Functions.host c.args.self.now.host.now in
+    let ctx : Context = inside c.args.scope.now (g.P.ContextProvider.context c.args.self.now.provider) in
+    let ps = pairs_written c.in-Map.entries.items in
+    let is : written c.args.node.now ≡ mapping ps = ap written c.in-Map.is ∙ written-pairs c.in-Map.entries in
+    let e = c.in_err-pairs-in-Map.field-0.0 in
+    subst (λ n. Gives c.from_residual-in_err-pairs-in-Map.result (Allows host ctx n)) (sym is) (
+    Gives-passed c.from_residual-in_err-pairs-in-Map.result e (Allows host ctx (mapping ps)) c.from_residual-in_err-pairs-in-Map.ensures.1 (
+    λ m. (Err (fault_of e), subst (λ ns. AllowsPairs host ctx (pairs_written ns) (Err (fault_of e))) c.deref-in-Map.ensures.value (c.in_err-pairs-in-Map.ensures m), refl)
+    )
+    )
 
 -- what a call allows is what the call on its arguments' values allows
 pub evaluate_form-returns-in-Func-clause-answer : goal.evaluate_form-returns-in-Func-clause-answer
