@@ -38,7 +38,7 @@ after n (d ∷ ds) =
 abbrev Counts : ℕ → ℕ → List ℕ → Type 0
 Counts n r text = (ds : List ℕ) × (k : ℕ) × (text ≡ ds) × AllDigits 10 ds × (length ds + k ≡ n) × (digits_value 10 ds * 10 ^ k ≡ r)
 
-positive : (n : ℕ) → 0 < 10 ^ n
+pub positive : (n : ℕ) → 0 < 10 ^ n
 positive zero = omega arith
 positive (suc n) = omega (arith, pow-suc 10 n, positive n)
 

@@ -2,5 +2,7 @@
 #![tactic(auto)]
 
 mod laws;
+mod spelling;
 
 pub use laws::{texts_have_one_meaning, texts_spell_lengths};
+pub use spelling::spelled;
