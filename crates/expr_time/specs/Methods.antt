@@ -1,6 +1,7 @@
 -- What the methods of lengths of time answer, and the built-in that reads one.
 use Rattle.std.specs.Prelude.{◌≡◌, ◌≢◌, ◌⊎◌, ℕ, ℤ, pos, neg_ℤ, ◌+◌, ◌*◌, ◌/◌, ◌*ℤ◌, int_lt, int_le, int_div, unsigned_abs, List, [], ◌∷◌, Option, None, Some, Ok, Err, FitsSigned, codes, if◌then◌else◌}
 use Rattle.std.specs.Int.{w64, int_min}
+use Rattle.expr_clock.specs.Durations.{duration_text}
 use Rattle.expr_value.specs.Answers.{Answer}
 use Rattle.expr_value.specs.Fault.{evaluation}
 use Rattle.expr_value.specs.Values.{duration_of, string_of}
@@ -58,6 +59,7 @@ answered is.Truncate n arguments = by_step (one_duration arguments) (truncated n
 answered is.Milliseconds n arguments = alone arguments (value.Integer (int_div n (pos 1000000)))
 answered is.Microseconds n arguments = alone arguments (value.Integer (int_div n (pos 1000)))
 answered is.Nanoseconds n arguments = alone arguments (value.Integer n)
+answered is.String n arguments = alone arguments (value.String (duration_text n))
 
 -- the name of a method
 abbrev pub name_of : DurationMethod → List ℕ
@@ -67,6 +69,7 @@ name_of is.Truncate = codes "Truncate"
 name_of is.Milliseconds = codes "Milliseconds"
 name_of is.Microseconds = codes "Microseconds"
 name_of is.Nanoseconds = codes "Nanoseconds"
+name_of is.String = codes "String"
 
 -- the length of time that a text spells, within 64 bits; any other text is refused
 abbrev pub Read : List ℕ → Answer → Type 0

@@ -1,13 +1,17 @@
 //! Methods of lengths of time, and the built-in that reads one.
-ghost use Rattle.std.specs.Prelude.{◌≡◌, ◌≢◌, ◌<◌, ◌≤◌, MatchOption};
+ghost use Rattle.std.specs.Prelude.{◌≡◌, ◌≢◌, ◌<◌, ◌≤◌, Some, IfOk, IfErr, MatchOption, string_bytes};
 ghost use Rattle.std.specs.Option.{option_map};
 ghost use Rattle.expr_value.specs.Answers.{Gives, Is};
+ghost use Rattle.expr_clock.specs.Durations.{duration_text};
 ghost use Rattle.expr_time.specs.Methods.{Duration, Read, absolute, alone, answered, by_step, held, name_of, nearest, one_duration, one_text, rounded, truncated};
 
 use crate::spelling::spelled;
+use expr_clock::show_duration;
 use expr_held::Held;
-use expr_value::{Result, Value, refusal};
+use expr_value::{Error, Result, Text, Value, refusal};
 use std::alloc::Global;
+use std::fmt;
+use std::fmt::{Formatter, Write};
 
 /// A method of lengths of time, under the language's own name for it.
 #[derive(Clone, Copy, Debug, PartialEq, Eq)]
@@ -18,6 +22,7 @@ pub enum DurationMethod {
     Milliseconds,
     Microseconds,
     Nanoseconds,
+    String,
 }
 
 impl DurationMethod {
@@ -32,6 +37,7 @@ impl DurationMethod {
             "Milliseconds" => Some(DurationMethod::Milliseconds),
             "Microseconds" => Some(DurationMethod::Microseconds),
             "Nanoseconds" => Some(DurationMethod::Nanoseconds),
+            "String" => Some(DurationMethod::String),
             _ => None,
         }
     }
@@ -56,7 +62,46 @@ impl DurationMethod {
                 without(alloc, arguments, Value::Integer(nanoseconds / 1_000))
             }
             DurationMethod::Nanoseconds => without(alloc, arguments, Value::Integer(nanoseconds)),
+            DurationMethod::String => string(alloc, nanoseconds, arguments),
         }
+    }
+}
+
+fn string(alloc: Global, nanoseconds: i64, arguments: &[Held<'_>]) -> Result<Value>
+    ensures { Is result (alone arguments.now (Value.String (duration_text nanoseconds))) }
+{
+    let answer = written(alloc, &nanoseconds)?;
+    without(alloc, arguments, answer)
+}
+
+// The text of a length of time.
+fn written(alloc: Global, nanoseconds: &i64) -> Result<Value>
+    ensures ok { IfOk result (λ v. v ≡ Value.String (duration_text nanoseconds.now)) }
+    ensures err { IfErr result (λ e. e ≡ Error.MemoryError) }
+{
+    let text = text_of(alloc, nanoseconds)?;
+    Ok(Value::String(Text::from_string(text)))
+}
+
+fn text_of(alloc: Global, nanoseconds: &i64) -> Result<String>
+    ensures ok { IfOk result (λ s. string_bytes s ≡ duration_text nanoseconds.now) }
+    ensures err { IfErr result (λ e. e ≡ Error.MemoryError) }
+{
+    let text = DurationText { nanoseconds };
+    Ok(text.to_string(alloc)?)
+}
+
+// So many nanoseconds, printed as a length of time.
+#[derive(Drop)]
+struct DurationText<'a> {
+    nanoseconds: &'a i64,
+}
+
+impl<'a> fmt::Display for DurationText<'a> {
+    ghost output = { λ d. Some (duration_text d.nanoseconds.now) };
+
+    fn fmt<W: Write>(&self, f: &mut Formatter<W>) -> fmt::Result {
+        show_duration(self.nanoseconds, f)
     }
 }
 
