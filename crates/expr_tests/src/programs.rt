@@ -1,7 +1,7 @@
 //! Programs of texts, their refusals and their names.
 use crate::page::Page;
 use crate::shown::show_program;
-use expr::{Error, Result, compile, compile_within};
+use expr::{Error, Node, Pattern, Result, compile, compile_within};
 use std::alloc::Global;
 use std::test::Fail;
 
@@ -104,6 +104,54 @@ fn texts_have_their_programs(rt: HostRuntime) -> Tested {
             assert_eq!(rt; shown(rt.alloc(), text)?.as_str(), *program, "{text}");
         }
     }
+    Ok(())
+}
+
+/// The text of the pattern that a program keeps at its last operator, or a word for none.
+fn kept(alloc: Global, text: &str) -> Result<String> {
+    let program = compile(alloc, text)?;
+    let pattern = match &program.expr {
+        Node::Operation {
+            compiled_regex: Some(pattern),
+            ..
+        } => pattern.text(),
+        _ => "none",
+    };
+    Ok(String::from_str(alloc, pattern)?)
+}
+
+/// Texts, and the patterns that their programs keep.
+const KEPT: &[(&str, &str)] = &[
+    (r#"x matches "^a""#, "^a"),
+    (r#"x matches "(""#, "none"),
+    ("x matches y", "none"),
+    (r#"x contains "^a""#, "none"),
+];
+
+#[test]
+fn programs_keep_patterns(rt: HostRuntime) -> Tested {
+    for (text, expected) in KEPT {
+        assert_eq!(rt; kept(rt.alloc(), text)?.as_str(), *expected, "{text}");
+    }
+    Ok(())
+}
+
+/// Patterns, texts, and whether they match.
+const MATCHES: &[(&str, &str, bool)] = &[
+    (r"^[a-z]\d$", "a1", true),
+    ("^f", "foo", true),
+    ("^f", "of", false),
+    ("", "", true),
+];
+
+#[test]
+fn patterns_match(rt: HostRuntime) -> Tested {
+    let alloc = rt.alloc();
+    for (pattern, text, expected) in MATCHES {
+        let pattern = Pattern::new(alloc, pattern)?;
+        assert_eq!(rt; pattern.is_match(alloc, text)?, *expected, "{text}");
+    }
+    assert!(rt; matches!(Pattern::new(alloc, "("), Err(Error::RegexError(_))));
     Ok(())
 }
 
