@@ -19,8 +19,8 @@ pub use expr_operators::{
 pub use expr_predicates::{
     a_list_has_one_stable_order, a_run_is_a_list_of_replies, none_is_the_opposite_of_any,
 };
-pub use expr_syntax::{compile, compile_within};
 pub use expr_syntax::laws::one_tree_of_text;
+pub use expr_syntax::{compile, compile_within};
 pub use expr_token::{lexer_gives_the_reading, one_reading};
 pub use expr_tree::node::{Node, Pattern, PostfixOperator, Program};
 pub use expr_tree::operator::{Operator, UnaryOperator};

@@ -93,3 +93,22 @@ fn answers_its_table(rt: HostRuntime) -> Result<(), Fail> {
     }
     Ok(())
 }
+
+/// The word `|` and then 1 in so many pairs of brackets.
+fn bracketed(alloc: Global, pairs: usize) -> Result<String, AllocError> {
+    let mut line = String::from_str(alloc, "|")?;
+    line.push_str("(".repeat(alloc, pairs)?.as_str())?;
+    line.push_str("1")?;
+    line.push_str(")".repeat(alloc, pairs)?.as_str())?;
+    Ok(line)
+}
+
+#[test]
+fn reads_trees_up_to_a_height_of_500(rt: HostRuntime) -> Result<(), Fail> {
+    let alloc = rt.alloc();
+    let low = bracketed(alloc, 499)?;
+    let high = bracketed(alloc, 500)?;
+    assert_eq!(rt; run(alloc, low.as_str(), 9, 9)?.as_str(), "1\n||0");
+    assert_eq!(rt; run(alloc, high.as_str(), 9, 9)?.as_str(), "|literal\n|1");
+    Ok(())
+}

@@ -99,13 +99,6 @@ IsAnswerWithin-err t height (ExprError message) h = h
 IsAnswerWithin-err t height (RegexError error) h = h
 IsAnswerWithin-err t height MemoryError h = h
 
-pub IsPlaced-err : {A B : Type 0} (text : List ℕ) (e : Error) → IsPlaced {A = A} text (Err e) → IsPlaced {A = B} text (Err e)
-IsPlaced-err text (PestError place) h = h
-IsPlaced-err text (ParseError message) h = h
-IsPlaced-err text (ExprError message) h = h
-IsPlaced-err text (RegexError error) h = h
-IsPlaced-err text MemoryError h = h
-
 -- what was read is the program of the tree
 pub program_of_measure : (text : List ℕ) (m : MeasuredBlock) (n : Program) → program_written n ≡ m.block → IsMeasureOf text m → IsProgramOf text (program_written n)
 program_of_measure text m n w h = record { tree = h.tree; is_tree = h.is_tree; literals = h.literals; same = w ∙ ap (λ x. x.block) h.same }

@@ -11,8 +11,8 @@ ghost use Rattle.expr_value.specs.declared.error.Error.{Error};
 ghost use Rattle.std.specs.Prelude.{◌<◌};
 
 use crate::parser::{ParseError, parse};
-use expr_token::{Reading, Token, read};
 use expr_parts::ProgramPart;
+use expr_token::{Reading, Token, read};
 use expr_tree::node::Program;
 use expr_value::{Error, Result};
 use std::alloc::Global;

@@ -62,7 +62,10 @@ const PROGRAMS: &[(&[&str], &str)] = &[
         &["sortBy(xs, .n, \"desc\")", "sortBy(xs, #.n, \"desc\")"],
         r#"sortBy[xs,(#["n"]),"desc",]"#,
     ),
-    (&["map(1...n)", "map(1 .. #.n)"], r#"map[]{(1 .. (#["n"]))}"#),
+    (
+        &["map(1...n)", "map(1 .. #.n)"],
+        r#"map[]{(1 .. (#["n"]))}"#,
+    ),
     (&["f(1 + .x)", "f(1 + #.x)"], r#"f[(1 + (#["x"])),]"#),
     (&["{a: 1, b: [2], a: 3}"], "{a: 1,b: [2,],a: 3,}"),
     (&["{a: 1, b: {c: 2}, a: 3}"], "{a: 3, b: {c: 2}}"),
@@ -189,7 +192,11 @@ fn read_within(alloc: Global, text: &str, height: usize) -> Result<&'static str>
 #[test]
 fn trees_are_read_within_a_height(rt: HostRuntime) -> Tested {
     for (text, height, expected) in HEIGHTS {
-        assert_eq!(rt; read_within(rt.alloc(), text, *height)?, *expected, "{text}");
+        assert_eq!(rt;
+            read_within(rt.alloc(), text, *height)?,
+            *expected,
+            "{text}"
+        );
     }
     Ok(())
 }

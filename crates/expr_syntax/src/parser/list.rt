@@ -87,7 +87,12 @@ impl Parser {
     }
 
     // The end of the arguments.
-    pub(super) fn end_call(&self, caller: Caller, arguments: Arguments, token: &Token) -> Result<Place, Fault>
+    pub(super) fn end_call(
+        &self,
+        caller: Caller,
+        arguments: Arguments,
+        token: &Token,
+    ) -> Result<Place, Fault>
         ensures { Stands (machine.call_end caller token.now arguments (stack self.now.frames.items)) self.now.frames.items result }
     {
         let Token::Sign(Sign::ParenClose) = token else {

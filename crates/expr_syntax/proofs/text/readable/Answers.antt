@@ -23,6 +23,6 @@ returns-in-Err-Syntax-clause-place c =
 
 pub returns-in-Err-Literal-clause-only : goal.returns-in-Err-Literal-clause-only
 returns-in-Err-Literal-clause-only c = λ t h.
-    IsReadFor-literal t c.too_large.result c.too_large.ensures (
+    IsReadFor-literal t c.refusal.result c.refusal.ensures (
     (rw c.in-Err-Literal.field-0-is at c.in-Err-Literal.ensures.only) t (spells c.args.code.now c.args.tokens.items c.args.starts.now c.requires.reads t h) h.fits
     )
