@@ -1,5 +1,5 @@
 -- What the answers of the parser say of a text.
-use Rattle.std.proofs.Common.{◌≡◌, ℕ, ◌<◌, ◌≤◌, List, [], ◌++◌, Some, None, Ok, Err, ◌⊎◌, inl, inr, length, take, drop, get_or, Result, append-nil, sym, ap, ◌∙◌, subst, arith, IsUtf8}
+use Rattle.std.proofs.Common.{◌≡◌, ℕ, ◌<◌, ◌≤◌, List, [], ◌++◌, Some, None, Err, ◌⊎◌, inl, inr, length, take, drop, get_or, Result, append-nil, sym, ap, ◌∙◌, subst, arith, IsUtf8}
 use Rattle.std.proofs.lemmas.List.{drop_all, take_all}
 use Rattle.std.proofs.lemmas.Option.{slice_get_cases}
 use Rattle.std.specs.List.{All}
@@ -10,18 +10,13 @@ use Rattle.expr_token.proofs.Boundaries.{begun_boundary}
 use Rattle.expr_token.proofs.Lexing.{one_reading}
 use Rattle.expr_token.specs.Reading.{ArePieces, Begins, ReadsAt, pieces_text}
 use Rattle.expr_token.specs.declared.token.Token.{Token}
-use Rattle.expr_tree.specs.Written.{program_written}
 use Rattle.expr_parts.specs.Parts.{MeasuredBlock}
-use Rattle.expr_frames.specs.Measures.{measured_program}
-use Rattle.expr_frames.specs.Programs.{program_of}
-use Rattle.expr_grammar.specs.Height.{program_height}
-use Rattle.expr_tree.specs.declared.node.Program.{Program}
 use Rattle.expr_value.specs.declared.error.Error.{Error}
 use Rattle.expr_value.specs.declared.error.Error.TheVariants.{PestError, ParseError, ExprError, RegexError, MemoryError}
 use Rattle.expr_grammar.specs.Grammar.{TreeProgram, Spells, LiteralsFit}
 use Rattle.expr_grammar.specs.Prefixes.{SomeBegins, StopsAt}
 use Rattle.expr_syntax.specs.Reading.{IsParse, IsTooLarge}
-use Rattle.expr_syntax.specs.Texts.{IsTreeOf, IsProgramOf, HasLargeLiteral, IsCompiled, IsAnswerFor, FitsWithin, IsProgramWithin, IsBeyond, IsCompiledWithin, IsAnswerWithin, IsMeasureOf, IsRead, IsReadFor, IsParseRefusal, IsPlaced, FaultPlace, AtToken, AtEnd, AtUnreadable}
+use Rattle.expr_syntax.specs.Texts.{IsTreeOf, HasLargeLiteral, IsAnswerFor, IsAnswerWithin, IsMeasureOf, IsReadFor, IsParseRefusal, IsPlaced, FaultPlace, AtToken, AtEnd, AtUnreadable}
 
 -- a text that reads as the tokens
 module _ (text : List ℕ) (ts : List Token) (starts : List ℕ) (reads : ReadsAt text ts starts) where
@@ -56,13 +51,6 @@ module _ (text : List ℕ) (ts : List Token) (starts : List ℕ) (reads : ReadsA
       }
 
 -- the refusal of a literal says that there is one that is too large
-pub IsRead-literal : (text : List ℕ) (e : Error) → IsParseRefusal e → HasLargeLiteral text → IsRead text (Err e)
-IsRead-literal text (PestError place) r h = absurd r
-IsRead-literal text (ParseError message) r h = h
-IsRead-literal text (ExprError message) r h = absurd r
-IsRead-literal text (RegexError error) r h = absurd r
-IsRead-literal text MemoryError r h = tt
-
 pub IsReadFor-literal : (t : TreeProgram) (e : Error) → IsParseRefusal e → ¬ LiteralsFit t → IsReadFor t (Err e)
 IsReadFor-literal t (PestError place) r h = absurd r
 IsReadFor-literal t (ParseError message) r h = h
@@ -71,13 +59,6 @@ IsReadFor-literal t (RegexError error) r h = absurd r
 IsReadFor-literal t MemoryError r h = tt
 
 -- a refusal to read is passed on
-pub IsCompiled-err : (text : List ℕ) (e : Error) → IsRead text (Err e) → IsCompiled text (Err e)
-IsCompiled-err text (PestError place) h = h
-IsCompiled-err text (ParseError message) h = h
-IsCompiled-err text (ExprError message) h = h
-IsCompiled-err text (RegexError error) h = h
-IsCompiled-err text MemoryError h = h
-
 pub IsAnswerFor-err : (t : TreeProgram) (e : Error) → IsReadFor t (Err e) → IsAnswerFor t (Err e)
 IsAnswerFor-err t (PestError place) h = h
 IsAnswerFor-err t (ParseError message) h = h
@@ -85,55 +66,12 @@ IsAnswerFor-err t (ExprError message) h = h
 IsAnswerFor-err t (RegexError error) h = h
 IsAnswerFor-err t MemoryError h = h
 
-pub IsCompiledWithin-err : (text : List ℕ) (height : ℕ) (e : Error) → IsRead text (Err e) → IsCompiledWithin text height (Err e)
-IsCompiledWithin-err text height (PestError place) h = h
-IsCompiledWithin-err text height (ParseError message) h = record { tree = h.tree; is_tree = h.is_tree; beyond = λ f. h.literals f.0 }
-IsCompiledWithin-err text height (ExprError message) h = h
-IsCompiledWithin-err text height (RegexError error) h = h
-IsCompiledWithin-err text height MemoryError h = h
-
 pub IsAnswerWithin-err : (t : TreeProgram) (height : ℕ) (e : Error) → IsReadFor t (Err e) → IsAnswerWithin t height (Err e)
 IsAnswerWithin-err t height (PestError place) h = h
 IsAnswerWithin-err t height (ParseError message) h = λ f. h f.0
 IsAnswerWithin-err t height (ExprError message) h = h
 IsAnswerWithin-err t height (RegexError error) h = h
 IsAnswerWithin-err t height MemoryError h = h
-
--- what was read is the program of the tree
-pub program_of_measure : (text : List ℕ) (m : MeasuredBlock) (n : Program) → program_written n ≡ m.block → IsMeasureOf text m → IsProgramOf text (program_written n)
-program_of_measure text m n w h = record { tree = h.tree; is_tree = h.is_tree; literals = h.literals; same = w ∙ ap (λ x. x.block) h.same }
-
-pub answer_of_measure : (t : TreeProgram) (m : MeasuredBlock) (n : Program) → program_written n ≡ m.block → IsReadFor t (Ok m) → IsAnswerFor t (Ok n)
-answer_of_measure t m n w h = (w ∙ ap (λ x. x.block) h.0, h.1)
-
--- within the bound, and beyond it
-pub program_within : (text : List ℕ) (height : ℕ) (m : MeasuredBlock) (n : Program) → program_written n ≡ m.block → m.height ≤ height → IsMeasureOf text m → IsProgramWithin text height (program_written n)
-program_within text height m n w low h =
-    let same : m.height ≡ program_height h.tree = ap (λ x. x.height) h.same in
-    record { tree = h.tree; is_tree = h.is_tree; within = (h.literals, subst (λ x. x ≤ height) same low); same = w ∙ ap (λ x. x.block) h.same }
-
-pub answer_within : (t : TreeProgram) (height : ℕ) (m : MeasuredBlock) (n : Program) → program_written n ≡ m.block → m.height ≤ height → IsReadFor t (Ok m) → IsAnswerWithin t height (Ok n)
-answer_within t height m n w low h =
-    let same : m.height ≡ program_height t = ap (λ x. x.height) h.0 in
-    (w ∙ ap (λ x. x.block) h.0, (h.1, subst (λ x. x ≤ height) same low))
-
-pub IsCompiledWithin-high : (text : List ℕ) (height : ℕ) (m : MeasuredBlock) (e : Error) → IsParseRefusal e → height < m.height → IsMeasureOf text m → IsCompiledWithin text height (Err e)
-IsCompiledWithin-high text height m (PestError place) r high h = absurd r
-IsCompiledWithin-high text height m (ParseError message) r high h =
-    let same : m.height ≡ program_height h.tree = ap (λ x. x.height) h.same in
-    record { tree = h.tree; is_tree = h.is_tree; beyond = λ f. let low = f.1 in absurd (omega arith) }
-IsCompiledWithin-high text height m (ExprError message) r high h = absurd r
-IsCompiledWithin-high text height m (RegexError error) r high h = absurd r
-IsCompiledWithin-high text height m MemoryError r high h = tt
-
-pub IsAnswerWithin-high : (t : TreeProgram) (height : ℕ) (m : MeasuredBlock) (e : Error) → IsParseRefusal e → height < m.height → IsReadFor t (Ok m) → IsAnswerWithin t height (Err e)
-IsAnswerWithin-high t height m (PestError place) r high h = absurd r
-IsAnswerWithin-high t height m (ParseError message) r high h =
-    let same : m.height ≡ program_height t = ap (λ x. x.height) h.0 in
-    λ f. let low = f.1 in absurd (omega arith)
-IsAnswerWithin-high t height m (ExprError message) r high h = absurd r
-IsAnswerWithin-high t height m (RegexError error) r high h = absurd r
-IsAnswerWithin-high t height m MemoryError r high h = tt
 
 -- where the first token stands with which no program goes on, or the end where there is none
 module _ (text : List ℕ) (ts : List Token) (starts : List ℕ) (upto : ℕ) (begins : Begins text upto ts starts)
