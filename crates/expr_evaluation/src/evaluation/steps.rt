@@ -4,7 +4,8 @@ ghost use Rattle.expr_evaluation.specs.Allows.{given_bound, listed};
 ghost use Rattle.expr_evaluation.specs.Calls.{AllowsMethod};
 ghost use Rattle.expr_evaluation.specs.Context.{looked_up};
 ghost use Rattle.expr_evaluation.specs.Scope.{inside};
-ghost use Rattle.expr_operators.specs.Operators.{Matched, applied, prefixed, truth, truth_answer};
+ghost use Rattle.expr_operators.specs.Matching.{Matched};
+ghost use Rattle.expr_operators.specs.Operators.{applied, prefixed, truth, truth_answer};
 ghost use Rattle.expr_operators.specs.Plain.{is_plain_operator, is_plain_value, Surely};
 ghost use Rattle.expr_operators.specs.Positions.{bound_checked, indexed, ranged, sliced};
 ghost use Rattle.expr_value.specs.Answers.{Gives, Is};
@@ -17,6 +18,8 @@ use crate::scope::{Scope, look_up};
 use expr_operators::{
     Held, apply, as_condition, as_truth, match_pattern, part_of, prefix, range, slice_bound,
 };
+use expr_pattern::Pattern;
+use expr_time::DurationMethod;
 use expr_tree::operator::{Operator, UnaryOperator};
 use expr_value::{ContextProvider, Items, Result, Text, Value, ValueMap};
 use std::alloc::Global;
@@ -70,12 +73,17 @@ pub fn apply_held<'s>(
     Ok(Held::own(value))
 }
 
-/// Whether a text matches a pattern.
+/// Whether the pattern of one text matches somewhere in another. A kept pattern of that text is used.
 #[inline(never)]
-pub fn match_held<'s>(alloc: Global, text: &Held<'_>, pattern: &Held<'_>) -> Result<Held<'s>>
-    ensures { Gives result (Matched text.now pattern.now) }
+pub fn match_held<'s>(
+    alloc: Global,
+    text: &Held<'_>,
+    source: &Held<'_>,
+    kept: Option<&Pattern>,
+) -> Result<Held<'s>>
+    ensures { Gives result (Matched text.now source.now) }
 {
-    let value = match_pattern(alloc, text.get(), pattern.get())?;
+    let value = match_pattern(alloc, text.get(), source.get(), kept)?;
     Ok(Held::own(value))
 }
 
@@ -169,17 +177,24 @@ pub fn map_of<'s>(alloc: Global, pairs: Items<(Text, Value)>) -> Result<Held<'s>
     Ok(Held::own(Value::Map(map)))
 }
 
-/// What a method answers of a value, on these arguments. No value has methods yet.
+/// What the method of a name answers of a value, on these arguments.
 #[inline(never)]
 pub fn call_method<'s>(
     alloc: Global,
     ident: &str,
-    _value: &Held<'_>,
-    _args: &Items<Held<'_>>,
+    value: &Held<'_>,
+    args: &Items<Held<'_>>,
 ) -> Result<Held<'s>>
-    ensures { Gives result (AllowsMethod ident.now _value.now _args.now) }
+    ensures { Gives result (AllowsMethod ident.now value.now args.now) }
 {
-    Err(unknown_method(alloc, ident))
+    let Value::Duration(nanoseconds) = value.get() else {
+        return Err(unknown_method(alloc, ident));
+    };
+    let Some(method) = DurationMethod::named(ident) else {
+        return Err(unknown_method(alloc, ident));
+    };
+    let answer = method.call(alloc, *nanoseconds, args.as_slice())?;
+    Ok(Held::own(answer))
 }
 
 /// Values that are given, to be held.
