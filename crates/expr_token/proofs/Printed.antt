@@ -18,7 +18,7 @@ use Rattle.expr_token.specs.declared.reserved.Reserved.{Reserved}
 use Rattle.expr_token.specs.declared.sign.Sign.{Sign}
 use Rattle.expr_token.specs.declared.token.Token.{Token}
 use Rattle.expr_value.specs.Values.{quoted, truth, joined, layer_text, text_of}
-use Rattle.expr_value.specs.declared.value.Value.{Value, roll-Value, map-Value, fold-roll-Value}
+use Rattle.expr_value.specs.declared.value.Value.{Value, map-Value, fold-roll-Value}
 use Rattle.expr_value.specs.declared.value.Value.TheOpen.{Value-F}
 
 -- what the lexer finds whole stands there
