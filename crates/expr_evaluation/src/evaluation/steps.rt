@@ -1,7 +1,7 @@
 //! What an evaluation does with the values of parts.
 ghost use Rattle.std.specs.Prelude.{◌≡◌, ◌≢◌, [], Ok, Err, IfErr, IfOk, IsTrue};
 ghost use Rattle.expr_evaluation.specs.Allows.{given_bound, listed};
-ghost use Rattle.expr_evaluation.specs.Calls.{AllowsMethod};
+ghost use Rattle.expr_evaluation.specs.Calls.{AllowsDurationMethod, AllowsMethod, AllowsMomentMethod, AllowsNameMethod};
 ghost use Rattle.expr_evaluation.specs.Context.{looked_up};
 ghost use Rattle.expr_evaluation.specs.Scope.{inside};
 ghost use Rattle.expr_operators.specs.Matching.{Matched};
@@ -19,9 +19,9 @@ use expr_operators::{
     Held, apply, as_condition, as_truth, match_pattern, part_of, prefix, range, slice_bound,
 };
 use expr_pattern::Pattern;
-use expr_time::DurationMethod;
+use expr_time::{DateTimeMethod, DurationMethod, NameMethod};
 use expr_tree::operator::{Operator, UnaryOperator};
-use expr_value::{ContextProvider, Items, Result, Text, Value, ValueMap};
+use expr_value::{ContextProvider, DateTimeValue, Items, Result, Text, Value, ValueMap};
 use std::alloc::Global;
 
 /// The value of a name.
@@ -187,14 +187,58 @@ pub fn call_method<'s>(
 ) -> Result<Held<'s>>
     ensures { Gives result (AllowsMethod ident.now value.now args.now) }
 {
-    let Value::Duration(nanoseconds) = value.get() else {
-        return Err(unknown_method(alloc, ident));
-    };
-    let Some(method) = DurationMethod::named(ident) else {
-        return Err(unknown_method(alloc, ident));
-    };
-    let answer = method.call(alloc, *nanoseconds, args.as_slice())?;
+    let answer = method_answer(alloc, ident, value.get(), args.as_slice())?;
     Ok(Held::own(answer))
+}
+
+fn method_answer(alloc: Global, ident: &str, value: &Value, args: &[Held<'_>]) -> Result<Value>
+    ensures { Gives result (AllowsMethod ident.now value.now args.now) }
+{
+    match value {
+        Value::Duration(nanoseconds) => call_of_duration(alloc, ident, *nanoseconds, args),
+        Value::DateTime(moment) => call_of_moment(alloc, ident, moment.get(), args),
+        Value::Timezone(_) | Value::Month(_) | Value::Weekday(_) => {
+            call_of_name(alloc, ident, value, args)
+        }
+        _ => Err(unknown_method(alloc, ident)),
+    }
+}
+
+fn call_of_duration(
+    alloc: Global,
+    ident: &str,
+    nanoseconds: i64,
+    args: &[Held<'_>],
+) -> Result<Value>
+    ensures { Gives result (AllowsDurationMethod ident.now nanoseconds args.now) }
+{
+    match DurationMethod::named(ident) {
+        Some(method) => method.call(alloc, nanoseconds, args),
+        None => Err(unknown_method(alloc, ident)),
+    }
+}
+
+fn call_of_moment(
+    alloc: Global,
+    ident: &str,
+    moment: &DateTimeValue,
+    args: &[Held<'_>],
+) -> Result<Value>
+    ensures { Gives result (AllowsMomentMethod ident.now moment.now args.now) }
+{
+    match DateTimeMethod::named(ident) {
+        Some(method) => method.call(alloc, moment, args),
+        None => Err(unknown_method(alloc, ident)),
+    }
+}
+
+fn call_of_name(alloc: Global, ident: &str, value: &Value, args: &[Held<'_>]) -> Result<Value>
+    ensures { Gives result (AllowsNameMethod ident.now value.now args.now) }
+{
+    match NameMethod::named(ident) {
+        Some(method) => method.call(alloc, value, args),
+        None => Err(unknown_method(alloc, ident)),
+    }
 }
 
 /// Values that are given, to be held.
