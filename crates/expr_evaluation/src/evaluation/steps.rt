@@ -195,7 +195,7 @@ fn method_answer(alloc: Global, ident: &str, value: &Value, args: &[Held<'_>]) -
     ensures { Gives result (AllowsMethod ident.now value.now args.now) }
 {
     match value {
-        Value::Duration(nanoseconds) => call_of_duration(alloc, ident, *nanoseconds, args),
+        Value::Duration(nanoseconds) => call_of_duration(alloc, ident, nanoseconds, args),
         Value::DateTime(moment) => call_of_moment(alloc, ident, moment.get(), args),
         Value::Timezone(_) | Value::Month(_) | Value::Weekday(_) => {
             call_of_name(alloc, ident, value, args)
@@ -207,13 +207,13 @@ fn method_answer(alloc: Global, ident: &str, value: &Value, args: &[Held<'_>]) -
 fn call_of_duration(
     alloc: Global,
     ident: &str,
-    nanoseconds: i64,
+    nanoseconds: &i64,
     args: &[Held<'_>],
 ) -> Result<Value>
-    ensures { Gives result (AllowsDurationMethod ident.now nanoseconds args.now) }
+    ensures { Gives result (AllowsDurationMethod ident.now nanoseconds.now args.now) }
 {
     match DurationMethod::named(ident) {
-        Some(method) => method.call(alloc, nanoseconds, args),
+        Some(method) => method.call(alloc, *nanoseconds, args),
         None => Err(unknown_method(alloc, ident)),
     }
 }
