@@ -1,1 +1,5 @@
 pub mod Answering
+pub mod Bracketed
+pub mod Meant
+pub mod ReadsBack
+pub mod SameText

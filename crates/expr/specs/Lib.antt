@@ -1,3 +1,4 @@
+pub mod Bracketed
 pub mod Texts
 pub use Rattle.expr_builtins.specs.Calls as Builtins
 pub use Rattle.expr_evaluation.specs.Allows
@@ -11,6 +12,7 @@ pub use Rattle.expr_predicates.specs.Calls as Predicated
 pub use Rattle.expr_predicates.specs.Runs
 pub use Rattle.expr_predicates.specs.Sorting
 pub use Rattle.expr_predicates.specs.Tasks
+pub use Rattle.expr_token.specs.Printed
 pub use Rattle.expr_tree.specs.Context
 pub use Rattle.expr_tree.specs.Names
 pub use Rattle.expr_tree.specs.Term

@@ -1,6 +1,7 @@
 //! A small expression language: texts in, values or refusals out.
 #![tactic(auto)]
 
+mod laws;
 mod text;
 
 pub use expr_builtins::{
@@ -19,9 +20,9 @@ pub use expr_operators::{
 pub use expr_predicates::{
     a_list_has_one_stable_order, a_run_is_a_list_of_replies, none_is_the_opposite_of_any,
 };
-pub use expr_syntax::laws::one_tree_of_text;
+pub use expr_syntax::laws::{one_tree_of_text, printed_text_has_program};
 pub use expr_syntax::{compile, compile_within};
-pub use expr_token::{lexer_gives_the_reading, one_reading};
+pub use expr_token::{lexer_gives_the_reading, one_reading, printed_text_reads};
 pub use expr_tree::node::{Node, Pattern, PostfixOperator, Program};
 pub use expr_tree::operator::{Operator, UnaryOperator};
 pub use expr_value::laws::{
@@ -33,4 +34,5 @@ pub use expr_value::{
     Context, ContextProvider, DateTimeValue, Error, Items, Key, KeyedMap, Result, Text,
     TimezoneValue, Value, ValueMap, bail, value,
 };
+pub use laws::{equal_texts_mean_equal_values, levels_are_as_in_brackets};
 pub use text::eval;

@@ -1,11 +1,14 @@
 //! From a text to its answer.
+ghost use Rattle.std.specs.Prelude.{◌≡◌, IsTrue, Ok};
 ghost use Rattle.expr.specs.Texts.{MayAnswer};
 ghost use Rattle.expr_evaluation.specs.Context.{Context};
 ghost use Rattle.expr_evaluation.specs.Host.{no_host};
 ghost use Rattle.expr_syntax.specs.Texts.{IsProgramOf};
+ghost use Rattle.expr_token.specs.Printed.{is_readable};
 ghost use Rattle.expr_tree.specs.Context.{AgreeFor};
 ghost use Rattle.expr_tree.specs.Term.{Block};
-ghost use Rattle.expr_value.specs.Answers.{Gives};
+ghost use Rattle.expr_value.specs.Answers.{Gives, Is};
+ghost use Rattle.expr_value.specs.Values.{text_of};
 
 use expr_evaluation::run;
 use expr_syntax::compile;
@@ -23,6 +26,9 @@ pub fn eval(alloc: Global, code: &str, ctx: &dyn ContextProvider) -> Result<Valu
     ensures independent { Gives result (λ a. (other : Context)
         → ((b : Block) → IsProgramOf code.now b → AgreeFor (context ctx.now) other b)
         → MayAnswer code.now no_host other a) }
+    // What a value prints as evaluates to that value, in every context: nil, booleans, integers above the least, texts,
+    // arrays, and maps whose keys are words, nested at will.
+    ensures reads_back { (v : Value) → IsTrue (is_readable v) → code.now ≡ text_of v → Is result (Ok v) }
 {
     let program = compile(alloc, code)?;
     run(alloc, &program, ctx)

@@ -20,7 +20,8 @@ use Rattle.expr_value.specs.Answers.{Answer, After}
 use Rattle.expr_evaluation.specs.Context.{Context}
 use Rattle.expr_evaluation.specs.Host.{Host}
 use Rattle.expr_operators.specs.Sides.{sides_of}
-use Rattle.expr_operators.specs.Operators.{Matched, applied, truth, prefixed}
+use Rattle.expr_operators.specs.Matching.{Matched, MatchedLayers}
+use Rattle.expr_operators.specs.Operators.{applied, truth, prefixed}
 use Rattle.expr_operators.specs.declared.sides.Sides.{Sides}
 use Rattle.expr_operators.specs.declared.sides.Sides.TheVariants.{Both, EndsAtFalse, EndsAtTrue, Pattern}
 use Rattle.expr_value.proofs.Answered.{first_of-After}
@@ -54,6 +55,10 @@ OrElse-plain (Value-F.Bool false) right v p =
     let q = first_of-After right (λ y a. a ≡ truth y) v p in plain-at (truth q.0) v q.2 (bool-plain (out-Value q.0))
 OrElse-plain x right v p = cc
 
+Matched-plain : (x y : Value-F Value) (v : Value) → MatchedLayers x y (Ok v) → IsTrue (is_plain_value v)
+Matched-plain (Value-F.String text) (Value-F.String source) v p = plain-at (Ok (value.Bool p.0)) v (ap Ok p.2) (plain-Bool p.0)
+Matched-plain x y v p = cc
+
 -- an operator between plain parts
 module _ (right : Answer → Type 0) (of_right : (w : Value) → right (Ok w) → IsTrue (is_plain_value w)) where
   both-plain : (op : Operator) (x v : Value) → IsTrue (is_plain_operator op) → IsTrue (is_plain_value x) → After right (λ y a. a ≡ applied op x y) (Ok v) → IsTrue (is_plain_value v)
@@ -67,7 +72,7 @@ module _ (right : Answer → Type 0) (of_right : (w : Value) → right (Ok w) �
   ContinuedAs-plain EndsAtTrue op x v o p h = OrElse-plain (out-Value x) right v h
   ContinuedAs-plain Pattern op x v o p h =
       let q = first_of-After right (λ y. Matched x y) v h in
-      absurd (cc q.2)
+      Matched-plain (out-Value x) (out-Value q.0) v q.2
 
 -- a plain node allows plain values alone
 pub Allows-plain : (host : Host) (ctx : Context) (t : Term) (v : Value) → IsTrue (is_plain t) → Allows host ctx t (Ok v) → IsTrue (is_plain_value v)

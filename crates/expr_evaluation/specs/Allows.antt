@@ -16,7 +16,8 @@ use Rattle.expr_predicates.specs.Runs.{AsksItself}
 use Rattle.expr_predicates.specs.Tasks.{Question}
 use Rattle.expr_evaluation.specs.Context.{Context, override, looked_up}
 use Rattle.expr_evaluation.specs.Host.{Host}
-use Rattle.expr_operators.specs.Operators.{Matched, applied, prefixed, truth}
+use Rattle.expr_operators.specs.Matching.{Matched}
+use Rattle.expr_operators.specs.Operators.{applied, prefixed, truth}
 use Rattle.expr_operators.specs.Positions.{bound_checked, indexed, ranged, sliced}
 
 -- `and` with this value on the left: false ends there

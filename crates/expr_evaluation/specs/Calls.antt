@@ -1,13 +1,22 @@
--- What a call answers where the host has added no function of its name, and what a method answers. No value has methods.
-use Rattle.std.specs.Prelude.{◌≡◌, ◌≢◌, ◌⊎◌, ℕ, Bool, List, Option, Some, None, Err, MatchBool, MatchOption, bytes_eq, codes}
+-- What a call answers where the host has added no function of its name, and what a method answers.
+use Rattle.std.specs.Prelude.{◌≡◌, ◌≢◌, ◌⊎◌, ℕ, ℤ, Bool, List, Option, Some, None, Err, MatchBool, MatchOption, bytes_eq, codes}
 use Rattle.expr_builtins.specs.Calls.{Called, name_of}
 use Rattle.expr_builtins.specs.declared.builtin.Builtin.{Builtin}
+use Rattle.expr_encoding.specs.Calls.{Called as EncodingCalled, name_of as encoding_name}
+use Rattle.expr_encoding.specs.declared.encoding.Encoding.{Encoding}
 use Rattle.expr_predicates.specs.Calls.{AllowsAsking, SortsItems, asking_named}
 use Rattle.expr_predicates.specs.Tasks.{Question}
 use Rattle.expr_predicates.specs.declared.asking.Asking.{Asking}
+use Rattle.expr_time.specs.Methods.{Duration, answered, name_of as method_name}
+use Rattle.expr_time.specs.Moments.{AnsweredAt, moment_method, name_answer, name_method}
+use Rattle.expr_time.specs.declared.method.DurationMethod.{DurationMethod}
+use Rattle.expr_time.specs.declared.moments.DateTimeMethod.{DateTimeMethod}
+use Rattle.expr_time.specs.declared.moments.NameMethod.{NameMethod}
 use Rattle.expr_value.specs.Answers.{Answer}
 use Rattle.expr_value.specs.Fault.{evaluation}
-use Rattle.expr_value.specs.declared.value.Value.{Value}
+use Rattle.expr_value.specs.declared.moment.DateTimeValue.{DateTimeValue}
+use Rattle.expr_value.specs.declared.value.Value.{Value, out-Value}
+use Rattle.expr_value.specs.declared.value.Value.TheOpen.{Value-F}
 use Rattle.expr_evaluation.specs.Context.{Context, override, hash}
 
 -- the context of a predicate: `#` is the item that is asked about, and `#index` and `#acc` have values where the built-in tells them
@@ -22,9 +31,21 @@ asked_in ctx q = override (told (told ctx (codes "#acc") q.acc) (codes "#index")
 abbrev pub AllowsNamed : List ℕ → List Value → Answer → Type 0
 AllowsNamed key vs answer = (b : Builtin) × (name_of b ≡ key) × Called b vs answer
 
+-- the call of this name that reads or writes an encoding
+abbrev pub AllowsEncoding : List ℕ → List Value → Answer → Type 0
+AllowsEncoding key vs answer = (e : Encoding) × (encoding_name e ≡ key) × EncodingCalled e vs answer
+
+-- the call of this name that reads a length of time
+abbrev pub AllowsDuration : List ℕ → List Value → Answer → Type 0
+AllowsDuration key vs answer = (key ≡ codes "duration") × Duration vs answer
+
+-- no call on values has this name
+abbrev pub IsUnknown : List ℕ → Type 0
+IsUnknown key = ((b : Builtin) → name_of b ≢ key) × ((e : Encoding) → encoding_name e ≢ key) × (key ≢ codes "duration")
+
 -- what the built-in on values of this name may, or a refusal where none has it
 abbrev pub AllowsOnValues : List ℕ → List Value → Answer → Type 0
-AllowsOnValues key vs answer = AllowsNamed key vs answer ⊎ (((b : Builtin) → name_of b ≢ key) × (answer ≡ Err evaluation))
+AllowsOnValues key vs answer = AllowsNamed key vs answer ⊎ (AllowsEncoding key vs answer ⊎ (AllowsDuration key vs answer ⊎ (IsUnknown key × (answer ≡ Err evaluation))))
 
 -- by its name a call is of `sort`, of a built-in on values alone, or of one that asks a predicate
 abbrev pub ByName : List ℕ → Type 0 → Type 0 → (Asking → Type 0) → Type 0
@@ -35,6 +56,29 @@ abbrev pub AllowsBuiltin : List ℕ → List Value → Bool → (Question → An
 AllowsBuiltin key vs given asks answer =
     ByName key (SortsItems vs answer) (AllowsOnValues key vs answer) (λ b. AllowsAsking b vs given asks answer)
 
--- what the method of a name may answer of a value, on these arguments
+-- what the method of a name may answer of a length of time, or a refusal where none has it
+abbrev pub AllowsDurationMethod : List ℕ → ℤ → List Value → Answer → Type 0
+AllowsDurationMethod key n vs answer =
+    ((m : DurationMethod) × (method_name m ≡ key) × (answer ≡ answered m n vs)) ⊎ (((m : DurationMethod) → method_name m ≢ key) × (answer ≡ Err evaluation))
+
+-- what it may of a moment
+abbrev pub AllowsMomentMethod : List ℕ → DateTimeValue → List Value → Answer → Type 0
+AllowsMomentMethod key t vs answer =
+    ((m : DateTimeMethod) × (moment_method m ≡ key) × AnsweredAt m t vs answer) ⊎ (((m : DateTimeMethod) → moment_method m ≢ key) × (answer ≡ Err evaluation))
+
+-- and of a zone, a month or a day of the week
+abbrev pub AllowsNameMethod : List ℕ → Value → List Value → Answer → Type 0
+AllowsNameMethod key v vs answer =
+    ((m : NameMethod) × (name_method m ≡ key) × (answer ≡ name_answer m v vs)) ⊎ (((m : NameMethod) → name_method m ≢ key) × (answer ≡ Err evaluation))
+
+abbrev pub AllowsMethodLayer : List ℕ → Value → Value-F Value → List Value → Answer → Type 0
+AllowsMethodLayer key v (Value-F.Duration n) vs answer = AllowsDurationMethod key n vs answer
+AllowsMethodLayer key v (Value-F.DateTime t) vs answer = AllowsMomentMethod key t vs answer
+AllowsMethodLayer key v (Value-F.Timezone z) vs answer = AllowsNameMethod key v vs answer
+AllowsMethodLayer key v (Value-F.Month n) vs answer = AllowsNameMethod key v vs answer
+AllowsMethodLayer key v (Value-F.Weekday n) vs answer = AllowsNameMethod key v vs answer
+AllowsMethodLayer key v layer vs answer = answer ≡ Err evaluation
+
+-- what the method of a name may answer of a value, on these arguments; values of other kinds have none
 abbrev pub AllowsMethod : List ℕ → Value → List Value → Answer → Type 0
-AllowsMethod key v vs answer = answer ≡ Err evaluation
+AllowsMethod key v vs answer = AllowsMethodLayer key v (out-Value v) vs answer

@@ -1,3 +1,4 @@
+pub mod Matching
 pub mod Operators
 pub mod Plain
 pub mod Positions

@@ -150,10 +150,6 @@ applied Multiply a b = multiplied a b
 applied Modulo a b = remainder a b
 applied op a b = judged (verdict op a b)
 
--- what `matches` may answer on a text and a pattern; there are no patterns yet
-abbrev pub Matched : Value → Value → Answer → Type 0
-Matched text pattern answer = answer ≡ Err evaluation
-
 -- one answer is a boolean and the other is the opposite one, or both are refused
 abbrev pub AreOpposite : Answer → Answer → Type 0
 AreOpposite a b = ((t : Bool) × (a ≡ truth_answer t) × (b ≡ truth_answer (not t))) ⊎ ((a ≡ Err evaluation) × (b ≡ Err evaluation))

@@ -1,7 +1,7 @@
 //! The operators, on values.
 ghost use Rattle.std.specs.Prelude.{◌≡◌, ◌≢◌, IfOk, IfErr, Err, IsTrue};
-ghost use Rattle.expr_value.specs.Answers.{Gives, Is};
-ghost use Rattle.expr_operators.specs.Operators.{Matched, applied, prefixed, truth, truth_answer, verdict};
+ghost use Rattle.expr_value.specs.Answers.{Is};
+ghost use Rattle.expr_operators.specs.Operators.{applied, prefixed, truth, truth_answer, verdict};
 ghost use Rattle.expr_operators.specs.Plain.{is_plain_operator, is_plain_value, Surely};
 ghost use Rattle.expr_value.specs.Fault.{fault_of, memory};
 
@@ -52,14 +52,6 @@ fn judge(operator: Operator, left: &Value, right: &Value) -> Option<bool>
         Operator::EndsWith => ends_in(left, right),
         _ => None,
     }
-}
-
-/// Whether a text matches a pattern. There are no patterns yet, so every value is refused.
-#[inline(never)]
-pub fn match_pattern(alloc: Global, text: &Value, pattern: &Value) -> Result<Value>
-    ensures { Gives result (Matched text.now pattern.now) }
-{
-    Err(mismatch(alloc, &Operator::Matches, text, pattern))
 }
 
 /// What an operator before its operand gives on its value.

@@ -1,3 +1,4 @@
+pub mod Printed
 mod Whole
 mod Turns
 mod Begun

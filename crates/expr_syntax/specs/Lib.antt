@@ -1,2 +1,3 @@
+pub mod Printed
 pub mod Reading
 pub mod Texts

@@ -1,7 +1,7 @@
 //! Answers that depend on what a host lends, and the calls for one node, operator or call.
 use crate::said::{printed, said};
 use expr::{
-    Context, ContextProvider, Error, Node, Result, Value, compile, eval_expr, eval_func,
+    Context, ContextProvider, Error, Node, Pattern, Result, Value, compile, eval_expr, eval_func,
     eval_operator, eval_postfix_operator, eval_unary_operator, run, value,
 };
 use std::alloc::Global;
@@ -109,6 +109,39 @@ const BY_PARTS: &[(&str, &str)] = &[
 fn parts_are_called_alone(rt: HostRuntime) -> Tested {
     for (code, expected) in BY_PARTS {
         let answer = printed(rt.alloc(), by_its_parts(rt.alloc(), code))?;
+        assert_eq!(rt; answer.as_str(), *expected, "{code}");
+    }
+    Ok(())
+}
+
+/// What the operator of a text answers between its sides, with a pattern handed in that was built from another text.
+fn with_pattern(alloc: Global, code: &str, source: &str) -> Result<Value> {
+    let context = Context::new(alloc);
+    let program = compile(alloc, code)?;
+    let pattern = Pattern::new(alloc, source)?;
+    match &program.expr {
+        Node::Operation {
+            operator,
+            left,
+            right,
+            ..
+        } => eval_operator(alloc, &context, operator, left, right, Some(&pattern)),
+        other => eval_expr(alloc, &context, other),
+    }
+}
+
+/// Texts, patterns that are handed in, and answers: a pattern of any other text is passed over.
+const WITH_PATTERNS: &[(&str, &str, &str)] = &[
+    (r#""foo" matches "^" + "f""#, "^f", "true"),
+    (r#""foo" matches "^" + "o""#, "^f", "false"),
+    (r#""foo" matches "(" + "f""#, "^f", "!pattern"),
+    (r#"1 matches "^" + "f""#, "^f", "!evaluation"),
+];
+
+#[test]
+fn patterns_are_handed_in(rt: HostRuntime) -> Tested {
+    for (code, source, expected) in WITH_PATTERNS {
+        let answer = printed(rt.alloc(), with_pattern(rt.alloc(), code, source))?;
         assert_eq!(rt; answer.as_str(), *expected, "{code}");
     }
     Ok(())

@@ -14,6 +14,8 @@ mod page;
 #[cfg(test)]
 mod programs;
 #[cfg(test)]
+mod reading_back;
+#[cfg(test)]
 mod said;
 #[cfg(test)]
 mod shown;

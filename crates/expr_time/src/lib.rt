@@ -1,10 +1,19 @@
-//! Lengths of time: what their texts mean, reading them, and their methods.
+//! Times: what texts of lengths of time mean, reading them, and the methods of lengths of time, moments, zones, months and
+//! days of the week.
 #![tactic(auto)]
 
+mod dates;
+mod fields;
 mod laws;
 mod method;
+mod moments;
+mod places;
 mod spelling;
+mod zones;
 
+pub use fields::DateTimeField;
 pub use laws::{texts_have_one_meaning, texts_spell_lengths};
 pub use method::{DurationMethod, duration};
+pub use moments::{DateTimeMethod, NameMethod};
 pub use spelling::spelled;
+pub use zones::{UtcAlone, Zones, now, timezone};

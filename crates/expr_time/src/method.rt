@@ -106,7 +106,7 @@ impl<'a> fmt::Display for DurationText<'a> {
 }
 
 // The answer of a method that takes no arguments.
-fn without(alloc: Global, arguments: &[Held<'_>], answer: Value) -> Result<Value>
+pub(crate) fn without(alloc: Global, arguments: &[Held<'_>], answer: Value) -> Result<Value>
     ensures { Is result (alone arguments.now answer) }
 {
     match arguments {
@@ -189,7 +189,7 @@ fn held(nanoseconds: i128) -> i64
     nanoseconds as i64
 }
 
-fn one_duration(arguments: &[Held<'_>]) -> Option<i64>
+pub(crate) fn one_duration(arguments: &[Held<'_>]) -> Option<i64>
     ensures { result ≡ one_duration arguments.now }
 {
     match arguments {
@@ -198,7 +198,7 @@ fn one_duration(arguments: &[Held<'_>]) -> Option<i64>
     }
 }
 
-fn one_text<'a>(arguments: &'a [Held<'_>]) -> Option<&'a str>
+pub(crate) fn one_text<'a>(arguments: &'a [Held<'_>]) -> Option<&'a str>
     ensures { option_map (λ s. s.now) result ≡ one_text arguments.now }
 {
     match arguments {

@@ -14,11 +14,11 @@ use Rattle.expr_token.specs.declared.token.Token.{Token}
 pub begun_none : (text : List ℕ) → Begins text 0 [] []
 begun_none text = record { pieces = []; whole = refl; long = refl; fit = tt; in_order = refl; placed = refl }
 
-pieces_text-append : (ps qs : List Piece) → pieces_text (ps ++ qs) ≡ pieces_text ps ++ pieces_text qs
+pub pieces_text-append : (ps qs : List Piece) → pieces_text (ps ++ qs) ≡ pieces_text ps ++ pieces_text qs
 pieces_text-append [] qs = refl
 pieces_text-append (p ∷ ps) qs = ap (λ l. piece_text p ++ l) (pieces_text-append ps qs) ∙ sym (append_assoc (piece_text p) (pieces_text ps) (pieces_text qs))
 
-tokens_of-append : (ps qs : List Piece) → tokens_of (ps ++ qs) ≡ tokens_of ps ++ tokens_of qs
+pub tokens_of-append : (ps qs : List Piece) → tokens_of (ps ++ qs) ≡ tokens_of ps ++ tokens_of qs
 tokens_of-append [] qs = refl
 tokens_of-append (Blank b ∷ ps) qs = tokens_of-append ps qs
 tokens_of-append (Line c ∷ ps) qs = tokens_of-append ps qs

@@ -9,14 +9,15 @@ use Rattle.std.proofs.lemmas.List.Prefix.{front_fits}
 use Rattle.expr_token.specs.Kinds.{is_word_byte, first_is}
 use Rattle.expr_token.specs.Lexer.{token_at, hash_at, raw_at, quoted_at, bytes_at, begins_bytes, word_at, word_token, integer_at, sign_at}
 use Rattle.expr_token.specs.Reading.{Stands, IsLongest, IsApart, begins_comment}
-use Rattle.expr_token.specs.Spellings.{sign_text}
-use Rattle.expr_token.specs.Tokens.{IsSpelling, is_word, is_quote}
+use Rattle.expr_token.specs.Spellings.{sign_text, reserved_text}
+use Rattle.expr_token.specs.Tokens.{IsSpelling, IsQuoted, is_word, is_quote}
 use Rattle.expr_token.proofs.Found.{Found, Finds, Reaches}
 use Rattle.expr_token.proofs.Hashes.{hash_shape, hash_sound, hash_reaches, hash_complete, raw_sound, raw_complete}
 use Rattle.expr_token.proofs.Integers.{FoundInteger, integer_sound, integer_reaches, integer_complete}
 use Rattle.expr_token.proofs.Quotes.{quoted_sound, quoted_complete, bytes_sound, bytes_complete}
 use Rattle.expr_token.proofs.Signs.{SignBegins, sign_sound, sign_complete, sign_reaches, sign_text-positive, token_at-sign}
 use Rattle.expr_token.proofs.Words.{run_all, run_stops, run_within, run_ends, run_reaches, reserved_is_word, reserved_no_bytes, word_token-spells, word_token-apart, word_token-free, word_token-reserved, no_comment, prefix_yes}
+use Rattle.expr_token.specs.declared.reserved.Reserved.{Reserved}
 use Rattle.expr_token.specs.declared.sign.Sign.{Sign}
 use Rattle.expr_token.specs.declared.token.Token.{Token}
 
@@ -195,17 +196,30 @@ word_complete s rest word other bytes = run_at s rest word bytes ∙ ap Some (wo
 sign_stands : (x : Sign) (rest : List ℕ) → IsLongest (sign_text x) rest → begins_comment (sign_text x ++ rest) ≡ false → token_at (sign_text x ++ rest) ≡ Some (length (sign_text x), Token.Sign x)
 sign_stands x rest longest plain = token_at-sign x rest ∙ ap (option_map (λ y. (length (sign_text y), Token.Sign y))) (sign_complete x rest longest plain)
 
+pub integer_complete_at : (i : Option ℤ) (s rest : List ℕ) → IsSpelling (Token.Integer i) s → first_is is_word_byte rest ≡ false → token_at (s ++ rest) ≡ Some (length s, Token.Integer i)
+integer_complete_at i s rest h apart = digit_at s rest (integer_begins i s h) ∙ integer_complete i s rest h apart
+
+pub reserved_complete : (r : Reserved) (rest : List ℕ) → first_is is_word_byte rest ≡ false → token_at (reserved_text r ++ rest) ≡ Some (length (reserved_text r), Token.Reserved r)
+reserved_complete r rest apart = word_complete (reserved_text r) rest (reserved_is_word r) apart (reserved_no_bytes r rest) ∙ ap (λ t. Some (length (reserved_text r), t)) (word_token-reserved r)
+
+pub quoted_complete_at : (content s rest : List ℕ) → IsQuoted s content → token_at (s ++ rest) ≡ Some (length s, Token.Quoted content)
+quoted_complete_at content s rest h = ap (λ l. token_at (l ++ rest)) h.written ∙ at_quote h.quote _ h.quoted ∙ quoted_complete content s rest h
+
+-- a word, reserved or not, before what begins with no quote either
+pub word_complete_at : (w rest : List ℕ) → is_word w ≡ true → first_is is_word_byte rest ≡ false → first_is is_quote rest ≡ false → token_at (w ++ rest) ≡ Some (length w, word_token w)
+word_complete_at w rest word apart unquoted = word_complete w rest word apart (false_from_ne_true _ (λ e. false≢true (sym unquoted ∙ (word_is_b w rest word e).1)))
+
 complete_by : (token : Token) (s rest : List ℕ) → IsSpelling token s → IsLongest s rest → IsApart token rest → begins_comment (s ++ rest) ≡ false → token_at (s ++ rest) ≡ Some (length s, token)
-complete_by (Token.Integer i) s rest h longest apart plain = digit_at s rest (integer_begins i s h) ∙ integer_complete i s rest h apart
+complete_by (Token.Integer i) s rest h longest apart plain = integer_complete_at i s rest h apart
 complete_by (Token.Word w) s rest h longest apart plain =
     let no_bytes : begins_bytes (s ++ rest) ≡ false = false_from_ne_true _ (λ e. let b = word_is_b s rest h.1 e in false≢true (sym (apart.1 (sym h.0 ∙ b.0)) ∙ b.1)) in
     word_complete s rest h.1 apart.0 no_bytes ∙ ap (λ t. Some (length s, t)) (word_token-free s h.2) ∙ ap (λ l. Some (length s, Token.Word l)) h.0
 complete_by (Token.Reserved r) s rest h longest apart plain =
-    word_complete s rest (ap is_word h ∙ reserved_is_word r) apart (ap (λ l. begins_bytes (l ++ rest)) h ∙ reserved_no_bytes r rest) ∙ ap (λ l. Some (length s, word_token l)) h ∙ ap (λ t. Some (length s, t)) (word_token-reserved r)
+    subst (λ l. token_at (l ++ rest) ≡ Some (length l, Token.Reserved r)) (sym h) (reserved_complete r rest apart)
 complete_by (Token.Hash w) s rest h longest apart plain =
     let name = hash_shape s h.1 in
     subst (λ l. token_at (l ++ rest) ≡ Some (length l, Token.Hash l)) (sym name.is) (hash_complete name.word rest name.all name.first apart) ∙ ap (λ l. Some (length s, Token.Hash l)) h.0
-complete_by (Token.Quoted t) s rest h longest apart plain = ap (λ l. token_at (l ++ rest)) h.written ∙ at_quote h.quote _ h.quoted ∙ quoted_complete t s rest h
+complete_by (Token.Quoted t) s rest h longest apart plain = quoted_complete_at t s rest h
 complete_by (Token.Raw t) s rest h longest apart plain =
     subst (λ l. token_at (l ++ rest) ≡ Some (length l, Token.Raw t)) (sym h.0) (raw_complete t rest h.1)
 complete_by (Token.Bytes bs) s rest h longest apart plain = ap (λ l. token_at (l ++ rest)) h.written ∙ at_literal h.quote _ h.quoted ∙ bytes_complete bs s rest h

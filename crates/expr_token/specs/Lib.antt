@@ -1,5 +1,6 @@
 pub mod Kinds
 pub mod Lexer
+pub mod Printed
 pub mod Reading
 pub mod Spellings
 pub mod Tokens

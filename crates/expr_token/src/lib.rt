@@ -12,7 +12,7 @@ mod sign;
 mod token;
 mod word;
 
-pub use laws::{lexer_gives_the_reading, one_reading};
+pub use laws::{lexer_gives_the_reading, one_reading, printed_text_reads};
 pub use reading::{Reading, read};
 pub use reserved::Reserved;
 pub use sign::Sign;

@@ -10,8 +10,10 @@ ghost use Rattle.expr_value.specs.Fault.{fault_of, memory};
 use crate::environment::{ExprCall, Functions};
 use crate::messages::unknown_function;
 use expr_builtins::Builtin;
+use expr_encoding::Encoding;
 use expr_operators::Held;
 use expr_predicates::{Asking, PredicateRun, sort};
+use expr_time::duration;
 use expr_value::{Items, Result, Value};
 use std::alloc::Global;
 
@@ -63,10 +65,16 @@ fn begin_builtin(alloc: Global, ident: &str, args: Items<Held<'_>>, given: bool)
 fn call_on_values(alloc: Global, ident: &str, args: Items<Held<'_>>) -> Result<Value>
     ensures { Gives result (AllowsOnValues ident.now args.entry) }
 {
-    let Some(builtin) = Builtin::named(ident) else {
-        return Err(unknown_function(alloc, ident));
-    };
-    builtin.call(alloc, args.into_vec())
+    if let Some(builtin) = Builtin::named(ident) {
+        return builtin.call(alloc, args.into_vec());
+    }
+    if let Some(encoding) = Encoding::named(ident) {
+        return encoding.call(alloc, args.as_slice());
+    }
+    if ident == "duration" {
+        return duration(alloc, args.as_slice());
+    }
+    Err(unknown_function(alloc, ident))
 }
 
 /// What a call answers that is given no predicate.

@@ -1,10 +1,11 @@
 //! What an evaluation does with the values of parts.
 ghost use Rattle.std.specs.Prelude.{◌≡◌, ◌≢◌, [], Ok, Err, IfErr, IfOk, IsTrue};
 ghost use Rattle.expr_evaluation.specs.Allows.{given_bound, listed};
-ghost use Rattle.expr_evaluation.specs.Calls.{AllowsMethod};
+ghost use Rattle.expr_evaluation.specs.Calls.{AllowsDurationMethod, AllowsMethod, AllowsMomentMethod, AllowsNameMethod};
 ghost use Rattle.expr_evaluation.specs.Context.{looked_up};
 ghost use Rattle.expr_evaluation.specs.Scope.{inside};
-ghost use Rattle.expr_operators.specs.Operators.{Matched, applied, prefixed, truth, truth_answer};
+ghost use Rattle.expr_operators.specs.Matching.{Matched};
+ghost use Rattle.expr_operators.specs.Operators.{applied, prefixed, truth, truth_answer};
 ghost use Rattle.expr_operators.specs.Plain.{is_plain_operator, is_plain_value, Surely};
 ghost use Rattle.expr_operators.specs.Positions.{bound_checked, indexed, ranged, sliced};
 ghost use Rattle.expr_value.specs.Answers.{Gives, Is};
@@ -17,8 +18,10 @@ use crate::scope::{Scope, look_up};
 use expr_operators::{
     Held, apply, as_condition, as_truth, match_pattern, part_of, prefix, range, slice_bound,
 };
+use expr_pattern::Pattern;
+use expr_time::{DateTimeMethod, DurationMethod, NameMethod};
 use expr_tree::operator::{Operator, UnaryOperator};
-use expr_value::{ContextProvider, Items, Result, Text, Value, ValueMap};
+use expr_value::{ContextProvider, DateTimeValue, Items, Result, Text, Value, ValueMap};
 use std::alloc::Global;
 
 /// The value of a name.
@@ -70,12 +73,17 @@ pub fn apply_held<'s>(
     Ok(Held::own(value))
 }
 
-/// Whether a text matches a pattern.
+/// Whether the pattern of one text matches somewhere in another. A kept pattern of that text is used.
 #[inline(never)]
-pub fn match_held<'s>(alloc: Global, text: &Held<'_>, pattern: &Held<'_>) -> Result<Held<'s>>
-    ensures { Gives result (Matched text.now pattern.now) }
+pub fn match_held<'s>(
+    alloc: Global,
+    text: &Held<'_>,
+    source: &Held<'_>,
+    kept: Option<&Pattern>,
+) -> Result<Held<'s>>
+    ensures { Gives result (Matched text.now source.now) }
 {
-    let value = match_pattern(alloc, text.get(), pattern.get())?;
+    let value = match_pattern(alloc, text.get(), source.get(), kept)?;
     Ok(Held::own(value))
 }
 
@@ -169,17 +177,68 @@ pub fn map_of<'s>(alloc: Global, pairs: Items<(Text, Value)>) -> Result<Held<'s>
     Ok(Held::own(Value::Map(map)))
 }
 
-/// What a method answers of a value, on these arguments. No value has methods yet.
+/// What the method of a name answers of a value, on these arguments.
 #[inline(never)]
 pub fn call_method<'s>(
     alloc: Global,
     ident: &str,
-    _value: &Held<'_>,
-    _args: &Items<Held<'_>>,
+    value: &Held<'_>,
+    args: &Items<Held<'_>>,
 ) -> Result<Held<'s>>
-    ensures { Gives result (AllowsMethod ident.now _value.now _args.now) }
+    ensures { Gives result (AllowsMethod ident.now value.now args.now) }
 {
-    Err(unknown_method(alloc, ident))
+    let answer = method_answer(alloc, ident, value.get(), args.as_slice())?;
+    Ok(Held::own(answer))
+}
+
+fn method_answer(alloc: Global, ident: &str, value: &Value, args: &[Held<'_>]) -> Result<Value>
+    ensures { Gives result (AllowsMethod ident.now value.now args.now) }
+{
+    match value {
+        Value::Duration(nanoseconds) => call_of_duration(alloc, ident, nanoseconds, args),
+        Value::DateTime(moment) => call_of_moment(alloc, ident, moment.get(), args),
+        Value::Timezone(_) | Value::Month(_) | Value::Weekday(_) => {
+            call_of_name(alloc, ident, value, args)
+        }
+        _ => Err(unknown_method(alloc, ident)),
+    }
+}
+
+fn call_of_duration(
+    alloc: Global,
+    ident: &str,
+    nanoseconds: &i64,
+    args: &[Held<'_>],
+) -> Result<Value>
+    ensures { Gives result (AllowsDurationMethod ident.now nanoseconds.now args.now) }
+{
+    match DurationMethod::named(ident) {
+        Some(method) => method.call(alloc, *nanoseconds, args),
+        None => Err(unknown_method(alloc, ident)),
+    }
+}
+
+fn call_of_moment(
+    alloc: Global,
+    ident: &str,
+    moment: &DateTimeValue,
+    args: &[Held<'_>],
+) -> Result<Value>
+    ensures { Gives result (AllowsMomentMethod ident.now moment.now args.now) }
+{
+    match DateTimeMethod::named(ident) {
+        Some(method) => method.call(alloc, moment, args),
+        None => Err(unknown_method(alloc, ident)),
+    }
+}
+
+fn call_of_name(alloc: Global, ident: &str, value: &Value, args: &[Held<'_>]) -> Result<Value>
+    ensures { Gives result (AllowsNameMethod ident.now value.now args.now) }
+{
+    match NameMethod::named(ident) {
+        Some(method) => method.call(alloc, value, args),
+        None => Err(unknown_method(alloc, ident)),
+    }
 }
 
 /// Values that are given, to be held.

@@ -5,7 +5,7 @@ use Rattle.expr_evaluation.specs.Host.{Host}
 use Rattle.expr_predicates.specs.Runs.{AsksItself}
 use Rattle.expr_value.specs.Fault.{fault_of}
 use Rattle.expr_value.proofs.Answered.{Gives-passed}
-use Rattle.expr_evaluation.proofs.Begun.{AllowsCall-refused, AllowsCall-run}
+use Rattle.expr_evaluation.proofs.Begun.{AllowsCall-answered, AllowsCall-refused, AllowsCall-run}
 use Rattle.expr_evaluation.proofs.evaluation.calls.call_alone.Goals as goal
 
 pub returns-in_err-answer : goal.returns-in_err-answer
@@ -39,3 +39,11 @@ returns-in_ok-complete-in-Asks g c =
     subst (λ w. AllowsCall host key vs false AsksItself (Ok w)) (sym c.own-in-Asks.ensures) (
     AllowsCall-run host key vs false AsksItself c.in-Asks.run' begins (Ok v) c.in_ok-complete-in-Asks.ensures
     )
+
+pub returns-in-Answered : goal.returns-in-Answered
+returns-in-Answered g c =
+    let host : Host = g.H.Functions.host c.args.host.now in
+    let key = c.args.ident.now in
+    let vs = c.args.args in
+    let begins = subst (λ b. Begins host key vs false b) c.in-Answered.is c.in_ok-answer.ensures.begun in
+    subst (λ w. AllowsCall host key vs false AsksItself (Ok w)) (sym c.own.ensures) (AllowsCall-answered host key vs false AsksItself c.in-Answered.answer begins)

@@ -1,0 +1,52 @@
+-- Where a text is the printed text of a readable value, its one answer is that value.
+use Rattle.std.proofs.Common.{◌≡◌, ℕ, IsTrue, List, Result, Ok, Err, refl, sym, ◌∙◌, subst}
+use Rattle.std.specs.Result.{IsErrAnd}
+use Rattle.expr_token.specs.Printed.{is_readable}
+use Rattle.expr_tree.specs.Term.{answers}
+use Rattle.expr_tree.specs.Written.{program_written}
+use Rattle.expr_tree.specs.declared.node.Program.{Program}
+use Rattle.expr_grammar.specs.Grammar.{TreeProgram, LiteralsFit}
+use Rattle.expr_syntax.proofs.Printed.{printed_program}
+use Rattle.expr_syntax.specs.Printed.{printed_term}
+use Rattle.expr_syntax.specs.Texts.{IsTreeOf, IsProgramOf, IsAnswerFor}
+use Rattle.expr_value.specs.Answers.{Answer, Gives, Is}
+use Rattle.expr_value.specs.Fault.{fault_of}
+use Rattle.expr_value.specs.Values.{text_of}
+use Rattle.expr_value.specs.declared.error.Error.{Error}
+use Rattle.expr_value.specs.declared.error.Error.TheVariants.{PestError, ParseError, ExprError, RegexError, MemoryError}
+use Rattle.expr_value.specs.declared.value.Value.{Value}
+use Rattle.expr_evaluation.specs.Allows.{Allows, AllowsBlock}
+use Rattle.expr_evaluation.specs.Context.{Context}
+use Rattle.expr_evaluation.specs.Host.{Host}
+use Rattle.expr.proofs.Meant.{printed_only}
+
+-- what a program of that text gives is the value
+only_value : (host : Host) (ctx : Context) (v : Value) → IsTrue (is_readable v) → (r : Result Value Error) → Gives r (Allows host ctx (printed_term v)) → Is r (Ok v)
+only_value host ctx v h (Ok w) p = sym ((printed_only host ctx v h).0 (Ok w) p)
+only_value host ctx v h (Err e) p = λ m. sym ((printed_only host ctx v h).0 (Err (fault_of e)) (p m))
+
+-- a refusal by `compile` of a text with a tree whose literals fit is one for memory
+only_memory : (t : TreeProgram) → LiteralsFit t → (e : Error) → IsAnswerFor t (Err e) → (v : Value) → Is (Err e) (Ok v)
+only_memory t fit (PestError place) h v = absurd h
+only_memory t fit (ParseError message) h v = absurd (h fit)
+only_memory t fit (ExprError message) h v = absurd h
+only_memory t fit (RegexError error) h v = absurd h
+only_memory t fit MemoryError h v = λ m. absurd (m refl)
+
+-- and it stays so where it is passed on
+is_passed : (r : Result Value Error) (e : Error) (a : Answer) → IsErrAnd r (λ x. x ≡ e) → Is (Err e) a → Is r a
+is_passed (Ok w) e a h p = absurd h
+is_passed (Err x) e a h p = subst (λ y. Is (Err y) a) (sym h) p
+
+module _ (text : List ℕ) (v : Value) (h : IsTrue (is_readable v)) (same : text ≡ text_of v) where
+  abbrev program : IsProgramOf text (answers (printed_term v))
+  program = subst (λ s. IsProgramOf s (answers (printed_term v))) (sym same) (printed_program v h)
+
+  pub back_from_run : (host : Host) (ctx : Context) (p : Program) → ((t : TreeProgram) → IsTreeOf text t → IsAnswerFor t (Ok p))
+      → (r : Result Value Error) → Gives r (AllowsBlock host ctx (program_written p)) → Is r (Ok v)
+  back_from_run host ctx p only r gives =
+      let is : program_written p ≡ answers (printed_term v) = (only program.tree program.is_tree).0 ∙ sym program.same in
+      only_value host ctx v h r (subst (λ b. Gives r (AllowsBlock host ctx b)) is gives)
+
+  pub back_refused : (e : Error) → ((t : TreeProgram) → IsTreeOf text t → IsAnswerFor t (Err e)) → (r : Result Value Error) → IsErrAnd r (λ x. x ≡ e) → Is r (Ok v)
+  back_refused e only r passed = is_passed r e (Ok v) passed (only_memory program.tree program.literals e (only program.tree program.is_tree) v)

@@ -1,0 +1,19 @@
+use Rattle.std.proofs.Common.{rules, ℤ, ap, ◌∙◌, ◌≡◌}
+use Rattle.std.specs.Prelude.{Option}
+use Rattle.std.specs.Int.{w64}
+use mir.Val.{SFits}
+use Rattle.std.proofs.lemmas.Int.{to_z-of_z}
+use Rattle.std.proofs.Math.Path.{subst}
+use Rattle.expr_value.specs.Answers.{Answer, Is}
+use Rattle.expr_value.specs.Moved.{moved}
+use Rattle.expr_time.specs.Moments.{answer_for}
+use Rattle.expr_time.specs.Places.{given}
+use Rattle.expr_time.proofs.moments.add.Goals as goal
+
+pub returns : goal.returns
+returns c =
+    let m = c.args.moment.now in
+    let n = c.in-Some.nanoseconds in
+    let fits : SFits w64 n = search rules in
+    let found : c.checked_add_signed.result ≡ moved m n = c.checked_add_signed.ensures ∙ (λ i. moved (c.in_ok-moment.ensures.cases i) (to_z-of_z w64 n fits i)) in
+    subst (λ (a : Answer). Is c.given.result a) (ap given found ∙ ap (λ (o : Option ℤ). answer_for o (λ k. given (moved m k))) c.in-Some.ensures) c.given.ensures

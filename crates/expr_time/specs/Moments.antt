@@ -1,0 +1,126 @@
+-- What the methods of moments answer.
+use Rattle.std.specs.Prelude.{◌≡◌, ◌⊎◌, ℕ, ℤ, pos, neg_ℤ, ◌+ℤ◌, ◌-ℤ◌, ◌&&◌, int_lt, int_le, int_div, Bool, List, [], ◌∷◌, Option, None, Some, Ok, Err, codes, if◌then◌else◌}
+use Rattle.std.specs.Int.{int_rem_euclid}
+use Rattle.std.specs.Option.{option_and_then, option_map}
+use Rattle.std.specs.Ordering.{int_eq}
+use Rattle.expr_value.specs.Answers.{Answer}
+use Rattle.expr_value.specs.Fault.{evaluation}
+use Rattle.expr_value.specs.Moved.{at_instant, moved}
+use Rattle.expr_value.specs.Strings.{string_text}
+use Rattle.expr_value.specs.Times.{instant, moment_string, place_of}
+use Rattle.expr_value.specs.Values.{integer_of, moment_of, string_of}
+use Rattle.expr_value.specs.declared.moment.DateTimeValue.{DateTimeValue}
+use Rattle.expr_value.specs.declared.moment.Place.TheVariants.{Zone}
+use Rattle.expr_value.specs.declared.value.Value as value
+use Rattle.expr_value.specs.declared.value.Value.{Value, out-Value}
+use Rattle.expr_value.specs.declared.value.Value.TheOpen.{Value-F}
+use Rattle.expr_value.specs.declared.zone.TimezoneValue.{TimezoneValue}
+use Rattle.expr_time.specs.Dates.{AddsDate}
+use Rattle.expr_time.specs.Fields.{field_name, field_of, zero_instant}
+use Rattle.expr_time.specs.Methods.{alone, one_duration, one_text}
+use Rattle.expr_time.specs.Places.{given, location_of, placed, utc}
+use Rattle.expr_time.specs.declared.moments.DateTimeMethod.{DateTimeMethod}
+use Rattle.expr_time.specs.declared.moments.DateTimeMethod.TheVariants as is
+use Rattle.expr_time.specs.declared.moments.NameMethod.{NameMethod}
+use Rattle.expr_time.specs.declared.moments.NameMethod.TheVariants as named
+
+-- the zone of a zone
+abbrev pub timezone_of : Value → Option TimezoneValue
+timezone_of v = elim (out-Value v) [ Value-F.Timezone z ↦ Some z | _ ↦ None ]
+
+-- the argument, if it is one moment or one zone
+abbrev pub one_moment : List Value → Option DateTimeValue
+one_moment [] = None
+one_moment (v ∷ []) = moment_of v
+one_moment (v ∷ w ∷ more) = None
+
+abbrev pub one_zone : List Value → Option TimezoneValue
+one_zone [] = None
+one_zone (v ∷ []) = timezone_of v
+one_zone (v ∷ w ∷ more) = None
+
+-- three integers
+abbrev pub all_integers : Option ℤ → Option ℤ → Option ℤ → Option (ℤ × ℤ × ℤ)
+all_integers (Some a) (Some b) (Some c) = Some (a, b, c)
+all_integers a b c = None
+
+abbrev pub three_integers : List Value → Option (ℤ × ℤ × ℤ)
+three_integers [] = None
+three_integers (u ∷ []) = None
+three_integers (u ∷ v ∷ []) = None
+three_integers (u ∷ v ∷ w ∷ []) = all_integers (integer_of u) (integer_of v) (integer_of w)
+three_integers (u ∷ v ∷ w ∷ x ∷ more) = None
+
+-- an answer for an argument, and a refusal without one
+abbrev pub answer_for : {A : Type 0} → Option A → (A → Answer) → Answer
+answer_for None f = Err evaluation
+answer_for (Some a) f = f a
+
+-- the nanoseconds between two moments, within 64 bits
+abbrev pub between : DateTimeValue → DateTimeValue → Answer
+between t u =
+    let n = instant t -ℤ instant u in
+    if int_le (neg_ℤ (pos 9223372036854775808)) n && int_le n (pos 9223372036854775807) then Ok (value.Duration n) else Err evaluation
+
+-- which of two moments is the later one
+abbrev pub compared : DateTimeValue → DateTimeValue → ℤ
+compared t u = if int_lt (instant t) (instant u) then neg_ℤ (pos 1) else (if int_eq (instant t) (instant u) then pos 0 else pos 1)
+
+-- the last multiple of a step since the zero instant that is no later, where the step is above zero
+abbrev pub instant_truncated : ℤ → ℤ → ℤ
+instant_truncated n step = if int_le step (pos 0) then n else n -ℤ int_rem_euclid (n -ℤ zero_instant) step
+
+-- the nearest multiple, halves going up: the last one that is at most half a step later
+abbrev pub instant_rounded : ℤ → ℤ → ℤ
+instant_rounded n step = if int_le step (pos 0) then n else instant_truncated (n +ℤ int_div step (pos 2)) step
+
+-- the zone of a moment, or a refusal where it has none
+abbrev pub located : List Value → Option TimezoneValue → Answer
+located arguments None = Err evaluation
+located arguments (Some zone) = alone arguments (value.Timezone zone)
+
+-- what `AddDate` answers on its three numbers
+abbrev pub AddsDates : DateTimeValue → Option (ℤ × ℤ × ℤ) → Answer → Type 0
+AddsDates t None answer = Err evaluation ≡ answer
+AddsDates t (Some amounts) answer = AddsDate t amounts.0 amounts.1 amounts.2 answer
+
+-- what a method of a moment may answer
+abbrev pub AnsweredAt : DateTimeMethod → DateTimeValue → List Value → Answer → Type 0
+AnsweredAt (is.Field field) t arguments answer = alone arguments (field_of field t) ≡ answer
+AnsweredAt is.String t arguments answer = alone arguments (value.String (moment_string t)) ≡ answer
+AnsweredAt is.Location t arguments answer = located arguments (location_of t) ≡ answer
+AnsweredAt is.Utc t arguments answer = alone arguments (value.DateTime (placed t (Zone utc))) ≡ answer
+AnsweredAt is.In t arguments answer = answer_for (one_zone arguments) (λ zone. Ok (value.DateTime (placed t (Zone zone)))) ≡ answer
+AnsweredAt is.Add t arguments answer = answer_for (one_duration arguments) (λ n. given (moved t n)) ≡ answer
+AnsweredAt is.Sub t arguments answer = answer_for (one_moment arguments) (between t) ≡ answer
+AnsweredAt is.Round t arguments answer = answer_for (one_duration arguments) (λ step. given (at_instant (instant_rounded (instant t) step) (place_of t))) ≡ answer
+AnsweredAt is.Truncate t arguments answer = answer_for (one_duration arguments) (λ step. given (at_instant (instant_truncated (instant t) step) (place_of t))) ≡ answer
+AnsweredAt is.After t arguments answer = answer_for (one_moment arguments) (λ u. Ok (value.Bool (int_lt (instant u) (instant t)))) ≡ answer
+AnsweredAt is.Before t arguments answer = answer_for (one_moment arguments) (λ u. Ok (value.Bool (int_lt (instant t) (instant u)))) ≡ answer
+AnsweredAt is.Equal t arguments answer = answer_for (one_moment arguments) (λ u. Ok (value.Bool (int_eq (instant t) (instant u)))) ≡ answer
+AnsweredAt is.Compare t arguments answer = answer_for (one_moment arguments) (λ u. Ok (value.Integer (compared t u))) ≡ answer
+AnsweredAt is.AddDate t arguments answer = AddsDates t (three_integers arguments) answer
+
+-- the name of a method
+abbrev pub moment_method : DateTimeMethod → List ℕ
+moment_method (is.Field field) = field_name field
+moment_method is.String = codes "String"
+moment_method is.Location = codes "Location"
+moment_method is.Utc = codes "UTC"
+moment_method is.In = codes "In"
+moment_method is.Add = codes "Add"
+moment_method is.Sub = codes "Sub"
+moment_method is.Round = codes "Round"
+moment_method is.Truncate = codes "Truncate"
+moment_method is.After = codes "After"
+moment_method is.Before = codes "Before"
+moment_method is.Equal = codes "Equal"
+moment_method is.Compare = codes "Compare"
+moment_method is.AddDate = codes "AddDate"
+
+-- the methods of zones, months and days of the week: their text as the built-in `string` gives it
+abbrev pub name_method : NameMethod → List ℕ
+name_method named.String = codes "String"
+
+abbrev pub name_answer : NameMethod → Value → List Value → Answer
+name_answer named.String v arguments = alone arguments (value.String (string_text v))

@@ -1,0 +1,25 @@
+-- Zones by name, and what the built-ins `timezone` and `now` answer.
+use Rattle.std.specs.Prelude.{ℕ, List, Option, None, Some, Ok, Err, bytes_eq, codes, if◌then◌else◌}
+use Rattle.expr_value.specs.Answers.{Answer}
+use Rattle.expr_value.specs.Fault.{evaluation}
+use Rattle.expr_value.specs.declared.moment.DateTimeValue.{DateTimeValue}
+use Rattle.expr_value.specs.declared.moment.Place.TheVariants.{Zone}
+use Rattle.expr_value.specs.declared.value.Value as value
+use Rattle.expr_value.specs.declared.value.Value.{Value}
+use Rattle.expr_value.specs.declared.zone.TimezoneValue.{TimezoneValue}
+use Rattle.expr_time.specs.Methods.{alone, one_text}
+use Rattle.expr_time.specs.Moments.{answer_for}
+use Rattle.expr_time.specs.Places.{placed, utc}
+
+-- the zone of a name: UTC, or one that was added
+abbrev pub zone_named : (List ℕ → Option TimezoneValue) → List ℕ → Option TimezoneValue
+zone_named zones name = if bytes_eq name (codes "UTC") then Some utc else zones name
+
+-- what `timezone` answers
+abbrev pub timezone_answer : (List ℕ → Option TimezoneValue) → List Value → Answer
+timezone_answer zones arguments = answer_for (one_text arguments) (λ name. answer_for (zone_named zones name) (λ zone. Ok (value.Timezone zone)))
+
+-- what `now` answers where a moment is set, and where none is
+abbrev pub now_answer : Option DateTimeValue → List Value → Answer
+now_answer None arguments = Err evaluation
+now_answer (Some t) arguments = alone arguments (value.DateTime (placed t (Zone utc)))
