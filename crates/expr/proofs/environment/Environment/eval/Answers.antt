@@ -1,0 +1,24 @@
+use Rattle.std.proofs.Common.{inl}
+use Rattle.expr_syntax.specs.Texts.{IsProgramOf}
+use Rattle.expr_tree.specs.Context.{AgreeFor}
+use Rattle.expr_tree.specs.Term.{Block}
+use Rattle.expr_tree.specs.Written.{program_written}
+use Rattle.expr_evaluation.specs.Allows.{AllowsBlock}
+use Rattle.expr_evaluation.specs.Context.{Context}
+use Rattle.expr_evaluation.specs.Host.{Host}
+use Rattle.expr.specs.Hosted.{host_of}
+use Rattle.expr.specs.Texts.{MayAnswer}
+use Rattle.expr_value.proofs.Answered.{Gives-under}
+use Rattle.expr_evaluation.proofs.Independent.{AllowsBlock-keeps}
+use Rattle.expr.proofs.environment.Environment.eval.Goals as goal
+
+pub returns-clause-independent : goal.returns-clause-independent
+returns-clause-independent g c =
+    let asked = goal.ContextProvider-dyn g c.args.ctx.now in
+    let base : Context = asked.context c.args.ctx.now.1 in
+    let host : Host = host_of c.args.self.now in
+    let text = c.args.code.now in
+    let b = program_written c.in_ok-program.program in
+    Gives-under c.run.result (AllowsBlock host base b) (
+    λ a. (other : Context) → ((b : Block) → IsProgramOf text b → AgreeFor base other b) → MayAnswer text host other a
+    ) (λ a p other h. inl (b, c.in_ok-program.ensures.answer, AllowsBlock-keeps host base other b (h b c.in_ok-program.ensures.answer) a p)) c.run.ensures.answer
