@@ -1,7 +1,7 @@
 -- A place in a text as a person finds it: its line, its column, and the line with a caret under the place.
 use Rattle.std.specs.Prelude.{◌≡◌, ℕ, ◌+◌, ◌==◌, Option, Some, None, List, [], ◌∷◌, ◌++◌, length, take, drop, string_bytes}
 use Rattle.std.specs.List.{before_first, count_by, repeat}
-use Rattle.std.specs.Str.{chars}
+use Rattle.std.specs.Str.{IsCharBoundary, chars}
 use Rattle.std.specs.Str.Pattern.{RFindsChar}
 use Rattle.expr.specs.declared.spot.Spot.{Spot}
 
@@ -21,6 +21,7 @@ first_line text = before_first (λ b. b == 10) text
 -- lines and columns are counted from 1, lines by their newlines and columns by characters; the caret stands under the
 -- character at the place, where each takes one cell
 pub record IsSpot (text : List ℕ) (place : ℕ) (spot : Spot) : Type 0 where
+  pub is_place : IsCharBoundary text place
   pub left : List ℕ
   pub is_left : IsLastLine (take place text) left
   pub line : spot.line ≡ count_by (λ b. b == 10) (take place text) + 1

@@ -1,17 +1,23 @@
 //! The older way in: a parser that holds an environment.
-ghost use Rattle.std.specs.Prelude.{◌≡◌, ℕ, List, None, Ok, Some, IfErr, IsTrue, OnErr, OnOk, bytes_eq, if◌then◌else◌, option_map};
-ghost use Rattle.expr.specs.Hosted.{host_of, registered};
+ghost use Rattle.std.specs.Prelude.{◌≡◌, ℕ, List, None, Err, Ok, Some, IfErr, IsTrue, OnErr, OnOk, bytes_eq, if◌then◌else◌, option_map};
+ghost use Rattle.expr.specs.Hosted.{host_of, moment_at, registered, zone_at};
 ghost use Rattle.expr.specs.Parsers.{environment_of};
 ghost use Rattle.expr.specs.Texts.{MayAnswer};
+ghost use Rattle.std.specs.Str.{IsCharBoundary};
+ghost use Rattle.expr_grammar.specs.Grammar.{TreeProgram};
 ghost use Rattle.expr_evaluation.specs.Allows.{Allows, AllowsBlock};
 ghost use Rattle.expr_evaluation.specs.Context.{Context};
 ghost use Rattle.expr_evaluation.specs.Independence.{AgreeAt};
-ghost use Rattle.expr_syntax.specs.Texts.{IsCompiled, IsProgramOf};
+ghost use Rattle.expr_evaluation.specs.Plain.{is_plain, is_plain_program};
+ghost use Rattle.expr_syntax.specs.Texts.{IsAnswerFor, IsCompiled, IsPlaced, IsProgramOf, IsTreeOf};
+ghost use Rattle.expr_token.specs.Printed.{is_readable};
 ghost use Rattle.expr_tree.specs.Context.{AgreeFor};
 ghost use Rattle.expr_tree.specs.Names.{AreNamesOf};
 ghost use Rattle.expr_tree.specs.Term.{Block};
 ghost use Rattle.expr_tree.specs.Written.{program_written, written};
-ghost use Rattle.expr_value.specs.Answers.{Gives};
+ghost use Rattle.expr_value.specs.Answers.{Gives, Is};
+ghost use Rattle.expr_value.specs.Values.{text_of};
+ghost use Rattle.expr_value.specs.declared.value.Value.{Value};
 
 use crate::environment::Environment;
 use crate::registered::Function;
@@ -30,7 +36,9 @@ pub struct Parser {
 impl Parser {
     /// A parser without additions. It takes no memory.
     pub fn new(alloc: Global) -> Parser
-        ensures { (key : List ℕ) → registered (environment_of result) key ≡ None }
+        ensures functions { (key : List ℕ) → registered (environment_of result) key ≡ None }
+        ensures zones { (key : List ℕ) → zone_at (environment_of result) key ≡ None }
+        ensures moment { moment_at (environment_of result) ≡ None }
     {
         Parser {
             environment: Environment::new(alloc),
@@ -49,6 +57,8 @@ impl Parser {
             ≡ (if bytes_eq name.now key then Some function else option_map (λ r. r.function) (registered (environment_of self.old) key))) }
         ensures err { OnErr result ((key : List ℕ) →
             registered (environment_of self.new) key ≡ registered (environment_of self.old) key) }
+        ensures zones { (key : List ℕ) → zone_at (environment_of self.new) key ≡ zone_at (environment_of self.old) key }
+        ensures moment { moment_at (environment_of self.new) ≡ moment_at (environment_of self.old) }
         ensures refusal { IfErr result (λ e. e ≡ Error.MemoryError) }
     {
         self.environment.add_function(name, function)
@@ -60,7 +70,10 @@ impl Parser {
     ///
     /// What `compile` refuses.
     pub fn compile(&self, alloc: Global, code: &str) -> Result<Program>
-        ensures { IsCompiled code.now result }
+        ensures answer { IsCompiled code.now result }
+        ensures only { (t : TreeProgram) → IsTreeOf code.now t → IsAnswerFor t result }
+        ensures place { IsPlaced code.now result }
+        ensures boundary { (place : ℕ) → result ≡ Err (Error.PestError place) → IsCharBoundary code.now place }
     {
         expr_syntax::compile(alloc, code)
     }
@@ -72,6 +85,9 @@ impl Parser {
     /// What [`Environment::run`] refuses.
     pub fn run(&self, alloc: Global, program: &Program, ctx: &dyn ContextProvider) -> Result<Value>
         ensures answer { Gives result (AllowsBlock (host_of (environment_of self.now)) (context ctx.now) (program_written program.now)) }
+        ensures plain { (v : Value) → IsTrue (is_plain_program (program_written program.now))
+            → AllowsBlock (host_of (environment_of self.now)) (context ctx.now) (program_written program.now) (Ok v)
+            → result ≡ Ok v }
         ensures independent { Gives result (λ a. (other : Context) (names : List (List ℕ)) → AreNamesOf names (program_written program.now)
             → AgreeAt names (program_written program.now) (context ctx.now) other
             → AllowsBlock (host_of (environment_of self.now)) other (program_written program.now) a) }
@@ -89,6 +105,7 @@ impl Parser {
         ensures independent { Gives result (λ a. (other : Context)
             → ((b : Block) → IsProgramOf code.now b → AgreeFor (context ctx.now) other b)
             → MayAnswer code.now (host_of (environment_of self.now)) other a) }
+        ensures reads_back { (v : Value) → IsTrue (is_readable v) → code.now ≡ text_of v → Is result (Ok v) }
     {
         self.environment.eval(alloc, code, ctx)
     }
@@ -99,7 +116,10 @@ impl Parser {
     ///
     /// What [`Environment::eval_expr`] refuses.
     pub fn eval_expr(&self, alloc: Global, ctx: &dyn ContextProvider, node: &Node) -> Result<Value>
-        ensures { Gives result (Allows (host_of (environment_of self.now)) (context ctx.now) (written node.now)) }
+        ensures answer { Gives result (Allows (host_of (environment_of self.now)) (context ctx.now) (written node.now)) }
+        ensures plain { (v : Value) → IsTrue (is_plain (written node.now))
+            → Allows (host_of (environment_of self.now)) (context ctx.now) (written node.now) (Ok v)
+            → result ≡ Ok v }
     {
         self.environment.eval_expr(alloc, ctx, node)
     }

@@ -1,10 +1,11 @@
 //! Places in a text, as a person finds them.
-ghost use Rattle.std.specs.Prelude.{◌≡◌, ◌+◌, ◌==◌, ◌++◌, ◌∷◌, [], length, string_bytes, IfOk, IfErr};
+ghost use Rattle.std.specs.Prelude.{◌≡◌, ◌≢◌, ◌+◌, ◌==◌, ◌++◌, ◌∷◌, [], length, string_bytes, IfOk, IfErr};
 ghost use Rattle.std.specs.List.{count_by, repeat};
 ghost use Rattle.std.specs.Str.{IsCharBoundary, chars};
+ghost use Rattle.expr_value.specs.Fault.{evaluation, fault_of, memory};
 ghost use Rattle.expr.specs.Spots.{IsLastLine, IsSpot, first_line};
 
-use expr_value::{Error, Result};
+use expr_value::{Error, Result, refusal};
 use std::alloc::Global;
 
 /// A place in a text, as a person finds it.
@@ -23,13 +24,15 @@ pub struct Spot {
 ///
 /// # Errors
 ///
-/// `MemoryError` alone.
+/// `ExprError` for a place within a character or beyond the text, or `MemoryError`.
 pub fn spot_of(alloc: Global, text: &str, place: usize) -> Result<Spot>
-    requires { IsCharBoundary text.now place }
     ensures ok { IfOk result (λ s. IsSpot text.now place s) }
-    ensures err { IfErr result (λ e. e ≡ Error.MemoryError) }
+    ensures refusal { IfErr result (λ e. fault_of e ≢ memory → fault_of e ≡ evaluation) }
+    ensures kept { IsCharBoundary text.now place → IfErr result (λ e. e ≡ Error.MemoryError) }
 {
-    let (before, after) = text.split_at(place);
+    let Some((before, after)) = text.split_at_checked(place) else {
+        return Err(refusal(alloc, "no character begins there"));
+    };
     let left = last_line(before);
     let shown = marked(alloc, left, first_line(after))?;
     Ok(Spot {
