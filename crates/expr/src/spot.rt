@@ -1,5 +1,5 @@
 //! Places in a text, as a person finds them.
-ghost use Rattle.std.specs.Prelude.{◌≡◌, ◌≢◌, ◌+◌, ◌==◌, ◌++◌, ◌∷◌, [], length, string_bytes, IfOk, IfErr};
+ghost use Rattle.std.specs.Prelude.{◌≡◌, ◌≢◌, ◌+◌, ◌<◌, ◌^◌, ◌==◌, ◌++◌, ◌∷◌, [], length, string_bytes, IfOk, IfErr};
 ghost use Rattle.std.specs.List.{count_by, repeat};
 ghost use Rattle.std.specs.Str.{IsCharBoundary, chars};
 ghost use Rattle.expr_value.specs.Fault.{evaluation, fault_of, memory};
@@ -36,8 +36,8 @@ pub fn spot_of(alloc: Global, text: &str, place: usize) -> Result<Spot>
     let left = last_line(before);
     let shown = marked(alloc, left, first_line(after))?;
     Ok(Spot {
-        line: newlines(before).saturating_add(1),
-        column: characters(left).saturating_add(1),
+        line: newlines(before) + 1,
+        column: characters(left) + 1,
         shown,
     })
 }
@@ -57,7 +57,8 @@ fn marked(alloc: Global, left: &str, right: &str) -> Result<String>
 }
 
 fn characters(text: &str) -> usize
-    ensures { result ≡ length (chars text.now) }
+    ensures value { result ≡ length (chars text.now) }
+    ensures small { result < 2 ^ 63 }
 {
     text.chars().count()
 }

@@ -13,7 +13,7 @@ returns-clause-ok c =
     let ended : string_bytes c.push.new.self ≡ left ++ c.args.right.now ++ 10 ∷ [] =
     c.in_ok-push.ensures.bytes ∙ (λ k. (line k) ++ (c.in_ok-push.ensures.ascii newline k)) in
     let blank : c.deref.result.now ≡ repeat (length (chars left)) (32 ∷ []) =
-    c.deref.ensures ∙ c.in_ok-blanks.ensures.bytes ∙ ap (λ n. repeat n (32 ∷ [])) c.characters.ensures in
+    c.deref.ensures ∙ c.in_ok-blanks.ensures.bytes ∙ ap (λ n. repeat n (32 ∷ [])) c.characters.ensures.value in
     let under : string_bytes c.push_str-2.new.self ≡ left ++ c.args.right.now ++ 10 ∷ [] ++ repeat (length (chars left)) (32 ∷ []) =
     c.in_ok-push_str-2.ensures.bytes ∙ (λ k. (ended k) ++ (blank k)) in
     c.in_ok-push-2.ensures.bytes ∙ (λ k. (under k) ++ (c.in_ok-push-2.ensures.ascii caret k))
