@@ -1,4 +1,4 @@
-use Rattle.std.proofs.Common.{◌≡◌, List, ℕ, Some, ap, cond, bytes_eq, option_map, string_bytes, ◌∙◌}
+use Rattle.std.proofs.Common.{Some, ap, cond, bytes_eq, option_map, string_bytes, ◌∙◌}
 use Rattle.std.proofs.lemmas.Map.Text.{hash_map_updates_text}
 use Rattle.expr_value.specs.Times.{rules_of}
 use Rattle.expr.specs.Hosted.{zone_at}
