@@ -1,6 +1,7 @@
 pub mod Dates
 pub mod Durations
 pub mod Fields
+pub mod Layouts
 pub mod Methods
 pub mod Moments
 pub mod Places

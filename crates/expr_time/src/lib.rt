@@ -3,12 +3,18 @@
 #![tactic(auto)]
 
 mod dates;
+mod digits;
 mod fields;
+mod formatting;
 mod laws;
+mod layout;
 mod method;
 mod moments;
+mod names;
 mod places;
+mod print;
 mod spelling;
+mod token;
 mod zones;
 
 pub use fields::DateTimeField;
