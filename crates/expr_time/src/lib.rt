@@ -2,6 +2,7 @@
 //! days of the week.
 #![tactic(auto)]
 
+mod calls;
 mod dates;
 mod fields;
 mod laws;
@@ -11,9 +12,10 @@ mod places;
 mod spelling;
 mod zones;
 
+pub use calls::TimeCall;
 pub use fields::DateTimeField;
 pub use laws::{texts_have_one_meaning, texts_spell_lengths};
-pub use method::{DurationMethod, duration};
+pub use method::DurationMethod;
 pub use moments::{DateTimeMethod, NameMethod};
 pub use spelling::spelled;
-pub use zones::{UtcAlone, Zones, now, timezone};
+pub use zones::{UtcAlone, Zones};
