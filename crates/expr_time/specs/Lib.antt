@@ -1,3 +1,4 @@
+pub mod Calls
 pub mod Dates
 pub mod Durations
 pub mod Fields
