@@ -6,7 +6,7 @@ use Rattle.expr_operators.proofs.Plainly.{Surely-at}
 use Rattle.expr_operators.specs.Operators.{prefixed}
 use Rattle.expr_tree.specs.Written.{written}
 use Rattle.expr_value.proofs.Answered.{first_of-After}
-use Rattle.expr_evaluation.proofs.evaluation.nodes.Evaluation.answer_prefix.Goals as goal
+use Rattle.expr_evaluation.proofs.evaluation.Evaluation.answer_prefix.Goals as goal
 
 pub returns-clause-plain : goal.returns-clause-plain
 returns-clause-plain g c =

@@ -11,7 +11,7 @@ use Rattle.expr_evaluation.specs.Allows.{AllowsAsked, AllowsCall, is_given}
 use Rattle.expr_evaluation.specs.Context.{Context}
 use Rattle.expr_evaluation.specs.Host.{Host}
 use Rattle.expr_evaluation.specs.Several.{predicate_lent}
-use Rattle.expr_evaluation.proofs.evaluation.nodes.Evaluation.answer_named.Goals as goal
+use Rattle.expr_evaluation.proofs.evaluation.Evaluation.answer_named.Goals as goal
 
 -- the call on these values, by the predicate that it is lent
 abbrev Whole : Host → Context → List ℕ → List Value → Option (Bor Program) → Result Value Error → Type 0
