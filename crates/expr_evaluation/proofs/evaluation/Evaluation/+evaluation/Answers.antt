@@ -97,6 +97,69 @@ evaluate_form-returns-in-Operation-clause-plain g t c =
     (subst (λ m. Continued op first (Allows host ctx (written m)) (Ok v)) (sym c.deref-in-Operation-2.ensures) next)
     )
 
+pub evaluate_operation-returns-in_err-first-in-Operation-clause-plain : goal.evaluate_operation-returns-in_err-first-in-Operation-clause-plain
+evaluate_operation-returns-in_err-first-in-Operation-clause-plain g t c =
+    let host : Host = g.H.Functions.host c.args.self.now.host.now in
+    let base : Context = g.P.ContextProvider.context c.args.self.now.provider in
+    let ctx : Context = inside c.args.scope.now base in
+    let l = c.in-Operation.left.value in
+    let r = c.in-Operation.right.value in
+    let op = c.in-Operation.operator in
+    let result = c.from_residual.result in
+    let is : written c.args.node.now ≡ operation op (written l) (written r) = ap written c.in-Operation.is ∙ written-Operation op c.in-Operation.left c.in-Operation.right c.in-Operation.compiled_regex in
+    subst (λ n. (v : Value) → IsTrue (is_plain n) → Allows host ctx n (Ok v) → result ≡ Ok v) (sym is) (
+    λ v p h.
+    let both = right-true (is_plain_operator op) (is_plain (written l) && is_plain (written r)) p in
+    let q = first_of-After (Allows host ctx (written l)) (λ x. Continued op x (Allows host ctx (written r))) v h in
+    let wrong = c.in_err-first-in-Operation.ensures.plain q.0
+    (subst (λ m. IsTrue (is_plain (written m))) (sym c.deref-in-Operation.ensures) (left-true (is_plain (written l)) (is_plain (written r)) both))
+    (subst (λ m. Allows host ctx (written m) (Ok q.0)) (sym c.deref-in-Operation.ensures) q.1) in
+    absurd (cc wrong)
+    )
+
+pub evaluate_operation-returns-in-Operation-clause-answer : goal.evaluate_operation-returns-in-Operation-clause-answer
+evaluate_operation-returns-in-Operation-clause-answer g t c =
+    let host : Host = g.H.Functions.host c.args.self.now.host.now in
+    let ctx : Context = inside c.args.scope.now (g.P.ContextProvider.context c.args.self.now.provider) in
+    let l = c.in-Operation.left.value in
+    let r = c.in-Operation.right.value in
+    let op = c.in-Operation.operator in
+    let is : written c.args.node.now ≡ operation op (written l) (written r) = ap written c.in-Operation.is ∙ written-Operation op c.in-Operation.left c.in-Operation.right c.in-Operation.compiled_regex in
+    let first = c.in_ok-first-in-Operation.first in
+    let first_is = subst (λ m. Allows host ctx (written m) (Ok first)) c.deref-in-Operation.ensures c.in_ok-first-in-Operation.ensures.answer in
+    let next = Continued op first (Allows host ctx (written r)) in
+    subst (λ n. Gives c.operate.result (Allows host ctx n)) (sym is) (
+    Gives-under c.operate.result next (Allows host ctx (operation op (written l) (written r))) (λ a p. (Ok first, first_is, p)) (
+    subst (λ m. Gives c.operate.result (Continued op first (Allows host ctx (written m)))) c.deref-in-Operation-2.ensures c.operate.ensures.answer
+    )
+    )
+
+pub evaluate_operation-returns-in-Operation-clause-plain : goal.evaluate_operation-returns-in-Operation-clause-plain
+evaluate_operation-returns-in-Operation-clause-plain g t c =
+    let host : Host = g.H.Functions.host c.args.self.now.host.now in
+    let base : Context = g.P.ContextProvider.context c.args.self.now.provider in
+    let ctx : Context = inside c.args.scope.now base in
+    let l = c.in-Operation.left.value in
+    let r = c.in-Operation.right.value in
+    let op = c.in-Operation.operator in
+    let first = c.in_ok-first-in-Operation.first in
+    let is : written c.args.node.now ≡ operation op (written l) (written r) = ap written c.in-Operation.is ∙ written-Operation op c.in-Operation.left c.in-Operation.right c.in-Operation.compiled_regex in
+    subst (λ n. (v : Value) → IsTrue (is_plain n) → Allows host ctx n (Ok v) → c.operate.result ≡ Ok v) (sym is) (
+    λ v p h.
+    let o = left-true (is_plain_operator op) (is_plain (written l) && is_plain (written r)) p in
+    let both = right-true (is_plain_operator op) (is_plain (written l) && is_plain (written r)) p in
+    let l_plain = left-true (is_plain (written l)) (is_plain (written r)) both in
+    let q = first_of-After (Allows host ctx (written l)) (λ x. Continued op x (Allows host ctx (written r))) v h in
+    let same : first ≡ q.0 = cc (c.in_ok-first-in-Operation.ensures.plain q.0
+    (subst (λ m. IsTrue (is_plain (written m))) (sym c.deref-in-Operation.ensures) l_plain)
+    (subst (λ m. Allows host ctx (written m) (Ok q.0)) (sym c.deref-in-Operation.ensures) q.1)) in
+    let first_plain = subst (λ w. IsTrue (is_plain_value w)) (sym same) (Allows-plain host ctx (written l) q.0 l_plain q.1) in
+    let next = subst (λ w. Continued op w (Allows host ctx (written r)) (Ok v)) (sym same) q.2 in
+    c.operate.ensures.plain v o first_plain
+    (subst (λ m. IsTrue (is_plain (written m))) (sym c.deref-in-Operation-2.ensures) (right-true (is_plain (written l)) (is_plain (written r)) both))
+    (subst (λ m. Continued op first (Allows host ctx (written m)) (Ok v)) (sym c.deref-in-Operation-2.ensures) next)
+    )
+
 pub operate-returns-in-EndsAtFalse-clause-plain : goal.operate-returns-in-EndsAtFalse-clause-plain
 operate-returns-in-EndsAtFalse-clause-plain g t c =
     let host : Host = g.H.Functions.host c.args.self.now.host.now in
