@@ -1,6 +1,8 @@
+pub mod Civil
 pub mod Dates
 pub mod Durations
 pub mod Fields
+pub mod Found
 pub mod Layouts
 pub mod Methods
 pub mod Moments

@@ -2,10 +2,13 @@
 //! days of the week.
 #![tactic(auto)]
 
+mod civil;
+mod date;
 mod dates;
 mod digits;
 mod fields;
 mod formatting;
+mod found;
 mod laws;
 mod layout;
 mod method;
@@ -13,10 +16,12 @@ mod moments;
 mod names;
 mod places;
 mod print;
+mod read;
 mod spelling;
 mod token;
 mod zones;
 
+pub use date::date;
 pub use fields::DateTimeField;
 pub use laws::{texts_have_one_meaning, texts_spell_lengths};
 pub use method::{DurationMethod, duration};
