@@ -1,5 +1,5 @@
 -- What stands behind the names of tokens.
-use Rattle.std.proofs.Common.{◌≡◌, ◌≢◌, ◌⊎◌, inl, inr, ℕ, zero, suc, ◌+◌, ◌-◌, ◌<◌, ◌≤◌, ◌==◌, ◌&&◌, ◌||◌, nat_lt, cond, Bool, true, false, refl, sym, ap, ◌∙◌, arith, eq-eqb, List, [], ◌∷◌, ◌++◌, length, Some, None, append_assoc}
+use Rattle.std.proofs.Common.{◌≡◌, ◌≢◌, ◌⊎◌, inl, inr, ℕ, zero, suc, ◌+◌, ◌-◌, ◌<◌, ◌≤◌, ◌==◌, ◌&&◌, ◌||◌, nat_lt, cond, Bool, true, false, refl, sym, ap, ◌∙◌, arith, rules, eq-eqb, List, [], ◌∷◌, ◌++◌, length, Some, None, append_assoc}
 use Rattle.std.proofs.Math.Path.{subst}
 use Rattle.std.specs.Char.{encode_utf8}
 use denote.Ref.{Bor}
@@ -12,7 +12,7 @@ use Rattle.std.proofs.lemmas.List.{length-append}
 use Rattle.std.proofs.lemmas.Str.{len_utf8_bounds, length-encode}
 use Rattle.expr_time.specs.declared.token.Token.{Token}
 use Rattle.expr_time.specs.declared.token.Token.TheVariants as token
-use Rattle.expr_time.specs.Layouts.{Heads, IsLayout, after_name, either, ends_run, first_of, first_or, fraction_at, is_second, named_token, numbers, offsets, run_at, run_behind, run_token, short_words, token_at, whole_run, words}
+use Rattle.expr_time.specs.Layouts.{Heads, HeadsBy, IsLayout, after_name, either, ends_run, first_of, first_or, fraction_at, is_second, named_token, numbers, offsets, run_at, run_behind, run_token, short_words, token_at, whole_run, words}
 
 pub after_append : (name rest : List ℕ) → after_name name (name ++ rest) ≡ Some rest
 unfolding Rattle.expr_time.specs.Layouts.after_name
@@ -113,13 +113,13 @@ leaves_token false text = leaves_named text
 -- a token that was found, where none was found before it
 pub heads_found : (second : Bool) (text : List ℕ) (t : Token) (rest : List ℕ) → token_at second text ≡ Some (t, rest) → Heads second text t rest × (length rest < length text)
 heads_found second text t rest e = (
-  subst (λ o. elim o [ Some found ↦ (t ≡ found.0) × (rest ≡ found.1) | None ↦ (c : ℕ) × (t ≡ token.Literal c) × (text ≡ encode_utf8 c ++ rest) ]) (sym e) (refl, refl),
-  subst (λ o. Leaves text o) e (leaves_token second text),
+  subst (λ (o : Option (Token × List ℕ)). HeadsBy o text t rest) (sym e) (refl, refl),
+  subst (λ (o : Option (Token × List ℕ)). Leaves text o) e (leaves_token second text),
 )
 
 heads_character : (second : Bool) (text : List ℕ) (t : Token) (rest : List ℕ) (c : ℕ) → token_at second text ≡ None → t ≡ token.Literal c → text ≡ encode_utf8 c ++ rest → Heads second text t rest × (length rest < length text)
 heads_character second text t rest c e is whole = (
-  subst (λ o. elim o [ Some found ↦ (t ≡ found.0) × (rest ≡ found.1) | None ↦ (c : ℕ) × (t ≡ token.Literal c) × (text ≡ encode_utf8 c ++ rest) ]) (sym e) (c, is, whole),
+  subst (λ (o : Option (Token × List ℕ)). HeadsBy o text t rest) (sym e) (c, is, whole),
   omega (arith, ap length whole, length-append (encode_utf8 c) rest, length-encode c, (len_utf8_bounds c).0),
 )
 
@@ -132,7 +132,7 @@ heads_characters second text (Some found) e h = heads_character second text foun
 -- tokens that lead from the beginning of a layout to what is left of it
 pub leads_on : (second : Bool) (text : List ℕ) (before : List Token) (was : Bool) (left : List ℕ) (t : Token) (rest : List ℕ)
     → ((ts : List Token) → IsLayout was left ts → IsLayout second text (before ++ ts)) → Heads was left t rest → (ts : List Token) → IsLayout (is_second t) rest ts → IsLayout second text ((before ++ (t ∷ [])) ++ ts)
-leads_on second text before was left t rest lead heads ts h = subst (λ all. IsLayout second text all) (sym (append_assoc before (t ∷ []) ts)) (lead (t ∷ ts) (rest, heads, h))
+leads_on second text before was left t rest lead heads ts h = subst (λ (all : List Token). IsLayout second text all) (sym (append_assoc before (t ∷ []) ts)) (lead (t ∷ ts) (rest, heads, h))
 
 -- one more digit of a run, and its end
 pub run_more : (left c count : ℕ) (text rest : List ℕ) → 0 < left → text ≡ c ∷ rest → run_at left c count text ≡ run_at (left - 1) c (count + 1) rest

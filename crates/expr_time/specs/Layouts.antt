@@ -122,11 +122,12 @@ abbrev pub token_at : Bool → List ℕ → Option (Token × List ℕ)
 token_at second text = if second then either (fraction_at text) (named_token text) else named_token text
 
 -- the token at the head of a text, or one character that stands for itself, and what stands behind it
+abbrev pub HeadsBy : Option (Token × List ℕ) → List ℕ → Token → List ℕ → Type 0
+HeadsBy None text t rest = (c : ℕ) × (t ≡ token.Literal c) × (text ≡ encode_utf8 c ++ rest)
+HeadsBy (Some found) text t rest = (t ≡ found.0) × (rest ≡ found.1)
+
 abbrev pub Heads : Bool → List ℕ → Token → List ℕ → Type 0
-Heads second text t rest = elim (token_at second text) [
-  | Some found ↦ (t ≡ found.0) × (rest ≡ found.1)
-  | None ↦ (c : ℕ) × (t ≡ token.Literal c) × (text ≡ encode_utf8 c ++ rest)
-]
+Heads second text t rest = HeadsBy (token_at second text) text t rest
 
 -- a text is these tokens, each at the head of what the ones before it leave
 abbrev pub IsLayout : Bool → List ℕ → List Token → Type 0

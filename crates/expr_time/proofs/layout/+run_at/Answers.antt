@@ -6,10 +6,10 @@ use Rattle.expr_time.proofs.layout.+run_at.Goals as goal
 
 pub returns-in-Some : goal.returns-in-Some
 returns-in-Some t c =
-    let text = strip_prefix_char c.args.digit c.args.text.now (Some c.in-Some.rest) c.in-Some.ensures c.requires.digit in
+    let text = strip_prefix_char c.args.digit c.args.text.now (Some c.in-Some.rest) c.in-Some.ensures.cases c.requires.digit in
     c.run_at.ensures ∙ sym (run_more c.args.left c.args.digit c.args.count c.args.text.now c.in-Some.rest.now (omega arith) text)
 
 pub returns-in-None : goal.returns-in-None
 returns-in-None t c =
-    let text = strip_prefix_char c.args.digit c.args.text.now None c.in-None.ensures c.requires.digit in
+    let text = strip_prefix_char c.args.digit c.args.text.now None c.in-None.ensures.cases c.requires.digit in
     sym (run_end c.args.left c.args.digit c.args.count c.args.text.now (omega arith) text)
