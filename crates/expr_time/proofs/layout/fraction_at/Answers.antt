@@ -12,7 +12,7 @@ returns-in-Some c =
 pub returns-in-Some-strip_prefix : goal.returns-in-Some-strip_prefix
 returns-in-Some-strip_prefix c =
     let text = strip_prefix_char 44 c.args.text.now (Some c.in-Some-strip_prefix.rest) c.in-Some-strip_prefix.ensures.cases (lit< tt) in
-    c.run_behind.ensures ∙ fraction_some 44 c.args.text.now c.in-Some-strip_prefix.rest.now refl text
+    c.run_behind-in-Some-strip_prefix.ensures ∙ fraction_some 44 c.args.text.now c.in-Some-strip_prefix.rest.now refl text
 
 pub returns-in-None : goal.returns-in-None
 returns-in-None c =
