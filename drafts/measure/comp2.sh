@@ -1,7 +1,7 @@
 #!/bin/bash
 # comp2.sh NAME: NAME.bc -> NAME.exe w/o try's checks, slim
 set -e
-cd /tmp/m
+cd /tmp/pr/m
 C=/opt/rattle/toolchain/bin/clang; K=/opt/rattle
 if [ ! -f $1.t.ll ]; then
 $C --target=x86_64-unknown-linux-gnu --no-default-config -x ir $1.bc -S -emit-llvm -Xclang -disable-llvm-passes -O3 -o $1.ll 2>/dev/null

@@ -6,7 +6,7 @@ root, name, args = sys.argv[1], sys.argv[2], sys.argv[3:]
 KIT = rtlib.KIT
 crate = next(it for it in rtlib.crates_below(root + "/crates") if it.name == name)
 os.chdir(crate.folder)
-words = [f"{KIT}/bin/rattle-try", "--toolchain", "/tmp/ftc", "--asan", f"{KIT}/c/asan.a", "--steps", "2000000000", "--seconds", "300"]
+words = [f"{KIT}/bin/rattle-try", "--toolchain", "/tmp/pr/ftc", "--asan", f"{KIT}/c/asan.a", "--steps", "2000000000", "--seconds", "300"]
 for n in ("libos_c.a", "liblibc_c.a"):
     words += ["--link", f"{KIT}/c/{n}"]
 for it in args:
