@@ -3,3 +3,4 @@ pub mod Bracketed
 pub mod Meant
 pub mod ReadsBack
 pub mod SameText
+pub mod Placed

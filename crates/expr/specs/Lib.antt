@@ -1,4 +1,7 @@
 pub mod Bracketed
+pub mod Hosted
+pub mod Parsers
+pub mod Spots
 pub mod Texts
 pub use Rattle.expr_builtins.specs.Calls as Builtins
 pub use Rattle.expr_evaluation.specs.Allows

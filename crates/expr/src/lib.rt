@@ -1,15 +1,20 @@
 //! A small expression language: texts in, values or refusals out.
 #![tactic(auto)]
 
+mod environment;
 mod laws;
+mod parser;
+mod registered;
+mod spot;
 mod text;
 
+pub use environment::Environment;
 pub use expr_builtins::{
     arrays_are_opened, pairs_of_a_map_make_it_again, parts_after_joined_are_the_text,
     parts_joined_are_the_text,
 };
 pub use expr_evaluation::{
-    eval_expr, eval_func, eval_operator, eval_postfix_operator, eval_unary_operator,
+    ExprCall, eval_expr, eval_func, eval_operator, eval_postfix_operator, eval_unary_operator,
     left_side_decides, run,
 };
 pub use expr_frames::laws::brackets_leave_program;
@@ -35,4 +40,7 @@ pub use expr_value::{
     TimezoneValue, Value, ValueMap, bail, value,
 };
 pub use laws::{equal_texts_mean_equal_values, levels_are_as_in_brackets};
+pub use parser::Parser;
+pub use registered::Function;
+pub use spot::{Spot, spot_of};
 pub use text::eval;

@@ -98,7 +98,7 @@ looked_up-same one other key p =
 AllowsCall-keeps : (host : Host) (key : List ℕ) (vs : List Value) (given : Bool) (asks asks' : Question → Answer → Type 0) → ((q : Question) (a : Answer) → asks q a → asks' q a)
     → (a : Answer) → AllowsCall host key vs given asks a → AllowsCall host key vs given asks' a
 AllowsCall-keeps host key vs given asks asks' keeps a p =
-    either-keeps (host.is_added key) (host.calls key vs a) (host.calls key vs a) (AllowsBuiltin key vs given asks a) (AllowsBuiltin key vs given asks' a) (λ q. q) (AllowsBuiltin-keeps asks asks' keeps key vs given a) p
+    either-keeps (host.is_added key) (host.calls key vs a) (host.calls key vs a) (AllowsBuiltin host key vs given asks a) (AllowsBuiltin host key vs given asks' a) (λ q. q) (AllowsBuiltin-keeps asks asks' keeps host key vs given a) p
 
 mutual
   pub Allows-keeps : (host : Host) (one other : Context) (t : Term) → Agree one other (operands t) → (a : Answer) → Allows host one t a → Allows host other t a

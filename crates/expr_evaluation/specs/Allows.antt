@@ -76,7 +76,7 @@ is_given (predicate b) = true
 
 -- a call on these values, with a predicate or without one, and with what that may answer: the host's function, else the built-in
 abbrev pub AllowsCall : Host → List ℕ → List Value → Bool → (Question → Answer → Type 0) → Answer → Type 0
-AllowsCall host key vs given asks answer = MatchBool (host.is_added key) (host.calls key vs answer) (AllowsBuiltin key vs given asks answer)
+AllowsCall host key vs given asks answer = MatchBool (host.is_added key) (host.calls key vs answer) (AllowsBuiltin host key vs given asks answer)
 
 abbrev mutual
   -- the node may answer this

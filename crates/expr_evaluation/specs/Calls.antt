@@ -7,8 +7,10 @@ use Rattle.expr_encoding.specs.declared.encoding.Encoding.{Encoding}
 use Rattle.expr_predicates.specs.Calls.{AllowsAsking, SortsItems, asking_named}
 use Rattle.expr_predicates.specs.Tasks.{Question}
 use Rattle.expr_predicates.specs.declared.asking.Asking.{Asking}
-use Rattle.expr_time.specs.Methods.{Duration, answered, name_of as method_name}
+use Rattle.expr_time.specs.Calls.{Called as TimeCalled, name_of as time_name}
+use Rattle.expr_time.specs.Methods.{answered, name_of as method_name}
 use Rattle.expr_time.specs.Moments.{AnsweredAt, moment_method, name_answer, name_method}
+use Rattle.expr_time.specs.declared.calls.TimeCall.{TimeCall}
 use Rattle.expr_time.specs.declared.method.DurationMethod.{DurationMethod}
 use Rattle.expr_time.specs.declared.moments.DateTimeMethod.{DateTimeMethod}
 use Rattle.expr_time.specs.declared.moments.NameMethod.{NameMethod}
@@ -18,6 +20,7 @@ use Rattle.expr_value.specs.declared.moment.DateTimeValue.{DateTimeValue}
 use Rattle.expr_value.specs.declared.value.Value.{Value, out-Value}
 use Rattle.expr_value.specs.declared.value.Value.TheOpen.{Value-F}
 use Rattle.expr_evaluation.specs.Context.{Context, override, hash}
+use Rattle.expr_evaluation.specs.Host.{Host}
 
 -- the context of a predicate: `#` is the item that is asked about, and `#index` and `#acc` have values where the built-in tells them
 abbrev pub told : Context → List ℕ → Option Value → Context
@@ -35,26 +38,26 @@ AllowsNamed key vs answer = (b : Builtin) × (name_of b ≡ key) × Called b vs 
 abbrev pub AllowsEncoding : List ℕ → List Value → Answer → Type 0
 AllowsEncoding key vs answer = (e : Encoding) × (encoding_name e ≡ key) × EncodingCalled e vs answer
 
--- the call of this name that reads a length of time
-abbrev pub AllowsDuration : List ℕ → List Value → Answer → Type 0
-AllowsDuration key vs answer = (key ≡ codes "duration") × Duration vs answer
+-- the call of times of this name, with the zones of the host and its moment
+abbrev pub AllowsTime : Host → List ℕ → List Value → Answer → Type 0
+AllowsTime host key vs answer = (c : TimeCall) × (time_name c ≡ key) × TimeCalled host.zones host.moment c vs answer
 
 -- no call on values has this name
 abbrev pub IsUnknown : List ℕ → Type 0
-IsUnknown key = ((b : Builtin) → name_of b ≢ key) × ((e : Encoding) → encoding_name e ≢ key) × (key ≢ codes "duration")
+IsUnknown key = ((b : Builtin) → name_of b ≢ key) × ((e : Encoding) → encoding_name e ≢ key) × ((c : TimeCall) → time_name c ≢ key)
 
 -- what the built-in on values of this name may, or a refusal where none has it
-abbrev pub AllowsOnValues : List ℕ → List Value → Answer → Type 0
-AllowsOnValues key vs answer = AllowsNamed key vs answer ⊎ (AllowsEncoding key vs answer ⊎ (AllowsDuration key vs answer ⊎ (IsUnknown key × (answer ≡ Err evaluation))))
+abbrev pub AllowsOnValues : Host → List ℕ → List Value → Answer → Type 0
+AllowsOnValues host key vs answer = AllowsNamed key vs answer ⊎ (AllowsEncoding key vs answer ⊎ (AllowsTime host key vs answer ⊎ (IsUnknown key × (answer ≡ Err evaluation))))
 
 -- by its name a call is of `sort`, of a built-in on values alone, or of one that asks a predicate
 abbrev pub ByName : List ℕ → Type 0 → Type 0 → (Asking → Type 0) → Type 0
 ByName key sorts on_values asking = MatchBool (bytes_eq key (codes "sort")) sorts (MatchOption (asking_named key) on_values asking)
 
 -- what a call of this name may answer on these values, with a predicate or without one, and with what that may answer
-abbrev pub AllowsBuiltin : List ℕ → List Value → Bool → (Question → Answer → Type 0) → Answer → Type 0
-AllowsBuiltin key vs given asks answer =
-    ByName key (SortsItems vs answer) (AllowsOnValues key vs answer) (λ b. AllowsAsking b vs given asks answer)
+abbrev pub AllowsBuiltin : Host → List ℕ → List Value → Bool → (Question → Answer → Type 0) → Answer → Type 0
+AllowsBuiltin host key vs given asks answer =
+    ByName key (SortsItems vs answer) (AllowsOnValues host key vs answer) (λ b. AllowsAsking b vs given asks answer)
 
 -- what the method of a name may answer of a length of time, or a refusal where none has it
 abbrev pub AllowsDurationMethod : List ℕ → ℤ → List Value → Answer → Type 0

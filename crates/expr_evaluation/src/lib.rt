@@ -9,6 +9,7 @@ mod scope;
 
 pub use environment::{ExprCall, Functions, NoFunctions};
 pub use evaluation::{
-    eval_expr, eval_func, eval_operator, eval_postfix_operator, eval_unary_operator, run,
+    Evaluation, eval_expr, eval_func, eval_operator, eval_postfix_operator, eval_unary_operator,
+    run,
 };
 pub use laws::left_side_decides;

@@ -1,5 +1,5 @@
 //! Inner names, beside the context that a host lends.
-ghost use Rattle.std.specs.Prelude.{◌≡◌, Some, MatchOption};
+ghost use Rattle.std.specs.Prelude.{◌≡◌, Some, MatchOption, bytes_eq, codes};
 ghost use Rattle.std.specs.Option.{option_copied};
 ghost use Rattle.expr_evaluation.specs.Calls.{asked_in};
 ghost use Rattle.expr_evaluation.specs.Context.{Context};
@@ -86,10 +86,19 @@ fn asked<'s>(question: &'s Question<'s>, key: &str) -> Option<&'s Value>
         ((ctx : Context) → (asked_in ctx (question_of question.now)).value_of key.now ≡ ctx.value_of key.now)
         (λ v. (ctx : Context) → (asked_in ctx (question_of question.now)).value_of key.now ≡ Some v.now) }
 {
+    if is_hash(key) {
+        return Some(question.item);
+    }
     match key {
-        "#" => Some(question.item),
-        "#index" => question.index.as_ref(),
+        "#index" => question.index,
         "#acc" => question.acc,
         _ => None,
     }
+}
+
+// Whether a name is `#`, the name that is asked for at nearly each turn: one byte is cheaper to compare than two texts.
+fn is_hash(key: &str) -> bool
+    ensures { result ≡ bytes_eq key.now (codes "#") }
+{
+    matches!(key.as_bytes(), b"#")
 }

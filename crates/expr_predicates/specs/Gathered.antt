@@ -3,7 +3,7 @@ use Rattle.std.specs.Prelude.{◌≡◌, ℕ, ◌+◌, List, length, map, revers
 use Rattle.std.specs.List.{filter, find, list_any, position_from}
 use Rattle.expr_value.specs.declared.value.Value.{Value}
 use Rattle.expr_predicates.specs.Sorting.{beside_keys}
-use Rattle.expr_predicates.specs.Tasks.{Task, all_hold, any_holds, none_holds, one_holds, mapping, filtering, finding, finding_place, finding_last_place, counting, summing, reducing, grouping, sorting, Reply, Question, holds, fails, acc_after, first_place, total, keyed}
+use Rattle.expr_predicates.specs.Tasks.{Task, all_hold, any_holds, none_holds, one_holds, mapping, filtering, finding, finding_place, finding_last_place, counting, summing, reducing, grouping, sorting, Reply, Question, holds, fails, acc_after, first_place, number, total, keyed}
 use Rattle.expr_predicates.specs.declared.run.Gathered.{Gathered}
 use Rattle.expr_predicates.specs.declared.run.Gathered.TheVariants as gathered
 use Rattle.expr_predicates.specs.declared.noted.Noted.{Noted}
@@ -25,10 +25,10 @@ Notes (noted.Count n) t rs = (t ≡ counting) × (n ≡ count_by holds rs)
 Notes (noted.Sum n) t rs = (t ≡ summing) × (n ≡ total rs)
 
 abbrev pub Keeps : Kept → Task → List Reply → Type 0
-Keeps (kept.Map values) t rs = (t ≡ mapping) × (values.items ≡ map (λ r. r.1) rs)
+Keeps (kept.Map mapped) t rs = (t ≡ mapping) × (mapped.values.items ≡ map (λ r. r.1) rs) × (mapped.place ≡ number (length rs))
 Keeps (kept.Filter values) t rs = (t ≡ filtering) × (values.items ≡ map (λ r. r.0) (filter holds rs))
 Keeps (kept.Find found) t rs = (t ≡ finding) × (found ≡ option_map (λ r. r.0) (find holds rs))
-Keeps (kept.Reduce acc) t rs = (init : Value) × (first : ℕ) × (t ≡ reducing init first) × (acc ≡ acc_after init rs)
+Keeps (kept.Reduce reduced) t rs = (init : Value) × (first : ℕ) × (t ≡ reducing init first) × (reduced.acc ≡ acc_after init rs) × (reduced.place ≡ number (first + length rs))
 Keeps (kept.GroupBy pairs) t rs = (t ≡ grouping) × (pairs.items ≡ keyed rs)
 Keeps (kept.SortBy down pairs) t rs = (t ≡ sorting down) × (pairs.items ≡ beside_keys rs)
 
@@ -50,4 +50,4 @@ abbrev pub to_ask : PredicateRun → ℕ
 to_ask run = vec_len run.left
 
 abbrev pub question_of : Lent → Question
-question_of q = record { item = q.item.now; index = q.index; acc = option_map (λ v. v.now) q.acc }
+question_of q = record { item = q.item.now; index = option_map (λ v. v.now) q.index; acc = option_map (λ v. v.now) q.acc }

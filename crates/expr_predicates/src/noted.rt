@@ -74,6 +74,19 @@ impl Noted {
         }
     }
 
+    /// The same, in place.
+    #[inline(never)]
+    pub(crate) fn take(&mut self, alloc: Global, asked: usize, answer: &Value) -> Result<()>
+        requires { asked + 1 < 2 ^ 64 }
+        ensures noted { IfOk result (λ _. (t : Task) (rs : List Reply) (item : value) → Notes self.old t rs → asked ≡ first_place t + length rs
+            → Notes self.new t (rs ++ (item, answer.now) ∷ []) × (refused t answer.now ≡ false)) }
+        ensures refused { IfErr result (λ e. fault_of e ≢ memory → (t : Task) (rs : List Reply) → Notes self.old t rs
+            → (refused t answer.now ≡ true) × (fault_of e ≡ evaluation)) }
+    {
+        *self = self.with(alloc, asked, answer)?;
+        Ok(())
+    }
+
     /// What the answers come to.
     pub(crate) fn outcome(self) -> Value
         ensures { (t : Task) (rs : List Reply) → Notes self t rs → Outcome t rs (Ok result) }

@@ -6,12 +6,12 @@ ghost use Rattle.expr_predicates.specs.Runs.{AsksItself};
 use expr_value::{Result, Value};
 
 /// What a predicate is asked about.
-#[derive(Drop)]
+#[derive(Clone, Copy)]
 pub struct Question<'r> {
     /// The item, which `#` is.
     pub item: &'r Value,
     /// The place of the item in the array, from 0, where the built-in binds `#index`.
-    pub index: Option<Value>,
+    pub index: Option<&'r Value>,
     /// What has been made so far, where the built-in binds `#acc`.
     pub acc: Option<&'r Value>,
 }

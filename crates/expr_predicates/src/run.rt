@@ -7,7 +7,7 @@ ghost use Rattle.expr_value.specs.declared.value.Value.{Value};
 
 use crate::arguments::{array_and_more, direction, is_downward};
 use crate::asking::Asking;
-use crate::kept::Kept;
+use crate::kept::{Kept, Mapped, Reduced};
 use crate::noted::Noted;
 use crate::question::Question;
 use crate::sorting::sorted_alone;
@@ -35,21 +35,20 @@ impl Gathered {
         }
     }
 
-    /// What is asked about an item that stands behind so many others.
-    fn question<'r>(&'r self, asked: usize, item: &'r Value) -> Question<'r>
-        ensures { (t : Task) (rs : List Reply) → Gathers self.now t rs → asked ≡ first_place t + length rs
-            → question_of result ≡ about t rs item.now }
+    /// What is asked about an item.
+    fn question<'r>(&'r self, item: &'r Value) -> Question<'r>
+        ensures { (t : Task) (rs : List Reply) → Gathers self.now t rs → question_of result ≡ about t rs item.now }
     {
         match self {
-            Gathered::Kept(Kept::Map(_)) => Question {
+            Gathered::Kept(Kept::Map(mapped)) => Question {
                 item,
-                index: Some(Value::from(asked)),
+                index: Some(&mapped.place),
                 acc: None,
             },
-            Gathered::Kept(Kept::Reduce(acc)) => Question {
+            Gathered::Kept(Kept::Reduce(reduced)) => Question {
                 item,
-                index: Some(Value::from(asked)),
-                acc: Some(acc),
+                index: Some(&reduced.place),
+                acc: Some(&reduced.acc),
             },
             _ => Question {
                 item,
@@ -60,16 +59,16 @@ impl Gathered {
     }
 
     /// One more answer, about the item that stands behind so many others.
-    fn with(self, alloc: Global, asked: usize, item: Value, answer: Value) -> Result<Gathered>
+    fn take(&mut self, alloc: Global, asked: usize, item: Value, answer: Value) -> Result<()>
         requires { asked + 1 < 2 ^ 64 }
-        ensures gathered { IfOk result (λ g. (t : Task) (rs : List Reply) → Gathers self t rs → asked ≡ first_place t + length rs
-            → Gathers g t (rs ++ (item, answer) ∷ []) × (refused t answer ≡ false)) }
-        ensures refused { IfErr result (λ e. fault_of e ≢ memory → (t : Task) (rs : List Reply) → Gathers self t rs
+        ensures gathered { IfOk result (λ _. (t : Task) (rs : List Reply) → Gathers self.old t rs → asked ≡ first_place t + length rs
+            → Gathers self.new t (rs ++ (item, answer) ∷ []) × (refused t answer ≡ false)) }
+        ensures refused { IfErr result (λ e. fault_of e ≢ memory → (t : Task) (rs : List Reply) → Gathers self.old t rs
             → (refused t answer ≡ true) × (fault_of e ≡ evaluation)) }
     {
         match self {
-            Gathered::Noted(noted) => Ok(Gathered::Noted(noted.with(alloc, asked, &answer)?)),
-            Gathered::Kept(kept) => Ok(Gathered::Kept(kept.with(alloc, item, answer)?)),
+            Gathered::Noted(noted) => noted.take(alloc, asked, &answer),
+            Gathered::Kept(kept) => kept.take(alloc, asked, item, answer),
         }
     }
 
@@ -140,7 +139,7 @@ impl PredicateRun {
             Asking::One => Ok(PredicateRun::forward(items, Gathered::Noted(Noted::One(0)))),
             Asking::Map => Ok(PredicateRun::forward(
                 items,
-                Gathered::Kept(Kept::Map(Vec::new(alloc))),
+                Gathered::Kept(Kept::Map(Mapped::new(alloc))),
             )),
             Asking::Filter => Ok(PredicateRun::forward(
                 items,
@@ -184,7 +183,10 @@ impl PredicateRun {
         ensures refused { IfErr result (λ e. fault_of e ≢ memory → started asking items.items (Some more) ≡ Err (fault_of e)) }
     {
         match asking {
-            Asking::Reduce => Ok(PredicateRun::forward(items, Gathered::Kept(Kept::Reduce(more)))),
+            Asking::Reduce => Ok(PredicateRun::forward(
+                items,
+                Gathered::Kept(Kept::Reduce(Reduced::new(more, 0))),
+            )),
             Asking::SortBy => {
                 let down = direction(alloc, &more)?;
                 Ok(PredicateRun::forward(
@@ -235,7 +237,7 @@ impl PredicateRun {
             Some(first) => Ok(PredicateRun {
                 left,
                 asked: 1,
-                gathered: Gathered::Kept(Kept::Reduce(first)),
+                gathered: Gathered::Kept(Kept::Reduce(Reduced::new(first, 1))),
             }),
             None => Err(refusal(alloc, "reduce of no items takes a value to begin with")),
         }
@@ -250,37 +252,25 @@ impl PredicateRun {
             return None;
         }
         let item = self.left.last()?;
-        Some(self.gathered.question(self.asked, item))
+        Some(self.gathered.question(item))
     }
 
     /// Takes the answer to what is asked next: the item and the answer are moved. An answer that is no boolean for `count`,
     /// no integer for `sum` or no scalar for `groupBy` is refused with [`Error::ExprError`](expr_value::Error::ExprError),
     /// and nothing is left of the run. Where nothing is asked next, the answer is let go.
-    pub fn answer(self, alloc: Global, answer: Value) -> Result<PredicateRun>
-        ensures value { IfOk result (λ r. (t : Task) (rs : List Reply) (x : Value) (rest : List Value) → Stands self t rs → left self ≡ x ∷ rest
-            → (refused t answer ≡ false) × (left r ≡ rest) × Stands r t (rs ++ (x, answer) ∷ [])) }
-        ensures refused { IfErr result (λ e. fault_of e ≢ memory → (t : Task) (rs : List Reply) → Stands self t rs
+    pub fn answer(&mut self, alloc: Global, answer: Value) -> Result<()>
+        ensures value { IfOk result (λ _. (t : Task) (rs : List Reply) (x : Value) (rest : List Value) → Stands self.old t rs → left self.old ≡ x ∷ rest
+            → (refused t answer ≡ false) × (left self.new ≡ rest) × Stands self.new t (rs ++ (x, answer) ∷ [])) }
+        ensures refused { IfErr result (λ e. fault_of e ≢ memory → (t : Task) (rs : List Reply) → Stands self.old t rs
             → (refused t answer ≡ true) × (fault_of e ≡ evaluation)) }
-        ensures fewer { IfOk result (λ r. 0 < to_ask self → to_ask r < to_ask self) }
+        ensures fewer { 0 < to_ask self.old → to_ask self.new < to_ask self.old }
     {
-        let PredicateRun {
-            mut left,
-            asked,
-            gathered,
-        } = self;
-        let Some(item) = left.pop() else {
-            return Ok(PredicateRun {
-                left,
-                asked,
-                gathered,
-            });
+        let Some(item) = self.left.pop() else {
+            return Ok(());
         };
-        let gathered = gathered.with(alloc, asked, item, answer)?;
-        Ok(PredicateRun {
-            left,
-            asked: asked + 1,
-            gathered,
-        })
+        self.gathered.take(alloc, self.asked, item, answer)?;
+        self.asked += 1;
+        Ok(())
     }
 
     /// What the run comes to where each item is the answer about itself, as for `count` and `sum` without a predicate. An
@@ -291,7 +281,7 @@ impl PredicateRun {
         let mut run = self;
         while let Some(question) = run.next() {
             let answer = question.itself()?;
-            run = run.answer(alloc, answer)?;
+            run.answer(alloc, answer)?;
         }
         run.finish(alloc)
     }

@@ -63,6 +63,7 @@ const UNDER_ODD_PROVIDERS: &[(&str, bool, &str)] = &[
     (r#"$env["$env"]"#, false, "nil"),
     ("let a = 1; $env.a", false, "3"),
     ("let $env = 5; $env.a", false, "3"),
+    ("map([1], {x})", false, "!evaluation"),
     ("$env", true, "!memory"),
     ("a", true, "2"),
 ];

@@ -6,6 +6,8 @@ mod answers;
 #[cfg(test)]
 mod collections;
 #[cfg(test)]
+mod hosts;
+#[cfg(test)]
 mod macros;
 #[cfg(test)]
 mod moments;

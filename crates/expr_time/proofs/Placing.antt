@@ -8,20 +8,28 @@ use Rattle.std.proofs.Props.{props}
 use Rattle.std.specs.Ordering.{int_eq}
 use Rattle.std.proofs.lemmas.Bool.Decides.{Decides-int_eq}
 use mathlib.Core.HLevel.{is_prop→PathP}
-use Rattle.jiff.specs.Types.{DateTime, Offset, TimeZone as Rules}
+use Rattle.jiff.specs.Types.{DateTime, Offset, UTC}
 use Rattle.jiff.specs.Words.{IsOffsetSeconds, IsTimestampNanos, nanos_of_seconds}
 unfoldable use Rattle.jiff.specs.Words.{civil_nanos}
 use Rattle.expr_value.specs.Moved.{at_instant, at_instant_is, moment_at, same_moment}
-use Rattle.expr_value.specs.Times.{ahead, in_zone, instant, local_nanos, place_of, rules_of, zone_name}
+use Rattle.expr_value.specs.Times.{ahead, in_zone, instant, kept_rules, local_nanos, place_of, rules_of, zone_name}
 use Rattle.expr_value.specs.declared.moment.DateTimeValue.{DateTimeValue}
 use Rattle.expr_value.specs.declared.moment.Place.{Place}
 use Rattle.expr_value.specs.declared.moment.Place.TheVariants.{Fixed, Zone}
+use Rattle.expr_value.specs.declared.zone.KeptRules.{KeptRules}
 use Rattle.expr_value.specs.declared.zone.TimezoneValue.{TimezoneValue}
 use Rattle.expr_time.specs.Places.{at_civil, if_shows, picked_in, placed}
 
--- a zone by its name and its rules
-pub zone_same : (z : TimezoneValue) (name : List ℕ) (rules : Rules) → zone_name z ≡ name → rules_of z ≡ rules → z ≡ record { name = name; rules = record { inner = rules } }
-zone_same z name rules e p = λ i. record { name = e i; rules = record { inner = p i } }
+-- the rules of UTC are kept in one way
+kept_utc : (kept : KeptRules) → kept_rules kept ≡ UTC → kept ≡ KeptRules.Utc
+kept_utc KeptRules.Utc e = refl
+kept_utc KeptRules.Unknown e = absurd (cc)
+kept_utc (KeptRules.Always offset) e = absurd (cc)
+kept_utc (KeptRules.Posix rule) e = absurd (cc)
+
+-- the zone UTC by its name and its rules
+pub zone_same : (z : TimezoneValue) (name : List ℕ) → zone_name z ≡ name → rules_of z ≡ UTC → z ≡ record { name = name; rules = KeptRules.Utc }
+zone_same z name e p = λ i. record { name = e i; rules = kept_utc z.rules p i }
 
 same_offset : (o p : Offset) → o.seconds ≡ p.seconds → o ≡ p
 same_offset o p e = λ i. record { seconds = e i; in_range = is_prop→PathP (λ j. IsOffsetSeconds (e j)) (λ j. hlevel props) o.in_range p.in_range i }
@@ -52,9 +60,9 @@ found_at u n place e p =
     at_instant_is (Some u) n place ((λ _. let In : ℤ → Type 0 = IsTimestampNanos in subst In e u.timestamp.in_range), (λ _. refl)) (e, p)
 
 -- a zone that was made by its name and its rules
-pub zone_made : {E : Type 0} (r : Result TimezoneValue E) (name : List ℕ) (rules : Rules) → IfOk r (λ z. zone_name z ≡ name) → IfOk r (λ z. rules_of z ≡ rules) → IfOk r (λ z. z ≡ record { name = name; rules = record { inner = rules } })
-zone_made (Ok z) name rules e p = zone_same z name rules e p
-zone_made (Err e) name rules h p = tt
+pub zone_made : {E : Type 0} (r : Result TimezoneValue E) (name : List ℕ) → IfOk r (λ z. zone_name z ≡ name) → IfOk r (λ z. rules_of z ≡ UTC) → IfOk r (λ z. z ≡ record { name = name; rules = KeptRules.Utc })
+zone_made (Ok z) name e p = zone_same z name e p
+zone_made (Err e) name h p = tt
 
 when_false_of : (b : Bool) → ¬ (b ≡ true) → b ≡ false
 when_false_of true h = absurd (h refl)

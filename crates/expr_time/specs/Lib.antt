@@ -1,6 +1,8 @@
+pub mod Calls
 pub mod Dates
 pub mod Durations
 pub mod Fields
+pub mod Layouts
 pub mod Methods
 pub mod Moments
 pub mod Places

@@ -17,6 +17,7 @@ use Rattle.expr_value.specs.declared.value.Value.TheOpen.{Value-F}
 use Rattle.expr_value.specs.declared.zone.TimezoneValue.{TimezoneValue}
 use Rattle.expr_time.specs.Dates.{AddsDate}
 use Rattle.expr_time.specs.Fields.{field_name, field_of, zero_instant}
+use Rattle.expr_time.specs.Layouts.{Formats}
 use Rattle.expr_time.specs.Methods.{alone, one_duration, one_text}
 use Rattle.expr_time.specs.Places.{given, location_of, placed, utc}
 use Rattle.expr_time.specs.declared.moments.DateTimeMethod.{DateTimeMethod}
@@ -100,6 +101,7 @@ AnsweredAt is.Before t arguments answer = answer_for (one_moment arguments) (λ 
 AnsweredAt is.Equal t arguments answer = answer_for (one_moment arguments) (λ u. Ok (value.Bool (int_eq (instant t) (instant u)))) ≡ answer
 AnsweredAt is.Compare t arguments answer = answer_for (one_moment arguments) (λ u. Ok (value.Integer (compared t u))) ≡ answer
 AnsweredAt is.AddDate t arguments answer = AddsDates t (three_integers arguments) answer
+AnsweredAt is.Format t arguments answer = Formats t (one_text arguments) answer
 
 -- the name of a method
 abbrev pub moment_method : DateTimeMethod → List ℕ
@@ -117,6 +119,7 @@ moment_method is.Before = codes "Before"
 moment_method is.Equal = codes "Equal"
 moment_method is.Compare = codes "Compare"
 moment_method is.AddDate = codes "AddDate"
+moment_method is.Format = codes "Format"
 
 -- the methods of zones, months and days of the week: their text as the built-in `string` gives it
 abbrev pub name_method : NameMethod → List ℕ

@@ -1,7 +1,7 @@
 -- Moments in other places, and the moments at which the clock of a place shows a civil time.
 use Rattle.std.specs.Prelude.{◌≡◌, ℕ, ℤ, pos, ◌-ℤ◌, ◌++◌, List, [], Option, None, Some, Ok, Err, codes, if◌then◌else◌}
 use Rattle.std.specs.Ordering.{int_eq}
-use Rattle.jiff.specs.Types.{DateTime, Offset, UTC}
+use Rattle.jiff.specs.Types.{DateTime, Offset}
 use Rattle.jiff.specs.Words.{nanos_of_seconds, picked_instant}
 unfoldable use Rattle.jiff.specs.Words.{civil_nanos}
 use Rattle.expr_clock.specs.Moments.{offset_text}
@@ -14,11 +14,12 @@ use Rattle.expr_value.specs.declared.moment.Place.{Place}
 use Rattle.expr_value.specs.declared.moment.Place.TheVariants.{Fixed, Zone}
 use Rattle.expr_value.specs.declared.value.Value as value
 use Rattle.expr_value.specs.declared.value.Value.{Value}
+use Rattle.expr_value.specs.declared.zone.KeptRules.{KeptRules}
 use Rattle.expr_value.specs.declared.zone.TimezoneValue.{TimezoneValue}
 
 -- the zone UTC
 abbrev pub utc : TimezoneValue
-utc = record { name = codes "UTC"; rules = record { inner = UTC } }
+utc = record { name = codes "UTC"; rules = KeptRules.Utc }
 
 -- the same instant in another place
 abbrev pub placed : DateTimeValue → Place → DateTimeValue

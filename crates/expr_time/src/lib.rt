@@ -2,18 +2,26 @@
 //! days of the week.
 #![tactic(auto)]
 
+mod calls;
 mod dates;
+mod digits;
 mod fields;
+mod formatting;
 mod laws;
+mod layout;
 mod method;
 mod moments;
+mod names;
 mod places;
+mod print;
 mod spelling;
+mod token;
 mod zones;
 
+pub use calls::TimeCall;
 pub use fields::DateTimeField;
 pub use laws::{texts_have_one_meaning, texts_spell_lengths};
-pub use method::{DurationMethod, duration};
+pub use method::DurationMethod;
 pub use moments::{DateTimeMethod, NameMethod};
 pub use spelling::spelled;
-pub use zones::{UtcAlone, Zones, now, timezone};
+pub use zones::{UtcAlone, Zones};

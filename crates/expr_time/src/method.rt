@@ -208,7 +208,7 @@ pub(crate) fn one_text<'a>(arguments: &'a [Held<'_>]) -> Option<&'a str>
 }
 
 /// The built-in `duration`: the length of time that a text spells, within 64 bits of nanoseconds.
-pub fn duration(alloc: Global, arguments: &[Held<'_>]) -> Result<Value>
+pub(crate) fn duration(alloc: Global, arguments: &[Held<'_>]) -> Result<Value>
     ensures { Gives result (Duration arguments.now) }
 {
     let Some(text) = one_text(arguments) else {

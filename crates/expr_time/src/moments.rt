@@ -17,6 +17,7 @@ ghost use Rattle.expr_time.specs.Places.{given, location_of, placed, utc};
 
 use crate::dates::date_after;
 use crate::fields::{DateTimeField, ZERO_INSTANT, date_shown, time_shown};
+use crate::formatting::format;
 use crate::method::{one_duration, without};
 use crate::places::{at_instant, civil_beside, given, in_zone, location, show_place, utc};
 use expr_clock::show_stamp;
@@ -45,6 +46,7 @@ pub enum DateTimeMethod {
     Before,
     Equal,
     Compare,
+    Format,
 }
 
 impl DateTimeMethod {
@@ -69,6 +71,7 @@ impl DateTimeMethod {
             "Before" => Some(DateTimeMethod::Before),
             "Equal" => Some(DateTimeMethod::Equal),
             "Compare" => Some(DateTimeMethod::Compare),
+            "Format" => Some(DateTimeMethod::Format),
             _ => None,
         }
     }
@@ -98,6 +101,7 @@ impl DateTimeMethod {
             DateTimeMethod::Before => before(alloc, moment, arguments),
             DateTimeMethod::Equal => equal(alloc, moment, arguments),
             DateTimeMethod::Compare => compare(alloc, moment, arguments),
+            DateTimeMethod::Format => format(alloc, moment, arguments),
         }
     }
 }

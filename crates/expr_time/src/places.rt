@@ -86,10 +86,11 @@ pub(crate) fn civil_in_zone(zone: &TimezoneValue, civil: DateTime) -> Result<Opt
     ensures ok { IfOk result (λ t. t ≡ at_civil (Zone zone.now) civil) }
     ensures err { IfErr result (λ e. e ≡ Error.MemoryError) }
 {
-    let Ok(timestamp) = zone.timezone().to_timestamp(civil) else {
+    let rules = zone.timezone();
+    let Ok(timestamp) = rules.to_timestamp(civil) else {
         return Ok(None);
     };
-    if zone.timezone().to_datetime(timestamp) == civil {
+    if rules.to_datetime(timestamp) == civil {
         return Ok(Some(DateTimeValue::zoned(timestamp, zone.clone()?)));
     }
     Ok(None)

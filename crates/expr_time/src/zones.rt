@@ -57,7 +57,7 @@ pub(crate) fn zone_named<Z: Zones>(
 }
 
 /// The built-in `timezone`: UTC, or the zone that was added under a name.
-pub fn timezone<Z: Zones>(alloc: Global, zones: &Z, arguments: &[Held<'_>]) -> Result<Value>
+pub(crate) fn timezone<Z: Zones>(alloc: Global, zones: &Z, arguments: &[Held<'_>]) -> Result<Value>
     ensures { Is result (timezone_answer (Z.zones zones.now) arguments.now) }
 {
     let Some(name) = one_text(arguments) else {
@@ -71,7 +71,7 @@ pub fn timezone<Z: Zones>(alloc: Global, zones: &Z, arguments: &[Held<'_>]) -> R
 }
 
 /// The built-in `now`: a moment in UTC, where the host has set one.
-pub fn now(alloc: Global, moment: Option<&DateTimeValue>, arguments: &[Held<'_>]) -> Result<Value>
+pub(crate) fn now(alloc: Global, moment: Option<&DateTimeValue>, arguments: &[Held<'_>]) -> Result<Value>
     ensures { Is result (now_answer (option_copied moment.entry) arguments.now) }
 {
     let Some(moment) = moment else {

@@ -1,12 +1,13 @@
 -- Moments and zones: what they are equal by, and their texts.
-use Rattle.std.specs.Prelude.{ℕ, ℤ, pos, Bool, List, [], ◌++◌, Option, None, Some, ◌+ℤ◌, codes, if◌then◌else◌}
+use Rattle.std.specs.Prelude.{ℕ, ℤ, pos, Bool, true, false, List, [], ◌++◌, Option, None, Some, ◌+ℤ◌, codes, if◌then◌else◌}
 use Rattle.std.specs.Ordering.{int_eq}
 use Rattle.std.specs.Cmp.{IsEquivalence}
 use Rattle.expr_clock.specs.Moments as clock
 use Rattle.jiff.specs.Words.{plain_zone, nanos_of_seconds}
 unfoldable use Rattle.jiff.specs.Words.{offset_at}
-use Rattle.jiff.specs.Types.{TimeZone as Rules}
+use Rattle.jiff.specs.Types.{TimeZone as Rules, UTC, Unknown, Fixed as FixedRules, Posix as PosixRules, Tzif}
 use Rattle.jiff.specs.declared.tz.timezone.TimeZone.{TimeZone}
+use Rattle.expr_value.specs.declared.zone.KeptRules.{KeptRules}
 use Rattle.expr_value.specs.declared.zone.TimezoneValue.{TimezoneValue}
 use Rattle.expr_value.specs.declared.moment.Place.{Place}
 use Rattle.expr_value.specs.declared.moment.Place.TheVariants.{Fixed, Zone}
@@ -23,8 +24,20 @@ zone_name z = z.name
 abbrev pub plain_rules : TimeZone → Rules
 plain_rules rules = plain_zone rules
 
+-- whether rules are a table of a database
+abbrev pub is_table : Rules → Bool
+is_table (Tzif table) = true
+is_table rules = false
+
+-- the rules of which these are kept
+abbrev pub kept_rules : KeptRules → Rules
+kept_rules KeptRules.Utc = UTC
+kept_rules KeptRules.Unknown = Unknown
+kept_rules (KeptRules.Always offset) = FixedRules offset
+kept_rules (KeptRules.Posix rule) = PosixRules rule
+
 abbrev pub rules_of : TimezoneValue → Rules
-rules_of z = plain_rules z.rules
+rules_of z = kept_rules z.rules
 
 -- the nanoseconds from 1970-01-01T00:00:00Z to a moment
 abbrev pub instant : DateTimeValue → ℤ

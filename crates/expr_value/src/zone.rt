@@ -1,11 +1,50 @@
 //! Zones by their names.
-ghost use Rattle.std.specs.Prelude.{◌≡◌, IfOk, IfErr};
-ghost use Rattle.expr_value.specs.Times.{rules_of, zone_name, plain_rules};
+ghost use Rattle.std.specs.Prelude.{◌≡◌, ◌≢◌, false, IfOk, IfErr, MatchOption, IsTrue};
+ghost use Rattle.expr_value.specs.Fault.{evaluation, fault_of, memory};
+ghost use Rattle.expr_value.specs.Times.{is_table, kept_rules, plain_rules, rules_of, zone_name};
 
-use crate::error::{Error, Result};
+use crate::error::{Error, Result, refusal};
 use crate::text::Text;
 use jiff::tz::TimeZone;
+use jiff_core::Offset;
+use jiff_tz::posix;
 use std::alloc::{AllocError, Global};
+
+/// The rules of a clock, which lend nothing of a database: those of a [`TimeZone`] that isn't a table.
+#[derive(Clone, Copy)]
+pub(crate) enum KeptRules {
+    Utc,
+    Unknown,
+    Always(Offset),
+    Posix(posix::TimeZone),
+}
+
+impl KeptRules {
+    /// What is kept of these rules, or none where they are a table.
+    fn of(rules: jiff_tz::TimeZone<'static>) -> Option<KeptRules>
+        ensures { MatchOption result (IsTrue (is_table rules.entry)) (λ k. kept_rules k ≡ rules.entry) }
+    {
+        match rules {
+            jiff_tz::TimeZone::UTC => Some(KeptRules::Utc),
+            jiff_tz::TimeZone::Unknown => Some(KeptRules::Unknown),
+            jiff_tz::TimeZone::Fixed(offset) => Some(KeptRules::Always(offset)),
+            jiff_tz::TimeZone::Posix(rule) => Some(KeptRules::Posix(rule)),
+            jiff_tz::TimeZone::Tzif(_) => None,
+        }
+    }
+
+    /// The rules that are kept.
+    fn plain(self) -> jiff_tz::TimeZone<'static>
+        ensures { result ≡ kept_rules self }
+    {
+        match self {
+            KeptRules::Utc => jiff_tz::TimeZone::UTC,
+            KeptRules::Unknown => jiff_tz::TimeZone::Unknown,
+            KeptRules::Always(offset) => jiff_tz::TimeZone::Fixed(offset),
+            KeptRules::Posix(rule) => jiff_tz::TimeZone::Posix(rule),
+        }
+    }
+}
 
 /// The rules of a clock, under a name. Zones are equal when their names are, and ordered by the bytes of their names.
 #[derive(Drop)]
@@ -13,16 +52,20 @@ use std::alloc::{AllocError, Global};
 pub struct TimezoneValue {
     name: Text,
     #[derive_where(skip(EqHashOrd))]
-    rules: TimeZone<'static>,
+    rules: KeptRules,
 }
 
 impl TimezoneValue {
-    /// Some rules under a name.
+    /// Some rules under a name. Rules that are a table of a database are refused with [`Error::ExprError`].
     pub fn named(alloc: Global, name: &str, rules: TimeZone<'static>) -> Result<TimezoneValue>
         ensures name { IfOk result (λ z. zone_name z ≡ name.now) }
         ensures rules { IfOk result (λ z. rules_of z ≡ plain_rules rules.entry) }
-        ensures err { IfErr result (λ e. e ≡ Error.MemoryError) }
+        ensures refusal { IfErr result (λ e. fault_of e ≢ memory → fault_of e ≡ evaluation) }
+        ensures kept { is_table (plain_rules rules.entry) ≡ false → IfErr result (λ e. e ≡ Error.MemoryError) }
     {
+        let Some(rules) = KeptRules::of(rules.to_plain()) else {
+            return Err(refusal(alloc, "a zone is a fixed offset or a rule"));
+        };
         Ok(TimezoneValue {
             name: Text::copy(alloc, name)?,
             rules,
@@ -37,10 +80,10 @@ impl TimezoneValue {
     }
 
     /// The rules of this zone.
-    pub fn timezone(&self) -> &TimeZone<'static>
-        ensures { plain_rules result.now ≡ rules_of self.now }
+    pub fn timezone(&self) -> TimeZone<'static>
+        ensures { plain_rules result ≡ rules_of self.now }
     {
-        &self.rules
+        TimeZone::from_plain(self.rules.plain())
     }
 }
 

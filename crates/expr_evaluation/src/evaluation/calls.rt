@@ -7,13 +7,13 @@ ghost use Rattle.expr_predicates.specs.Runs.{AsksItself};
 ghost use Rattle.expr_value.specs.Answers.{Gives};
 ghost use Rattle.expr_value.specs.Fault.{fault_of, memory};
 
-use crate::environment::{ExprCall, Functions};
+use crate::environment::{AddedZones, ExprCall, Functions};
 use crate::messages::unknown_function;
 use expr_builtins::Builtin;
 use expr_encoding::Encoding;
 use expr_operators::Held;
 use expr_predicates::{Asking, PredicateRun, sort};
-use expr_time::duration;
+use expr_time::TimeCall;
 use expr_value::{Items, Result, Value};
 use std::alloc::Global;
 
@@ -42,28 +42,39 @@ pub fn begin<H: Functions>(
         let answer = call_added(alloc, host, ident, args)?;
         return Ok(Begun::Answered(answer));
     }
-    begin_builtin(alloc, ident, args, given)
+    begin_builtin(alloc, host, ident, args, given)
 }
 
 /// Begins a call of the built-in of a name.
-fn begin_builtin(alloc: Global, ident: &str, args: Items<Held<'_>>, given: bool) -> Result<Begun>
-    ensures begun { IfOk result (λ b. BeginsBuiltin ident.now args.entry given b) }
-    ensures refused { IfErr result (λ e. fault_of e ≢ memory → RefusesBuiltin ident.now args.entry given (fault_of e)) }
+fn begin_builtin<H: Functions>(
+    alloc: Global,
+    host: &H,
+    ident: &str,
+    args: Items<Held<'_>>,
+    given: bool,
+) -> Result<Begun>
+    ensures begun { IfOk result (λ b. BeginsBuiltin (H.host host.now) ident.now args.entry given b) }
+    ensures refused { IfErr result (λ e. fault_of e ≢ memory → RefusesBuiltin (H.host host.now) ident.now args.entry given (fault_of e)) }
 {
     if ident == "sort" {
         let args = values_of(alloc, args)?;
         return Ok(Begun::Answered(sort(alloc, args)?));
     }
     let Some(asking) = Asking::named(ident) else {
-        return Ok(Begun::Answered(call_on_values(alloc, ident, args)?));
+        return Ok(Begun::Answered(call_on_values(alloc, host, ident, args)?));
     };
     let args = values_of(alloc, args)?;
     Ok(Begun::Asks(PredicateRun::begin(alloc, asking, args, given)?))
 }
 
 /// What the built-in of a name answers that asks no predicate.
-fn call_on_values(alloc: Global, ident: &str, args: Items<Held<'_>>) -> Result<Value>
-    ensures { Gives result (AllowsOnValues ident.now args.entry) }
+fn call_on_values<H: Functions>(
+    alloc: Global,
+    host: &H,
+    ident: &str,
+    args: Items<Held<'_>>,
+) -> Result<Value>
+    ensures { Gives result (AllowsOnValues (H.host host.now) ident.now args.entry) }
 {
     if let Some(builtin) = Builtin::named(ident) {
         return builtin.call(alloc, args.into_vec());
@@ -71,8 +82,9 @@ fn call_on_values(alloc: Global, ident: &str, args: Items<Held<'_>>) -> Result<V
     if let Some(encoding) = Encoding::named(ident) {
         return encoding.call(alloc, args.as_slice());
     }
-    if ident == "duration" {
-        return duration(alloc, args.as_slice());
+    if let Some(call) = TimeCall::named(ident) {
+        let zones = AddedZones { host };
+        return call.call(alloc, &zones, host.moment(), args.as_slice());
     }
     Err(unknown_function(alloc, ident))
 }

@@ -1,5 +1,5 @@
 //! What an evaluation does with the values of parts.
-ghost use Rattle.std.specs.Prelude.{◌≡◌, ◌≢◌, [], Ok, Err, IfErr, IfOk, IsTrue};
+ghost use Rattle.std.specs.Prelude.{◌≡◌, ◌≢◌, [], Ok, Err, IfErr, IfOk, IsTrue, bytes_eq, codes};
 ghost use Rattle.expr_evaluation.specs.Allows.{given_bound, listed};
 ghost use Rattle.expr_evaluation.specs.Calls.{AllowsDurationMethod, AllowsMethod, AllowsMomentMethod, AllowsNameMethod};
 ghost use Rattle.expr_evaluation.specs.Context.{looked_up};
@@ -34,7 +34,7 @@ pub fn name_value<'s, P: ContextProvider>(
 ) -> Result<Held<'s>>
     ensures { Is result (looked_up (inside scope.now (P.context provider.now)) key.now) }
 {
-    if key == "$env" {
+    if is_environment(key) {
         return Ok(Held::own(Value::Map(provider.environment(alloc)?.into_map())));
     }
     if let Some(value) = look_up(scope, provider, key) {
@@ -46,6 +46,13 @@ pub fn name_value<'s, P: ContextProvider>(
         }
     }
     Err(unknown_name(alloc, key))
+}
+
+/// Whether a name is that of the environment: bytes are cheaper to compare than texts, at each name that is looked up.
+fn is_environment(key: &str) -> bool
+    ensures { result ≡ bytes_eq key.now (codes "$env") }
+{
+    matches!(key.as_bytes(), b"$env")
 }
 
 /// What an operator before its operand gives on its value.

@@ -17,9 +17,9 @@ returns-then-eq-clause-ok c =
     let civil = c.args.civil in
     let n = c.in-Ok.timestamp.nanosecond in
     let place : place_of t ≡ Zone zone = c.zoned.ensures.place ∙ ap Zone c.in_ok-clone.ensures.cases in
-    let at : instant t ≡ picked_in (Zone zone) civil = c.zoned.ensures.instant ∙ c.in-Ok.ensures.value ∙ ap (λ (r : Rules). picked_instant r civil) c.timezone.ensures in
+    let at : instant t ≡ picked_in (Zone zone) civil = c.zoned.ensures.instant ∙ c.in-Ok.ensures.value ∙ ap (λ (r : Rules). picked_instant r civil) c.timezone-rules.ensures in
     let in_place : local_nanos t ≡ instant t +ℤ nanos_of_seconds (offset_at (rules_of zone) (instant t)) = ap (λ (p : Place). instant t +ℤ nanos_of_seconds (ahead p (instant t))) place in
     let at_time : local_nanos t ≡ n +ℤ nanos_of_seconds (offset_at (rules_of zone) n) = in_place ∙ ap (λ (k : ℤ). k +ℤ nanos_of_seconds (offset_at (rules_of zone) k)) c.zoned.ensures.instant in
-    let shown : local_nanos t ≡ civil_nanos c.to_datetime.result = at_time ∙ ap (λ (r : Rules). n +ℤ nanos_of_seconds (offset_at r n)) (sym c.timezone-2.ensures) ∙ sym c.to_datetime.ensures in
+    let shown : local_nanos t ≡ civil_nanos c.to_datetime.result = at_time ∙ ap (λ (r : Rules). n +ℤ nanos_of_seconds (offset_at r n)) (sym c.timezone-rules.ensures) ∙ sym c.to_datetime.ensures in
     let same : civil_nanos c.to_datetime.result ≡ civil_nanos civil = (Decides-int_eq (civil_nanos c.to_datetime.result) (civil_nanos civil)).0 (sym c.if-eq.ensures) in
     civil_shown (Zone zone) civil t at place (shown ∙ same)

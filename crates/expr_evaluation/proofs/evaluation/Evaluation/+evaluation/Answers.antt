@@ -525,7 +525,7 @@ ask-loop-question-preserved g t c = λ u s.
     let run = c.loop-question.run in
     let q = question_of c.in-Some.question in
     let next = sym (c.in-Some.ensures.question u at.0 at.1) in
-    turn_on asks whole u run q at next c.in_ok-answer.answer c.in_ok-run.run' c.in_ok-answer.ensures c.in_ok-run.ensures.value
+    turn_on asks whole u run q at next c.in_ok-answer.answer c.answer.new.self c.in_ok-answer.ensures c.in_ok-answer-2.ensures.value
 
 pub ask-returns-in_err-answer : goal.ask-returns-in_err-answer
 ask-returns-in_err-answer g t c = λ u s.
@@ -540,8 +540,8 @@ ask-returns-in_err-answer g t c = λ u s.
     let e = c.in_err-answer.field-0.0 in
     Gives-passed _ e whole c.from_residual.ensures.1 (λ m. turn_refused asks whole u run q at next (fault_of e) (c.in_err-answer.ensures m))
 
-pub ask-returns-in_err-run : goal.ask-returns-in_err-run
-ask-returns-in_err-run g t c = λ u s.
+pub ask-returns-in_err-answer-2 : goal.ask-returns-in_err-answer-2
+ask-returns-in_err-answer-2 g t c = λ u s.
     let host : Host = g.H.Functions.host c.args.self.now.host.now in
     let ctx : Context = inside c.args.scope.now (g.P.ContextProvider.context c.args.self.now.provider) in
     let asks : Question → Answer → Type 0 = AllowsAsked host ctx (predicate (program_written c.args.program.now)) in
@@ -550,8 +550,8 @@ ask-returns-in_err-run g t c = λ u s.
     let run = c.loop-question.run in
     let q = question_of c.in-Some.question in
     let next = sym (c.in-Some.ensures.question u at.0 at.1) in
-    let e = c.in_err-run.field-0.0 in
-    Gives-passed _ e whole c.from_residual-in_err-run.ensures.1 (turn_misanswered asks whole u run q at next c.in_ok-answer.answer e c.in_ok-answer.ensures c.in_err-run.ensures.refused)
+    let e = c.in_err-answer-2.field-0.0 in
+    Gives-passed _ e whole c.from_residual-in_err-answer-2.ensures.1 (turn_misanswered asks whole u run q at next c.in_ok-answer.answer e c.in_ok-answer.ensures c.in_err-answer-2.ensures.refused)
 
 pub ask-returns : goal.ask-returns
 ask-returns g t c = λ u s.

@@ -11,4 +11,4 @@ returns-in-Some-clause-begun c =
     let x = c.in-Some.first in
     let split : reverse xs ≡ rest ++ x ∷ [] = sym c.reverse.ensures.items ∙ c.in-Some.ensures.items in
     let whole : xs ≡ x ∷ reverse rest = sym (reverse-reverse xs) ∙ ap reverse split ∙ reverse-append rest (x ∷ []) in
-    (reducing x 1, ap reduced_from_first whole, record { asked = refl; gathered = (x, 1, refl, refl) })
+    (reducing x 1, ap reduced_from_first whole, record { asked = refl; gathered = (x, 1, refl, c.new.ensures.acc, c.new.ensures.place) })

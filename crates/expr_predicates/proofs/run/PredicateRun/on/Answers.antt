@@ -26,7 +26,7 @@ returns-in-One-clause-begun c =
 
 pub returns-in-Map-clause-begun : goal.returns-in-Map-clause-begun
 returns-in-Map-clause-begun c =
-    begun_as c.args.asking c.args.items.items None c.forward-in-Map.result asking.Map mapping c.args.items.items (gathered.Kept (kept.Map c.new.result)) c.in-Map.is refl c.forward-in-Map.ensures.left c.forward-in-Map.ensures.asked c.forward-in-Map.ensures.gathered (refl, c.new.ensures.items)
+    begun_as c.args.asking c.args.items.items None c.forward-in-Map.result asking.Map mapping c.args.items.items (gathered.Kept (kept.Map c.new.result)) c.in-Map.is refl c.forward-in-Map.ensures.left c.forward-in-Map.ensures.asked c.forward-in-Map.ensures.gathered (refl, c.new.ensures.values, c.new.ensures.place)
 
 pub returns-in-Filter-clause-begun : goal.returns-in-Filter-clause-begun
 returns-in-Filter-clause-begun c =

@@ -1,0 +1,36 @@
+use Rattle.std.proofs.Common.{inl}
+use Rattle.expr_syntax.specs.Texts.{IsProgramOf}
+use Rattle.expr_tree.specs.Context.{AgreeFor}
+use Rattle.expr_tree.specs.Term.{Block}
+use Rattle.expr_tree.specs.Written.{program_written}
+use Rattle.expr_evaluation.specs.Allows.{AllowsBlock}
+use Rattle.expr_evaluation.specs.Context.{Context}
+use Rattle.expr_evaluation.specs.Host.{Host}
+use Rattle.expr.specs.Hosted.{host_of}
+use Rattle.expr.specs.Texts.{MayAnswer}
+use Rattle.expr_value.proofs.Answered.{Gives-under}
+use Rattle.expr_evaluation.proofs.Independent.{AllowsBlock-keeps}
+use Rattle.expr.proofs.ReadsBack.{back_from_run, back_refused}
+use Rattle.expr.proofs.environment.Environment.eval.Goals as goal
+
+pub returns-clause-independent : goal.returns-clause-independent
+returns-clause-independent g c =
+    let asked = goal.ContextProvider-dyn g c.args.ctx.now in
+    let base : Context = asked.context c.args.ctx.now.1 in
+    let host : Host = host_of c.args.self.now in
+    let text = c.args.code.now in
+    let b = program_written c.in_ok-program.program in
+    Gives-under c.run.result (AllowsBlock host base b) (
+    λ a. (other : Context) → ((b : Block) → IsProgramOf text b → AgreeFor base other b) → MayAnswer text host other a
+    ) (λ a p other h. inl (b, c.in_ok-program.ensures.answer, AllowsBlock-keeps host base other b (h b c.in_ok-program.ensures.answer) a p)) c.run.ensures.answer
+
+pub returns-in_err-program-clause-reads_back : goal.returns-in_err-program-clause-reads_back
+returns-in_err-program-clause-reads_back g c = λ v h same.
+    back_refused c.args.code.now v h same c.in_err-program.field-0.0 c.in_err-program.ensures.only c.from_residual.result c.from_residual.ensures.1
+
+pub returns-clause-reads_back : goal.returns-clause-reads_back
+returns-clause-reads_back g c = λ v h same.
+    let asked = goal.ContextProvider-dyn g c.args.ctx.now in
+    let base : Context = asked.context c.args.ctx.now.1 in
+    let host : Host = host_of c.args.self.now in
+    back_from_run c.args.code.now v h same host base c.in_ok-program.program c.in_ok-program.ensures.only c.run.result c.run.ensures.answer

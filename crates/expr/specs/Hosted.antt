@@ -1,0 +1,55 @@
+-- What an environment has added.
+use Rattle.std.specs.Prelude.{◌≡◌, ℕ, List, Result, Ok, Err, Option, IfSome, is_some, option_map, string_bytes}
+use Rattle.std.specs.HashMap.{get_by_text}
+use Rattle.expr_value.specs.Answers.{Answer}
+use Rattle.expr_value.specs.Fault.{fault_of}
+use Rattle.expr_value.specs.declared.error.Error.{Error}
+use Rattle.expr_value.specs.declared.moment.DateTimeValue.{DateTimeValue}
+use Rattle.expr_value.specs.declared.value.Value.{Value}
+use Rattle.expr_value.specs.declared.zone.TimezoneValue.{TimezoneValue}
+use Rattle.expr_evaluation.specs.Host.{Host}
+use Rattle.expr_evaluation.specs.declared.environment.ExprCall.{ExprCall}
+use Rattle.expr.specs.declared.environment.Environment.{Environment}
+use Rattle.expr.specs.declared.registered.Registered.{Registered}
+
+-- a result as an answer
+abbrev pub answer_of : Result Value Error → Answer
+answer_of (Ok v) = Ok v
+answer_of (Err e) = Err (fault_of e)
+
+-- some call of this name on these values has, by the box's own relation of calls and results, a result that is this answer
+pub record Returns (relation : ExprCall → Result Value Error → Type 0) (key : List ℕ) (vs : List Value) (answer : Answer) : Type 0 where
+  pub call : ExprCall
+  pub result : Result Value Error
+  pub name : string_bytes call.ident ≡ key
+  pub arguments : call.args.items ≡ vs
+  pub related : relation call result
+  pub stands : answer_of result ≡ answer
+
+-- what is kept of a function that is added
+abbrev pub registered : {x f g : _} → Environment x f g → List ℕ → Option (Registered x f g)
+registered env key = get_by_text env.functions key
+
+-- the relation of calls and results that its own box has
+abbrev pub relation_of : {x f g : _} → Registered x f g → ExprCall → Result Value Error → Type 0
+relation_of {g = g} r call result = g.post (r.function.vtable, r.function.value) (call, tt) result
+
+-- the zone of a name
+abbrev pub zone_at : {x f g : _} → Environment x f g → List ℕ → Option TimezoneValue
+zone_at env key = get_by_text env.zones key
+
+-- the moment that is taken for now
+abbrev pub moment_at : {x f g : _} → Environment x f g → Option DateTimeValue
+moment_at env = env.moment
+
+abbrev pub hosted : (List ℕ → Option TimezoneValue) → Option DateTimeValue → {x f g : _} → (List ℕ → Option (Registered x f g)) → Host
+hosted zones moment functions = record {
+  is_added = λ key. is_some (functions key);
+  calls = λ key vs answer. IfSome (functions key) (λ r. Returns (relation_of r) key vs answer);
+  zones = zones;
+  moment = moment;
+}
+
+-- what an environment has added
+abbrev pub host_of : {x f g : _} → Environment x f g → Host
+host_of env = hosted (zone_at env) (moment_at env) (registered env)

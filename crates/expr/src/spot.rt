@@ -1,0 +1,91 @@
+//! Places in a text, as a person finds them.
+ghost use Rattle.std.specs.Prelude.{◌≡◌, ◌≢◌, ◌+◌, ◌<◌, ◌^◌, ◌==◌, ◌++◌, ◌∷◌, [], length, string_bytes, IfOk, IfErr};
+ghost use Rattle.std.specs.List.{count_by, repeat};
+ghost use Rattle.std.specs.Str.{IsCharBoundary, chars};
+ghost use Rattle.expr_value.specs.Fault.{evaluation, fault_of, memory};
+ghost use Rattle.expr.specs.Spots.{IsLastLine, IsSpot, first_line};
+
+use expr_value::{Error, Result, refusal};
+use std::alloc::Global;
+
+/// A place in a text, as a person finds it.
+#[derive(Drop)]
+pub struct Spot {
+    /// The number of its line, from 1. A newline ends a line.
+    pub line: usize,
+    /// The number of its character in that line, from 1.
+    pub column: usize,
+    /// The line, and below it a caret under that character.
+    pub shown: String,
+}
+
+/// Where a place in bytes stands in a text, as `compile` gives it in its `PestError`: the line, the column, both from 1
+/// and the column in characters, and the line with a caret under the character.
+///
+/// # Errors
+///
+/// `ExprError` for a place within a character or beyond the text, or `MemoryError`.
+pub fn spot_of(alloc: Global, text: &str, place: usize) -> Result<Spot>
+    ensures ok { IfOk result (λ s. IsSpot text.now place s) }
+    ensures refusal { IfErr result (λ e. fault_of e ≢ memory → fault_of e ≡ evaluation) }
+    ensures kept { IsCharBoundary text.now place → IfErr result (λ e. e ≡ Error.MemoryError) }
+{
+    let Some((before, after)) = text.split_at_checked(place) else {
+        return Err(refusal(alloc, "no character begins there"));
+    };
+    let left = last_line(before);
+    let shown = marked(alloc, left, first_line(after))?;
+    Ok(Spot {
+        line: newlines(before) + 1,
+        column: characters(left) + 1,
+        shown,
+    })
+}
+
+/// A line of two parts, and below it a caret under the beginning of the second.
+fn marked(alloc: Global, left: &str, right: &str) -> Result<String>
+    ensures ok { IfOk result (λ s. string_bytes s ≡ left.now ++ right.now ++ 10 ∷ [] ++ repeat (length (chars left.now)) (32 ∷ []) ++ 94 ∷ []) }
+    ensures err { IfErr result (λ e. e ≡ Error.MemoryError) }
+{
+    let mut shown = String::from_str(alloc, left)?;
+    shown.push_str(right)?;
+    shown.push('\n')?;
+    let blanks = " ".repeat(alloc, characters(left))?;
+    shown.push_str(&blanks)?;
+    shown.push('^')?;
+    Ok(shown)
+}
+
+fn characters(text: &str) -> usize
+    ensures value { result ≡ length (chars text.now) }
+    ensures small { result < 2 ^ 63 }
+{
+    text.chars().count()
+}
+
+fn newlines(text: &str) -> usize
+    ensures { result ≡ count_by (λ b. b == 10) text.now }
+{
+    text.as_bytes()
+        .iter()
+        .filter(|byte| **byte == b'\n')
+        .count()
+}
+
+fn last_line(text: &str) -> &str
+    ensures { IsLastLine text.now result.now }
+{
+    match text.rsplit_once('\n') {
+        Some((_, line)) => line,
+        None => text,
+    }
+}
+
+fn first_line(text: &str) -> &str
+    ensures { result.now ≡ first_line text.now }
+{
+    match text.split_once('\n') {
+        Some((line, _)) => line,
+        None => text,
+    }
+}
