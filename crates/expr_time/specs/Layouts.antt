@@ -224,6 +224,9 @@ token_text t (token.Zulu s) = zulu s (offset_of t)
 token_text t (token.Fraction separator places) = fraction_places separator places (time_at t).nanosecond
 token_text t (token.ShortFraction separator places) = short_places separator places (time_at t).nanosecond
 token_text t (token.Literal c) = encode_utf8 c
+token_text t (token.TwoDigits f) = padded pad.Zero (number_of f t)
+token_text t token.Mark = codes "T"
+token_text t token.StampOffset = zulu spelling.ColonMinutes (offset_of t)
 
 -- what tokens print of a moment, one behind the other
 abbrev pub printed : DateTimeValue → List Token → List ℕ

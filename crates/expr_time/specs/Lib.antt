@@ -1,7 +1,9 @@
 pub mod Calls
+pub mod Civil
 pub mod Dates
 pub mod Durations
 pub mod Fields
+pub mod Found
 pub mod Layouts
 pub mod Methods
 pub mod Moments

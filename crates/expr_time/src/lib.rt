@@ -3,10 +3,13 @@
 #![tactic(auto)]
 
 mod calls;
+mod civil;
+mod date;
 mod dates;
 mod digits;
 mod fields;
 mod formatting;
+mod found;
 mod laws;
 mod layout;
 mod method;
@@ -14,11 +17,13 @@ mod moments;
 mod names;
 mod places;
 mod print;
+mod read;
 mod spelling;
 mod token;
 mod zones;
 
 pub use calls::TimeCall;
+pub use date::date;
 pub use fields::DateTimeField;
 pub use laws::{texts_have_one_meaning, texts_spell_lengths};
 pub use method::DurationMethod;

@@ -1,7 +1,7 @@
 //! Moments printed by the tokens of a layout.
-ghost use Rattle.std.specs.Prelude.{◌≡◌};
+ghost use Rattle.std.specs.Prelude.{◌≡◌, ◌<◌, ◌≤◌, ◌^◌, ℕ, ℤ, min};
 ghost use Rattle.std.specs.Fmt.{WritesOnOk};
-ghost use Rattle.expr_clock.specs.Moments.{year_text};
+ghost use Rattle.expr_clock.specs.Moments.{sign_of, year_text};
 ghost use Rattle.expr_value.specs.Times.{offset_of};
 ghost use Rattle.expr_time.specs.Fields.{date_at, time_at, year_day_at};
 ghost use Rattle.expr_time.specs.Layouts.{fraction_of, fraction_places, half_hour, half_name, hours_of, minutes_of, number_of, pad_text, padded, padded_more, printed, seconds_of, short_places, short_year, signed_offset, spelled, token_text, zulu};
@@ -32,7 +32,11 @@ pub(crate) fn show<W: Write>(
 }
 
 #[tactic(auto, unfolding(crate::specs::Layouts::token_text))]
-fn show_token<W: Write>(moment: &DateTimeValue, token: Token, f: &mut Formatter<W>) -> fmt::Result
+fn show_token<W: Write>(
+    moment: &DateTimeValue,
+    token: Token,
+    f: &mut Formatter<W>,
+) -> fmt::Result
     ensures { WritesOnOk W.write_str_gives f.old result (token_text moment.now token) f.new }
 {
     match token {
@@ -54,6 +58,9 @@ fn show_token<W: Write>(moment: &DateTimeValue, token: Token, f: &mut Formatter<
             show_short_fraction(separator, places, moment, f)
         }
         Token::Literal(c) => f.write_char(c),
+        Token::TwoDigits(field) => show_padded(Pad::Zero, number_of(field, moment), f),
+        Token::Mark => f.write_str("T"),
+        Token::StampOffset => show_zulu(Spelling::ColonMinutes, moment, f),
     }
 }
 

@@ -57,4 +57,10 @@ pub enum Token {
     ShortFraction(char, u32),
     /// A character that stands for itself.
     Literal(char),
+    /// A number in just two digits, in stamps.
+    TwoDigits(Field),
+    /// `T`, `t` or a space, in stamps.
+    Mark,
+    /// `Z`, `z`, or an offset in hours and minutes, in stamps.
+    StampOffset,
 }
