@@ -1,5 +1,5 @@
 use Rattle.std.proofs.Common.{sym, ◌∙◌, arith}
-use Rattle.expr_time.proofs.Reads.{read_differs, read_more, read_stuck}
+use Rattle.expr_time.proofs.Findings.{read_differs, read_more, read_stuck}
 use Rattle.expr_time.proofs.read.read_all.Goals as goal
 
 pub returns-in_default : goal.returns-in_default
