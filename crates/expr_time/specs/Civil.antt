@@ -72,10 +72,18 @@ abbrev pub if_in_offset : (s : ℤ) → IsOffsetSeconds s ⊎ (¬ (IsOffsetSecon
 if_in_offset s (inl h) = Some (Fixed (record { seconds = s; in_range = h }))
 if_in_offset s (inr beyond) = None
 
--- the place that is read: UTC for no offset, a fixed one for another that is in range, and else the zone that is given
+-- the place of an offset that is read: UTC for none, and a fixed one for another that is in range
+abbrev pub place_at : ℤ → Option Place
+place_at seconds = if int_eq seconds (pos 0) then Some (Zone utc) else if_in_offset seconds (in_offset seconds)
+
+-- the place of a time: that of the offset, if one is read, and else the zone that is given
 abbrev pub place_read : Option ℤ → TimezoneValue → Option Place
 place_read None zone = Some (Zone zone)
-place_read (Some seconds) zone = if int_eq seconds (pos 0) then Some (Zone utc) else if_in_offset seconds (in_offset seconds)
+place_read (Some seconds) zone = place_at seconds
+
+-- what a civil time answers in a place: its moment, and a refusal where there is none or no such place
+abbrev pub answer_in : Option Place → DateTime → Answer
+answer_in place dt = answer_for place (λ p. given (at_civil p dt))
 
 abbrev pub IsCivil : Found → DateTime → Type 0
 IsCivil f dt = IsDated f dt.date × IsTimed f dt.time
@@ -83,7 +91,7 @@ IsCivil f dt = IsDated f dt.date × IsTimed f dt.time
 -- what is answered by what is known: the moment of its civil time in its place, and a refusal where there is none
 abbrev pub Given : Found → TimezoneValue → Answer → Type 0
 Given f zone answer =
-    ((dt : DateTime) × IsCivil f dt × (answer_for (place_read f.offset zone) (λ place. given (at_civil place dt)) ≡ answer))
+    ((dt : DateTime) × IsCivil f dt × (answer_in (place_read f.offset zone) dt ≡ answer))
     ⊎ (((dt : DateTime) → ¬ (IsCivil f dt)) × (Err evaluation ≡ answer))
 
 abbrev pub GivenIf : Option Found → TimezoneValue → Answer → Type 0

@@ -245,5 +245,16 @@ read_all (t ∷ ts) f text = option_and_then (λ found. option_and_then (λ know
 -- nothing is known
 abbrev pub unknown : Found
 unknown = record {
-  year = None; month = None; day = None; year_day = None; weekday = None; hour = None; half_hour = None; half = None; minute = None; second = None; nanosecond = None; offset = None
+  year = None;
+  month = None;
+  day = None;
+  year_day = None;
+  weekday = None;
+  hour = None;
+  half_hour = None;
+  half = None;
+  minute = None;
+  second = None;
+  nanosecond = None;
+  offset = None;
 }

@@ -1,10 +1,12 @@
 //! The built-in `date`.
-ghost use Rattle.std.specs.Prelude.{◌≡◌, ℕ, List, Option, option_map, MatchOption, IfOk, IfErr};
+ghost use Rattle.std.specs.Prelude.{◌≡◌, Some};
 ghost use Rattle.expr_value.specs.Answers.{Gives, Is};
 ghost use Rattle.expr_value.specs.Values.{string_of};
-ghost use Rattle.expr_time.specs.Civil.{AllowsDate, ByForm, ByLayout, DatesLayout, DatesNamed, DatesText, DatesThree, DatesTwo, Given, GivenIf, by_form, stamp_form, date_form, time_form, both_form};
+ghost use Rattle.expr_value.specs.declared.moment.Place.TheVariants.{Zone};
+ghost use Rattle.expr_time.specs.Civil.{AllowsDate, ByLayout, DatesLayout, DatesText, DatesThree, DatesTwo, Given, GivenIf, answer_in, both_form, by_form, date_form, place_at, stamp_form, time_form};
 ghost use Rattle.expr_time.specs.Found.{read_all, unknown};
-ghost use Rattle.expr_time.specs.Places.{utc};
+ghost use Rattle.expr_time.specs.Layouts.{either};
+ghost use Rattle.expr_time.specs.Moments.{timezone_of};
 
 use crate::civil::civil_of;
 use crate::found::Found;
@@ -119,7 +121,7 @@ fn moment(alloc: Global, found: &Found, zone: &TimezoneValue) -> Result<Value>
 }
 
 fn at_offset(alloc: Global, seconds: i32, civil: DateTime) -> Result<Value>
-    ensures { (zone : TimezoneValue) → Is result (answer_for (place_read (Some seconds) zone) (λ place. given (at_civil place civil))) }
+    ensures { Is result (answer_in (place_at seconds) civil) }
 {
     if seconds == 0 {
         let zone = utc(alloc)?;
@@ -132,7 +134,7 @@ fn at_offset(alloc: Global, seconds: i32, civil: DateTime) -> Result<Value>
 }
 
 fn in_zone(alloc: Global, zone: &TimezoneValue, civil: DateTime) -> Result<Value>
-    ensures { Is result (given (at_civil (Zone zone.now) civil)) }
+    ensures { Is result (answer_in (Some (Zone zone.now)) civil) }
 {
     let found = civil_in_zone(zone, civil)?;
     given(alloc, found)

@@ -238,13 +238,7 @@ fn after_space(text: &[u8]) -> &[u8]
 {
     match text {
         [] => text,
-        [first, rest @ ..] => {
-            if *first == b' ' {
-                rest
-            } else {
-                text
-            }
-        }
+        [first, rest @ ..] => { if *first == b' ' { rest } else { text } }
     }
 }
 
