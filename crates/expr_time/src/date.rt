@@ -23,7 +23,7 @@ use std::alloc::Global;
 /// The built-in `date`: a moment that a text says, in a zone that may stand before it, by a layout that may stand behind
 /// it, or in a zone whose name stands behind that. Other arguments, texts that do not say a moment and unknown zones are
 /// refused with [`expr_value::Error::ExprError`].
-pub fn date<Z: Zones>(alloc: Global, zones: &Z, arguments: &[Held<'_>]) -> Result<Value>
+pub(crate) fn date<Z: Zones>(alloc: Global, zones: &Z, arguments: &[Held<'_>]) -> Result<Value>
     ensures { Gives result (AllowsDate (Z.zones zones.now) arguments.now) }
 {
     match arguments {

@@ -100,13 +100,7 @@ fn agreed(known: Option<u32>, found: u32) -> Option<Option<u32>>
 {
     match known {
         None => Some(Some(found)),
-        Some(number) => {
-            if number == found {
-                Some(known)
-            } else {
-                None
-            }
-        }
+        Some(number) => { if number == found { Some(known) } else { None } }
     }
 }
 
@@ -115,12 +109,6 @@ fn agreed_offset(known: Option<i32>, found: i32) -> Option<Option<i32>>
 {
     match known {
         None => Some(Some(found)),
-        Some(seconds) => {
-            if seconds == found {
-                Some(known)
-            } else {
-                None
-            }
-        }
+        Some(seconds) => { if seconds == found { Some(known) } else { None } }
     }
 }

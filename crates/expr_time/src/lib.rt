@@ -23,7 +23,6 @@ mod token;
 mod zones;
 
 pub use calls::TimeCall;
-pub use date::date;
 pub use fields::DateTimeField;
 pub use laws::{texts_have_one_meaning, texts_spell_lengths};
 pub use method::DurationMethod;

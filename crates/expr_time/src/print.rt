@@ -32,11 +32,7 @@ pub(crate) fn show<W: Write>(
 }
 
 #[tactic(auto, unfolding(crate::specs::Layouts::token_text))]
-fn show_token<W: Write>(
-    moment: &DateTimeValue,
-    token: Token,
-    f: &mut Formatter<W>,
-) -> fmt::Result
+fn show_token<W: Write>(moment: &DateTimeValue, token: Token, f: &mut Formatter<W>) -> fmt::Result
     ensures { WritesOnOk W.write_str_gives f.old result (token_text moment.now token) f.new }
 {
     match token {

@@ -71,7 +71,11 @@ pub(crate) fn timezone<Z: Zones>(alloc: Global, zones: &Z, arguments: &[Held<'_>
 }
 
 /// The built-in `now`: a moment in UTC, where the host has set one.
-pub(crate) fn now(alloc: Global, moment: Option<&DateTimeValue>, arguments: &[Held<'_>]) -> Result<Value>
+pub(crate) fn now(
+    alloc: Global,
+    moment: Option<&DateTimeValue>,
+    arguments: &[Held<'_>],
+) -> Result<Value>
     ensures { Is result (now_answer (option_copied moment.entry) arguments.now) }
 {
     let Some(moment) = moment else {

@@ -1,4 +1,4 @@
-use Rattle.expr_time.proofs.Reads.{stripped}
+use Rattle.expr_time.proofs.Findings.{stripped}
 use Rattle.expr_time.proofs.Steps.{prefixed}
 use Rattle.expr_time.proofs.read.after_name.Goals as goal
 
