@@ -31,11 +31,7 @@ fn date_of(found: &Found) -> Option<Date>
     let Some(date) = named_date(found) else {
         return None;
     };
-    if has_parts(found, date) {
-        Some(date)
-    } else {
-        None
-    }
+    if has_parts(found, date) { Some(date) } else { None }
 }
 
 // 1 January of the year 0.
@@ -54,7 +50,10 @@ fn january_first() -> Date
 fn has_date(found: &Found) -> bool
     ensures { result ≡ has_date found.now }
 {
-    found.year.is_some() || found.month.is_some() || found.day.is_some() || found.year_day.is_some()
+    found.year.is_some()
+        || found.month.is_some()
+        || found.day.is_some()
+        || found.year_day.is_some()
 }
 
 // The one date that can have the parts that are known.
@@ -185,11 +184,7 @@ fn hour_of(found: &Found) -> Option<u32>
     let Some(hour) = whole_hour(found.half, shown) else {
         return None;
     };
-    if agrees(found.hour, hour) {
-        Some(hour)
-    } else {
-        None
-    }
+    if agrees(found.hour, hour) { Some(hour) } else { None }
 }
 
 // The hour of the whole day, by its half where that is known.
@@ -198,7 +193,13 @@ fn whole_hour(half: Option<u32>, shown: u32) -> Option<u32>
         (λ hour. IsHour half shown hour × (hour < 24)) }
 {
     match half {
-        None => { if shown < 24 { Some(shown) } else { None } }
+        None => {
+            if shown < 24 {
+                Some(shown)
+            } else {
+                None
+            }
+        }
         Some(half) => {
             if shown < 1 {
                 return None;
