@@ -3,6 +3,7 @@ use Rattle.std.proofs.Common.{◌≡◌, ◌≢◌, ℕ, zero, suc, ◌+◌, ◌
 use Rattle.std.specs.Prelude.{Option, MatchOption}
 use Rattle.std.specs.Option.{option_and_then, option_map}
 use denote.Ref.{Bor}
+use Rattle.std.proofs.lemmas.Bool.{eqb-true, false≢true}
 use Rattle.std.proofs.lemmas.List.{drop_all, drop_more}
 use Rattle.expr_time.specs.declared.found.Finding.{Finding}
 use Rattle.expr_time.specs.declared.found.Found.{Found}
@@ -18,40 +19,48 @@ stripped None name text h = sym (after_none name text h)
 stripped (Some x) name text h = sym (ap (after_name name) h ∙ after_append name x.now)
 
 -- a token that finds something, one that finds nothing, and one whose finding differs from what is known
-pub read_at : (ts : List Token) (i : ℕ) (t : Token) (known : Found) (text : List ℕ) → i < length ts → t ≡ get_or ts i t → read_all (drop i ts) known text ≡ read_all (t ∷ drop (i + 1) ts) known text
-read_at ts i t known text h is = ap (λ (l : List Token). read_all l known text) (drop_more ts i t h ∙ ap (λ (u : Token). u ∷ drop (i + 1) ts) (sym is))
+read_at : (ts : List Token) (i : ℕ) (t : Token) (known : Found) (text : List ℕ) → i < length ts → read_all (drop i ts) known text ≡ read_all (get_or ts i t ∷ drop (i + 1) ts) known text
+read_at ts i t known text h = ap (λ (l : List Token). read_all l known text) (drop_more ts i t h)
+
+abbrev reads_with : List Token → List ℕ → Option Found → Option Found
+reads_with ts rest o = option_and_then (λ more. read_all ts more rest) o
 
 abbrev reads_on : List Token → Found → Reading → Option Found
-reads_on ts known o = option_and_then (λ found. option_and_then (λ more. read_all ts more found.1) (noted found.0 known)) o
+reads_on ts known o = option_and_then (λ found. reads_with ts found.1 (noted found.0 known)) o
 
-pub read_more : (ts : List Token) (i : ℕ) (t : Token) (known next : Found) (text rest : List ℕ) (f : Finding) → i < length ts → t ≡ get_or ts i t → found_at t text ≡ Some (f, rest) → noted f known ≡ Some next → read_all (drop i ts) known text ≡ read_all (drop (i + 1) ts) next rest
-read_more ts i t known next text rest f h is found agreed =
-    read_at ts i t known text h is ∙ ap (reads_on (drop (i + 1) ts) known) found ∙ ap (λ (o : Option Found). option_and_then (λ more. read_all (drop (i + 1) ts) more rest) o) agreed
+pub read_more : (ts : List Token) (i : ℕ) (t : Token) (known next : Found) (text rest : List ℕ) (f : Finding) → i < length ts → found_at (get_or ts i t) text ≡ Some (f, rest) → noted f known ≡ Some next → read_all (drop i ts) known text ≡ read_all (drop (i + 1) ts) next rest
+read_more ts i t known next text rest f h found agreed =
+    read_at ts i t known text h ∙ ap (reads_on (drop (i + 1) ts) known) found ∙ ap (reads_with (drop (i + 1) ts) rest) agreed
 
-pub read_stuck : (ts : List Token) (i : ℕ) (t : Token) (known : Found) (text : List ℕ) → i < length ts → t ≡ get_or ts i t → found_at t text ≡ None → read_all (drop i ts) known text ≡ None
-read_stuck ts i t known text h is found = read_at ts i t known text h is ∙ ap (reads_on (drop (i + 1) ts) known) found
+pub read_stuck : (ts : List Token) (i : ℕ) (t : Token) (known : Found) (text : List ℕ) → i < length ts → found_at (get_or ts i t) text ≡ None → read_all (drop i ts) known text ≡ None
+read_stuck ts i t known text h found = read_at ts i t known text h ∙ ap (reads_on (drop (i + 1) ts) known) found
 
-pub read_differs : (ts : List Token) (i : ℕ) (t : Token) (known : Found) (text rest : List ℕ) (f : Finding) → i < length ts → t ≡ get_or ts i t → found_at t text ≡ Some (f, rest) → noted f known ≡ None → read_all (drop i ts) known text ≡ None
-read_differs ts i t known text rest f h is found differs =
-    read_at ts i t known text h is ∙ ap (reads_on (drop (i + 1) ts) known) found ∙ ap (λ (o : Option Found). option_and_then (λ more. read_all (drop (i + 1) ts) more rest) o) differs
+pub read_differs : (ts : List Token) (i : ℕ) (t : Token) (known : Found) (text rest : List ℕ) (f : Finding) → i < length ts → found_at (get_or ts i t) text ≡ Some (f, rest) → noted f known ≡ None → read_all (drop i ts) known text ≡ None
+read_differs ts i t known text rest f h found differs =
+    read_at ts i t known text h ∙ ap (reads_on (drop (i + 1) ts) known) found ∙ ap (reads_with (drop (i + 1) ts) rest) differs
 
 -- nothing is left, and something is
-pub read_end : (ts : List Token) (i : ℕ) (known : Found) (text : List ℕ) → length ts ≤ i → text ≡ [] → read_all (drop i ts) known text ≡ Some known
-read_end ts i known text h e = (λ j. read_all (drop_all i ts h j) known (e j))
+none_left : (known : Found) (text : List ℕ) → (length text == 0) ≡ true → read_all [] known text ≡ Some known
+none_left known [] h = refl
+none_left known (c ∷ cs) h = absurd (omega (arith, eqb-true (length (c ∷ cs)) 0 h))
 
-some_left : (known : Found) (text : List ℕ) → 0 < length text → read_all [] known text ≡ None
-some_left known [] h = absurd (omega arith)
+some_left : (known : Found) (text : List ℕ) → (length text == 0) ≡ false → read_all [] known text ≡ None
+some_left known [] h = absurd (false≢true (sym h))
 some_left known (c ∷ cs) h = refl
 
-pub read_left : (ts : List Token) (i : ℕ) (known : Found) (text : List ℕ) → length ts ≤ i → 0 < length text → read_all (drop i ts) known text ≡ None
+pub read_end : (ts : List Token) (i : ℕ) (known : Found) (text : List ℕ) → length ts ≤ i → (length text == 0) ≡ true → read_all (drop i ts) known text ≡ Some known
+read_end ts i known text h none = ap (λ (l : List Token). read_all l known text) (drop_all i ts h) ∙ none_left known text none
+
+pub read_left : (ts : List Token) (i : ℕ) (known : Found) (text : List ℕ) → length ts ≤ i → (length text == 0) ≡ false → read_all (drop i ts) known text ≡ None
 read_left ts i known text h some = ap (λ (l : List Token). read_all l known text) (drop_all i ts h) ∙ some_left known text some
 
 -- digits
-of_digit : (b : Bool) (c d : ℕ) (cs rest : List ℕ) → cond b (Some (c - 48, cs)) None ≡ Some (d, rest) → (b ≡ true) × (c - 48 ≡ d) × (cs ≡ rest)
-of_digit true c d cs rest e = (refl, cc, cc)
+of_digit : (b : Bool) (c d : ℕ) (cs rest : List ℕ) → cond {A = Taken} b (Some (c - 48, cs)) None ≡ Some (d, rest) → (b ≡ true) × (c - 48 ≡ d) × (cs ≡ rest)
+of_digit true c d cs rest e =
+    let same : ◌≡◌ {A = ℕ × List ℕ} (c - 48, cs) (d, rest) = cc in (refl, ap (λ (x : ℕ × List ℕ). x.0) same, ap (λ (x : ℕ × List ℕ). x.1) same)
 of_digit false c d cs rest e = absurd (cc)
 
-of_none : (b : Bool) (x : ℕ × List ℕ) → cond b (Some x) None ≡ None → b ≡ false
+of_none : (b : Bool) (x : ℕ × List ℕ) → cond {A = Taken} b (Some x) None ≡ None → b ≡ false
 of_none true x e = absurd (cc)
 of_none false x e = refl
 
@@ -72,12 +81,12 @@ parts_end unit sum [] e = refl
 parts_end unit sum (c ∷ cs) e = ap (λ b. cond b (parts_at (unit / 10) (sum + (c - 48) * unit) cs) (sum, c ∷ cs)) (of_none (is_digit c) (c - 48, cs) e)
 
 -- one more name of a list of names, and its end
-pub name_more : (left : ℕ) (these : Names) (n : ℕ) (text : List ℕ) → 0 < left → name_at left these n text ≡ number_or n (after_any_case (name_of these n) text) (name_at (left - 1) these (n + 1) text)
+pub name_more : (left : ℕ) (these : Names) (n : ℕ) (text : List ℕ) (behind : Option (List ℕ)) → 0 < left → after_any_case (name_of these n) text ≡ behind → name_at left these n text ≡ number_or n behind (name_at (left - 1) these (n + 1) text)
 unfolding Rattle.expr_time.specs.Found.name_at
-name_more zero these n text h = absurd (omega arith)
-name_more (suc left) these n text h =
+name_more zero these n text behind h e = absurd (omega arith)
+name_more (suc left) these n text behind h e =
     let less : left ≡ suc left - 1 = omega arith in
-    ap (λ k. number_or n (after_any_case (name_of these n) text) (name_at k these (n + 1) text)) less
+    λ i. number_or n (e i) (name_at (less i) these (n + 1) text)
 
 pub name_none : (left : ℕ) (these : Names) (n : ℕ) (text : List ℕ) → left ≡ 0 → name_at left these n text ≡ None
 unfolding Rattle.expr_time.specs.Found.name_at

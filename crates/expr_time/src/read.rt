@@ -92,17 +92,8 @@ fn year_day<'a>(taken: Option<(u32, &'a [u8])>) -> Option<(Finding, &'a [u8])>
     }
 }
 
-fn half<'a>(taken: Option<(u32, &'a [u8])>) -> Option<(Finding, &'a [u8])>
-    ensures { seen_finding result ≡ found_as Finding.Half (seen_number taken.entry) }
-{
-    match taken {
-        Some((number, rest)) => Some((Finding::Half(number), rest)),
-        None => None,
-    }
-}
-
 fn short_year<'a>(taken: Option<(u32, &'a [u8])>) -> Option<(Finding, &'a [u8])>
-    requires { IfSome (seen_number taken.entry) (λ t. t.0 < 100) }
+    requires { IfSome (seen_number taken) (λ t. t.0 < 100) }
     ensures { seen_finding result ≡ found_as (λ n. Finding.Year (full_year n)) (seen_number taken.entry) }
 {
     match taken {
@@ -157,7 +148,7 @@ fn digit_at(text: &[u8]) -> Option<(u32, &[u8])>
 
 // A number with one more digit behind it.
 fn one_more<'a>(taken: (u32, &'a [u8])) -> Option<(u32, &'a [u8])>
-    requires { taken.entry.0 < 1000 }
+    requires { taken.0 < 1000 }
     ensures value { seen_number result ≡ one_more (taken.entry.0, taken.entry.1.now) }
     ensures small { IfSome result (λ more. more.0 < taken.entry.0 * 10 + 10) }
 {
@@ -222,7 +213,7 @@ fn up_to_three(text: &[u8]) -> Option<(u32, &[u8])>
 
 // A number with one more digit, if that stands there.
 fn if_more<'a>(taken: (u32, &'a [u8])) -> (u32, &'a [u8])
-    requires { taken.entry.0 < 1000 }
+    requires { taken.0 < 1000 }
     ensures value { (result.0, result.1.now) ≡ if_more (taken.entry.0, taken.entry.1.now) }
     ensures small { result.0 < taken.entry.0 * 10 + 10 }
 {
@@ -344,7 +335,7 @@ fn hours_at(text: &[u8]) -> Option<(u32, &[u8])>
 // Seconds, and those of further units behind a separator.
 fn further<'a>(separator: &str, unit: u32, taken: (u32, &'a [u8])) -> Option<(u32, &'a [u8])>
     requires unit { unit ≤ 60 }
-    requires small { taken.entry.0 < 400000 }
+    requires small { taken.0 < 400000 }
     ensures value { seen_number result ≡ further separator.now unit (taken.entry.0, taken.entry.1.now) }
     ensures small { IfSome result (λ more. more.0 < taken.entry.0 + 6000) }
 {
@@ -413,7 +404,7 @@ fn offset_at(spelling: Spelling, text: &[u8]) -> Option<(Finding, &[u8])>
 }
 
 fn ahead<'a>(taken: Option<(u32, &'a [u8])>) -> Option<(Finding, &'a [u8])>
-    requires { IfSome (seen_number taken.entry) (λ t. t.0 < 400000) }
+    requires { IfSome (seen_number taken) (λ t. t.0 < 400000) }
     ensures { seen_finding result ≡ found_as (λ n. Finding.Offset (pos n)) (seen_number taken.entry) }
 {
     match taken {
@@ -423,7 +414,7 @@ fn ahead<'a>(taken: Option<(u32, &'a [u8])>) -> Option<(Finding, &'a [u8])>
 }
 
 fn behind<'a>(taken: Option<(u32, &'a [u8])>) -> Option<(Finding, &'a [u8])>
-    requires { IfSome (seen_number taken.entry) (λ t. t.0 < 400000) }
+    requires { IfSome (seen_number taken) (λ t. t.0 < 400000) }
     ensures { seen_finding result ≡ found_as (λ n. Finding.Offset (neg_ℤ (pos n))) (seen_number taken.entry) }
 {
     match taken {
