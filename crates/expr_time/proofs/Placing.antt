@@ -31,7 +31,7 @@ kept_utc (KeptRules.Posix rule) e = absurd (cc)
 pub zone_same : (z : TimezoneValue) (name : List ℕ) → zone_name z ≡ name → rules_of z ≡ UTC → z ≡ record { name = name; rules = KeptRules.Utc }
 zone_same z name e p = λ i. record { name = e i; rules = kept_utc z.rules p i }
 
-same_offset : (o p : Offset) → o.seconds ≡ p.seconds → o ≡ p
+pub same_offset : (o p : Offset) → o.seconds ≡ p.seconds → o ≡ p
 same_offset o p e = λ i. record { seconds = e i; in_range = is_prop→PathP (λ j. IsOffsetSeconds (e j)) (λ j. hlevel props) o.in_range p.in_range i }
 
 -- a place by its zone, or by its offset where it has none
@@ -68,7 +68,7 @@ when_false_of : (b : Bool) → ¬ (b ≡ true) → b ≡ false
 when_false_of true h = absurd (h refl)
 when_false_of false h = refl
 
-not_equal : (m n : ℤ) → ¬ (m ≡ n) → int_eq m n ≡ false
+pub not_equal : (m n : ℤ) → ¬ (m ≡ n) → int_eq m n ≡ false
 not_equal m n other = when_false_of (int_eq m n) (λ t. other ((Decides-int_eq m n).0 t))
 
 -- the moment of a civil time where it is in range, and where it isn't
