@@ -4,6 +4,7 @@ ghost use Rattle.std.specs.Option.{option_copied};
 ghost use Rattle.expr_value.specs.Answers.{Gives};
 ghost use Rattle.expr_time.specs.Calls.{Called, name_of};
 
+use crate::date::date;
 use crate::method::duration;
 use crate::zones::{Zones, now, timezone};
 use expr_held::Held;
@@ -13,6 +14,7 @@ use std::alloc::Global;
 /// A call that answers a length of time, a moment or a zone, under the language's own name for it.
 #[derive(Clone, Copy, Debug, PartialEq, Eq)]
 pub enum TimeCall {
+    Date,
     Duration,
     Now,
     Timezone,
@@ -24,6 +26,7 @@ impl TimeCall {
         ensures { MatchOption result ((c : TimeCall) → name_of c ≢ name.now) (λ c. name_of c ≡ name.now) }
     {
         match name {
+            "date" => Some(TimeCall::Date),
             "duration" => Some(TimeCall::Duration),
             "now" => Some(TimeCall::Now),
             "timezone" => Some(TimeCall::Timezone),
@@ -44,6 +47,7 @@ impl TimeCall {
         ensures { Gives result (Called (Z.zones zones.now) (option_copied moment.entry) self arguments.now) }
     {
         match self {
+            TimeCall::Date => date(alloc, zones, arguments),
             TimeCall::Duration => duration(alloc, arguments),
             TimeCall::Now => now(alloc, moment, arguments),
             TimeCall::Timezone => timezone(alloc, zones, arguments),
