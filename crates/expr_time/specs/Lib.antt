@@ -9,4 +9,5 @@ pub mod Methods
 pub mod Moments
 pub mod Places
 pub mod Reading
+pub mod Stamps
 pub mod Zones

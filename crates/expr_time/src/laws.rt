@@ -1,8 +1,14 @@
-//! Laws of the definitions, each on a function without a body.
+//! Laws of the definitions, each on a function that gives nothing.
 ghost use Rattle.std.specs.Prelude.{◌≡◌, ℕ, ℤ, List, FitsSigned};
 ghost use Rattle.std.specs.Int.{w64};
 ghost use Rattle.expr_time.specs.Durations.{Spells};
 ghost use Rattle.expr_clock.specs.Durations.{duration_text};
+ghost use Rattle.expr_time.specs.Stamps.{HasOneLayout, ReadsBack};
+ghost use Rattle.expr_time.specs.declared.token.Token.{Token};
+ghost use Rattle.expr_value.specs.Answers.{Answer};
+ghost use Rattle.expr_value.specs.declared.zone.TimezoneValue.{TimezoneValue};
+
+use expr_value::DateTimeValue;
 
 /// A text spells at most one length of time.
 pub fn texts_have_one_meaning()
@@ -13,3 +19,17 @@ pub fn texts_have_one_meaning()
 pub fn texts_spell_lengths()
     ensures { (d : ℤ) → FitsSigned w64 d → Spells (duration_text d) d }
 {}
+
+/// A layout is no more than one list of tokens.
+pub fn layouts_have_one_reading()
+    ensures { (layout : List ℕ) (ts us : List Token) → HasOneLayout layout ts us }
+{}
+
+/// What `Format` prints of a moment by the layout `2006-01-02T15:04:05.999999999Z07:00` is read by `date` with that layout as
+/// a moment at the same instant: where the year isn't below zero, and the offset is whole minutes of less than a day. The
+/// law asks what the moment's clock shows.
+pub fn printed_moments_are_read(moment: &DateTimeValue)
+    ensures { (zone : TimezoneValue) (text : List ℕ) (answer : Answer) → ReadsBack moment.now zone text answer }
+{
+    moment.civil();
+}

@@ -24,7 +24,9 @@ mod zones;
 
 pub use calls::TimeCall;
 pub use fields::DateTimeField;
-pub use laws::{texts_have_one_meaning, texts_spell_lengths};
+pub use laws::{
+    layouts_have_one_reading, printed_moments_are_read, texts_have_one_meaning, texts_spell_lengths,
+};
 pub use method::DurationMethod;
 pub use moments::{DateTimeMethod, NameMethod};
 pub use spelling::spelled;

@@ -1,0 +1,35 @@
+-- Texts of moments that say their instant.
+use Rattle.std.specs.Prelude.{◌≡◌, ℕ, pos, ◌%◌, ◌<◌, ◌≤ℤ◌, unsigned_abs, List, Ok, codes, false}
+use Rattle.expr_value.specs.Answers.{Answer}
+use Rattle.expr_value.specs.Times.{instant, offset_of}
+use Rattle.expr_value.specs.declared.moment.DateTimeValue.{DateTimeValue}
+use Rattle.expr_value.specs.declared.value.Value as value
+use Rattle.expr_value.specs.declared.zone.TimezoneValue.{TimezoneValue}
+use Rattle.expr_time.specs.Civil.{ByLayout}
+use Rattle.expr_time.specs.Fields.{date_at}
+use Rattle.expr_time.specs.Layouts.{IsLayout, printed}
+use Rattle.expr_time.specs.declared.token.Token.{Token}
+
+-- a layout whose texts say instants
+abbrev pub stamp_layout : List ℕ
+stamp_layout = codes "2006-01-02T15:04:05.999999999Z07:00"
+
+-- a layout has no more than one list of tokens
+abbrev pub HasOneLayout : List ℕ → List Token → List Token → Type 0
+HasOneLayout layout ts us = IsLayout false layout ts → IsLayout false layout us → ts ≡ us
+
+-- what a layout prints of a moment
+abbrev pub Prints : DateTimeValue → List ℕ → List ℕ → Type 0
+Prints t layout text = (tokens : List Token) × IsLayout false layout tokens × (text ≡ printed t tokens)
+
+-- the year isn't below zero, and the offset is whole minutes of less than a day
+abbrev pub CanStamp : DateTimeValue → Type 0
+CanStamp t = (pos 0 ≤ℤ (date_at t).year) × (unsigned_abs (offset_of t) % 60 ≡ 0) × (unsigned_abs (offset_of t) < 86400)
+
+-- a moment at the same instant is answered
+abbrev pub SaysInstant : DateTimeValue → Answer → Type 0
+SaysInstant t answer = (u : DateTimeValue) × (instant u ≡ instant t) × (Ok (value.DateTime u) ≡ answer)
+
+-- what the layout prints of a moment is read by it as the same instant, whichever zone is given
+abbrev pub ReadsBack : DateTimeValue → TimezoneValue → List ℕ → Answer → Type 0
+ReadsBack t zone text answer = CanStamp t → Prints t stamp_layout text → ByLayout text stamp_layout zone answer → SaysInstant t answer
