@@ -7,6 +7,7 @@ use Rattle.serde_json.specs.Find.{of_integer}
 use Rattle.serde_json.specs.Read.{max_depth, read}
 use Rattle.serde_json.specs.View.{items_of}
 use Rattle.serde_json.specs.Written.{compact_text}
+use Rattle.expr_time.specs.Stamps.{stamp_text}
 use Rattle.expr_value.specs.declared.value.Value.{Value, fold-Value}
 use Rattle.expr_value.specs.declared.value.Value.TheOpen.{Value-F}
 
@@ -20,7 +21,7 @@ abbrev pub members_all : List (List ℕ × Option Data) → Members → Option M
 members_all [] done = Some done
 members_all (p ∷ ps) done = option_and_then (λ d. members_all ps (put p.0 d done)) p.1
 
--- the data of one layer, of which the data inside are known; a map by keys has none, nor has a date-time or a zone yet
+-- the data of one layer, of which the data inside are known: a date-time has its stamp, a zone an object without members, a map by keys none
 abbrev pub layer_data : Value-F (Option Data) → Option Data
 layer_data (Value-F.Integer n) = Some (number (of_integer n))
 layer_data (Value-F.Bool b) = Some (boolean b)
@@ -29,8 +30,8 @@ layer_data (Value-F.String s) = Some (string s)
 layer_data (Value-F.Duration n) = Some (number (of_integer n))
 layer_data (Value-F.Month n) = Some (number (unsigned n))
 layer_data (Value-F.Weekday n) = Some (number (unsigned n))
-layer_data (Value-F.DateTime t) = None
-layer_data (Value-F.Timezone z) = None
+layer_data (Value-F.DateTime t) = Some (string (stamp_text t))
+layer_data (Value-F.Timezone z) = Some (object no_members)
 layer_data (Value-F.Array items) = option_map (λ ds. array (items_of ds)) (all_of items)
 layer_data (Value-F.Bytes bs) = Some (string (encode_of standard bs))
 layer_data (Value-F.Map pairs) = option_map object (members_all pairs no_members)

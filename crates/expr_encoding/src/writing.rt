@@ -3,21 +3,23 @@
 //! The recursion follows the value's nesting, as that of `serde_json`'s writer does.
 ghost use Rattle.serde_json.specs.View.{view, members_view};
 ghost use Rattle.std.specs.Prelude.{◌≡◌, ◌≢◌, None, Some, map, IfOk, IfErr};
-ghost use Rattle.serde_json.specs.Data.{no_members};
+ghost use Rattle.serde_json.specs.Data.{no_members, string};
 ghost use Rattle.expr_value.specs.Answers.{Is};
 ghost use Rattle.expr_value.specs.Fault.{evaluation, fault_of, memory};
 ghost use Rattle.expr_encoding.specs.Optional.{Refuses, given};
+ghost use Rattle.expr_time.specs.Stamps.{stamp_text};
 ghost use Rattle.expr_encoding.specs.ReadBack.{ReadsEqual};
 ghost use Rattle.expr_encoding.specs.Writing.{ReadsBack, all_of, data_of, json_text, members_all, pair_data};
 
 use base64::engine::general_purpose::STANDARD;
-use expr_value::{Result, Text, Value, ValueMap, refusal};
+use expr_time::stamp;
+use expr_value::{DateTimeValue, Error, Result, Text, Value, ValueMap, refusal};
 use serde_json::{Map, Value as Json};
 use std::alloc::Global;
 
-/// The JSON text of a value, as `serde_json` writes it without spaces: names rise, bytes are a Base64 text, and
-/// durations, months and days of the week are numbers. A map by keys anywhere in the value is refused, and so are
-/// date-times and zones for now, whose JSON is still to come. What is made of nil, booleans, integers, texts, arrays and
+/// The JSON text of a value, as `serde_json` writes it without spaces: names rise, bytes are a Base64 text, date-times
+/// their stamps ([`expr_time::stamp`]), durations, months and days of the week numbers, and zones objects without members.
+/// A map by keys anywhere in the value is refused. What is made of nil, booleans, integers, texts, arrays and
 /// maps by names is read from its text as an equal value, unless it nests deeper than 127 levels.
 pub fn to_json(alloc: Global, value: &Value) -> Result<Text>
     ensures text { Is result (given (json_text value.now)) }
@@ -41,13 +43,22 @@ fn data_of(alloc: Global, value: &Value) -> Result<Json>
         Value::Duration(n) => Ok(Json::from(*n)),
         Value::Month(n) => Ok(Json::from(*n)),
         Value::Weekday(n) => Ok(Json::from(*n)),
-        Value::DateTime(_) => Err(refusal(alloc, "no JSON of date-times yet")),
-        Value::Timezone(_) => Err(refusal(alloc, "no JSON of zones yet")),
+        Value::DateTime(moment) => stamp_data(alloc, moment.get()),
+        Value::Timezone(_) => Ok(Json::Object(Map::new(alloc))),
         Value::Array(items) => Ok(Json::Array(items_data(alloc, items.as_slice())?)),
         Value::Bytes(bytes) => Ok(Json::from(STANDARD.encode(alloc, bytes.as_slice())?)),
         Value::Map(map) => Ok(Json::Object(members_data(alloc, map)?)),
         Value::KeyedMap(_) => Err(refusal(alloc, "JSON has no maps by keys")),
     }
+}
+
+// The stamp of a moment as a text.
+fn stamp_data(alloc: Global, moment: &DateTimeValue) -> Result<Json>
+    ensures ok { IfOk result (λ d. Some (string (stamp_text moment.now)) ≡ Some (view d)) }
+    ensures err { IfErr result (λ e. e ≡ Error.MemoryError) }
+{
+    let text = stamp(alloc, moment)?;
+    Ok(Json::try_from_str(alloc, text.as_str())?)
 }
 
 #[cycle(writing)]

@@ -1,5 +1,5 @@
 -- Texts of moments that say their instant.
-use Rattle.std.specs.Prelude.{◌≡◌, ℕ, pos, ◌%◌, ◌<◌, ◌≤ℤ◌, unsigned_abs, List, Ok, codes, false}
+use Rattle.std.specs.Prelude.{◌≡◌, ℕ, pos, ◌%◌, ◌<◌, ◌≤ℤ◌, unsigned_abs, List, [], ◌∷◌, Ok, codes, false}
 use Rattle.expr_value.specs.Answers.{Answer}
 use Rattle.expr_value.specs.Times.{instant, offset_of}
 use Rattle.expr_value.specs.declared.moment.DateTimeValue.{DateTimeValue}
@@ -8,7 +8,11 @@ use Rattle.expr_value.specs.declared.zone.TimezoneValue.{TimezoneValue}
 use Rattle.expr_time.specs.Civil.{ByLayout}
 use Rattle.expr_time.specs.Fields.{date_at}
 use Rattle.expr_time.specs.Layouts.{IsLayout, printed}
+use Rattle.expr_time.specs.declared.token.Field.TheVariants as field
+use Rattle.expr_time.specs.declared.token.Pad.TheVariants as pad
+use Rattle.expr_time.specs.declared.token.Spelling.TheVariants as spelling
 use Rattle.expr_time.specs.declared.token.Token.{Token}
+use Rattle.expr_time.specs.declared.token.Token.TheVariants as token
 
 -- a layout whose texts say instants
 abbrev pub stamp_layout : List ℕ
@@ -33,3 +37,13 @@ SaysInstant t answer = (u : DateTimeValue) × (instant u ≡ instant t) × (Ok (
 -- what the layout prints of a moment is read by it as the same instant, whichever zone is given
 abbrev pub ReadsBack : DateTimeValue → TimezoneValue → List ℕ → Answer → Type 0
 ReadsBack t zone text answer = CanStamp t → Prints t stamp_layout text → ByLayout text stamp_layout zone answer → SaysInstant t answer
+
+-- the tokens of that layout, and what they print of a moment: as JSON texts have it
+abbrev pub stamp_tokens : List Token
+stamp_tokens =
+    token.Year ∷ token.Literal 45 ∷ token.Number field.Month pad.Zero ∷ token.Literal 45 ∷ token.Number field.Day pad.Zero ∷ token.Literal 84
+    ∷ token.Number field.Hour pad.Zero ∷ token.Literal 58 ∷ token.Number field.Minute pad.Zero ∷ token.Literal 58 ∷ token.Number field.Second pad.Zero
+    ∷ token.ShortFraction 46 9 ∷ token.Zulu spelling.ColonMinutes ∷ []
+
+unfoldable pub stamp_text : DateTimeValue → List ℕ
+stamp_text t = printed t stamp_tokens

@@ -3,11 +3,12 @@ ghost use Rattle.std.specs.Prelude.{◌≡◌, Some, IfOk, IfErr, string_bytes};
 ghost use Rattle.expr_value.specs.Answers.{Gives};
 ghost use Rattle.expr_time.specs.Layouts.{Formats, FormatsBy, printed};
 ghost use Rattle.expr_time.specs.Methods.{one_text};
+ghost use Rattle.expr_time.specs.Stamps.{stamp_text};
 
 use crate::layout::tokens_of;
 use crate::method::one_text;
 use crate::print::show;
-use crate::token::Token;
+use crate::token::{Field, Pad, Spelling, Token};
 use expr_held::Held;
 use expr_value::{DateTimeValue, Error, Result, Text, Value, refusal};
 use std::alloc::Global;
@@ -22,6 +23,36 @@ pub(crate) fn format(alloc: Global, moment: &DateTimeValue, arguments: &[Held<'_
         return Err(refusal(alloc, "Format takes a layout"));
     };
     formatted(alloc, moment, layout)
+}
+
+/// The stamp of a moment: its text by the layout `2006-01-02T15:04:05.999999999Z07:00`, which is a date-time of RFC 3339
+/// (section 5.6) where the year is within 0 and 9999.
+///
+/// # Errors
+///
+/// `MemoryError` alone.
+#[tactic(auto, unfolding(crate::specs::Stamps::stamp_text))]
+pub fn stamp(alloc: Global, moment: &DateTimeValue) -> Result<Text>
+    ensures text { IfOk result (λ s. s ≡ stamp_text moment.now) }
+    ensures err { IfErr result (λ e. e ≡ Error.MemoryError) }
+{
+    let tokens = [
+        Token::Year,
+        Token::Literal('-'),
+        Token::Number(Field::Month, Pad::Zero),
+        Token::Literal('-'),
+        Token::Number(Field::Day, Pad::Zero),
+        Token::Literal('T'),
+        Token::Number(Field::Hour, Pad::Zero),
+        Token::Literal(':'),
+        Token::Number(Field::Minute, Pad::Zero),
+        Token::Literal(':'),
+        Token::Number(Field::Second, Pad::Zero),
+        Token::ShortFraction('.', 9),
+        Token::Zulu(Spelling::ColonMinutes),
+    ];
+    let text = text_of(alloc, moment, &tokens)?;
+    Ok(Text::from_string(text))
 }
 
 fn formatted(alloc: Global, moment: &DateTimeValue, layout: &str) -> Result<Value>

@@ -1,9 +1,10 @@
 //! Laws of the definitions, each on a function that gives nothing.
-ghost use Rattle.std.specs.Prelude.{◌≡◌, ℕ, ℤ, List, FitsSigned};
+ghost use Rattle.std.specs.Prelude.{◌≡◌, ℕ, ℤ, List, FitsSigned, false};
 ghost use Rattle.std.specs.Int.{w64};
 ghost use Rattle.expr_time.specs.Durations.{Spells};
 ghost use Rattle.expr_clock.specs.Durations.{duration_text};
-ghost use Rattle.expr_time.specs.Stamps.{HasOneLayout, ReadsBack};
+ghost use Rattle.expr_time.specs.Layouts.{IsLayout};
+ghost use Rattle.expr_time.specs.Stamps.{HasOneLayout, ReadsBack, stamp_layout, stamp_tokens};
 ghost use Rattle.expr_time.specs.declared.token.Token.{Token};
 ghost use Rattle.expr_value.specs.Answers.{Answer};
 ghost use Rattle.expr_value.specs.declared.zone.TimezoneValue.{TimezoneValue};
@@ -23,6 +24,11 @@ pub fn texts_spell_lengths()
 /// A layout is no more than one list of tokens.
 pub fn layouts_have_one_reading()
     ensures { (layout : List ℕ) (ts us : List Token) → HasOneLayout layout ts us }
+{}
+
+/// A stamp goes by the layout `2006-01-02T15:04:05.999999999Z07:00`.
+pub fn stamps_go_by_a_layout()
+    ensures { IsLayout false stamp_layout stamp_tokens }
 {}
 
 /// What `Format` prints of a moment by the layout `2006-01-02T15:04:05.999999999Z07:00` is read by `date` with that layout as

@@ -24,8 +24,10 @@ mod zones;
 
 pub use calls::TimeCall;
 pub use fields::DateTimeField;
+pub use formatting::stamp;
 pub use laws::{
-    layouts_have_one_reading, printed_moments_are_read, texts_have_one_meaning, texts_spell_lengths,
+    layouts_have_one_reading, printed_moments_are_read, stamps_go_by_a_layout,
+    texts_have_one_meaning, texts_spell_lengths,
 };
 pub use method::DurationMethod;
 pub use moments::{DateTimeMethod, NameMethod};
