@@ -2,4 +2,5 @@ pub mod Allowed
 pub mod Begun
 pub mod Independent
 pub mod Plainly
+pub mod Outermost
 pub mod Scoped

@@ -1,4 +1,6 @@
-use Rattle.std.proofs.Common.{◌≡◌, ◌&&◌, IsTrue, ◌+◌, ◌≤◌, ◌++◌, List, [], ◌∷◌, length, map, drop, rules, true, sym, ap, ◌∙◌, subst, refl, Ok, Err, String, Global, string_bytes}
+use denote.Param.Weighed.{most, at_most}
+use lib.ListN.{get_or}
+use Rattle.std.proofs.Common.{ℕ, ◌≡◌, ◌&&◌, IsTrue, ◌+◌, ◌*◌, ◌<◌, arith, ◌≤◌, ◌++◌, List, [], ◌∷◌, length, map, drop, rules, true, sym, ap, ◌∙◌, subst, refl, Ok, Err, String, Global, string_bytes}
 use Rattle.std.proofs.lemmas.List.{drop_all}
 use Rattle.expr_tree.proofs.Shapes.{written-Func, written-Slice}
 use Rattle.expr_predicates.proofs.Turns.{turn_on, turn_refused, turn_misanswered, turn_done}
@@ -561,3 +563,14 @@ ask-returns g t c = λ u s.
     let at = c.loop-question.invariant u s in
     let whole : Answer → Type 0 = Asks u asks (left c.args.run) [] in
     turn_done asks whole u c.loop-question.run at (sym (c.in_default.ensures.question u at.0 at.1)) c.finish.result (c.finish.ensures u at.0 at.1)
+
+-- the measure of one of some parts is below that of the whole
+part_falls : {X : Type 0} (W : X → ℕ) (xs : List X) (i : ℕ) (x : X) (t : ℕ) → 6 * most W xs + 3 ≡ t → x ≡ get_or xs i x → i < length xs → 6 * W x + 2 < t
+part_falls W xs i x t is at within =
+    let h : W (get_or xs i x) ≤ most W xs = at_most W xs i x within in
+    let e : W x ≡ W (get_or xs i x) = ap W at in
+    omega (arith, h, e, is)
+
+pub entries-keep-requires : goal.entries-keep-requires
+entries-keep-requires g t c κs within =
+    (omega (arith, part_falls _ c.args.entries.now c.loop-key.key-index c.loop-key-item.result t c.decreases c.loop-key-item.is c.loop-key-test.true), within)

@@ -27,10 +27,10 @@ returns-in_err-call_alone g c =
     let key = c.args.ident.now in
     let e = c.in_err-call_alone.field-0.0 in
     lent_none host ctx key c.args.args.items c.args.predicate c.from_residual-in_err-call_alone.result c.in_default.is (
-          Gives-passed c.from_residual-in_err-call_alone.result e (AllowsCall host key c.args.args.items false AsksItself) c.from_residual-in_err-call_alone.ensures.1 (
-          λ m. subst (λ vs. AllowsCall host key vs false AsksItself (Err (fault_of e))) c.in_ok-args.ensures.ok (c.in_err-call_alone.ensures m)
-          )
-          )
+    Gives-passed c.from_residual-in_err-call_alone.result e (AllowsCall host key c.args.args.items false AsksItself) c.from_residual-in_err-call_alone.ensures.1 (
+    λ m. subst (λ vs. AllowsCall host key vs false AsksItself (Err (fault_of e))) c.in_ok-args.ensures.ok (c.in_err-call_alone.ensures m)
+    )
+    )
 
 pub returns-in_default : goal.returns-in_default
 returns-in_default g c =
@@ -39,7 +39,7 @@ returns-in_default g c =
     let key = c.args.ident.now in
     let v = c.in_ok-call_alone.field-0 in
     lent_none host ctx key c.args.args.items c.args.predicate c.into_value.result c.in_default.is (
-          Gives-of-Is c.into_value.result (Ok v) (AllowsCall host key c.args.args.items false AsksItself) c.into_value.ensures.answer (
-          subst (λ vs. AllowsCall host key vs false AsksItself (Ok v)) c.in_ok-args.ensures.ok c.in_ok-call_alone.ensures
-          )
-          )
+    Gives-of-Is c.into_value.result (Ok v) (AllowsCall host key c.args.args.items false AsksItself) c.into_value.ensures.answer (
+    subst (λ vs. AllowsCall host key vs false AsksItself (Ok v)) c.in_ok-args.ensures.ok c.in_ok-call_alone.ensures
+    )
+    )
