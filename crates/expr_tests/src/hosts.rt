@@ -1,8 +1,10 @@
 //! Hosts of the tests' own: functions that are added to an environment, and to a parser.
 use crate::said::{printed, said};
-use expr::{Context, Environment, Error, ExprCall, Node, Parser, Result, Value, compile, value};
+use expr::{
+    Context, Environment, Error, ExprCall, Node, Parser, Result, Value, bail, compile, value,
+};
 use jiff::Timestamp;
-use jiff::tz::TimeZone;
+use jiff::tz::{Offset, TimeZone};
 use std::alloc::Global;
 use std::cell::Cell;
 use std::test::Fail;
@@ -184,5 +186,54 @@ fn is_added(alloc: Global, name: &str) -> Result<bool> {
 fn zones_have_names_of_their_own(rt: HostRuntime) -> Tested {
     assert!(rt; matches!(is_added(rt.alloc(), "UTC"), Ok(false)));
     assert!(rt; matches!(is_added(rt.alloc(), "utc"), Ok(true)));
+    Ok(())
+}
+
+/// An environment with zones of a rule and of an offset, whose moment is the instant 0.
+fn zoned(alloc: Global) -> Result<Environment> {
+    let mut host = Environment::new(alloc);
+    let Ok(rules) = TimeZone::posix("EST5EDT,M3.2.0,M11.1.0") else {
+        bail!(in alloc; "no rules");
+    };
+    host.add_timezone("E", rules)?;
+    let Ok(ahead) = Offset::from_seconds(3600) else {
+        bail!(in alloc; "no offset");
+    };
+    host.add_timezone("X/Plus1", TimeZone::fixed(ahead))?;
+    host.set_now(Timestamp::UNIX_EPOCH);
+    Ok(host)
+}
+
+/// Texts, and what they answer where those zones are added.
+const WITH_ZONES: &[(&str, &str)] = &[
+    (
+        r#"date("2024-11-03 01:30:00", "2006-01-02 15:04:05", "E").Unix()"#,
+        "1730611800",
+    ),
+    (
+        r#"date("2024-03-10 02:30:00", "2006-01-02 15:04:05", "E").Unix()"#,
+        "!evaluation",
+    ),
+    (
+        r#"date("2024-07-01T12:00:00Z").In(timezone("E")).String()"#,
+        r#""2024-07-01 08:00:00 -0400 E""#,
+    ),
+    (
+        r#"date("2024-01-01 00:00:00", "2006-01-02 15:04:05", "X/Plus1").Unix()"#,
+        "1704063600",
+    ),
+    ("now().Unix()", "0"),
+    ("now().Location().String()", r#""UTC""#),
+    (r#"timezone("e")"#, "!evaluation"),
+];
+
+#[test]
+fn zones_are_asked_by_their_names(rt: HostRuntime) -> Tested {
+    let alloc = rt.alloc();
+    let host = zoned(alloc)?;
+    for (code, expected) in WITH_ZONES {
+        let answer = printed(alloc, host.eval(alloc, code, &Context::new(alloc)))?;
+        assert_eq!(rt; answer.as_str(), *expected, "{code}");
+    }
     Ok(())
 }
