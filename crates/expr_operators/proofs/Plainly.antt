@@ -30,11 +30,13 @@ added-plain : (a b : Value-F Value) → IsTrue (is_plain_layer a) → IsPlainAns
 added-plain (Value-F.Integer x) (Value-F.Integer y) p = plain-Integer _
 added-plain (Value-F.Duration x) b p = cc
 added-plain (Value-F.String x) b p = cc
+added-plain (Value-F.DateTime x) b p = cc
 added-plain a b p = tt
 
 subtracted-plain : (a b : Value-F Value) → IsTrue (is_plain_layer a) → IsPlainAnswer (subtracted_layers a b)
 subtracted-plain (Value-F.Integer x) (Value-F.Integer y) p = plain-Integer _
 subtracted-plain (Value-F.Duration x) b p = cc
+subtracted-plain (Value-F.DateTime x) b p = cc
 subtracted-plain a b p = tt
 
 multiplied-plain : (a b : Value-F Value) → IsTrue (is_plain_layer a) → IsTrue (is_plain_layer b) → IsPlainAnswer (multiplied_layers a b)

@@ -10,18 +10,24 @@ use Rattle.expr_tree.specs.declared.operator.Operator.TheVariants.{Add, Subtract
 use Rattle.expr_tree.specs.declared.operator.UnaryOperator.{UnaryOperator}
 use Rattle.expr_tree.specs.declared.operator.UnaryOperator.TheVariants.{Not, Positive, Negative}
 use Rattle.expr_value.specs.Fault.{evaluation}
+use Rattle.expr_value.specs.Moved.{moved, moved_back}
 use Rattle.expr_value.specs.Names.{find}
+use Rattle.expr_value.specs.Times.{instant}
 use Rattle.expr_value.specs.Values.{equals, at_key}
 use Rattle.expr_value.specs.declared.value.Value as value
 use Rattle.expr_value.specs.declared.value.Value.{Value, out-Value}
 use Rattle.expr_value.specs.declared.value.Value.TheOpen.{Value-F}
 use Rattle.expr_value.specs.Answers.{Answer}
+use Rattle.expr_time.specs.Moments.{between}
+use Rattle.expr_time.specs.Places.{given}
 
--- sums, differences and products wrap at 64 bits; the sum of two texts is the one before the other
+-- sums, differences and products wrap at 64 bits; the sum of two texts is the one before the other; a moment is moved within the range of moments, and two have a length of time between them where it fits 64 bits
 abbrev pub added_layers : Value-F Value → Value-F Value → Answer
 added_layers (Value-F.Integer a) (Value-F.Integer b) = Ok (value.Integer (int_wrapping_add w64 a b))
 added_layers (Value-F.Duration a) (Value-F.Duration b) = Ok (value.Duration (int_wrapping_add w64 a b))
 added_layers (Value-F.String a) (Value-F.String b) = Ok (value.String (a ++ b))
+added_layers (Value-F.DateTime t) (Value-F.Duration n) = given (moved t n)
+added_layers (Value-F.Duration n) (Value-F.DateTime t) = given (moved t n)
 added_layers a b = Err evaluation
 
 abbrev pub added : Value → Value → Answer
@@ -30,6 +36,8 @@ added a b = added_layers (out-Value a) (out-Value b)
 abbrev pub subtracted_layers : Value-F Value → Value-F Value → Answer
 subtracted_layers (Value-F.Integer a) (Value-F.Integer b) = Ok (value.Integer (int_wrapping_sub w64 a b))
 subtracted_layers (Value-F.Duration a) (Value-F.Duration b) = Ok (value.Duration (int_wrapping_sub w64 a b))
+subtracted_layers (Value-F.DateTime t) (Value-F.Duration n) = given (moved_back t n)
+subtracted_layers (Value-F.DateTime t) (Value-F.DateTime u) = between t u
 subtracted_layers a b = Err evaluation
 
 abbrev pub subtracted : Value → Value → Answer
@@ -52,11 +60,12 @@ remainder_layers a b = Err evaluation
 abbrev pub remainder : Value → Value → Answer
 remainder a b = remainder_layers (out-Value a) (out-Value b)
 
--- how two values stand in the order of their kind; texts are ordered by bytes
+-- how two values stand in the order of their kind; texts are ordered by bytes, moments by their instants
 abbrev pub order_of_layers : Value-F Value → Value-F Value → Option Ordering
 order_of_layers (Value-F.Integer a) (Value-F.Integer b) = Some (int_cmp a b)
 order_of_layers (Value-F.Duration a) (Value-F.Duration b) = Some (int_cmp a b)
 order_of_layers (Value-F.String a) (Value-F.String b) = Some (slice_cmp nat_cmp a b)
+order_of_layers (Value-F.DateTime a) (Value-F.DateTime b) = Some (int_cmp (instant a) (instant b))
 order_of_layers a b = None
 
 abbrev pub order_of : Value → Value → Option Ordering

@@ -5,11 +5,12 @@ ghost use Rattle.expr_operators.specs.Operators.{added, subtracted, multiplied, 
 ghost use Rattle.expr_operators.specs.Plain.{is_plain_value, Surely};
 
 use crate::messages::mismatch;
+use crate::moments::{between, earlier, later};
 use expr_tree::operator::Operator;
 use expr_value::{Result, Text, Value, refusal};
 use std::alloc::{AllocError, Global};
 
-/// The sum of two integers or two durations, or two texts as one.
+/// The sum of two integers or two durations, two texts as one, or a moment moved by a duration.
 pub fn add(alloc: Global, left: &Value, right: &Value) -> Result<Value>
     ensures answer { Is result (added left.now right.now) }
     ensures plain { IsTrue (is_plain_value left.now) → IsTrue (is_plain_value right.now) → Surely result (added left.now right.now) }
@@ -21,11 +22,13 @@ pub fn add(alloc: Global, left: &Value, right: &Value) -> Result<Value>
             let joined = join(alloc, a.as_str(), b.as_str())?;
             Ok(Value::String(Text::from_string(joined)))
         }
+        (Value::DateTime(moment), Value::Duration(n))
+        | (Value::Duration(n), Value::DateTime(moment)) => later(alloc, moment.get(), n),
         _ => Err(mismatch(alloc, &Operator::Add, left, right)),
     }
 }
 
-/// The difference of two integers or two durations.
+/// The difference of two integers, two durations or two moments, or a moment moved back by a duration.
 pub fn subtract(alloc: Global, left: &Value, right: &Value) -> Result<Value>
     ensures answer { Is result (subtracted left.now right.now) }
     ensures plain { IsTrue (is_plain_value left.now) → IsTrue (is_plain_value right.now) → Surely result (subtracted left.now right.now) }
@@ -33,6 +36,8 @@ pub fn subtract(alloc: Global, left: &Value, right: &Value) -> Result<Value>
     match (left, right) {
         (Value::Integer(a), Value::Integer(b)) => Ok(Value::Integer(a.wrapping_sub(*b))),
         (Value::Duration(a), Value::Duration(b)) => Ok(Value::Duration(a.wrapping_sub(*b))),
+        (Value::DateTime(moment), Value::Duration(n)) => earlier(alloc, moment.get(), n),
+        (Value::DateTime(a), Value::DateTime(b)) => between(alloc, a.get(), b.get()),
         _ => Err(mismatch(alloc, &Operator::Subtract, left, right)),
     }
 }

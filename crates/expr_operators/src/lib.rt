@@ -8,6 +8,7 @@ mod laws;
 mod matching;
 mod membership;
 mod messages;
+mod moments;
 mod operators;
 mod positions;
 mod sides;

@@ -1,0 +1,44 @@
+//! Moments moved by lengths of time, and what lies between two of them.
+ghost use Rattle.std.specs.Prelude.{◌≡◌};
+ghost use Rattle.expr_value.specs.Answers.{Is};
+ghost use Rattle.expr_value.specs.Moved.{moved, moved_back};
+ghost use Rattle.expr_time.specs.Moments.{between};
+ghost use Rattle.expr_time.specs.Places.{given};
+
+use expr_value::{DateTimeValue, Result, Value, refusal};
+use std::alloc::Global;
+
+/// The moment so many nanoseconds later, in the same place.
+pub fn later(alloc: Global, moment: &DateTimeValue, nanoseconds: &i64) -> Result<Value>
+    ensures { Is result (given (moved moment.now nanoseconds.now)) }
+{
+    let moment = moment.clone()?;
+    given(alloc, moment.checked_add_signed(*nanoseconds))
+}
+
+/// The moment so many nanoseconds earlier, in the same place.
+pub fn earlier(alloc: Global, moment: &DateTimeValue, nanoseconds: &i64) -> Result<Value>
+    ensures { Is result (given (moved_back moment.now nanoseconds.now)) }
+{
+    let moment = moment.clone()?;
+    given(alloc, moment.checked_sub_signed(*nanoseconds))
+}
+
+/// The length of time from the second moment to the first.
+pub fn between(alloc: Global, moment: &DateTimeValue, other: &DateTimeValue) -> Result<Value>
+    ensures { Is result (between moment.now other.now) }
+{
+    match moment.checked_difference(other) {
+        Some(nanoseconds) => Ok(Value::Duration(nanoseconds)),
+        None => Err(refusal(alloc, "these moments are too far apart")),
+    }
+}
+
+fn given(alloc: Global, moment: Option<DateTimeValue>) -> Result<Value>
+    ensures { Is result (given moment) }
+{
+    match moment {
+        Some(moment) => Value::datetime(alloc, moment),
+        None => Err(refusal(alloc, "this moment is out of range")),
+    }
+}
