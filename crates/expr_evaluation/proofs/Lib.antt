@@ -1,6 +1,6 @@
 pub mod Allowed
 pub mod Begun
 pub mod Independent
+pub mod Literal
 pub mod Plainly
-pub mod Outermost
 pub mod Scoped

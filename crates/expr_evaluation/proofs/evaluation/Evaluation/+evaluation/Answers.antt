@@ -1,7 +1,7 @@
+use Rattle.std.proofs.Common.{ℕ, ◌*◌, ◌<◌, ◌≡◌, ◌&&◌, IsTrue, ◌+◌, ◌≤◌, ◌++◌, List, [], ◌∷◌, length, map, drop, arith, rules, true, sym, ap, ◌∙◌, subst, refl, Ok, Err, String, Global, string_bytes}
+use Rattle.std.proofs.lemmas.List.{drop_all}
 use denote.Param.Weighed.{most, at_most}
 use lib.ListN.{get_or}
-use Rattle.std.proofs.Common.{ℕ, ◌≡◌, ◌&&◌, IsTrue, ◌+◌, ◌*◌, ◌<◌, arith, ◌≤◌, ◌++◌, List, [], ◌∷◌, length, map, drop, rules, true, sym, ap, ◌∙◌, subst, refl, Ok, Err, String, Global, string_bytes}
-use Rattle.std.proofs.lemmas.List.{drop_all}
 use Rattle.expr_tree.proofs.Shapes.{written-Func, written-Slice}
 use Rattle.expr_predicates.proofs.Turns.{turn_on, turn_refused, turn_misanswered, turn_done}
 use Rattle.expr_predicates.specs.Gathered.{left, question_of}
@@ -30,6 +30,7 @@ use Rattle.expr_evaluation.specs.Scope.{inside}
 use Rattle.expr_evaluation.specs.Several.{pairs_written, terms_written}
 use Rattle.expr_evaluation.specs.declared.scope.Binding.{Binding}
 use Rattle.expr_evaluation.specs.declared.scope.Scope.{Scope, Scope-F, out-Scope, roll-Scope, out-roll-Scope}
+use Rattle.expr_evaluation.proofs.Literal.{OnLiteral, OnLiteral-continued, OnLiteral-only}
 use Rattle.expr_evaluation.proofs.Allowed.{prepended, drop-at, loop-step, loop-failed, loop-done, AllowsAll-first, AllowsPairs-first, AllowsBlock-line, AllowsMore-all, AllowsMore-rest}
 use Rattle.expr_value.proofs.Answered.{Gives-of-Is, Gives-passed, Gives-under, first_of-After}
 use Rattle.expr_operators.proofs.Plainly.{Surely-at}
@@ -92,6 +93,113 @@ evaluate_form-returns-in-Operation-clause-plain g t c =
     let same : first ≡ q.0 = cc (c.in_ok-first-in-Operation.ensures.plain q.0
     (subst (λ m. IsTrue (is_plain (written m))) (sym c.deref-in-Operation.ensures) l_plain)
     (subst (λ m. Allows host ctx (written m) (Ok q.0)) (sym c.deref-in-Operation.ensures) q.1)) in
+    let first_plain = subst (λ w. IsTrue (is_plain_value w)) (sym same) (Allows-plain host ctx (written l) q.0 l_plain q.1) in
+    let next = subst (λ w. Continued op w (Allows host ctx (written r)) (Ok v)) (sym same) q.2 in
+    c.operate.ensures.plain v o first_plain
+    (subst (λ m. IsTrue (is_plain (written m))) (sym c.deref-in-Operation-2.ensures) (right-true (is_plain (written l)) (is_plain (written r)) both))
+    (subst (λ m. Continued op first (Allows host ctx (written m)) (Ok v)) (sym c.deref-in-Operation-2.ensures) next)
+    )
+
+pub evaluate_operation-returns-in_err-first-in-Operation-clause-plain : goal.evaluate_operation-returns-in_err-first-in-Operation-clause-plain
+evaluate_operation-returns-in_err-first-in-Operation-clause-plain g t c =
+    let host : Host = g.H.Functions.host c.args.self.now.host.now in
+    let base : Context = g.P.ContextProvider.context c.args.self.now.provider in
+    let ctx : Context = inside c.args.scope.now base in
+    let l = c.in-Operation.left.value in
+    let r = c.in-Operation.right.value in
+    let op = c.in-Operation.operator in
+    let result = c.from_residual.result in
+    let is : written c.args.node.now ≡ operation op (written l) (written r) = ap written c.in-Operation.is ∙ written-Operation op c.in-Operation.left c.in-Operation.right c.in-Operation.compiled_regex in
+    subst (λ n. (v : Value) → IsTrue (is_plain n) → Allows host ctx n (Ok v) → result ≡ Ok v) (sym is) (
+    λ v p h.
+    let both = right-true (is_plain_operator op) (is_plain (written l) && is_plain (written r)) p in
+    let q = first_of-After (Allows host ctx (written l)) (λ x. Continued op x (Allows host ctx (written r))) v h in
+    let wrong = c.in_err-first-in-Operation.ensures.plain q.0
+    (subst (λ m. IsTrue (is_plain (written m))) (sym c.deref.ensures) (left-true (is_plain (written l)) (is_plain (written r)) both))
+    (subst (λ m. Allows host ctx (written m) (Ok q.0)) (sym c.deref.ensures) q.1) in
+    absurd (cc wrong)
+    )
+
+pub evaluate_operation-returns-in-Some-clause-answer : goal.evaluate_operation-returns-in-Some-clause-answer
+evaluate_operation-returns-in-Some-clause-answer g t c =
+    let host : Host = g.H.Functions.host c.args.self.now.host.now in
+    let ctx : Context = inside c.args.scope.now (g.P.ContextProvider.context c.args.self.now.provider) in
+    let l = c.in-Operation.left.value in
+    let r = c.in-Operation.right.value in
+    let op = c.in-Operation.operator in
+    let v = c.in-Some.value in
+    let is : written c.args.node.now ≡ operation op (written l) (written r) = ap written c.in-Operation.is ∙ written-Operation op c.in-Operation.left c.in-Operation.right c.in-Operation.compiled_regex in
+    let first = c.in_ok-first-in-Operation.first in
+    let first_is = subst (λ m. Allows host ctx (written m) (Ok first)) c.deref.ensures c.in_ok-first-in-Operation.ensures.answer in
+    let read = subst (λ x. OnLiteral op x (written c.deref-in-Operation.result.now) v) c.get.ensures c.in-Some.ensures in
+    let found = subst (λ m. OnLiteral op first (written m) v) c.deref-in-Operation.ensures read in
+    subst (λ n. Allows host ctx n (Ok c.own.result)) (sym is) (
+    subst (λ w. Allows host ctx (operation op (written l) (written r)) (Ok w)) (sym c.own.ensures) (
+      Ok first,
+      first_is,
+      OnLiteral-continued host ctx op first (written r) v found,
+    )
+    )
+
+pub evaluate_operation-returns-in-Some-clause-plain : goal.evaluate_operation-returns-in-Some-clause-plain
+evaluate_operation-returns-in-Some-clause-plain g t c =
+    let host : Host = g.H.Functions.host c.args.self.now.host.now in
+    let base : Context = g.P.ContextProvider.context c.args.self.now.provider in
+    let ctx : Context = inside c.args.scope.now base in
+    let l = c.in-Operation.left.value in
+    let r = c.in-Operation.right.value in
+    let op = c.in-Operation.operator in
+    let first = c.in_ok-first-in-Operation.first in
+    let is : written c.args.node.now ≡ operation op (written l) (written r) = ap written c.in-Operation.is ∙ written-Operation op c.in-Operation.left c.in-Operation.right c.in-Operation.compiled_regex in
+    let read = subst (λ x. OnLiteral op x (written c.deref-in-Operation.result.now) c.in-Some.value) c.get.ensures c.in-Some.ensures in
+    let found = subst (λ m. OnLiteral op first (written m) c.in-Some.value) c.deref-in-Operation.ensures read in
+    λ v given allowed.
+    let p = subst (λ n. IsTrue (is_plain n)) is given in
+    let both = right-true (is_plain_operator op) (is_plain (written l) && is_plain (written r)) p in
+    let l_plain = left-true (is_plain (written l)) (is_plain (written r)) both in
+    let q = first_of-After (Allows host ctx (written l)) (λ x. Continued op x (Allows host ctx (written r))) v (subst (λ n. Allows host ctx n (Ok v)) is allowed) in
+    let same : first ≡ q.0 = cc (c.in_ok-first-in-Operation.ensures.plain q.0
+    (subst (λ m. IsTrue (is_plain (written m))) (sym c.deref.ensures) l_plain)
+    (subst (λ m. Allows host ctx (written m) (Ok q.0)) (sym c.deref.ensures) q.1)) in
+    let next = subst (λ w. Continued op w (Allows host ctx (written r)) (Ok v)) (sym same) q.2 in
+    ap Ok (c.own.ensures ∙ OnLiteral-only host ctx op first (written r) c.in-Some.value v found next)
+
+pub evaluate_operation-returns-in_default-of_literal-clause-answer : goal.evaluate_operation-returns-in_default-of_literal-clause-answer
+evaluate_operation-returns-in_default-of_literal-clause-answer g t c =
+    let host : Host = g.H.Functions.host c.args.self.now.host.now in
+    let ctx : Context = inside c.args.scope.now (g.P.ContextProvider.context c.args.self.now.provider) in
+    let l = c.in-Operation.left.value in
+    let r = c.in-Operation.right.value in
+    let op = c.in-Operation.operator in
+    let is : written c.args.node.now ≡ operation op (written l) (written r) = ap written c.in-Operation.is ∙ written-Operation op c.in-Operation.left c.in-Operation.right c.in-Operation.compiled_regex in
+    let first = c.in_ok-first-in-Operation.first in
+    let first_is = subst (λ m. Allows host ctx (written m) (Ok first)) c.deref.ensures c.in_ok-first-in-Operation.ensures.answer in
+    let next = Continued op first (Allows host ctx (written r)) in
+    subst (λ n. Gives c.operate.result (Allows host ctx n)) (sym is) (
+    Gives-under c.operate.result next (Allows host ctx (operation op (written l) (written r))) (λ a p. (Ok first, first_is, p)) (
+    subst (λ m. Gives c.operate.result (Continued op first (Allows host ctx (written m)))) c.deref-in-Operation-2.ensures c.operate.ensures.answer
+    )
+    )
+
+pub evaluate_operation-returns-in_default-of_literal-clause-plain : goal.evaluate_operation-returns-in_default-of_literal-clause-plain
+evaluate_operation-returns-in_default-of_literal-clause-plain g t c =
+    let host : Host = g.H.Functions.host c.args.self.now.host.now in
+    let base : Context = g.P.ContextProvider.context c.args.self.now.provider in
+    let ctx : Context = inside c.args.scope.now base in
+    let l = c.in-Operation.left.value in
+    let r = c.in-Operation.right.value in
+    let op = c.in-Operation.operator in
+    let first = c.in_ok-first-in-Operation.first in
+    let is : written c.args.node.now ≡ operation op (written l) (written r) = ap written c.in-Operation.is ∙ written-Operation op c.in-Operation.left c.in-Operation.right c.in-Operation.compiled_regex in
+    subst (λ n. (v : Value) → IsTrue (is_plain n) → Allows host ctx n (Ok v) → c.operate.result ≡ Ok v) (sym is) (
+    λ v p h.
+    let o = left-true (is_plain_operator op) (is_plain (written l) && is_plain (written r)) p in
+    let both = right-true (is_plain_operator op) (is_plain (written l) && is_plain (written r)) p in
+    let l_plain = left-true (is_plain (written l)) (is_plain (written r)) both in
+    let q = first_of-After (Allows host ctx (written l)) (λ x. Continued op x (Allows host ctx (written r))) v h in
+    let same : first ≡ q.0 = cc (c.in_ok-first-in-Operation.ensures.plain q.0
+    (subst (λ m. IsTrue (is_plain (written m))) (sym c.deref.ensures) l_plain)
+    (subst (λ m. Allows host ctx (written m) (Ok q.0)) (sym c.deref.ensures) q.1)) in
     let first_plain = subst (λ w. IsTrue (is_plain_value w)) (sym same) (Allows-plain host ctx (written l) q.0 l_plain q.1) in
     let next = subst (λ w. Continued op w (Allows host ctx (written r)) (Ok v)) (sym same) q.2 in
     c.operate.ensures.plain v o first_plain
@@ -207,6 +315,17 @@ items-returns g t c =
     subst (λ vs. all (Ok vs)) (sym c.from_vec.ensures) (
     loop-done (λ ns. AllowsAll host ctx (terms_written ns)) all c.args.nodes.now c.loop-node.node-index c.loop-node.values.items c.loop-node.invariant c.loop-node-test.false refl
     )
+
+-- the measure of one of some parts is below that of the whole
+part_falls : {X : Type 0} (W : X → ℕ) (xs : List X) (i : ℕ) (x : X) (t : ℕ) → 6 * most W xs + 3 ≡ t → x ≡ get_or xs i x → i < length xs → 6 * W x + 2 < t
+part_falls W xs i x t is at within =
+    let h : W (get_or xs i x) ≤ most W xs = at_most W xs i x within in
+    let e : W x ≡ W (get_or xs i x) = ap W at in
+    omega (arith, h, e, is)
+
+pub entries-keep-requires : goal.entries-keep-requires
+entries-keep-requires g t c κs within =
+    (omega (arith, part_falls _ c.args.entries.now c.loop-key.key-index c.loop-key-item.result t c.decreases c.loop-key-item.is c.loop-key-test.true), within)
 
 pub entries-loop-key-preserved : goal.entries-loop-key-preserved
 entries-loop-key-preserved g t c =
@@ -563,14 +682,3 @@ ask-returns g t c = λ u s.
     let at = c.loop-question.invariant u s in
     let whole : Answer → Type 0 = Asks u asks (left c.args.run) [] in
     turn_done asks whole u c.loop-question.run at (sym (c.in_default.ensures.question u at.0 at.1)) c.finish.result (c.finish.ensures u at.0 at.1)
-
--- the measure of one of some parts is below that of the whole
-part_falls : {X : Type 0} (W : X → ℕ) (xs : List X) (i : ℕ) (x : X) (t : ℕ) → 6 * most W xs + 3 ≡ t → x ≡ get_or xs i x → i < length xs → 6 * W x + 2 < t
-part_falls W xs i x t is at within =
-    let h : W (get_or xs i x) ≤ most W xs = at_most W xs i x within in
-    let e : W x ≡ W (get_or xs i x) = ap W at in
-    omega (arith, h, e, is)
-
-pub entries-keep-requires : goal.entries-keep-requires
-entries-keep-requires g t c κs within =
-    (omega (arith, part_falls _ c.args.entries.now c.loop-key.key-index c.loop-key-item.result t c.decreases c.loop-key-item.is c.loop-key-test.true), within)

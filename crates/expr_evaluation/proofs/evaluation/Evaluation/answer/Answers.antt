@@ -3,7 +3,6 @@ use Rattle.expr_evaluation.specs.Context.{Context}
 use Rattle.expr_evaluation.specs.Allows.{AllowsBlock}
 use Rattle.expr_evaluation.specs.Host.{Host}
 use Rattle.expr_evaluation.specs.Scope.{inside}
-use Rattle.expr_evaluation.proofs.Outermost.{inside-outermost, outermost}
 use Rattle.expr_operators.specs.Plain.{is_plain_value}
 use Rattle.expr_tree.specs.Written.{program_written}
 use Rattle.expr_evaluation.proofs.Plainly.{AllowsBlock-plain}
@@ -13,8 +12,8 @@ pub returns-clause-plain : goal.returns-clause-plain
 returns-clause-plain g c =
     let host : Host = g.H.Functions.host c.args.self.now.host.now in
     let lent : Context = g.P.ContextProvider.context c.args.self.now.provider in
-    let base : Context = inside (outermost c.new.result) lent in
-    let none : base ≡ lent = inside-outermost c.new.result lent c.new.ensures.items in
+    let base : Context = inside c.outermost-scope.result lent in
+    let none : base ≡ lent = c.outermost-scope.ensures lent in
     λ v p given.
     let h = subst (λ x. AllowsBlock host x (program_written c.args.program.now) (Ok v)) (sym none) given in
     let same : c.in_ok-answer.answer ≡ v = cc (c.in_ok-answer.ensures.plain v p h) in

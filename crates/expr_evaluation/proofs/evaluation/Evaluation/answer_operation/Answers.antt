@@ -5,7 +5,6 @@ use Rattle.expr_evaluation.specs.Host.{Host}
 use Rattle.expr_evaluation.specs.Plain.{is_plain}
 use Rattle.expr_operators.specs.Plain.{is_plain_operator, is_plain_value}
 use Rattle.expr_evaluation.specs.Scope.{inside}
-use Rattle.expr_evaluation.proofs.Outermost.{inside-outermost, outermost}
 use Rattle.expr_tree.specs.Term.{operation}
 use Rattle.expr_tree.specs.Written.{written}
 use Rattle.expr_value.specs.Fault.{fault_of}
@@ -17,8 +16,8 @@ pub returns-clause-answer : goal.returns-clause-answer
 returns-clause-answer g c =
     let host : Host = g.H.Functions.host c.args.self.now.host.now in
     let lent : Context = g.P.ContextProvider.context c.args.self.now.provider in
-    let base : Context = inside (outermost c.new.result) lent in
-    let none : base ≡ lent = inside-outermost c.new.result lent c.new.ensures.items in
+    let base : Context = inside c.outermost-scope.result lent in
+    let none : base ≡ lent = c.outermost-scope.ensures lent in
     let op = c.args.operator in
     let l = written c.args.left.now in
     let r = written c.args.right.now in
@@ -31,8 +30,8 @@ pub returns-clause-plain : goal.returns-clause-plain
 returns-clause-plain g c =
     let host : Host = g.H.Functions.host c.args.self.now.host.now in
     let lent : Context = g.P.ContextProvider.context c.args.self.now.provider in
-    let base : Context = inside (outermost c.new.result) lent in
-    let none : base ≡ lent = inside-outermost c.new.result lent c.new.ensures.items in
+    let base : Context = inside c.outermost-scope.result lent in
+    let none : base ≡ lent = c.outermost-scope.ensures lent in
     let op = c.args.operator in
     let l = written c.args.left.now in
     let r = written c.args.right.now in
@@ -54,8 +53,8 @@ pub returns-in_err-first-clause-plain : goal.returns-in_err-first-clause-plain
 returns-in_err-first-clause-plain g c =
     let host : Host = g.H.Functions.host c.args.self.now.host.now in
     let lent : Context = g.P.ContextProvider.context c.args.self.now.provider in
-    let base : Context = inside (outermost c.new.result) lent in
-    let none : base ≡ lent = inside-outermost c.new.result lent c.new.ensures.items in
+    let base : Context = inside c.outermost-scope.result lent in
+    let none : base ≡ lent = c.outermost-scope.ensures lent in
     let op = c.args.operator in
     let l = written c.args.left.now in
     let r = written c.args.right.now in
@@ -73,8 +72,8 @@ pub returns-in_err-answer-clause-plain : goal.returns-in_err-answer-clause-plain
 returns-in_err-answer-clause-plain g c =
     let host : Host = g.H.Functions.host c.args.self.now.host.now in
     let lent : Context = g.P.ContextProvider.context c.args.self.now.provider in
-    let base : Context = inside (outermost c.new.result) lent in
-    let none : base ≡ lent = inside-outermost c.new.result lent c.new.ensures.items in
+    let base : Context = inside c.outermost-scope.result lent in
+    let none : base ≡ lent = c.outermost-scope.ensures lent in
     let op = c.args.operator in
     let l = written c.args.left.now in
     let r = written c.args.right.now in
@@ -95,8 +94,8 @@ pub returns-in_err-answer-clause-answer : goal.returns-in_err-answer-clause-answ
 returns-in_err-answer-clause-answer g c =
     let host : Host = g.H.Functions.host c.args.self.now.host.now in
     let lent : Context = g.P.ContextProvider.context c.args.self.now.provider in
-    let base : Context = inside (outermost c.new.result) lent in
-    let none : base ≡ lent = inside-outermost c.new.result lent c.new.ensures.items in
+    let base : Context = inside c.outermost-scope.result lent in
+    let none : base ≡ lent = c.outermost-scope.ensures lent in
     let whole = λ (x : Context). Allows host x (operation c.args.operator (written c.args.left.now) (written c.args.right.now)) in
     let k = fault_of c.in_err-answer.field-0.0 in
     Gives-passed _ c.in_err-answer.field-0.0 (whole lent) c.from_residual-in_err-answer.ensures.1 (
