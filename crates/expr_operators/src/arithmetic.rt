@@ -22,8 +22,8 @@ pub fn add(alloc: Global, left: &Value, right: &Value) -> Result<Value>
             let joined = join(alloc, a.as_str(), b.as_str())?;
             Ok(Value::String(Text::from_string(joined)))
         }
-        (Value::DateTime(moment), Value::Duration(n))
-        | (Value::Duration(n), Value::DateTime(moment)) => later(alloc, moment.get(), n),
+        (Value::DateTime(moment), Value::Duration(n)) => later(alloc, moment.get(), n),
+        (Value::Duration(n), Value::DateTime(moment)) => later(alloc, moment.get(), n),
         _ => Err(mismatch(alloc, &Operator::Add, left, right)),
     }
 }
