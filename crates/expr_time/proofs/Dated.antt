@@ -1,11 +1,11 @@
 -- One date has a year, a month and a day, and one has a year and a day of the year.
-use Rattle.std.proofs.Common.{◌≡◌, ℕ, ℤ, pos, ◌<◌, ◌≤◌, refl, sym, ap, ◌∙◌, arith, Some, None, true, false, ◌&&◌, ◌||◌}
+use Rattle.std.proofs.Common.{◌≡◌, ℕ, pos, ◌≤◌, refl, sym, ap, ◌∙◌, arith, Some, None, true, false, ◌&&◌, ◌||◌}
 use Rattle.std.specs.Prelude.{Bool, Option, MatchOption, is_some}
 use Rattle.jiff_core.proofs.SignedLemmas.{signed_arith}
 use Rattle.jiff_core.proofs.CalendarLemmas.{day_of_year_bound, days_in_year_bounds}
 use Rattle.jiff_core.specs.Calendar.{days_from_civil, days_in_year}
 use Rattle.jiff.specs.Types.{Date}
-use Rattle.jiff.specs.Words.{epoch_day, ordinal}
+use Rattle.jiff.specs.Words.{ordinal}
 use Rattle.expr_time.specs.Civil.{Agrees, HasParts, names_date}
 use Rattle.expr_time.specs.declared.found.Found.{Found}
 use Rattle.jiff.proofs.Family.{epoch_day_same, epoch_day-ordinal, same_date}

@@ -1,15 +1,14 @@
 -- Moments, places and zones by their parts.
-use Rattle.std.proofs.Common.{◌≡◌, ℕ, ℤ, pos, ◌+ℤ◌, ◌-ℤ◌, List, refl, sym, ap, ◌∙◌, Some, None, arith, true, false, ◌↔◌}
-use Rattle.std.specs.Prelude.{Bool, Option, Result, Ok, Err, IsSome, IfSome, IfOk, if◌then◌else◌}
+use Rattle.std.proofs.Common.{◌≡◌, ℕ, ℤ, List, refl, sym, ap, ◌∙◌, Some, None, true, false}
+use Rattle.std.specs.Prelude.{Bool, Result, Ok, Err, IfOk, if◌then◌else◌}
 use Rattle.std.proofs.lemmas.Bool.{false≢true}
-use Rattle.std.proofs.lemmas.Int.{ints}
 use Rattle.std.proofs.Math.Path.{subst}
 use Rattle.std.proofs.Props.{props}
 use Rattle.std.specs.Ordering.{int_eq}
 use Rattle.std.proofs.lemmas.Bool.Decides.{Decides-int_eq}
 use mathlib.Core.HLevel.{is_prop→PathP}
 use Rattle.jiff.specs.Types.{DateTime, Offset, UTC}
-use Rattle.jiff.specs.Words.{IsOffsetSeconds, IsTimestampNanos, nanos_of_seconds}
+use Rattle.jiff.specs.Words.{IsOffsetSeconds, IsTimestampNanos}
 unfoldable use Rattle.jiff.specs.Words.{civil_nanos}
 use Rattle.expr_value.specs.Moved.{at_instant, at_instant_is, moment_at, same_moment}
 use Rattle.expr_value.specs.Times.{ahead, in_zone, instant, kept_rules, local_nanos, place_of, rules_of, zone_name}

@@ -1,11 +1,11 @@
 -- What a clock shows is jiff's date and time of day.
-use Rattle.std.proofs.Common.{◌≡◌, ◌+◌, ◌%◌, ◌*◌, ◌/◌, sym, ap, ◌∙◌, arith, unsigned_abs}
+use Rattle.std.proofs.Common.{◌≡◌, ◌+◌, ◌%◌, ◌/◌, sym, ap, ◌∙◌, arith, unsigned_abs}
 use Rattle.std.specs.Int.{int_div_euclid, int_rem_euclid}
 use Rattle.jiff_core.proofs.SignedLemmas.{signed_arith}
 unfoldable use Rattle.jiff_core.specs.Calendar.{weekday_number}
-use Rattle.jiff.specs.Words.{epoch_day, time_nanos, weekday_of}
+use Rattle.jiff.specs.Words.{time_nanos, weekday_of}
 unfoldable use Rattle.jiff.specs.Words.{civil_nanos}
-use Rattle.jiff.specs.Types.{Date, DateTime, Time}
+use Rattle.jiff.specs.Types.{DateTime, Time}
 use Rattle.jiff.proofs.Family.{civil_nanos-parts, epoch_day-civil_nanos, time_nanos_bound}
 use Rattle.expr_clock.specs.Calendar.{clock_of, date_shown, day_length, day_of, plain_clock, plain_day, time_shown}
 use Rattle.expr_clock.proofs.Days.{day_of-epoch_day}

@@ -1,5 +1,5 @@
 -- What the reader of lengths of time does at each part.
-use Rattle.std.proofs.Common.{◌≡◌, ◌≢◌, ℕ, zero, suc, ◌==◌, ◌+◌, ◌-◌, ◌<◌, ◌≤◌, ◌⊎◌, inl, inr, cond, take, drop, Bor, true, false, nat_eq, refl, sym, ap, ◌∙◌, arith, List, [], ◌∷◌, ◌++◌, length, codes, ℤ, pos, neg_ℤ, Some, None, append_assoc}
+use Rattle.std.proofs.Common.{◌≡◌, ◌≢◌, ℕ, zero, suc, ◌==◌, ◌+◌, ◌<◌, ◌≤◌, inl, inr, cond, take, drop, Bor, true, false, nat_eq, refl, sym, ap, ◌∙◌, arith, List, [], ◌∷◌, ◌++◌, length, codes, ℤ, pos, Some, None}
 use Rattle.std.proofs.Math.Path.{subst}
 use Rattle.std.proofs.lemmas.List.{length-append, take-append-drop}
 use Rattle.std.proofs.Math.Seq.{take-append_seam}
@@ -7,13 +7,12 @@ use Rattle.std.proofs.lemmas.Bool.{ne_eqb, false≢true}
 use Rattle.std.proofs.Math.Dec.{eqb-suc-zero}
 use Rattle.std.proofs.Math.IntN.{nat_abs}
 use Rattle.std.specs.Int.Signed.{nat_abs-le}
-use Rattle.std.proofs.lemmas.Int.{ints}
 use Rattle.std.specs.Int.{w64}
 use Rattle.std.specs.Cmp.Lexicographic.{pointwise, same_text, other_text}
 use Rattle.std.specs.Prelude.{Option, MatchOption, FitsSigned}
 use Rattle.std.specs.List.{AllByRecursion}
 use Rattle.std.specs.Str.Parse.{AllDigits}
-use Rattle.expr_time.specs.Reading.{head, IsDigit, Stops, IsFresh, NoPoint, IsPassed, Splits, IsLongest, Names, Begins, Fills, greatest_size}
+use Rattle.expr_time.specs.Reading.{head, Stops, IsFresh, NoPoint, Splits, IsLongest, Names, Begins, Fills, greatest_size}
 use Rattle.expr_time.specs.Durations.{Scale, nanosecond, microsecond, greek_microsecond, ascii_microsecond, millisecond, second, minute, hour, scale_name, Part, fraction_text, fraction_digits_of, part_text, IsPart, part_size, parts_text, parts_size, Sign, none, plus, minus, sign_name, with_sign, Spells}
 use Rattle.expr_time.proofs.Unique.{span, one_part, fresh_parts, part_long, parts_long, part_before_same, unsigned, no_plus, no_minus, scale_no_point, scale_stops, behind_stops, scale_at, scale_again, tail, one_meaning}
 

@@ -1,5 +1,5 @@
 -- What stands behind the names of tokens.
-use Rattle.std.proofs.Common.{◌≡◌, ◌≢◌, ◌⊎◌, inl, inr, ℕ, zero, suc, ◌+◌, ◌-◌, ◌<◌, ◌≤◌, ◌==◌, ◌&&◌, ◌||◌, nat_lt, cond, Bool, true, false, refl, sym, ap, ◌∙◌, arith, rules, eq-eqb, List, [], ◌∷◌, ◌++◌, length, Some, None, append_assoc}
+use Rattle.std.proofs.Common.{◌≡◌, ◌≢◌, inl, inr, ℕ, zero, suc, ◌+◌, ◌-◌, ◌<◌, ◌≤◌, ◌==◌, ◌&&◌, ◌||◌, nat_lt, cond, Bool, true, false, refl, sym, ap, ◌∙◌, arith, rules, eq-eqb, List, [], ◌∷◌, ◌++◌, length, Some, None, append_assoc}
 use Rattle.std.proofs.Math.Path.{subst}
 use Rattle.std.specs.Char.{encode_utf8}
 use denote.Ref.{Bor}

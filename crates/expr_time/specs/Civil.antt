@@ -1,7 +1,7 @@
 -- Which moment is read, by what is known of it.
-use Rattle.std.specs.Prelude.{◌≡◌, ◌⊎◌, ℕ, ℤ, pos, neg_ℤ, ◌+◌, ◌*◌, ◌%◌, ◌<◌, ◌≤◌, List, [], ◌∷◌, Bool, true, false, ◌&&◌, ◌||◌, is_some, MatchBool, MatchOption, Option, None, Some, Err, if◌then◌else◌}
+use Rattle.std.specs.Prelude.{◌≡◌, ◌⊎◌, ℕ, ℤ, pos, neg_ℤ, ◌+◌, ◌*◌, ◌%◌, ◌≤◌, List, [], ◌∷◌, Bool, true, false, ◌&&◌, ◌||◌, is_some, MatchBool, MatchOption, Option, None, Some, Err, if◌then◌else◌}
 use Rattle.std.specs.Ordering.{int_eq}
-use Rattle.jiff.specs.Types.{Date, DateTime, Offset, Time}
+use Rattle.jiff.specs.Types.{Date, DateTime, Time}
 use Rattle.jiff.specs.Words.{IsOffsetSeconds, ordinal, weekday_of}
 use Rattle.std.proofs.Common.{inl, inr, arith}
 use Rattle.std.proofs.lemmas.Int.{by_lt_z, ints}

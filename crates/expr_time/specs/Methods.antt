@@ -1,5 +1,5 @@
 -- What the methods of lengths of time answer, and the built-in that reads one.
-use Rattle.std.specs.Prelude.{◌≡◌, ◌≢◌, ◌⊎◌, ℕ, ℤ, pos, neg_ℤ, ◌+◌, ◌*◌, ◌/◌, ◌*ℤ◌, int_lt, int_le, int_div, unsigned_abs, List, [], ◌∷◌, Option, None, Some, Ok, Err, FitsSigned, codes, if◌then◌else◌}
+use Rattle.std.specs.Prelude.{◌≡◌, ℕ, ℤ, pos, neg_ℤ, ◌+◌, ◌*◌, ◌/◌, ◌*ℤ◌, int_lt, int_le, int_div, unsigned_abs, List, [], ◌∷◌, Option, None, Some, Ok, Err, FitsSigned, codes, if◌then◌else◌}
 use Rattle.std.specs.Int.{w64, int_min}
 use Rattle.expr_clock.specs.Durations.{duration_text}
 use Rattle.expr_value.specs.Answers.{Answer}

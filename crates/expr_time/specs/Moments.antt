@@ -1,14 +1,13 @@
 -- What the methods of moments answer.
-use Rattle.std.specs.Prelude.{◌≡◌, ◌⊎◌, ℕ, ℤ, pos, neg_ℤ, ◌+ℤ◌, ◌-ℤ◌, ◌&&◌, int_lt, int_le, int_div, Bool, List, [], ◌∷◌, Option, None, Some, Ok, Err, codes, if◌then◌else◌}
+use Rattle.std.specs.Prelude.{◌≡◌, ℕ, ℤ, pos, neg_ℤ, ◌+ℤ◌, ◌-ℤ◌, ◌&&◌, int_lt, int_le, int_div, List, [], ◌∷◌, Option, None, Some, Ok, Err, codes, if◌then◌else◌}
 use Rattle.std.specs.Int.{int_rem_euclid}
-use Rattle.std.specs.Option.{option_and_then, option_map}
 use Rattle.std.specs.Ordering.{int_eq}
 use Rattle.expr_value.specs.Answers.{Answer}
 use Rattle.expr_value.specs.Fault.{evaluation}
 use Rattle.expr_value.specs.Moved.{at_instant, moved}
 use Rattle.expr_value.specs.Strings.{string_text}
 use Rattle.expr_value.specs.Times.{instant, moment_string, place_of}
-use Rattle.expr_value.specs.Values.{integer_of, moment_of, string_of}
+use Rattle.expr_value.specs.Values.{integer_of, moment_of}
 use Rattle.expr_value.specs.declared.moment.DateTimeValue.{DateTimeValue}
 use Rattle.expr_value.specs.declared.moment.Place.TheVariants.{Zone}
 use Rattle.expr_value.specs.declared.value.Value as value

@@ -1,10 +1,9 @@
 -- Moments in other places, and the moments at which the clock of a place shows a civil time.
-use Rattle.std.specs.Prelude.{◌≡◌, ℕ, ℤ, pos, ◌-ℤ◌, ◌++◌, List, [], Option, None, Some, Ok, Err, codes, if◌then◌else◌}
+use Rattle.std.specs.Prelude.{ℤ, pos, ◌-ℤ◌, Option, None, Some, Ok, Err, codes, if◌then◌else◌}
 use Rattle.std.specs.Ordering.{int_eq}
-use Rattle.jiff.specs.Types.{DateTime, Offset}
+use Rattle.jiff.specs.Types.{DateTime}
 use Rattle.jiff.specs.Words.{nanos_of_seconds, picked_instant}
 unfoldable use Rattle.jiff.specs.Words.{civil_nanos}
-use Rattle.expr_clock.specs.Moments.{offset_text}
 use Rattle.expr_value.specs.Answers.{Answer}
 use Rattle.expr_value.specs.Fault.{evaluation}
 use Rattle.expr_value.specs.Moved.{at_instant, moment_at}

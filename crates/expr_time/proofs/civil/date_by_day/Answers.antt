@@ -1,8 +1,8 @@
-use Rattle.std.proofs.Common.{◌≡◌, ℤ, pos, arith, rules, to_z, sym, ap, ◌∙◌}
+use Rattle.std.proofs.Common.{◌≡◌, pos, arith, rules, to_z, sym, ap, ◌∙◌}
 use Rattle.std.specs.Int.{w16}
 use Rattle.std.proofs.lemmas.Bool.{false≢true}
 use Rattle.jiff_core.proofs.SignedLemmas.{signed_arith}
-use Rattle.jiff.specs.Words.{days_in_year, ordinal}
+use Rattle.jiff.specs.Words.{days_in_year}
 use Rattle.expr_time.proofs.Dated.{ordinal_in_year}
 use Rattle.expr_time.proofs.civil.date_by_day.Goals as goal
 

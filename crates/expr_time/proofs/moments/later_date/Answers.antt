@@ -4,7 +4,7 @@ use Rattle.std.specs.Int.{w64}
 use mir.Val.{SFits, of_z, to_z}
 use Rattle.std.proofs.lemmas.Int.{to_z-of_z}
 use Rattle.std.proofs.Math.Path.{subst}
-use Rattle.expr_clock.specs.Calendar.{Day, plain_clock, plain_day}
+use Rattle.expr_clock.specs.Calendar.{Day, plain_clock}
 use Rattle.jiff.specs.Words.{epoch_day}
 use Rattle.expr_time.specs.Dates.{IsReached, day_reached}
 use Rattle.expr_time.specs.Fields.{date_at}

@@ -1,9 +1,7 @@
 use Rattle.std.proofs.Common.{ap, ◌∙◌}
-use Rattle.std.specs.Prelude.{Result, IfOk, Option}
 use Rattle.std.proofs.lemmas.Result.{IfOk-weaker}
 use Rattle.expr_value.specs.Times.{instant, place_of}
 use Rattle.expr_value.specs.declared.moment.Place.{Place}
-use Rattle.expr_value.specs.declared.moment.DateTimeValue.{DateTimeValue}
 use Rattle.expr_time.specs.Places.{at_civil}
 use Rattle.expr_time.proofs.Placing.{fixed_place, zone_place}
 use Rattle.expr_time.proofs.places.civil_beside.Goals as goal

@@ -1,4 +1,4 @@
-use Rattle.std.proofs.Common.{rules, ◌≡◌, ◌≢◌, ◌⊎◌, inl, inr, refl, sym, ap, ◌∙◌, arith, ℕ, ℤ, pos, neg_ℤ, ◌+◌, ◌-◌, ◌*◌, ◌/◌, ◌<◌, ◌≤◌, ◌^◌, List, [], ◌∷◌, ◌++◌, Some, None, length, take, drop, append_assoc}
+use Rattle.std.proofs.Common.{refl, ap, ◌∙◌, ◌∷◌, Some}
 use Rattle.expr_time.proofs.spelling.fraction.Goals as goal
 
 pub returns-in-Some : goal.returns-in-Some

@@ -1,8 +1,8 @@
-use Rattle.std.proofs.Common.{rules, ◌≡◌, ◌≢◌, ◌⊎◌, inl, inr, refl, sym, ap, ◌∙◌, arith, ℕ, ℤ, pos, neg_ℤ, ◌+◌, ◌-◌, ◌*◌, ◌/◌, ◌<◌, ◌≤◌, ◌^◌, List, [], ◌∷◌, ◌++◌, Some, None, length, take, drop, append_assoc}
+use Rattle.std.proofs.Common.{sym, ap, ◌∙◌, arith, ◌<◌, ◌++◌, length}
 use Rattle.std.proofs.Math.Path.{subst}
 use Rattle.std.proofs.lemmas.List.{length-append}
-use Rattle.expr_time.specs.Reading.{IsFresh, greatest_size, Begins}
-use Rattle.expr_time.specs.Durations.{fraction_digits_of, sized, scale_size, part_size}
+use Rattle.expr_time.specs.Reading.{IsFresh, greatest_size}
+use Rattle.expr_time.specs.Durations.{fraction_digits_of, sized, scale_size}
 use Rattle.expr_time.proofs.Steps.{found_same, has_digits, one_name, part_found, refused, is_none, is_some}
 use Rattle.expr_time.proofs.spelling.part.Goals as goal
 use Rattle.expr_time.proofs.spelling.part.Goals.{else-is_empty-via-then-is_empty+else-is_empty-2, else-is_empty-via-else-is_empty}

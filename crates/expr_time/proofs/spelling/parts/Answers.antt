@@ -1,5 +1,4 @@
-use Rattle.std.proofs.Common.{rules, ◌≡◌, ◌≢◌, ◌⊎◌, inl, inr, refl, sym, ap, ◌∙◌, arith, ℕ, ℤ, pos, neg_ℤ, ◌+◌, ◌-◌, ◌*◌, ◌/◌, ◌<◌, ◌≤◌, ◌^◌, List, [], ◌∷◌, ◌++◌, Some, None, length, take, drop, append_assoc}
-use Rattle.expr_time.specs.Reading.{Fills, greatest_size}
+use Rattle.std.proofs.Common.{arith, ◌+◌}
 use Rattle.expr_time.proofs.Steps.{Leads, leads_first, leads_more, leads_last, stuck, too_large, refused, is_some, is_empty}
 use Rattle.expr_time.proofs.spelling.parts.Goals as goal
 

@@ -1,4 +1,4 @@
-use Rattle.std.proofs.Common.{List, ℕ, sym, ◌∙◌}
+use Rattle.std.proofs.Common.{sym, ◌∙◌}
 use Rattle.std.specs.Cmp.Lexicographic.{other_text}
 use Rattle.expr_time.specs.Durations.{none, plus, minus}
 use Rattle.expr_time.proofs.Steps.{refused, unspelled, meant, spelled_is}

@@ -1,4 +1,4 @@
-use Rattle.std.proofs.Common.{rules, ◌≡◌, ◌≢◌, ◌⊎◌, inl, inr, refl, sym, ap, ◌∙◌, arith, ℕ, ℤ, pos, neg_ℤ, ◌+◌, ◌-◌, ◌*◌, ◌/◌, ◌<◌, ◌≤◌, ◌^◌, List, [], ◌∷◌, ◌++◌, Some, None, length, take, drop, append_assoc}
+use Rattle.std.proofs.Common.{refl}
 use Rattle.expr_time.specs.Durations.{nanosecond, microsecond, greek_microsecond, ascii_microsecond, millisecond, second, minute, hour}
 use Rattle.expr_time.proofs.Steps.{no_second}
 use Rattle.expr_time.proofs.spelling.unit.Goals as goal
