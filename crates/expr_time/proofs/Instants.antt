@@ -17,17 +17,17 @@ use Rattle.expr_value.specs.declared.moment.Place.TheVariants.{Fixed, Zone}
 use Rattle.expr_value.specs.declared.value.Value as value
 use Rattle.expr_value.specs.declared.zone.TimezoneValue.{TimezoneValue}
 use Rattle.expr_time.specs.declared.found.Found.{Found}
-use Rattle.expr_time.specs.Civil.{Given, GivenIf, HasParts, Is, IsCivil, ReadBy, answer_in, place_at}
+use Rattle.expr_time.specs.Civil.{ByForm, Given, GivenIf, HasParts, Is, IsCivil, ReadBy, answer_in, place_at}
 use Rattle.expr_time.specs.Fields.{date_at, time_at}
 use Rattle.expr_time.specs.Layouts.{printed}
 use Rattle.expr_time.specs.declared.token.Token.{Token}
 use Rattle.expr_time.specs.Places.{given, picked_in, placed, utc}
-use Rattle.expr_time.specs.Stamps.{CanStamp, ReadsBack, SaysInstant, stamp_layout}
+use Rattle.expr_time.specs.Stamps.{CanStamp, ReadsAlone, ReadsBack, SaysInstant, stamp_layout}
 use Rattle.expr_time.proofs.OneLayout.{layout_one, stamp_is}
 use Rattle.expr_time.proofs.Placed.{others_are_fixed}
 use Rattle.expr_time.proofs.Placing.{civil_shown}
 use Rattle.expr_time.proofs.Shown.{date_is_shown, time_is_shown}
-use Rattle.expr_time.proofs.Stamped.{Shows, fraction_known, known, stamp, stamp_read}
+use Rattle.expr_time.proofs.Stamped.{Shows, form_read, fraction_known, known, stamp, stamp_read}
 
 above : (z : ℤ) → pos 0 ≤ℤ z → z ≡ pos (unsigned_abs z)
 above (pos n) h = refl
@@ -150,3 +150,11 @@ reads_back t dt e zone text answer is prints reads =
     let reading : reads.0 ≡ stamp = layout_one reads.0 stamp false stamp_layout reads.1 stamp_is in
     let same : text ≡ printed t stamp = prints.2 ∙ ap (λ (ts : List Token). printed t ts) printing in
     stamp_says t dt zone answer e is (subst (λ (p : List Token × List ℕ). ReadBy p.0 p.1 zone answer) (λ i. (reading i, same i)) reads.2)
+
+pub reads_alone : (t : DateTimeValue) (dt : DateTime) → civil_nanos dt ≡ local_nanos t → (zone : TimezoneValue) (text : List ℕ) (answer : Answer) → ReadsAlone t zone text answer
+reads_alone t dt e zone text answer is prints reads =
+    let printing : prints.0 ≡ stamp = layout_one prints.0 stamp false stamp_layout prints.1 stamp_is in
+    let same : text ≡ printed t stamp = prints.2 ∙ ap (λ (ts : List Token). printed t ts) printing in
+    let alone : ByForm (printed t stamp) zone answer = subst (λ (s : List ℕ). ByForm s zone answer) same reads in
+    let found = form_read t (year_of dt) dt.date.month dt.date.day dt.time.hour dt.time.minute dt.time.second dt.time.subsec_nanosecond (offset_of t) (shows t dt e is) in
+    says t dt zone answer e is (subst (λ (o : Option Found). GivenIf o zone answer) found alone)

@@ -25,6 +25,7 @@ use Rattle.expr_time.specs.declared.token.Pad.TheVariants as pad
 use Rattle.expr_time.specs.declared.token.Spelling.TheVariants as spelling
 use Rattle.expr_time.specs.declared.token.Token.{Token}
 use Rattle.expr_time.specs.declared.token.Token.TheVariants as token
+use Rattle.expr_time.specs.Civil.{both_form, by_form, date_form, stamp_form, time_form}
 use Rattle.expr_time.specs.Fields.{date_at, time_at}
 use Rattle.expr_time.specs.Found.{Reading, Taken, below, digit_at, found_as, found_at, found_number, four_digits, further, hours_at, if_digit, if_more, in_units, is_digit, noted, nothing_behind, offset_at, one_more, or_same, parts_at, parts_behind, read_all, spelled_at, two_digits, unknown, up_to_two, with_digit, zulu_at}
 use Rattle.expr_time.specs.Layouts.{after_name, either, fraction_of, number_of, padded, pad_text, printed, short_places, signed_offset, spelled, token_text, zulu}
@@ -141,9 +142,9 @@ pub fraction_finding : ℕ → Finding
 fraction_finding zero = finding.Nothing
 fraction_finding (suc n) = finding.Nanosecond (suc n)
 
--- what stands behind a fraction: neither a digit nor a point
+-- what stands behind a fraction: neither a digit nor a point, and no small `z`
 abbrev EndsFraction : List ℕ → Type 0
-EndsFraction rest = (digit_at rest ≡ None) × (after_name (encode_utf8 46) rest ≡ None)
+EndsFraction rest = (digit_at rest ≡ None) × (after_name (encode_utf8 46) rest ≡ None) × (after_name (codes "z") rest ≡ None)
 
 short_none : short_places 46 9 zero ≡ []
 unfolding Rattle.expr_time.specs.Layouts.short_places
@@ -211,15 +212,15 @@ other_offset off other = ap (λ (b : Bool). cond b (codes "Z") (signed_offset sp
 
 ahead_stands : (n : ℕ) → suc n < 86400 → suc n % 60 ≡ 0 → Stands (pos (suc n)) (43 ∷ spelled spelling.ColonMinutes (suc n))
 unfolding Rattle.expr_time.specs.Layouts.after_name encode_utf8
-ahead_stands n h whole = (ap (found_as (λ m. finding.Offset (pos m))) (spelled_read (suc n) h whole), (refl, refl))
+ahead_stands n h whole = (ap (found_as (λ m. finding.Offset (pos m))) (spelled_read (suc n) h whole), (refl, refl, refl))
 
 behind_stands : (n : ℕ) → suc n < 86400 → suc n % 60 ≡ 0 → Stands (negsuc n) (45 ∷ spelled spelling.ColonMinutes (suc n))
 unfolding Rattle.expr_time.specs.Layouts.after_name encode_utf8
-behind_stands n h whole = (ap (found_as (λ m. finding.Offset (neg_ℤ (pos m)))) (spelled_read (suc n) h whole), (refl, refl))
+behind_stands n h whole = (ap (found_as (λ m. finding.Offset (neg_ℤ (pos m)))) (spelled_read (suc n) h whole), (refl, refl, refl))
 
 none_stands : Stands (pos 0) (codes "Z")
 unfolding Rattle.expr_time.specs.Layouts.after_name encode_utf8
-none_stands = (refl, (refl, refl))
+none_stands = (refl, (refl, refl, refl))
 
 some_seconds : (n : ℕ) → ¬ (pos (suc n) ≡ pos 0)
 some_seconds n e = absurd (omega (arith, ints, e))
@@ -398,3 +399,101 @@ stamp_read u y m d h i s n off is =
     date_read u y m d h i s n off is ∙ time_read u y m d h i s n off is
     ∙ one u (token.ShortFraction 46 9) s12 k6 k7 (fraction_finding n) (fraction_found_at u n (printed u s12) is.nanosecond is.nanosecond_in stands.1) (noted_fraction y m d h i s n)
     ∙ step (token.Zulu spelling.ColonMinutes) [] k7 k8 (finding.Offset off) (printed u s12) [] (offset_found u off stands) refl
+
+-- the tokens of the form that is read without a layout find the same
+two_found : (u : DateTimeValue) (f : Field) (n : ℕ) (rest : List ℕ) → number_of f u ≡ n → n < 100
+    → found_at (token.TwoDigits f) (token_text u (token.Number f pad.Zero) ++ rest) ≡ Some (found_number f n, rest)
+unfolding Rattle.expr_time.specs.Found.found_at Rattle.expr_time.specs.Layouts.token_text
+two_found u f n rest e h =
+    ap (λ (m : ℕ). found_as (found_number f) (two_digits (padded pad.Zero m ++ rest))) e ∙ ap (λ (t : List ℕ). found_as (found_number f) (two_digits (t ++ rest))) (padded_is n h)
+    ∙ ap (found_as (found_number f)) (two_read n rest h)
+
+mark_found : (u : DateTimeValue) (rest : List ℕ) → found_at token.Mark (token_text u (token.Literal 84) ++ rest) ≡ Some (finding.Nothing, rest)
+unfolding Rattle.expr_time.specs.Found.found_at Rattle.expr_time.specs.Layouts.token_text encode_utf8
+mark_found u rest = refl
+
+form_offset_found : (u : DateTimeValue) (off : ℤ) → Stands off (token_text u (token.Zulu spelling.ColonMinutes) ++ [])
+    → found_at token.StampOffset (token_text u (token.Zulu spelling.ColonMinutes) ++ []) ≡ Some (finding.Offset off, [])
+unfolding Rattle.expr_time.specs.Found.found_at
+form_offset_found u off stands =
+    ap (λ (o : Option (List ℕ)). either (option_map (λ rest. (finding.Offset (pos 0), rest)) o) (zulu_read_of (token_text u (token.Zulu spelling.ColonMinutes) ++ []))) stands.1.2 ∙ stands.0
+
+abbrev f12 : List Token
+f12 = token.StampOffset ∷ []
+
+abbrev f11 : List Token
+f11 = token.ShortFraction 46 9 ∷ f12
+
+abbrev f10 : List Token
+f10 = token.TwoDigits field.Second ∷ f11
+
+abbrev f9 : List Token
+f9 = token.Literal 58 ∷ f10
+
+abbrev f8 : List Token
+f8 = token.TwoDigits field.Minute ∷ f9
+
+abbrev f7 : List Token
+f7 = token.Literal 58 ∷ f8
+
+abbrev f6 : List Token
+f6 = token.TwoDigits field.Hour ∷ f7
+
+abbrev f5 : List Token
+f5 = token.Mark ∷ f6
+
+abbrev f4 : List Token
+f4 = token.TwoDigits field.Day ∷ f5
+
+abbrev f3 : List Token
+f3 = token.Literal 45 ∷ f4
+
+abbrev f2 : List Token
+f2 = token.TwoDigits field.Month ∷ f3
+
+abbrev f1 : List Token
+f1 = token.Literal 45 ∷ f2
+
+by_other : (u : DateTimeValue) (t p : Token) (ts ps : List Token) (f g : Found) (x : Finding) → found_at t (token_text u p ++ printed u ps) ≡ Some (x, printed u ps) → noted x f ≡ Some g
+    → read_all (t ∷ ts) f (printed u (p ∷ ps)) ≡ read_all ts g (printed u ps)
+by_other u t p ts ps f g x found agreed = step t ts f g x (token_text u p ++ printed u ps) (printed u ps) found agreed
+
+form_date_read : (u : DateTimeValue) (y m d h i s n : ℕ) (off : ℤ) → Shows u y m d h i s n off
+    → read_all stamp_form unknown (printed u stamp) ≡ read_all f5 (known (Some y) (Some m) (Some d) None None None None None) (printed u s5)
+form_date_read u y m d h i s n off is =
+    let k1 = known (Some y) None None None None None None None in
+    let k2 = known (Some y) (Some m) None None None None None None in
+    let k3 = known (Some y) (Some m) (Some d) None None None None None in
+    by_other u token.Year token.Year f1 s1 unknown k1 (finding.Year y) (year_found u y (printed u s1) is.year is.year_in) refl
+    ∙ by_other u (token.Literal 45) (token.Literal 45) f2 s2 k1 k1 finding.Nothing (literal_found u 45 (printed u s2)) refl
+    ∙ by_other u (token.TwoDigits field.Month) (token.Number field.Month pad.Zero) f3 s3 k1 k2 (finding.Month m) (two_found u field.Month m (printed u s3) is.month is.month_in) refl
+    ∙ by_other u (token.Literal 45) (token.Literal 45) f4 s4 k2 k2 finding.Nothing (literal_found u 45 (printed u s4)) refl
+    ∙ by_other u (token.TwoDigits field.Day) (token.Number field.Day pad.Zero) f5 s5 k2 k3 (finding.Day d) (two_found u field.Day d (printed u s5) is.day is.day_in) refl
+
+form_time_read : (u : DateTimeValue) (y m d h i s n : ℕ) (off : ℤ) → Shows u y m d h i s n off
+    → read_all f5 (known (Some y) (Some m) (Some d) None None None None None) (printed u s5) ≡ read_all f11 (known (Some y) (Some m) (Some d) (Some h) (Some i) (Some s) None None) (printed u s11)
+form_time_read u y m d h i s n off is =
+    let k3 = known (Some y) (Some m) (Some d) None None None None None in
+    let k4 = known (Some y) (Some m) (Some d) (Some h) None None None None in
+    let k5 = known (Some y) (Some m) (Some d) (Some h) (Some i) None None None in
+    let k6 = known (Some y) (Some m) (Some d) (Some h) (Some i) (Some s) None None in
+    by_other u token.Mark (token.Literal 84) f6 s6 k3 k3 finding.Nothing (mark_found u (printed u s6)) refl
+    ∙ by_other u (token.TwoDigits field.Hour) (token.Number field.Hour pad.Zero) f7 s7 k3 k4 (finding.Hour h) (two_found u field.Hour h (printed u s7) is.hour is.hour_in) refl
+    ∙ by_other u (token.Literal 58) (token.Literal 58) f8 s8 k4 k4 finding.Nothing (literal_found u 58 (printed u s8)) refl
+    ∙ by_other u (token.TwoDigits field.Minute) (token.Number field.Minute pad.Zero) f9 s9 k4 k5 (finding.Minute i) (two_found u field.Minute i (printed u s9) is.minute is.minute_in) refl
+    ∙ by_other u (token.Literal 58) (token.Literal 58) f10 s10 k5 k5 finding.Nothing (literal_found u 58 (printed u s10)) refl
+    ∙ by_other u (token.TwoDigits field.Second) (token.Number field.Second pad.Zero) f11 s11 k5 k6 (finding.Second s) (two_found u field.Second s (printed u s11) is.second is.second_in) refl
+
+pub form_read : (u : DateTimeValue) (y m d h i s n : ℕ) (off : ℤ) → Shows u y m d h i s n off
+    → by_form (printed u stamp) ≡ Some (known (Some y) (Some m) (Some d) (Some h) (Some i) (Some s) (fraction_known n) (Some off))
+form_read u y m d h i s n off is =
+    let text = printed u stamp in
+    let k6 = known (Some y) (Some m) (Some d) (Some h) (Some i) (Some s) None None in
+    let k7 = known (Some y) (Some m) (Some d) (Some h) (Some i) (Some s) (fraction_known n) None in
+    let k8 = known (Some y) (Some m) (Some d) (Some h) (Some i) (Some s) (fraction_known n) (Some off) in
+    let stands = offset_stands u off is.offset is.offset_in is.offset_whole in
+    let whole : read_all stamp_form unknown text ≡ Some k8 =
+    form_date_read u y m d h i s n off is ∙ form_time_read u y m d h i s n off is
+    ∙ by_other u (token.ShortFraction 46 9) (token.ShortFraction 46 9) f12 s12 k6 k7 (fraction_finding n) (fraction_found_at u n (printed u s12) is.nanosecond is.nanosecond_in stands.1) (noted_fraction y m d h i s n)
+    ∙ step token.StampOffset [] k7 k8 (finding.Offset off) (printed u s12) [] (form_offset_found u off stands) refl in
+    ap (λ (o : Option Found). either o (either (read_all date_form unknown text) (either (read_all time_form unknown text) (read_all both_form unknown text)))) whole

@@ -5,7 +5,7 @@ use Rattle.expr_value.specs.Times.{instant, offset_of}
 use Rattle.expr_value.specs.declared.moment.DateTimeValue.{DateTimeValue}
 use Rattle.expr_value.specs.declared.value.Value as value
 use Rattle.expr_value.specs.declared.zone.TimezoneValue.{TimezoneValue}
-use Rattle.expr_time.specs.Civil.{ByLayout}
+use Rattle.expr_time.specs.Civil.{ByForm, ByLayout}
 use Rattle.expr_time.specs.Fields.{date_at}
 use Rattle.expr_time.specs.Layouts.{IsLayout, printed}
 use Rattle.expr_time.specs.declared.token.Field.TheVariants as field
@@ -34,9 +34,12 @@ CanStamp t = (pos 0 ≤ℤ (date_at t).year) × (unsigned_abs (offset_of t) % 60
 abbrev pub SaysInstant : DateTimeValue → Answer → Type 0
 SaysInstant t answer = (u : DateTimeValue) × (instant u ≡ instant t) × (Ok (value.DateTime u) ≡ answer)
 
--- what the layout prints of a moment is read by it as the same instant, whichever zone is given
+-- what the layout prints of a moment is read as the same instant, whichever zone is given: by that layout, and without one
 abbrev pub ReadsBack : DateTimeValue → TimezoneValue → List ℕ → Answer → Type 0
 ReadsBack t zone text answer = CanStamp t → Prints t stamp_layout text → ByLayout text stamp_layout zone answer → SaysInstant t answer
+
+abbrev pub ReadsAlone : DateTimeValue → TimezoneValue → List ℕ → Answer → Type 0
+ReadsAlone t zone text answer = CanStamp t → Prints t stamp_layout text → ByForm text zone answer → SaysInstant t answer
 
 -- the tokens of that layout, and what they print of a moment: as JSON texts have it
 abbrev pub stamp_tokens : List Token
