@@ -1,7 +1,8 @@
-use Rattle.std.proofs.Common.{ℕ, ◌*◌, ◌<◌, ◌≡◌, ◌&&◌, IsTrue, ◌+◌, ◌≤◌, ◌++◌, List, [], ◌∷◌, length, map, drop, arith, rules, true, sym, ap, ◌∙◌, subst, refl, Ok, Err, String, Global, string_bytes}
+use Rattle.std.proofs.Common.{◌≡◌, ◌&&◌, IsTrue, ◌+◌, ◌≤◌, ◌++◌, List, [], ◌∷◌, length, map, get_or, drop, arith, rules, true, sym, ap, ◌∙◌, subst, refl, Ok, Err, String, Global, string_bytes}
 use Rattle.std.proofs.lemmas.List.{drop_all}
 use denote.Param.Weighed.{most, at_most}
-use lib.ListN.{get_or}
+use Rattle.expr_tree.specs.declared.node.Node.TheShapes.{weighed-Node-Map-0-at-2}
+use Rattle.expr_tree.proofs.node.Node.TheLaws.{the_size}
 use Rattle.expr_tree.proofs.Shapes.{written-Func, written-Slice}
 use Rattle.expr_predicates.proofs.Turns.{turn_on, turn_refused, turn_misanswered, turn_done}
 use Rattle.expr_predicates.specs.Gathered.{left, question_of}
@@ -316,16 +317,14 @@ items-returns g t c =
     loop-done (λ ns. AllowsAll host ctx (terms_written ns)) all c.args.nodes.now c.loop-node.node-index c.loop-node.values.items c.loop-node.invariant c.loop-node-test.false refl
     )
 
--- the measure of one of some parts is below that of the whole
-part_falls : {X : Type 0} (W : X → ℕ) (xs : List X) (i : ℕ) (x : X) (t : ℕ) → 6 * most W xs + 3 ≡ t → x ≡ get_or xs i x → i < length xs → 6 * W x + 2 < t
-part_falls W xs i x t is at within =
-    let h : W (get_or xs i x) ≤ most W xs = at_most W xs i x within in
-    let e : W x ≡ W (get_or xs i x) = ap W at in
-    omega (arith, h, e, is)
-
 pub entries-keep-requires : goal.entries-keep-requires
 entries-keep-requires g t c κs within =
-    (omega (arith, part_falls _ c.args.entries.now c.loop-key.key-index c.loop-key-item.result t c.decreases c.loop-key-item.is c.loop-key-test.true), within)
+    let entries = c.args.entries.now in
+    let entry = c.loop-key-item.result in
+    let depth = λ (p : String Global × Node). weighed-Node-Map-0-at-2.weight Node the_size p in
+    let found : depth (get_or entries c.loop-key.key-index entry) ≤ most depth entries = at_most depth entries c.loop-key.key-index entry c.loop-key-test.true in
+    let below : depth entry ≤ most depth entries = subst (λ p. depth p ≤ most depth entries) (sym c.loop-key-item.is) found in
+    (omega arith, within)
 
 pub entries-loop-key-preserved : goal.entries-loop-key-preserved
 entries-loop-key-preserved g t c =
