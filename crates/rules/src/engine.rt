@@ -75,7 +75,10 @@ impl Engine {
                 return Ok(said);
             }
         };
-        let order = Order { record, line: Value::Integer(number) };
+        let order = Order {
+            record,
+            line: Value::Integer(number),
+        };
         for rule in &self.rules {
             let name = rule.name.as_str();
             let answer = match self.shop.run(alloc, &rule.program, &order) {

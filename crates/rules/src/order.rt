@@ -14,8 +14,8 @@ impl ContextProvider for Order {
     ghost use Rattle.expr_value.specs.Names.{find};
 
     ghost context = { λ order. record {
-        value_of = λ name. if bytes_eq name (codes "line") then Some order.line else find name order.record;
-        map = order.record;
+      value_of = λ name. if bytes_eq name (codes "line") then Some order.line else find name order.record;
+      map = order.record;
     } };
 
     fn get(&self, key: &str) -> Option<&Value> {

@@ -7,7 +7,10 @@ pub fn shown(alloc: Global, code: &str, error: &Error) -> Result<String> {
     match error {
         Error::PestError(place) => {
             let spot = spot_of(alloc, code, *place)?;
-            Ok(format!(in alloc; "line {}, column {}\n{}", spot.line, spot.column, spot.shown)?)
+            Ok(format!(in alloc;
+                "line {}, column {}\n{}",
+                spot.line, spot.column, spot.shown
+            )?)
         }
         Error::ParseError(message) => Ok(format!(in alloc; "a number is too large: {message}")?),
         other => Ok(other.to_string(alloc)?),
@@ -18,7 +21,9 @@ pub fn shown(alloc: Global, code: &str, error: &Error) -> Result<String> {
 pub fn told(alloc: Global, error: Error) -> Result<String> {
     match error {
         Error::MemoryError => Err(Error::MemoryError),
-        Error::PestError(_) | Error::ParseError(_) => Ok("not a text of the language".to_string(alloc)?),
+        Error::PestError(_) | Error::ParseError(_) => Ok("not a text of the language".to_string(
+            alloc,
+        )?),
         Error::ExprError(message) => Ok(message),
         Error::RegexError(error) => Ok(format!(in alloc; "bad pattern: {error}")?),
     }

@@ -1,7 +1,5 @@
 //! What the shop adds to the language, and a question of its own.
-use expr::{
-    Context, Environment, Error, ExprCall, Result, Value, compile, run,
-};
+use expr::{Context, Environment, Error, ExprCall, Result, Value, compile, run};
 use std::alloc::Global;
 
 /// Whether an order is large: a host in ten lines.
@@ -20,9 +18,7 @@ fn percent(alloc: Global, call: &ExprCall) -> Result<Value> {
         [Value::Integer(amount), Value::Integer(rate)] => {
             Ok(Value::Integer(amount.wrapping_mul(*rate) / 100))
         }
-        _ => Err(Error::ExprError(
-            "percent takes an amount and a rate".to_string(alloc)?,
-        )),
+        _ => Err(Error::ExprError("percent takes an amount and a rate".to_string(alloc)?)),
     }
 }
 
