@@ -6,7 +6,6 @@
 use expr::{Context, Error, Result, Value, eval};
 use std::alloc::{AllocError, Global};
 use std::io;
-use std::io::{BufRead, BufReader, BufWriter, Write};
 
 /// The text that a line writes.
 fn unescaped(alloc: Global, line: &str) -> std::result::Result<String, AllocError> {
@@ -56,19 +55,24 @@ fn word_of(error: &Error) -> &'static str {
     }
 }
 
-/// What a line's expression answers among the names that the line binds. These are evaluated from left to right, each in
-/// an empty context.
+/// Binds a name as a part of a line says, `NAME=CODE`. The code is evaluated in an empty context.
+fn bind(alloc: Global, part: &str, context: &mut Context) -> Result<()> {
+    let (name, code) = part.split_once('=').unwrap_or((part, ""));
+    let code = unescaped(alloc, code)?;
+    let value = eval(alloc, &code, &Context::new(alloc))?;
+    context.insert(unescaped(alloc, name)?, value)?;
+    Ok(())
+}
+
+/// What a line's expression answers among the names that the line binds, from left to right.
 fn answer(alloc: Global, line: &str) -> Result<Value> {
-    let empty = Context::new(alloc);
     let mut context = Context::new(alloc);
     let mut parts = line.split('\t');
-    let code = parts.next().unwrap_or("");
-    for binding in parts {
-        let (name, code) = binding.split_once('=').unwrap_or((binding, ""));
-        let value = eval(alloc, unescaped(alloc, code)?.as_str(), &empty)?;
-        context.insert(unescaped(alloc, name)?, value)?;
+    let code = unescaped(alloc, parts.next().unwrap_or(""))?;
+    for part in parts {
+        bind(alloc, part, &mut context)?;
     }
-    eval(alloc, unescaped(alloc, code)?.as_str(), &context)
+    eval(alloc, &code, &context)
 }
 
 /// The line of a line's answer.
@@ -81,11 +85,11 @@ fn answer_line(alloc: Global, line: &str) -> std::result::Result<String, AllocEr
 
 fn main(rt: HostRuntime) -> io::Result<()> {
     let alloc = rt.alloc();
-    let mut out = BufWriter::new(alloc, io::writer(&rt))?;
-    for line in BufReader::new(alloc, rt.reader())?.lines(alloc) {
-        let line = line?;
-        let answer = answer_line(alloc, line.as_str())?;
-        writeln!(out, "{answer}")?;
+    let lines = io::read_to_string(alloc, rt.reader())?;
+    let mut answers = String::new(alloc);
+    for line in lines.lines() {
+        let answer = answer_line(alloc, line)?;
+        writeln!(answers, "{answer}")?;
     }
-    out.flush()
+    print!(rt; "{answers}")
 }
