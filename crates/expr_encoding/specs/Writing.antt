@@ -7,7 +7,7 @@ use Rattle.serde_json.specs.Find.{of_integer}
 use Rattle.serde_json.specs.Read.{max_depth, read}
 use Rattle.serde_json.specs.View.{items_of}
 use Rattle.serde_json.specs.Written.{compact_text}
-use Rattle.expr_time.specs.Stamps.{stamp_text}
+use Rattle.expr_layout.specs.Layouts.{stamp_text}
 use Rattle.expr_value.specs.declared.value.Value.{Value, fold-Value}
 use Rattle.expr_value.specs.declared.value.Value.TheOpen.{Value-F}
 

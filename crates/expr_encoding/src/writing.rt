@@ -7,18 +7,18 @@ ghost use Rattle.serde_json.specs.Data.{no_members, string};
 ghost use Rattle.expr_value.specs.Answers.{Is};
 ghost use Rattle.expr_value.specs.Fault.{evaluation, fault_of, memory};
 ghost use Rattle.expr_encoding.specs.Optional.{Refuses, given};
-ghost use Rattle.expr_time.specs.Stamps.{stamp_text};
+ghost use Rattle.expr_layout.specs.Layouts.{stamp_text};
 ghost use Rattle.expr_encoding.specs.ReadBack.{ReadsEqual};
 ghost use Rattle.expr_encoding.specs.Writing.{ReadsBack, all_of, data_of, json_text, members_all, pair_data};
 
 use base64::engine::general_purpose::STANDARD;
-use expr_time::stamp;
+use expr_layout::stamp;
 use expr_value::{DateTimeValue, Error, Result, Text, Value, ValueMap, refusal};
 use serde_json::{Map, Value as Json};
 use std::alloc::Global;
 
 /// The JSON text of a value, as `serde_json` writes it without spaces: names rise, bytes are a Base64 text, date-times
-/// their stamps ([`expr_time::stamp`]), durations, months and days of the week numbers, and zones objects without members.
+/// their stamps ([`expr_layout::stamp`]), durations, months and days of the week numbers, and zones objects without members.
 /// A map by keys anywhere in the value is refused. What is made of nil, booleans, integers, texts, arrays and
 /// maps by names is read from its text as an equal value, unless it nests deeper than 127 levels.
 pub fn to_json(alloc: Global, value: &Value) -> Result<Text>

@@ -8,10 +8,10 @@ use Rattle.expr_predicates.specs.Calls.{AllowsAsking, SortsItems, asking_named}
 use Rattle.expr_predicates.specs.Tasks.{Question}
 use Rattle.expr_predicates.specs.declared.asking.Asking.{Asking}
 use Rattle.expr_time.specs.Calls.{Called as TimeCalled, name_of as time_name}
-use Rattle.expr_time.specs.Methods.{answered, name_of as method_name}
+use Rattle.expr_duration.specs.Methods.{answered, name_of as method_name}
 use Rattle.expr_time.specs.Moments.{AnsweredAt, moment_method, name_answer, name_method}
 use Rattle.expr_time.specs.declared.calls.TimeCall.{TimeCall}
-use Rattle.expr_time.specs.declared.method.DurationMethod.{DurationMethod}
+use Rattle.expr_duration.specs.declared.method.DurationMethod.{DurationMethod}
 use Rattle.expr_time.specs.declared.moments.DateTimeMethod.{DateTimeMethod}
 use Rattle.expr_time.specs.declared.moments.NameMethod.{NameMethod}
 use Rattle.expr_value.specs.Answers.{Answer}

@@ -5,7 +5,7 @@ use Rattle.expr_value.specs.declared.moment.DateTimeValue.{DateTimeValue}
 use Rattle.expr_value.specs.declared.value.Value as value
 use Rattle.expr_value.specs.declared.value.Value.{Value, out-Value, the_lemmas}
 use Rattle.expr_value.specs.declared.value.Value.TheOpen.{Value-F}
-use Rattle.expr_time.specs.Places.{given}
+use Rattle.expr_moment.specs.Places.{given}
 use Rattle.expr_operators.specs.Operators.{added, added_layers, subtracted, subtracted_layers}
 
 out-moment : (t : DateTimeValue) → out-Value (value.DateTime t) ≡ Value-F.DateTime t

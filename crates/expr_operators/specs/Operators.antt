@@ -18,8 +18,8 @@ use Rattle.expr_value.specs.declared.value.Value as value
 use Rattle.expr_value.specs.declared.value.Value.{Value, out-Value}
 use Rattle.expr_value.specs.declared.value.Value.TheOpen.{Value-F}
 use Rattle.expr_value.specs.Answers.{Answer}
-use Rattle.expr_time.specs.Moments.{between}
-use Rattle.expr_time.specs.Places.{given}
+use Rattle.expr_moment.specs.Fields.{between}
+use Rattle.expr_moment.specs.Places.{given}
 
 -- sums, differences and products wrap at 64 bits; the sum of two texts is the one before the other; a moment is moved within the range of moments, and two have a length of time between them where it fits 64 bits
 abbrev pub added_layers : Value-F Value → Value-F Value → Answer

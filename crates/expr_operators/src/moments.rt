@@ -2,8 +2,8 @@
 ghost use Rattle.std.specs.Prelude.{◌≡◌};
 ghost use Rattle.expr_value.specs.Answers.{Is};
 ghost use Rattle.expr_value.specs.Moved.{moved, moved_back};
-ghost use Rattle.expr_time.specs.Moments.{between};
-ghost use Rattle.expr_time.specs.Places.{given};
+ghost use Rattle.expr_moment.specs.Fields.{between};
+ghost use Rattle.expr_moment.specs.Places.{given};
 
 use expr_value::{DateTimeValue, Result, Value, refusal};
 use std::alloc::Global;

@@ -7,7 +7,7 @@ use Rattle.jiff_core.specs.Calendar.{days_from_civil, days_in_year}
 use Rattle.jiff.specs.Types.{Date}
 use Rattle.jiff.specs.Words.{ordinal}
 use Rattle.expr_time.specs.Civil.{Agrees, HasParts, names_date}
-use Rattle.expr_time.specs.declared.found.Found.{Found}
+use Rattle.expr_layout.specs.declared.found.Found.{Found}
 use Rattle.jiff.proofs.Family.{epoch_day_same, epoch_day-ordinal, same_date}
 
 pub one_by_month : (d e : Date) → d.year ≡ e.year → d.month ≡ e.month → d.day ≡ e.day → d ≡ e

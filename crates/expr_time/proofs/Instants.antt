@@ -16,17 +16,18 @@ use Rattle.expr_value.specs.declared.moment.Place.{Place}
 use Rattle.expr_value.specs.declared.moment.Place.TheVariants.{Fixed, Zone}
 use Rattle.expr_value.specs.declared.value.Value as value
 use Rattle.expr_value.specs.declared.zone.TimezoneValue.{TimezoneValue}
-use Rattle.expr_time.specs.declared.found.Found.{Found}
+use Rattle.expr_layout.specs.declared.found.Found.{Found}
 use Rattle.expr_time.specs.Civil.{ByForm, Given, GivenIf, HasParts, Is, IsCivil, ReadBy, answer_in, place_at}
-use Rattle.expr_time.specs.Fields.{date_at, time_at}
-use Rattle.expr_time.specs.Layouts.{printed}
-use Rattle.expr_time.specs.declared.token.Token.{Token}
-use Rattle.expr_time.specs.Places.{given, picked_in, placed, utc}
+use Rattle.expr_moment.specs.Fields.{date_at, time_at}
+use Rattle.expr_layout.specs.Layouts.{printed}
+use Rattle.expr_layout.specs.declared.token.Token.{Token}
+use Rattle.expr_moment.specs.Places.{given, picked_in, placed, utc}
 use Rattle.expr_time.specs.Stamps.{CanStamp, ReadsAlone, ReadsBack, SaysInstant, stamp_layout}
-use Rattle.expr_time.proofs.OneLayout.{layout_one, stamp_is}
+use Rattle.expr_layout.proofs.OneLayout.{layout_one}
 use Rattle.expr_time.proofs.Placed.{others_are_fixed}
-use Rattle.expr_time.proofs.Placing.{civil_shown}
-use Rattle.expr_time.proofs.Shown.{date_is_shown, time_is_shown}
+use Rattle.expr_moment.proofs.Placing.{civil_shown}
+use Rattle.expr_moment.proofs.Shown.{date_is_shown, time_is_shown}
+use Rattle.expr_time.proofs.StampTokens.{stamp_is}
 use Rattle.expr_time.proofs.Stamped.{Shows, form_read, fraction_known, known, stamp, stamp_read}
 
 above : (z : ℤ) → pos 0 ≤ℤ z → z ≡ pos (unsigned_abs z)

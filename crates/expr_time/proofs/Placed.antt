@@ -6,8 +6,8 @@ use Rattle.jiff.specs.Types.{Offset}
 use Rattle.jiff.specs.Words.{IsOffsetSeconds}
 use Rattle.expr_value.specs.declared.moment.Place.TheVariants.{Fixed, Zone}
 use Rattle.expr_time.specs.Civil.{if_in_offset, in_offset, place_at}
-use Rattle.expr_time.specs.Places.{utc}
-use Rattle.expr_time.proofs.Placing.{not_equal, same_offset}
+use Rattle.expr_moment.specs.Places.{utc}
+use Rattle.expr_moment.proofs.Placing.{not_equal, same_offset}
 
 pub none_is_utc : (s : ℤ) → s ≡ pos 0 → place_at s ≡ Some (Zone utc)
 none_is_utc s e = ap place_at e

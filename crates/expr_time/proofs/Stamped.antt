@@ -16,22 +16,22 @@ use Rattle.expr_clock.specs.Digits.{digits, fraction_digits}
 use Rattle.expr_clock.specs.Moments.{year_text}
 use Rattle.expr_value.specs.Times.{offset_of}
 use Rattle.expr_value.specs.declared.moment.DateTimeValue.{DateTimeValue}
-use Rattle.expr_time.specs.declared.found.Finding.{Finding}
-use Rattle.expr_time.specs.declared.found.Finding.TheVariants as finding
-use Rattle.expr_time.specs.declared.found.Found.{Found}
-use Rattle.expr_time.specs.declared.token.Field.{Field}
-use Rattle.expr_time.specs.declared.token.Field.TheVariants as field
-use Rattle.expr_time.specs.declared.token.Pad.TheVariants as pad
-use Rattle.expr_time.specs.declared.token.Spelling.TheVariants as spelling
-use Rattle.expr_time.specs.declared.token.Token.{Token}
-use Rattle.expr_time.specs.declared.token.Token.TheVariants as token
+use Rattle.expr_layout.specs.declared.found.Finding.{Finding}
+use Rattle.expr_layout.specs.declared.found.Finding.TheVariants as finding
+use Rattle.expr_layout.specs.declared.found.Found.{Found}
+use Rattle.expr_layout.specs.declared.token.Field.{Field}
+use Rattle.expr_layout.specs.declared.token.Field.TheVariants as field
+use Rattle.expr_layout.specs.declared.token.Pad.TheVariants as pad
+use Rattle.expr_layout.specs.declared.token.Spelling.TheVariants as spelling
+use Rattle.expr_layout.specs.declared.token.Token.{Token}
+use Rattle.expr_layout.specs.declared.token.Token.TheVariants as token
 use Rattle.expr_time.specs.Civil.{both_form, by_form, date_form, stamp_form, time_form}
-use Rattle.expr_time.specs.Fields.{date_at, time_at}
-use Rattle.expr_time.specs.Found.{Reading, Taken, below, digit_at, found_as, found_at, found_number, four_digits, further, hours_at, if_digit, if_more, in_units, is_digit, noted, nothing_behind, offset_at, one_more, or_same, parts_at, parts_behind, read_all, spelled_at, two_digits, unknown, up_to_two, with_digit, zulu_at}
-use Rattle.expr_time.specs.Layouts.{after_name, either, fraction_of, number_of, padded, pad_text, printed, short_places, signed_offset, spelled, token_text, zulu}
-use Rattle.expr_time.proofs.Findings.{parts_end, parts_more}
-use Rattle.expr_time.proofs.Tokens.{after_append}
-use Rattle.expr_time.proofs.Placing.{not_equal}
+use Rattle.expr_moment.specs.Fields.{date_at, time_at}
+use Rattle.expr_layout.specs.Found.{Reading, Taken, below, digit_at, found_as, found_at, found_number, four_digits, further, hours_at, if_digit, if_more, in_units, is_digit, noted, nothing_behind, offset_at, one_more, or_same, parts_at, parts_behind, read_all, spelled_at, two_digits, unknown, up_to_two, with_digit, zulu_at}
+use Rattle.expr_layout.specs.Layouts.{after_name, either, fraction_of, number_of, padded, pad_text, printed, short_places, signed_offset, spelled, token_text, zulu}
+use Rattle.expr_layout.proofs.Findings.{parts_end, parts_more}
+use Rattle.expr_layout.proofs.Tokens.{after_append}
+use Rattle.expr_moment.proofs.Placing.{not_equal}
 
 -- a digit at the head of a text
 digit_first : (d : ℕ) (rest : List ℕ) → d < 10 → digit_at ((48 + d) ∷ rest) ≡ Some (d, rest)
@@ -61,7 +61,7 @@ up_read n rest h =
 
 -- what is printed in two digits, and in four
 padded_is : (n : ℕ) → n < 100 → padded pad.Zero n ≡ two n []
-unfolding Rattle.expr_time.specs.Layouts.padded
+unfolding Rattle.expr_layout.specs.Layouts.padded
 padded_is n h =
     let large : 10 ≤ n → padded pad.Zero n ≡ two n [] =
     λ ge. ap (λ (b : Bool). cond b (pad_text pad.Zero) [] ++ decimal n) (le-ltb n 10 ge) ∙ decimal_step n ge (omega arith)
@@ -147,11 +147,11 @@ abbrev EndsFraction : List ℕ → Type 0
 EndsFraction rest = (digit_at rest ≡ None) × (after_name (encode_utf8 46) rest ≡ None) × (after_name (codes "z") rest ≡ None)
 
 short_none : short_places 46 9 zero ≡ []
-unfolding Rattle.expr_time.specs.Layouts.short_places
+unfolding Rattle.expr_layout.specs.Layouts.short_places
 short_none = refl
 
 short_some : (m : ℕ) → short_places 46 9 (suc m) ≡ encode_utf8 46 ++ fraction_digits 9 (suc m)
-unfolding Rattle.expr_time.specs.Layouts.short_places
+unfolding Rattle.expr_layout.specs.Layouts.short_places
 short_some m =
     let same : suc m / 1 ≡ suc m = omega arith in
     ap (λ (n : ℕ). cond (n == 0) [] (encode_utf8 46 ++ fraction_digits 9 n)) same ∙ ap (λ b. cond b [] (encode_utf8 46 ++ fraction_digits 9 (suc m))) (eqb-suc-zero m)
@@ -181,7 +181,7 @@ abbrev clock : ℕ → List ℕ
 clock n = two (n / 3600) (58 ∷ two (n / 60 % 60) [])
 
 spelled_is : (n : ℕ) → n < 86400 → spelled spelling.ColonMinutes n ≡ clock n
-unfolding Rattle.expr_time.specs.Layouts.spelled
+unfolding Rattle.expr_layout.specs.Layouts.spelled
 spelled_is n h =
     λ i. (digits_two (n / 3600) (omega arith) i ++ codes ":") ++ digits_two (n / 60 % 60) (omega arith) i
 
@@ -190,7 +190,7 @@ hours_read n rest h =
     ap (λ (o : Taken). in_units 0 3600 (below 24 o)) (two_read n rest (omega arith)) ∙ ap (λ (b : Bool). in_units 0 3600 (cond b (Some (n, rest)) None)) (lt-ltb n 24 h)
 
 minutes_read : (sum n : ℕ) (rest : List ℕ) → n < 60 → further (codes ":") 60 (sum, 58 ∷ two n rest) ≡ Some (sum + n * 60, rest)
-unfolding Rattle.expr_time.specs.Layouts.after_name
+unfolding Rattle.expr_layout.specs.Layouts.after_name
 minutes_read sum n rest h =
     ap (λ (o : Taken). in_units sum 60 (below 60 o)) (two_read n rest (omega arith)) ∙ ap (λ (b : Bool). in_units sum 60 (cond b (Some (n, rest)) None)) (lt-ltb n 60 h)
 
@@ -211,26 +211,26 @@ other_offset : (off : ℤ) → ¬ (off ≡ pos 0) → zulu spelling.ColonMinutes
 other_offset off other = ap (λ (b : Bool). cond b (codes "Z") (signed_offset spelling.ColonMinutes off)) (not_equal off (pos 0) other)
 
 ahead_stands : (n : ℕ) → suc n < 86400 → suc n % 60 ≡ 0 → Stands (pos (suc n)) (43 ∷ spelled spelling.ColonMinutes (suc n))
-unfolding Rattle.expr_time.specs.Layouts.after_name encode_utf8
+unfolding Rattle.expr_layout.specs.Layouts.after_name encode_utf8
 ahead_stands n h whole = (ap (found_as (λ m. finding.Offset (pos m))) (spelled_read (suc n) h whole), (refl, refl, refl))
 
 behind_stands : (n : ℕ) → suc n < 86400 → suc n % 60 ≡ 0 → Stands (negsuc n) (45 ∷ spelled spelling.ColonMinutes (suc n))
-unfolding Rattle.expr_time.specs.Layouts.after_name encode_utf8
+unfolding Rattle.expr_layout.specs.Layouts.after_name encode_utf8
 behind_stands n h whole = (ap (found_as (λ m. finding.Offset (neg_ℤ (pos m)))) (spelled_read (suc n) h whole), (refl, refl, refl))
 
 none_stands : Stands (pos 0) (codes "Z")
-unfolding Rattle.expr_time.specs.Layouts.after_name encode_utf8
+unfolding Rattle.expr_layout.specs.Layouts.after_name encode_utf8
 none_stands = (refl, (refl, refl, refl))
 
 some_seconds : (n : ℕ) → ¬ (pos (suc n) ≡ pos 0)
 some_seconds n e = absurd (omega (arith, ints, e))
 
 ahead_sign : (n : ℕ) → signed_offset spelling.ColonMinutes (pos n) ≡ 43 ∷ spelled spelling.ColonMinutes n
-unfolding Rattle.expr_time.specs.Layouts.signed_offset
+unfolding Rattle.expr_layout.specs.Layouts.signed_offset
 ahead_sign n = ap (λ (b : Bool). cond b (codes "-") (codes "+") ++ spelled spelling.ColonMinutes n) (le-ltb n 0 (omega arith))
 
 behind_sign : (n : ℕ) → signed_offset spelling.ColonMinutes (negsuc n) ≡ 45 ∷ spelled spelling.ColonMinutes (suc n)
-unfolding Rattle.expr_time.specs.Layouts.signed_offset
+unfolding Rattle.expr_layout.specs.Layouts.signed_offset
 behind_sign n = refl
 
 zulu_stands : (off : ℤ) → unsigned_abs off < 86400 → unsigned_abs off % 60 ≡ 0 → Stands off (zulu spelling.ColonMinutes off)
@@ -240,36 +240,36 @@ zulu_stands (negsuc n) h whole = subst (Stands (negsuc n)) (sym (other_offset (n
 
 -- what each token finds of what it prints
 year_found : (u : DateTimeValue) (y : ℕ) (rest : List ℕ) → (date_at u).year ≡ pos y → y < 10000 → found_at token.Year (token_text u token.Year ++ rest) ≡ Some (finding.Year y, rest)
-unfolding Rattle.expr_time.specs.Found.found_at Rattle.expr_time.specs.Layouts.token_text Rattle.expr_clock.specs.Moments.year_text
+unfolding Rattle.expr_layout.specs.Found.found_at Rattle.expr_layout.specs.Layouts.token_text Rattle.expr_clock.specs.Moments.year_text
 year_found u y rest e h =
     ap (λ (z : ℤ). found_as finding.Year (four_digits (year_text z ++ rest))) e
     ∙ ap (λ (b : Bool). found_as finding.Year (four_digits ((cond b (codes "-") [] ++ digits 4 y) ++ rest))) (le-ltb y 0 (omega arith)) ∙ ap (found_as finding.Year) (four_read y rest h)
 
 number_found : (u : DateTimeValue) (f : Field) (n : ℕ) (rest : List ℕ) → number_of f u ≡ n → n < 100
     → found_at (token.Number f pad.Zero) (token_text u (token.Number f pad.Zero) ++ rest) ≡ Some (found_number f n, rest)
-unfolding Rattle.expr_time.specs.Found.found_at Rattle.expr_time.specs.Layouts.token_text
+unfolding Rattle.expr_layout.specs.Found.found_at Rattle.expr_layout.specs.Layouts.token_text
 number_found u f n rest e h =
     ap (λ (m : ℕ). found_as (found_number f) (up_to_two (padded pad.Zero m ++ rest))) e ∙ ap (λ (t : List ℕ). found_as (found_number f) (up_to_two (t ++ rest))) (padded_is n h)
     ∙ ap (found_as (found_number f)) (up_read n rest h)
 
 literal_found : (u : DateTimeValue) (c : ℕ) (rest : List ℕ) → found_at (token.Literal c) (token_text u (token.Literal c) ++ rest) ≡ Some (finding.Nothing, rest)
-unfolding Rattle.expr_time.specs.Found.found_at Rattle.expr_time.specs.Layouts.token_text
+unfolding Rattle.expr_layout.specs.Found.found_at Rattle.expr_layout.specs.Layouts.token_text
 literal_found u c rest = ap nothing_behind (after_append (encode_utf8 c) rest)
 
 fraction_found_at : (u : DateTimeValue) (n : ℕ) (rest : List ℕ) → (time_at u).nanosecond ≡ n → n < 10 ^ 9 → EndsFraction rest
     → found_at (token.ShortFraction 46 9) (token_text u (token.ShortFraction 46 9) ++ rest) ≡ Some (fraction_finding n, rest)
-unfolding Rattle.expr_time.specs.Found.found_at Rattle.expr_time.specs.Layouts.token_text
+unfolding Rattle.expr_layout.specs.Found.found_at Rattle.expr_layout.specs.Layouts.token_text
 fraction_found_at u n rest e h ends =
     ap (λ (k : ℕ). parts_behind (short_places 46 9 k ++ rest) (after_name (encode_utf8 46) (short_places 46 9 k ++ rest))) e ∙ fraction_read n rest h ends
 
 offset_stands : (u : DateTimeValue) (off : ℤ) → offset_of u ≡ off → unsigned_abs off < 86400 → unsigned_abs off % 60 ≡ 0 → Stands off (token_text u (token.Zulu spelling.ColonMinutes) ++ [])
-unfolding Rattle.expr_time.specs.Layouts.token_text
+unfolding Rattle.expr_layout.specs.Layouts.token_text
 offset_stands u off e h whole =
     subst (Stands off) (sym (append-nil (zulu spelling.ColonMinutes (offset_of u)) ∙ ap (zulu spelling.ColonMinutes) e)) (zulu_stands off h whole)
 
 offset_found : (u : DateTimeValue) (off : ℤ) → Stands off (token_text u (token.Zulu spelling.ColonMinutes) ++ [])
     → found_at (token.Zulu spelling.ColonMinutes) (token_text u (token.Zulu spelling.ColonMinutes) ++ []) ≡ Some (finding.Offset off, [])
-unfolding Rattle.expr_time.specs.Found.found_at
+unfolding Rattle.expr_layout.specs.Found.found_at
 offset_found u off stands = stands.0
 
 -- one token after another
@@ -403,18 +403,18 @@ stamp_read u y m d h i s n off is =
 -- the tokens of the form that is read without a layout find the same
 two_found : (u : DateTimeValue) (f : Field) (n : ℕ) (rest : List ℕ) → number_of f u ≡ n → n < 100
     → found_at (token.TwoDigits f) (token_text u (token.Number f pad.Zero) ++ rest) ≡ Some (found_number f n, rest)
-unfolding Rattle.expr_time.specs.Found.found_at Rattle.expr_time.specs.Layouts.token_text
+unfolding Rattle.expr_layout.specs.Found.found_at Rattle.expr_layout.specs.Layouts.token_text
 two_found u f n rest e h =
     ap (λ (m : ℕ). found_as (found_number f) (two_digits (padded pad.Zero m ++ rest))) e ∙ ap (λ (t : List ℕ). found_as (found_number f) (two_digits (t ++ rest))) (padded_is n h)
     ∙ ap (found_as (found_number f)) (two_read n rest h)
 
 mark_found : (u : DateTimeValue) (rest : List ℕ) → found_at token.Mark (token_text u (token.Literal 84) ++ rest) ≡ Some (finding.Nothing, rest)
-unfolding Rattle.expr_time.specs.Found.found_at Rattle.expr_time.specs.Layouts.token_text encode_utf8
+unfolding Rattle.expr_layout.specs.Found.found_at Rattle.expr_layout.specs.Layouts.token_text encode_utf8
 mark_found u rest = refl
 
 form_offset_found : (u : DateTimeValue) (off : ℤ) → Stands off (token_text u (token.Zulu spelling.ColonMinutes) ++ [])
     → found_at token.StampOffset (token_text u (token.Zulu spelling.ColonMinutes) ++ []) ≡ Some (finding.Offset off, [])
-unfolding Rattle.expr_time.specs.Found.found_at
+unfolding Rattle.expr_layout.specs.Found.found_at
 form_offset_found u off stands =
     ap (λ (o : Option (List ℕ)). either (option_map (λ rest. (finding.Offset (pos 0), rest)) o) (zulu_read_of (token_text u (token.Zulu spelling.ColonMinutes) ++ []))) stands.1.2 ∙ stands.0
 

@@ -5,7 +5,7 @@ use Rattle.expr_value.specs.declared.moment.DateTimeValue.{DateTimeValue}
 use Rattle.expr_value.specs.declared.value.Value.{Value}
 use Rattle.expr_value.specs.declared.zone.TimezoneValue.{TimezoneValue}
 use Rattle.expr_time.specs.Civil.{AllowsDate}
-use Rattle.expr_time.specs.Methods as methods
+use Rattle.expr_duration.specs.Methods as methods
 use Rattle.expr_time.specs.Zones.{now_answer, timezone_answer}
 use Rattle.expr_time.specs.declared.calls.TimeCall.{TimeCall}
 use Rattle.expr_time.specs.declared.calls.TimeCall.TheVariants as is

@@ -12,16 +12,16 @@ use Rattle.expr_value.specs.declared.moment.Place.TheVariants.{Fixed, Zone}
 use Rattle.expr_value.specs.declared.zone.TimezoneValue.{TimezoneValue}
 use Rattle.expr_value.specs.Values.{string_of}
 use Rattle.expr_value.specs.declared.value.Value.{Value}
-use Rattle.expr_time.specs.Found.{read_all, unknown}
-use Rattle.expr_time.specs.Layouts.{IsLayout, either}
+use Rattle.expr_layout.specs.Found.{read_all, unknown}
+use Rattle.expr_layout.specs.Layouts.{IsLayout, either}
 use Rattle.expr_time.specs.Moments.{answer_for, timezone_of}
-use Rattle.expr_time.specs.Places.{at_civil, given, utc}
+use Rattle.expr_moment.specs.Places.{at_civil, given, utc}
 use Rattle.expr_time.specs.Zones.{zone_named}
-use Rattle.expr_time.specs.declared.found.Found.{Found}
-use Rattle.expr_time.specs.declared.token.Field.TheVariants as field
-use Rattle.expr_time.specs.declared.token.Pad.TheVariants as pad
-use Rattle.expr_time.specs.declared.token.Token.{Token}
-use Rattle.expr_time.specs.declared.token.Token.TheVariants as token
+use Rattle.expr_layout.specs.declared.found.Found.{Found}
+use Rattle.expr_layout.specs.declared.token.Field.TheVariants as field
+use Rattle.expr_layout.specs.declared.token.Pad.TheVariants as pad
+use Rattle.expr_layout.specs.declared.token.Token.{Token}
+use Rattle.expr_layout.specs.declared.token.Token.TheVariants as token
 
 -- a number is what is known, if anything is
 abbrev pub Agrees : Option ℕ → ℕ → Type 0

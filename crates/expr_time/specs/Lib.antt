@@ -1,13 +1,5 @@
 pub mod Calls
 pub mod Civil
-pub mod Dates
-pub mod Durations
-pub mod Fields
-pub mod Found
-pub mod Layouts
-pub mod Methods
 pub mod Moments
-pub mod Places
-pub mod Reading
 pub mod Stamps
 pub mod Zones

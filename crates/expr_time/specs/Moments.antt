@@ -1,5 +1,5 @@
 -- What the methods of moments answer.
-use Rattle.std.specs.Prelude.{◌≡◌, ℕ, ℤ, pos, neg_ℤ, ◌+ℤ◌, ◌-ℤ◌, ◌&&◌, int_lt, int_le, int_div, List, [], ◌∷◌, Option, None, Some, Ok, Err, codes, if◌then◌else◌}
+use Rattle.std.specs.Prelude.{◌≡◌, ℕ, ℤ, pos, neg_ℤ, ◌+ℤ◌, ◌-ℤ◌, int_lt, int_le, int_div, List, [], ◌∷◌, Option, None, Some, Ok, Err, codes, if◌then◌else◌}
 use Rattle.std.specs.Int.{int_rem_euclid}
 use Rattle.std.specs.Ordering.{int_eq}
 use Rattle.expr_value.specs.Answers.{Answer}
@@ -14,11 +14,11 @@ use Rattle.expr_value.specs.declared.value.Value as value
 use Rattle.expr_value.specs.declared.value.Value.{Value, out-Value}
 use Rattle.expr_value.specs.declared.value.Value.TheOpen.{Value-F}
 use Rattle.expr_value.specs.declared.zone.TimezoneValue.{TimezoneValue}
-use Rattle.expr_time.specs.Dates.{AddsDate}
-use Rattle.expr_time.specs.Fields.{field_name, field_of, zero_instant}
-use Rattle.expr_time.specs.Layouts.{Formats}
-use Rattle.expr_time.specs.Methods.{alone, one_duration, one_text}
-use Rattle.expr_time.specs.Places.{given, location_of, placed, utc}
+use Rattle.expr_moment.specs.Dates.{AddsDate}
+use Rattle.expr_moment.specs.Fields.{between, field_name, field_of, zero_instant}
+use Rattle.expr_layout.specs.Layouts.{Formats}
+use Rattle.expr_duration.specs.Methods.{alone, one_duration, one_text}
+use Rattle.expr_moment.specs.Places.{given, location_of, placed, utc}
 use Rattle.expr_time.specs.declared.moments.DateTimeMethod.{DateTimeMethod}
 use Rattle.expr_time.specs.declared.moments.DateTimeMethod.TheVariants as is
 use Rattle.expr_time.specs.declared.moments.NameMethod.{NameMethod}
@@ -55,12 +55,6 @@ three_integers (u ∷ v ∷ w ∷ x ∷ more) = None
 abbrev pub answer_for : {A : Type 0} → Option A → (A → Answer) → Answer
 answer_for None f = Err evaluation
 answer_for (Some a) f = f a
-
--- the nanoseconds between two moments, within 64 bits
-abbrev pub between : DateTimeValue → DateTimeValue → Answer
-between t u =
-    let n = instant t -ℤ instant u in
-    if int_le (neg_ℤ (pos 9223372036854775808)) n && int_le n (pos 9223372036854775807) then Ok (value.Duration n) else Err evaluation
 
 -- which of two moments is the later one
 abbrev pub compared : DateTimeValue → DateTimeValue → ℤ

@@ -1,26 +1,18 @@
 -- Texts of moments that say their instant.
-use Rattle.std.specs.Prelude.{◌≡◌, ℕ, pos, ◌%◌, ◌<◌, ◌≤ℤ◌, unsigned_abs, List, [], ◌∷◌, Ok, codes, false}
+use Rattle.std.specs.Prelude.{◌≡◌, ℕ, pos, ◌%◌, ◌<◌, ◌≤ℤ◌, unsigned_abs, List, Ok, codes, false}
 use Rattle.expr_value.specs.Answers.{Answer}
 use Rattle.expr_value.specs.Times.{instant, offset_of}
 use Rattle.expr_value.specs.declared.moment.DateTimeValue.{DateTimeValue}
 use Rattle.expr_value.specs.declared.value.Value as value
 use Rattle.expr_value.specs.declared.zone.TimezoneValue.{TimezoneValue}
 use Rattle.expr_time.specs.Civil.{ByForm, ByLayout}
-use Rattle.expr_time.specs.Fields.{date_at}
-use Rattle.expr_time.specs.Layouts.{IsLayout, printed}
-use Rattle.expr_time.specs.declared.token.Field.TheVariants as field
-use Rattle.expr_time.specs.declared.token.Pad.TheVariants as pad
-use Rattle.expr_time.specs.declared.token.Spelling.TheVariants as spelling
-use Rattle.expr_time.specs.declared.token.Token.{Token}
-use Rattle.expr_time.specs.declared.token.Token.TheVariants as token
+use Rattle.expr_moment.specs.Fields.{date_at}
+use Rattle.expr_layout.specs.Layouts.{IsLayout, printed}
+use Rattle.expr_layout.specs.declared.token.Token.{Token}
 
 -- a layout whose texts say instants
 abbrev pub stamp_layout : List ℕ
 stamp_layout = codes "2006-01-02T15:04:05.999999999Z07:00"
-
--- a layout has no more than one list of tokens
-abbrev pub HasOneLayout : List ℕ → List Token → List Token → Type 0
-HasOneLayout layout ts us = IsLayout false layout ts → IsLayout false layout us → ts ≡ us
 
 -- what a layout prints of a moment
 abbrev pub Prints : DateTimeValue → List ℕ → List ℕ → Type 0
@@ -40,13 +32,3 @@ ReadsBack t zone text answer = CanStamp t → Prints t stamp_layout text → ByL
 
 abbrev pub ReadsAlone : DateTimeValue → TimezoneValue → List ℕ → Answer → Type 0
 ReadsAlone t zone text answer = CanStamp t → Prints t stamp_layout text → ByForm text zone answer → SaysInstant t answer
-
--- the tokens of that layout, and what they print of a moment: as JSON texts have it
-abbrev pub stamp_tokens : List Token
-stamp_tokens =
-    token.Year ∷ token.Literal 45 ∷ token.Number field.Month pad.Zero ∷ token.Literal 45 ∷ token.Number field.Day pad.Zero ∷ token.Literal 84
-    ∷ token.Number field.Hour pad.Zero ∷ token.Literal 58 ∷ token.Number field.Minute pad.Zero ∷ token.Literal 58 ∷ token.Number field.Second pad.Zero
-    ∷ token.ShortFraction 46 9 ∷ token.Zulu spelling.ColonMinutes ∷ []
-
-unfoldable pub stamp_text : DateTimeValue → List ℕ
-stamp_text t = printed t stamp_tokens

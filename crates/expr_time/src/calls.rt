@@ -5,8 +5,8 @@ ghost use Rattle.expr_value.specs.Answers.{Gives};
 ghost use Rattle.expr_time.specs.Calls.{Called, name_of};
 
 use crate::date::date;
-use crate::method::duration;
 use crate::zones::{Zones, now, timezone};
+use expr_duration::duration;
 use expr_held::Held;
 use expr_value::{DateTimeValue, Result, Value};
 use std::alloc::Global;

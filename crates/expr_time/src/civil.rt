@@ -4,7 +4,7 @@ ghost use Rattle.jiff.specs.Types.{Date, DateTime, Time};
 ghost use Rattle.jiff.specs.Words.{ordinal};
 ghost use Rattle.expr_time.specs.Civil.{Agrees, HasHour, HasParts, Is, IsCivil, IsDated, IsHour, IsTimed, has_date, names_date};
 
-use crate::found::Found;
+use expr_layout::Found;
 use jiff::civil::{Date, DateTime, Time};
 use jiff_core::civil::days_in_month;
 

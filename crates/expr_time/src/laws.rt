@@ -1,30 +1,11 @@
 //! Laws of the definitions, each on a function that gives nothing.
-ghost use Rattle.std.specs.Prelude.{◌≡◌, ℕ, ℤ, List, FitsSigned, false};
-ghost use Rattle.std.specs.Int.{w64};
-ghost use Rattle.expr_time.specs.Durations.{Spells};
-ghost use Rattle.expr_clock.specs.Durations.{duration_text};
-ghost use Rattle.expr_time.specs.Layouts.{IsLayout};
-ghost use Rattle.expr_time.specs.Stamps.{HasOneLayout, ReadsAlone, ReadsBack, stamp_layout, stamp_tokens};
-ghost use Rattle.expr_time.specs.declared.token.Token.{Token};
+ghost use Rattle.std.specs.Prelude.{ℕ, List, false};
+ghost use Rattle.expr_layout.specs.Layouts.{IsLayout, stamp_tokens};
+ghost use Rattle.expr_time.specs.Stamps.{ReadsAlone, ReadsBack, stamp_layout};
 ghost use Rattle.expr_value.specs.Answers.{Answer};
 ghost use Rattle.expr_value.specs.declared.zone.TimezoneValue.{TimezoneValue};
 
 use expr_value::DateTimeValue;
-
-/// A text spells at most one length of time.
-pub fn texts_have_one_meaning()
-    ensures { (text : List ℕ) (m n : ℤ) → Spells text m → Spells text n → m ≡ n }
-{}
-
-/// The text of each length of time spells it.
-pub fn texts_spell_lengths()
-    ensures { (d : ℤ) → FitsSigned w64 d → Spells (duration_text d) d }
-{}
-
-/// A layout is no more than one list of tokens.
-pub fn layouts_have_one_reading()
-    ensures { (layout : List ℕ) (ts us : List Token) → HasOneLayout layout ts us }
-{}
 
 /// A stamp goes by the layout `2006-01-02T15:04:05.999999999Z07:00`.
 pub fn stamps_go_by_a_layout()

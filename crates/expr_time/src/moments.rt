@@ -9,19 +9,20 @@ ghost use Rattle.expr_value.specs.Moved.{at_instant, moved};
 ghost use Rattle.expr_value.specs.Strings.{string_text};
 ghost use Rattle.expr_value.specs.Times.{instant, moment_string, place_of};
 ghost use Rattle.expr_value.specs.declared.moment.Place.TheVariants.{Zone};
-ghost use Rattle.expr_time.specs.Dates.{AddsDate};
-ghost use Rattle.expr_time.specs.Fields.{field_of};
-ghost use Rattle.expr_time.specs.Methods.{alone, one_duration};
-ghost use Rattle.expr_time.specs.Moments.{AddsDates, AnsweredAt, answer_for, between, compared, instant_rounded, instant_truncated, located, moment_method, name_answer, name_method, one_moment, one_zone, three_integers, timezone_of};
-ghost use Rattle.expr_time.specs.Places.{given, location_of, placed, utc};
+ghost use Rattle.expr_moment.specs.Dates.{AddsDate};
+ghost use Rattle.expr_moment.specs.Fields.{between, field_of};
+ghost use Rattle.expr_duration.specs.Methods.{alone, one_duration};
+ghost use Rattle.expr_time.specs.Moments.{AddsDates, AnsweredAt, answer_for, compared, instant_rounded, instant_truncated, located, moment_method, name_answer, name_method, one_moment, one_zone, three_integers, timezone_of};
+ghost use Rattle.expr_moment.specs.Places.{given, location_of, placed, utc};
 
-use crate::dates::date_after;
-use crate::fields::{DateTimeField, ZERO_INSTANT, date_shown, time_shown};
-use crate::formatting::format;
-use crate::method::{one_duration, without};
-use crate::places::{at_instant, civil_beside, given, in_zone, location, show_place, utc};
 use expr_clock::show_stamp;
+use expr_duration::{one_duration, without};
 use expr_held::Held;
+use expr_layout::format;
+use expr_moment::{
+    DateTimeField, ZERO_INSTANT, at_instant, civil_beside, date_after, date_shown, given, in_zone,
+    location, show_place, time_shown, utc,
+};
 use expr_value::{DateTimeValue, Error, Result, Text, TimezoneValue, Value, refusal};
 use jiff::civil::DateTime;
 use std::alloc::Global;

@@ -4,10 +4,10 @@ ghost use Rattle.std.specs.Option.{option_copied};
 ghost use Rattle.expr_value.specs.Answers.{Is};
 ghost use Rattle.expr_time.specs.Zones.{now_answer, timezone_answer, zone_named};
 
-use crate::method::one_text;
 use crate::moments::in_utc;
-use crate::places::utc;
+use expr_duration::one_text;
 use expr_held::Held;
+use expr_moment::utc;
 use expr_value::{DateTimeValue, Error, Result, TimezoneValue, Value, refusal};
 use std::alloc::Global;
 

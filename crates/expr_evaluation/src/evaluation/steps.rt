@@ -15,11 +15,12 @@ ghost use Rattle.expr_value.specs.declared.value.Value as value;
 
 use crate::messages::{unknown_method, unknown_name};
 use crate::scope::{Scope, look_up};
+use expr_duration::DurationMethod;
 use expr_operators::{
     Held, apply, as_condition, as_truth, match_pattern, part_of, prefix, range, slice_bound,
 };
 use expr_pattern::Pattern;
-use expr_time::{DateTimeMethod, DurationMethod, NameMethod};
+use expr_time::{DateTimeMethod, NameMethod};
 use expr_tree::operator::{Operator, UnaryOperator};
 use expr_value::{ContextProvider, DateTimeValue, Items, Result, Text, Value, ValueMap};
 use std::alloc::Global;

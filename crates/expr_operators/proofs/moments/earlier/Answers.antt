@@ -6,7 +6,7 @@ use Rattle.std.proofs.Math.Path.{subst}
 use Rattle.expr_value.specs.Answers.{Is}
 use Rattle.expr_value.specs.Moved.{moved_back}
 use Rattle.expr_value.specs.declared.moment.DateTimeValue.{DateTimeValue}
-use Rattle.expr_time.specs.Places.{given}
+use Rattle.expr_moment.specs.Places.{given}
 use Rattle.expr_operators.proofs.moments.earlier.Goals as goal
 
 pub returns : goal.returns

@@ -8,7 +8,7 @@ use Rattle.expr_value.specs.declared.moment.Place.TheVariants.{Fixed, Zone}
 use Rattle.expr_value.specs.declared.moment.DateTimeValue.{DateTimeValue}
 use Rattle.expr_value.specs.declared.zone.TimezoneValue.{TimezoneValue}
 use Rattle.expr_time.specs.Civil.{answer_in, place_at}
-use Rattle.expr_time.specs.Places.{given, utc}
+use Rattle.expr_moment.specs.Places.{given, utc}
 use Rattle.expr_time.proofs.Given.{gives_more}
 use Rattle.expr_time.proofs.Placed.{none_is_utc, others_are_fixed}
 use Rattle.expr_time.proofs.date.at_offset.Goals as goal

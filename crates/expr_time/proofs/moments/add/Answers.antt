@@ -7,7 +7,7 @@ use Rattle.std.proofs.Math.Path.{subst}
 use Rattle.expr_value.specs.Answers.{Answer, Is}
 use Rattle.expr_value.specs.Moved.{moved}
 use Rattle.expr_time.specs.Moments.{answer_for}
-use Rattle.expr_time.specs.Places.{given}
+use Rattle.expr_moment.specs.Places.{given}
 use Rattle.expr_time.proofs.moments.add.Goals as goal
 
 pub returns : goal.returns

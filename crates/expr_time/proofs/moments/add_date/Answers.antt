@@ -5,7 +5,7 @@ use mir.Val.{SFits, of_z, to_z}
 use Rattle.std.proofs.lemmas.Int.{to_z-of_z}
 use Rattle.std.proofs.Math.Path.{subst}
 use Rattle.expr_value.specs.Answers.{Gives}
-use Rattle.expr_time.specs.Dates.{AddsDate}
+use Rattle.expr_moment.specs.Dates.{AddsDate}
 use Rattle.expr_time.specs.Moments.{AddsDates}
 use Rattle.expr_time.proofs.moments.add_date.Goals as goal
 

@@ -6,9 +6,9 @@ use Rattle.std.proofs.lemmas.Int.{to_z-of_z}
 use Rattle.std.proofs.Math.Path.{subst}
 use Rattle.expr_clock.specs.Calendar.{Day, plain_clock}
 use Rattle.jiff.specs.Words.{epoch_day}
-use Rattle.expr_time.specs.Dates.{IsReached, day_reached}
-use Rattle.expr_time.specs.Fields.{date_at}
-use Rattle.expr_time.specs.Places.{given}
+use Rattle.expr_moment.specs.Dates.{IsReached, day_reached}
+use Rattle.expr_moment.specs.Fields.{date_at}
+use Rattle.expr_moment.specs.Places.{given}
 use Rattle.expr_time.proofs.Given.{gives_more}
 use Rattle.expr_time.proofs.moments.later_date.Goals as goal
 

@@ -8,7 +8,7 @@ use Rattle.expr_value.specs.Answers.{Answer, Is}
 use Rattle.expr_value.specs.Moved.{at_instant}
 use Rattle.expr_value.specs.Times.{instant, place_of}
 use Rattle.expr_time.specs.Moments.{answer_for, instant_truncated}
-use Rattle.expr_time.specs.Places.{given}
+use Rattle.expr_moment.specs.Places.{given}
 use Rattle.expr_time.proofs.moments.truncate.Goals as goal
 
 pub returns : goal.returns

@@ -1,0 +1,138 @@
+//! Moments in other places, and the moments at which the clock of a place shows a civil time.
+ghost use Rattle.std.specs.Prelude.{◌≡◌, ◌++◌, Some, IfOk, IfErr};
+ghost use Rattle.std.specs.Option.{option_copied};
+ghost use Rattle.std.specs.Fmt.{WritesOnOk};
+ghost use Rattle.jiff.specs.Words.{civil_nanos};
+ghost use Rattle.expr_value.specs.Answers.{Is};
+ghost use Rattle.expr_value.specs.Moved.{at_instant};
+ghost use Rattle.expr_value.specs.Times.{instant, local_nanos, place_of, place_text};
+ghost use Rattle.expr_value.specs.declared.moment.Place.TheVariants.{Fixed, Zone};
+ghost use Rattle.expr_moment.specs.Places.{at_civil, given, if_shows, location_of, picked_in, placed, utc};
+
+use expr_clock::show_offset;
+use expr_value::{DateTimeValue, Error, Result, TimezoneValue, Value, refusal};
+use jiff::Timestamp;
+use jiff::civil::DateTime;
+use jiff::tz::{Offset, TimeZone};
+use std::alloc::Global;
+use std::fmt;
+use std::fmt::{Formatter, Write};
+
+/// The zone UTC.
+pub fn utc(alloc: Global) -> Result<TimezoneValue>
+    ensures ok { IfOk result (λ z. z ≡ utc) }
+    ensures err { IfErr result (λ e. e ≡ Error.MemoryError) }
+{
+    TimezoneValue::named(alloc, "UTC", TimeZone::UTC)
+}
+
+/// A moment, or a refusal where there is none.
+pub fn given(alloc: Global, moment: Option<DateTimeValue>) -> Result<Value>
+    ensures { Is result (given moment) }
+{
+    match moment {
+        Some(moment) => Value::datetime(alloc, moment),
+        None => Err(refusal(alloc, "no such moment, or out of range")),
+    }
+}
+
+/// The same instant in a zone.
+pub fn in_zone(moment: &DateTimeValue, zone: &TimezoneValue) -> Result<DateTimeValue>
+    ensures ok { IfOk result (λ t. t ≡ placed moment.now (Zone zone.now)) }
+    ensures err { IfErr result (λ e. e ≡ Error.MemoryError) }
+{
+    Ok(DateTimeValue::zoned(moment.timestamp(), zone.clone()?))
+}
+
+/// The zone of a moment, or UTC where it has none and no offset.
+pub fn location(alloc: Global, moment: &DateTimeValue) -> Result<Option<TimezoneValue>>
+    ensures ok { IfOk result (λ z. z ≡ location_of moment.now) }
+    ensures err { IfErr result (λ e. e ≡ Error.MemoryError) }
+{
+    if let Some(zone) = moment.timezone() {
+        return Ok(Some(zone.clone()?));
+    }
+    if moment.offset().seconds() == 0 {
+        return Ok(Some(utc(alloc)?));
+    }
+    Ok(None)
+}
+
+// Another instant in the place of a moment.
+fn beside(moment: &DateTimeValue, timestamp: Timestamp) -> Result<DateTimeValue>
+    ensures instant { IfOk result (λ t. instant t ≡ timestamp.nanosecond) }
+    ensures place { IfOk result (λ t. place_of t ≡ place_of moment.now) }
+    ensures err { IfErr result (λ e. e ≡ Error.MemoryError) }
+{
+    match moment.timezone() {
+        Some(zone) => Ok(DateTimeValue::zoned(timestamp, zone.clone()?)),
+        None => Ok(DateTimeValue::fixed(timestamp, moment.offset())),
+    }
+}
+
+/// The moment at an instant, in nanoseconds, in the place of another, if it is in range.
+pub fn at_instant(moment: &DateTimeValue, nanoseconds: i128) -> Result<Option<DateTimeValue>>
+    ensures ok { IfOk result (λ t. t ≡ at_instant nanoseconds (place_of moment.now)) }
+    ensures err { IfErr result (λ e. e ≡ Error.MemoryError) }
+{
+    match Timestamp::from_nanosecond(nanoseconds) {
+        Ok(timestamp) => Ok(Some(beside(moment, timestamp)?)),
+        Err(_) => Ok(None),
+    }
+}
+
+/// The moment at which jiff puts a civil time on the clock of a zone, if it is in range and the clock shows that time then.
+pub fn civil_in_zone(zone: &TimezoneValue, civil: DateTime) -> Result<Option<DateTimeValue>>
+    ensures ok { IfOk result (λ t. t ≡ at_civil (Zone zone.now) civil) }
+    ensures err { IfErr result (λ e. e ≡ Error.MemoryError) }
+{
+    let rules = zone.timezone();
+    let Ok(timestamp) = rules.to_timestamp(civil) else {
+        return Ok(None);
+    };
+    if rules.to_datetime(timestamp) == civil {
+        return Ok(Some(DateTimeValue::zoned(timestamp, zone.clone()?)));
+    }
+    Ok(None)
+}
+
+/// The moment at which a clock at an offset shows a civil time, if it is in range.
+pub fn civil_at_offset(offset: Offset, civil: DateTime) -> Option<DateTimeValue>
+    ensures { result ≡ at_civil (Fixed offset) civil }
+{
+    match offset.to_timestamp(civil) {
+        Ok(timestamp) => Some(DateTimeValue::fixed(timestamp, offset)),
+        Err(_) => None,
+    }
+}
+
+/// The moment at which jiff puts a civil time on the clock of a moment's place.
+pub fn civil_beside(moment: &DateTimeValue, civil: DateTime) -> Result<Option<DateTimeValue>>
+    ensures ok { IfOk result (λ t. t ≡ at_civil (place_of moment.now) civil) }
+    ensures err { IfErr result (λ e. e ≡ Error.MemoryError) }
+{
+    match moment.timezone() {
+        Some(zone) => civil_in_zone(zone, civil),
+        None => Ok(civil_at_offset(moment.offset(), civil)),
+    }
+}
+
+/// Prints the text of a moment's place: the name of a zone, `UTC` for no offset, and else the offset.
+pub fn show_place<W: Write>(moment: &DateTimeValue, f: &mut Formatter<W>) -> fmt::Result
+    ensures { WritesOnOk W.write_str_gives f.old result (place_text (place_of moment.now)) f.new }
+{
+    match moment.timezone() {
+        Some(zone) => f.write_str(zone.name()),
+        None => show_unnamed(moment.offset(), f),
+    }
+}
+
+fn show_unnamed<W: Write>(offset: Offset, f: &mut Formatter<W>) -> fmt::Result
+    ensures { WritesOnOk W.write_str_gives f.old result (place_text (Fixed offset)) f.new }
+{
+    if offset.seconds() == 0 {
+        f.write_str("UTC")
+    } else {
+        show_offset(offset, "", f)
+    }
+}

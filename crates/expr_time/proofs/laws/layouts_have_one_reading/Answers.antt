@@ -1,6 +1,0 @@
-use Rattle.std.specs.Prelude.{false}
-use Rattle.expr_time.proofs.OneLayout.{layout_one}
-use Rattle.expr_time.proofs.laws.layouts_have_one_reading.Goals as goal
-
-pub returns : goal.returns
-returns c = λ layout ts us. layout_one ts us false layout

@@ -1,4 +1,0 @@
-use Rattle.expr_time.proofs.read.+name_at.Given as goal
-
-abbrev pub decreases-name_at : goal.decreases-name_at
-decreases-name_at l = l.left

@@ -1,7 +1,0 @@
-use Rattle.expr_time.proofs.Findings.{stripped}
-use Rattle.expr_time.proofs.Steps.{prefixed}
-use Rattle.expr_time.proofs.read.after_name.Goals as goal
-
-pub returns : goal.returns
-returns c =
-    stripped c.strip_prefix.result c.args.name.now c.args.text.now (prefixed c.strip_prefix.result c.args.name.now c.args.text.now c.strip_prefix.ensures.cases)
