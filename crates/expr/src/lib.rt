@@ -13,12 +13,14 @@ pub use expr_builtins::{
     arrays_are_opened, pairs_of_a_map_make_it_again, parts_after_joined_are_the_text,
     parts_joined_are_the_text,
 };
+pub use expr_duration::{texts_have_one_meaning, texts_spell_lengths};
 pub use expr_evaluation::{
     ExprCall, eval_expr, eval_func, eval_operator, eval_postfix_operator, eval_unary_operator,
     left_side_decides, run,
 };
 pub use expr_frames::laws::brackets_leave_program;
 pub use expr_grammar::laws::{brackets_fit, one_tree};
+pub use expr_layout::layouts_have_one_reading;
 pub use expr_operators::{
     outside_is_not_within, part_stands_between_front_and_back, unequal_is_not_equal,
 };
@@ -27,6 +29,7 @@ pub use expr_predicates::{
 };
 pub use expr_syntax::laws::{one_tree_of_text, printed_text_has_program};
 pub use expr_syntax::{compile, compile_within};
+pub use expr_time::{printed_moments_are_read, stamps_go_by_a_layout};
 pub use expr_token::{lexer_gives_the_reading, one_reading, printed_text_reads};
 pub use expr_tree::node::{Node, Pattern, PostfixOperator, Program};
 pub use expr_tree::operator::{Operator, UnaryOperator};
