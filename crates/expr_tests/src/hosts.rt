@@ -1,8 +1,7 @@
 //! Hosts of the tests' own: functions that are added to an environment, and to a parser.
 use crate::said::{printed, said};
 use expr::{
-    Context, Environment, Error, ExprCall, Function, Node, Parser, Result, Value, bail, compile,
-    value,
+    Context, Environment, Error, ExprCall, Node, Parser, Result, Value, bail, compile, value,
 };
 use jiff::Timestamp;
 use jiff::tz::{Offset, TimeZone};
@@ -31,60 +30,54 @@ fn number(call: ExprCall) -> Result<Value> {
     })
 }
 
-/// What functions are added to.
-trait Adding {
-    /// Adds a function under a name.
-    fn add(&mut self, name: &str, function: Function) -> Result<()>
-        requires { Function.IsAlwaysCallable function };
-}
-
-impl Adding for Environment {
-    fn add(&mut self, name: &str, function: Function) -> Result<()> {
-        self.add_function(name, function)
-    }
-}
-
-impl Adding for Parser {
-    fn add(&mut self, name: &str, function: Function) -> Result<()> {
-        self.add_function(name, function)
-    }
-}
-
-/// Adds functions of the tests' own.
-fn add_all<H: Adding>(alloc: Global, host: &mut H) -> Result<()> {
+/// An environment with functions of the tests' own.
+fn hosted(alloc: Global) -> Result<Environment> {
     let calls = Cell::new(0_i64);
-    host.add("add", Box::new(alloc, |call: ExprCall| sum(call))?)?;
-    host.add("n", Box::new(alloc, |call: ExprCall| sum(call))?)?;
-    host.add("n", Box::new(alloc, |call: ExprCall| number(call))?)?;
-    host.add("map", Box::new(alloc, |call: ExprCall| number(call))?)?;
-    host.add(
+    let mut host = Environment::new(alloc);
+    host.add_function("add", Box::new(alloc, |call: ExprCall| sum(call))?)?;
+    host.add_function("n", Box::new(alloc, |call: ExprCall| sum(call))?)?;
+    host.add_function("n", Box::new(alloc, |call: ExprCall| number(call))?)?;
+    host.add_function("map", Box::new(alloc, |call: ExprCall| number(call))?)?;
+    host.add_function(
         "len",
         Box::new(alloc, |_call: ExprCall| Ok(Value::Integer(0)))?,
     )?;
-    host.add(
+    host.add_function(
         "p",
         Box::new(alloc, |call: ExprCall| Err(Error::ParseError(call.ident)))?,
     )?;
-    host.add(
+    host.add_function(
         "tick",
         Box::new(alloc, move |_call: ExprCall| {
             calls.set(calls.get().wrapping_add(1));
             Ok(Value::Integer(calls.get()))
         })?,
-    )
-}
-
-/// An environment with these functions.
-fn hosted(alloc: Global) -> Result<Environment> {
-    let mut host = Environment::new(alloc);
-    add_all(alloc, &mut host)?;
+    )?;
     Ok(host)
 }
 
-/// A parser with these functions.
+/// A parser with the same functions.
 fn parser(alloc: Global) -> Result<Parser> {
+    let calls = Cell::new(0_i64);
     let mut host = Parser::new(alloc);
-    add_all(alloc, &mut host)?;
+    host.add_function("add", Box::new(alloc, |call: ExprCall| sum(call))?)?;
+    host.add_function("n", Box::new(alloc, |call: ExprCall| number(call))?)?;
+    host.add_function("map", Box::new(alloc, |call: ExprCall| number(call))?)?;
+    host.add_function(
+        "len",
+        Box::new(alloc, |_call: ExprCall| Ok(Value::Integer(0)))?,
+    )?;
+    host.add_function(
+        "p",
+        Box::new(alloc, |call: ExprCall| Err(Error::ParseError(call.ident)))?,
+    )?;
+    host.add_function(
+        "tick",
+        Box::new(alloc, move |_call: ExprCall| {
+            calls.set(calls.get().wrapping_add(1));
+            Ok(Value::Integer(calls.get()))
+        })?,
+    )?;
     Ok(host)
 }
 
