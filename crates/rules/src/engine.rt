@@ -1,8 +1,10 @@
 //! Rules that are compiled once and run over many records.
 use crate::order::Order;
 use crate::refused::{shown, told};
-use crate::shop::environment;
-use expr::{Context, Environment, Program, Result, Value, compile, compile_within, value};
+use crate::shop::percent;
+use expr::{
+    Context, Environment, ExprCall, Program, Result, Value, compile, compile_within, value,
+};
 use std::alloc::Global;
 
 /// The greatest height of a rule's tree: evaluation takes stack by depth, and rules are strangers' texts.
@@ -27,7 +29,11 @@ pub fn report(alloc: Global, text: &str) -> Result<String> {
     let (rules, records) = text.split_once("\n---\n").unwrap_or((text, ""));
     let mut said = String::new(alloc);
     let rules = compiled(alloc, rules, &mut said)?;
-    let shop = environment(alloc)?;
+    let mut shop = Environment::new(alloc);
+    shop.add_function(
+        "percent",
+        Box::new(alloc, move |call: ExprCall| percent(alloc, &call))?,
+    )?;
     judge_all(alloc, &shop, &rules, records, &mut said)?;
     Ok(said)
 }

@@ -1,5 +1,5 @@
 //! What the shop adds to the language, and a question of its own.
-use expr::{Context, Environment, Error, ExprCall, Result, Value, compile, run};
+use expr::{Context, Error, ExprCall, Result, Value, compile, run};
 use std::alloc::Global;
 
 /// Whether an order is large: a host in ten lines.
@@ -13,21 +13,11 @@ pub fn is_large(alloc: Global, price: i64, count: i64) -> Result<bool> {
 }
 
 /// So many percent of an amount, cut toward zero.
-fn percent(alloc: Global, call: &ExprCall) -> Result<Value> {
+pub fn percent(alloc: Global, call: &ExprCall) -> Result<Value> {
     match call.args.as_slice() {
         [Value::Integer(amount), Value::Integer(rate)] => {
             Ok(Value::Integer(amount.wrapping_mul(*rate) / 100))
         }
         _ => Err(Error::ExprError("percent takes an amount and a rate".to_string(alloc)?)),
     }
-}
-
-/// The environment of the shop, which is kept for all rules.
-pub fn environment(alloc: Global) -> Result<Environment> {
-    let mut shop = Environment::new(alloc);
-    shop.add_function(
-        "percent",
-        Box::new(alloc, move |call: ExprCall| percent(alloc, &call))?,
-    )?;
-    Ok(shop)
 }
