@@ -15,7 +15,7 @@ pub(crate) fn show_minus<W: Write>(number: i64, f: &mut Formatter<W>) -> fmt::Re
 
 /// Prints the last digits of a number, so many as are asked for, with zeros in front.
 #[tactic(auto, unfolding(crate::specs::Digits::digits))]
-pub(crate) fn show_digits<W: Write>(count: u32, number: u64, f: &mut Formatter<W>) -> fmt::Result
+pub fn show_digits<W: Write>(count: u32, number: u64, f: &mut Formatter<W>) -> fmt::Result
     requires { count ≤ 9 }
     ensures { WritesOnOk W.write_str_gives f.old result (digits count number) f.new }
 {
@@ -29,11 +29,7 @@ pub(crate) fn show_digits<W: Write>(count: u32, number: u64, f: &mut Formatter<W
 }
 
 /// Prints the digits of a fraction of parts, of which 10 to the power of `places` make a unit, without trailing zeros.
-pub(crate) fn show_fraction_digits<W: Write>(
-    places: u32,
-    parts: u64,
-    f: &mut Formatter<W>,
-) -> fmt::Result
+pub fn show_fraction_digits<W: Write>(places: u32, parts: u64, f: &mut Formatter<W>) -> fmt::Result
     requires { places ≤ 9 }
     ensures { WritesOnOk W.write_str_gives f.old result (fraction_digits places parts) f.new }
 {
@@ -46,7 +42,8 @@ pub(crate) fn show_fraction_digits<W: Write>(
     show_fraction_digits(places - 1, parts % unit, f)
 }
 
-pub(crate) fn power_of_ten(places: u32) -> u64
+/// The power of ten of so many places.
+pub fn power_of_ten(places: u32) -> u64
     requires { places ≤ 9 }
     ensures value { result ≡ 10 ^ places }
     ensures positive { 0 < result }

@@ -23,6 +23,7 @@ pub struct Held<'a> {
 
 // Written out so that letting go of one is a single step in the proofs above.
 impl<'a> Drop for Held<'a> {
+    #[inline(always)]
     fn drop(self) {
         let Held { holding: _ } = self;
     }

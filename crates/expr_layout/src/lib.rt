@@ -1,7 +1,6 @@
 //! Layouts: cutting them into tokens, printing moments by tokens, and reading texts by them.
 #![tactic(auto)]
 
-mod digits;
 mod formatting;
 mod found;
 mod laws;

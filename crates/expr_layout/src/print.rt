@@ -6,10 +6,9 @@ ghost use Rattle.expr_value.specs.Times.{offset_of};
 ghost use Rattle.expr_moment.specs.Fields.{date_at, time_at, year_day_at};
 ghost use Rattle.expr_layout.specs.Layouts.{fraction_of, fraction_places, half_hour, half_name, hours_of, minutes_of, number_of, pad_text, padded, padded_more, printed, seconds_of, short_places, short_year, signed_offset, spelled, token_text, zulu};
 
-use crate::digits::{power_of_ten, show_digits, show_fraction_digits};
 use crate::names::{month_name, short_month_name, short_weekday_name, weekday_name};
 use crate::token::{Field, Pad, Spelling, Token};
-use expr_clock::show_year;
+use expr_clock::{power_of_ten, show_digits, show_fraction_digits, show_year};
 use expr_moment::{date_shown, show_place, time_shown, weekday};
 use expr_value::DateTimeValue;
 use std::fmt;

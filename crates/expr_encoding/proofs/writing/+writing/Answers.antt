@@ -5,7 +5,7 @@ use Rattle.std.proofs.lemmas.Result.{err_from_is_err_and}
 use Rattle.serde_json.specs.Data.{Data, Members, put}
 use Rattle.serde_json.specs.View.{view, members_view}
 use Rattle.expr_value.specs.declared.value.Value.{Value}
-use Rattle.expr_value.proofs.Beside.{keyed_at}
+use Rattle.expr_pairs.proofs.Beside.{keyed_at}
 use Rattle.expr_encoding.specs.Writing.{data_of, members_all, pair_data}
 use Rattle.expr_encoding.proofs.Members.{left_at}
 use Rattle.expr_encoding.proofs.writing.+writing.Goals as goal
