@@ -20,6 +20,8 @@ mod reading_back;
 #[cfg(test)]
 mod said;
 #[cfg(test)]
+mod served;
+#[cfg(test)]
 mod shown;
 #[cfg(test)]
 mod sizes;

@@ -1,7 +1,7 @@
 use Rattle.std.proofs.Common.{map, string_bytes, Ok}
-use Rattle.expr_program.specs.Served.{MayGive, MayServe}
+use Rattle.expr_serve.specs.Served.{MayGive, MayServe}
 use Rattle.expr_value.proofs.Answered.{Gives-under}
-use Rattle.expr_program.proofs.serve.answer.Goals as goal
+use Rattle.expr_serve.proofs.serve.answer.Goals as goal
 
 pub returns : goal.returns
 returns c =

@@ -1,5 +1,5 @@
-//! The table of the program's runs.
-use crate::serve::serve;
+//! The table of the runs of the program `expr`.
+use expr_serve::serve;
 use std::alloc::{AllocError, Global};
 use std::io;
 use std::io::Write;

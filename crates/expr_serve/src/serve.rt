@@ -2,8 +2,8 @@
 ghost use Rattle.std.specs.Prelude.{◌≡◌, ◌≢◌, ◌≤◌, ◌↔◌, [], ◌∷◌, ◌++◌, false, map, string_bytes, Ok, Err, OnOk, IfErr};
 ghost use Rattle.std.specs.Io.KnownBytes.{Appends};
 ghost use Rattle.std.specs.List.{list_all};
-ghost use Rattle.expr_program.specs.Served.{MayBind, MayGive, MayPrint, MayServe};
-ghost use Rattle.expr_program.specs.Words.{code_of, is_binding, is_call, name_of, word_for};
+ghost use Rattle.expr_serve.specs.Served.{MayBind, MayGive, MayPrint, MayServe};
+ghost use Rattle.expr_serve.specs.Words.{code_of, is_binding, is_call, name_of, word_for};
 ghost use Rattle.expr_value.specs.Answers.{Gives};
 ghost use Rattle.expr_value.specs.Fault.{fault_of, memory};
 ghost use Rattle.expr_value.specs.Names.{put};

@@ -1,7 +1,7 @@
 use Rattle.std.proofs.Common.{◌≡◌, map, string_bytes, drop}
 use Rattle.std.specs.List.{list_all}
-use Rattle.expr_program.specs.Words.{is_binding}
-use Rattle.expr_program.proofs.serve.are_bindings.Given as goal
+use Rattle.expr_serve.specs.Words.{is_binding}
+use Rattle.expr_serve.proofs.serve.are_bindings.Given as goal
 
 -- all are bindings where the rest are
 abbrev pub invariant-loop-word : goal.invariant-loop-word

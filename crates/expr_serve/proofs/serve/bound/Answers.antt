@@ -1,11 +1,11 @@
 use Rattle.std.proofs.Common.{◌≡◌, ◌+◌, [], ◌∷◌, map, drop, string_bytes, Ok, Err, ap, subst, sym, refl, ◌∙◌}
 use Rattle.std.proofs.lemmas.List.{drop_more}
-use Rattle.expr_program.specs.Served.{MayBind, MayGive}
-use Rattle.expr_program.specs.Words.{name_of, code_of}
+use Rattle.expr_serve.specs.Served.{MayBind, MayGive}
+use Rattle.expr_serve.specs.Words.{name_of, code_of}
 use Rattle.expr_value.proofs.Answered.{Gives-passed}
 use Rattle.expr_value.specs.Fault.{fault_of}
 use Rattle.expr_value.specs.Names.{put}
-use Rattle.expr_program.proofs.serve.bound.Goals as goal
+use Rattle.expr_serve.proofs.serve.bound.Goals as goal
 
 pub returns-in_err-bind : goal.returns-in_err-bind
 returns-in_err-bind c =

@@ -6,7 +6,7 @@ use Rattle.expr_value.specs.Answers.{Answer, After}
 use Rattle.expr_value.specs.Fault.{Fault}
 use Rattle.expr_value.specs.Names.{find, put}
 use Rattle.expr_value.specs.declared.value.Value.{Value}
-use Rattle.expr_program.specs.Words.{name_of, code_of}
+use Rattle.expr_serve.specs.Words.{name_of, code_of}
 
 abbrev pub Pairs : Type 0
 Pairs = List (List ℕ × Value)
