@@ -25,7 +25,7 @@ use Rattle.expr_value.specs.declared.value.Value.{Value, roll-Value, map-Value, 
 use Rattle.expr_value.specs.declared.value.Value.TheOpen.{Value-F}
 use Rattle.expr_operators.specs.Operators.{prefixed}
 use Rattle.expr_evaluation.specs.Allows.{Allows, AllowsAll, AllowsPairs}
-use Rattle.expr_evaluation.specs.Context.{Context}
+use Rattle.expr_steps.specs.Context.{Context}
 use Rattle.expr_evaluation.specs.Host.{Host}
 
 -- a step that answers this value alone

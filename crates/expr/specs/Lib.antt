@@ -15,6 +15,7 @@ pub use Rattle.expr_predicates.specs.Calls as Predicated
 pub use Rattle.expr_predicates.specs.Runs
 pub use Rattle.expr_predicates.specs.Sorting
 pub use Rattle.expr_predicates.specs.Tasks
+pub use Rattle.expr_steps.specs.Methods
 pub use Rattle.expr_token.specs.Printed
 pub use Rattle.expr_tree.specs.Context
 pub use Rattle.expr_tree.specs.Names

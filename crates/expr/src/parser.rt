@@ -6,7 +6,7 @@ ghost use Rattle.expr.specs.Texts.{MayAnswer};
 ghost use Rattle.std.specs.Str.{IsCharBoundary};
 ghost use Rattle.expr_grammar.specs.Grammar.{TreeProgram};
 ghost use Rattle.expr_evaluation.specs.Allows.{Allows, AllowsBlock};
-ghost use Rattle.expr_evaluation.specs.Context.{Context};
+ghost use Rattle.expr_steps.specs.Context.{Context};
 ghost use Rattle.expr_evaluation.specs.Independence.{AgreeAt};
 ghost use Rattle.expr_evaluation.specs.Plain.{is_plain, is_plain_program};
 ghost use Rattle.expr_syntax.specs.Texts.{IsAnswerFor, IsCompiled, IsPlaced, IsProgramOf, IsTreeOf};

@@ -1,7 +1,7 @@
 //! From a text to its answer.
 ghost use Rattle.std.specs.Prelude.{◌≡◌, IsTrue, Ok};
 ghost use Rattle.expr.specs.Texts.{MayAnswer};
-ghost use Rattle.expr_evaluation.specs.Context.{Context};
+ghost use Rattle.expr_steps.specs.Context.{Context};
 ghost use Rattle.expr_evaluation.specs.Host.{no_host};
 ghost use Rattle.expr_syntax.specs.Texts.{IsProgramOf};
 ghost use Rattle.expr_token.specs.Printed.{is_readable};

@@ -3,4 +3,3 @@ pub mod Begun
 pub mod Independent
 pub mod Literal
 pub mod Plainly
-pub mod Scoped

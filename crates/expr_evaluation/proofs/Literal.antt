@@ -8,7 +8,7 @@ use Rattle.expr_operators.specs.declared.sides.Sides.TheVariants.{Both}
 use Rattle.expr_value.proofs.Answered.{first_of-After}
 use Rattle.expr_value.specs.declared.value.Value.{Value}
 use Rattle.expr_evaluation.specs.Allows.{Allows, Continued, ContinuedAs}
-use Rattle.expr_evaluation.specs.Context.{Context}
+use Rattle.expr_steps.specs.Context.{Context}
 use Rattle.expr_evaluation.specs.Host.{Host}
 
 -- the operator asks both sides, of which the right one is a literal, and gives this value

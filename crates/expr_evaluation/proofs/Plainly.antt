@@ -17,7 +17,7 @@ use Rattle.expr_value.specs.declared.value.Value.TheOpen.{Value-F}
 use Rattle.expr_evaluation.specs.Allows.{Allows, AllowsBlock, AndThenLayer, ContinuedAs, OrElseLayer, Continued}
 use Rattle.expr_operators.proofs.Plainly.{plain-Bool, plain-at, applied-plain, prefixed-plain, bool-plain}
 use Rattle.expr_value.specs.Answers.{Answer, After}
-use Rattle.expr_evaluation.specs.Context.{Context}
+use Rattle.expr_steps.specs.Context.{Context}
 use Rattle.expr_evaluation.specs.Host.{Host}
 use Rattle.expr_operators.specs.Sides.{sides_of}
 use Rattle.expr_operators.specs.Matching.{Matched, MatchedLayers}

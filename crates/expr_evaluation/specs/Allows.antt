@@ -11,10 +11,11 @@ use Rattle.expr_value.specs.declared.value.Value as value
 use Rattle.expr_value.specs.declared.value.Value.{Value, out-Value}
 use Rattle.expr_value.specs.declared.value.Value.TheOpen.{Value-F}
 use Rattle.expr_value.specs.Answers.{Answer, After}
-use Rattle.expr_evaluation.specs.Calls.{AllowsBuiltin, AllowsMethod, asked_in}
+use Rattle.expr_evaluation.specs.Calls.{AllowsBuiltin}
+use Rattle.expr_steps.specs.Methods.{AllowsMethod}
+use Rattle.expr_steps.specs.Context.{Context, asked_in, override, looked_up}
 use Rattle.expr_predicates.specs.Runs.{AsksItself}
 use Rattle.expr_predicates.specs.Tasks.{Question}
-use Rattle.expr_evaluation.specs.Context.{Context, override, looked_up}
 use Rattle.expr_evaluation.specs.Host.{Host}
 use Rattle.expr_operators.specs.Matching.{Matched}
 use Rattle.expr_operators.specs.Operators.{applied, prefixed, truth}
@@ -64,11 +65,6 @@ DefaultsLayer layer v other answer = answer ≡ Ok v
 
 abbrev pub Defaults : Value → (Answer → Type 0) → Answer → Type 0
 Defaults v other answer = DefaultsLayer (out-Value v) v other answer
-
--- a bound that is given
-abbrev pub given_bound : Result ℤ Fault → Result (Option ℤ) Fault
-given_bound (Ok n) = Ok (Some n)
-given_bound (Err e) = Err e
 
 abbrev pub is_given : Predicate → Bool
 is_given no_predicate = false
@@ -133,11 +129,6 @@ abbrev mutual
   pub AllowsBlock : Host → Context → Block → Answer → Type 0
   AllowsBlock host ctx (answers t) answer = Allows host ctx t answer
   AllowsBlock host ctx (line key t b) answer = After (Allows host ctx t) (λ v. AllowsBlock host (override ctx key v) b) answer
-
--- the list of a value that is there, or of none
-abbrev pub listed : Option Value → List Value
-listed None = []
-listed (Some v) = v ∷ []
 
 -- these values, and then those of the terms
 abbrev pub AllowsMore : Host → Context → List Value → Terms → Result (List Value) Fault → Type 0

@@ -1,5 +1,5 @@
--- What a call answers where the host has added no function of its name, and what a method answers.
-use Rattle.std.specs.Prelude.{◌≡◌, ◌≢◌, ◌⊎◌, ℕ, ℤ, Bool, List, Option, Some, None, Err, MatchBool, MatchOption, bytes_eq, codes}
+-- What a call answers where the host has added no function of its name.
+use Rattle.std.specs.Prelude.{◌≡◌, ◌≢◌, ◌⊎◌, ℕ, Bool, List, Err, MatchBool, MatchOption, bytes_eq, codes}
 use Rattle.expr_builtins.specs.Calls.{Called, name_of}
 use Rattle.expr_builtins.specs.declared.builtin.Builtin.{Builtin}
 use Rattle.expr_encoding.specs.Calls.{Called as EncodingCalled, name_of as encoding_name}
@@ -8,27 +8,11 @@ use Rattle.expr_predicates.specs.Calls.{AllowsAsking, SortsItems, asking_named}
 use Rattle.expr_predicates.specs.Tasks.{Question}
 use Rattle.expr_predicates.specs.declared.asking.Asking.{Asking}
 use Rattle.expr_time.specs.Calls.{Called as TimeCalled, name_of as time_name}
-use Rattle.expr_duration.specs.Methods.{answered, name_of as method_name}
-use Rattle.expr_time.specs.Moments.{AnsweredAt, moment_method, name_answer, name_method}
 use Rattle.expr_time.specs.declared.calls.TimeCall.{TimeCall}
-use Rattle.expr_duration.specs.declared.method.DurationMethod.{DurationMethod}
-use Rattle.expr_time.specs.declared.moments.DateTimeMethod.{DateTimeMethod}
-use Rattle.expr_time.specs.declared.moments.NameMethod.{NameMethod}
 use Rattle.expr_value.specs.Answers.{Answer}
 use Rattle.expr_value.specs.Fault.{evaluation}
-use Rattle.expr_value.specs.declared.moment.DateTimeValue.{DateTimeValue}
-use Rattle.expr_value.specs.declared.value.Value.{Value, out-Value}
-use Rattle.expr_value.specs.declared.value.Value.TheOpen.{Value-F}
-use Rattle.expr_evaluation.specs.Context.{Context, override, hash}
+use Rattle.expr_value.specs.declared.value.Value.{Value}
 use Rattle.expr_evaluation.specs.Host.{Host}
-
--- the context of a predicate: `#` is the item that is asked about, and `#index` and `#acc` have values where the built-in tells them
-abbrev pub told : Context → List ℕ → Option Value → Context
-told ctx key (Some v) = override ctx key v
-told ctx key None = ctx
-
-abbrev pub asked_in : Context → Question → Context
-asked_in ctx q = override (told (told ctx (codes "#acc") q.acc) (codes "#index") q.index) hash q.item
 
 -- the built-in on values of this name may answer this on these values
 abbrev pub AllowsNamed : List ℕ → List Value → Answer → Type 0
@@ -58,30 +42,3 @@ ByName key sorts on_values asking = MatchBool (bytes_eq key (codes "sort")) sort
 abbrev pub AllowsBuiltin : Host → List ℕ → List Value → Bool → (Question → Answer → Type 0) → Answer → Type 0
 AllowsBuiltin host key vs given asks answer =
     ByName key (SortsItems vs answer) (AllowsOnValues host key vs answer) (λ b. AllowsAsking b vs given asks answer)
-
--- what the method of a name may answer of a length of time, or a refusal where none has it
-abbrev pub AllowsDurationMethod : List ℕ → ℤ → List Value → Answer → Type 0
-AllowsDurationMethod key n vs answer =
-    ((m : DurationMethod) × (method_name m ≡ key) × (answer ≡ answered m n vs)) ⊎ (((m : DurationMethod) → method_name m ≢ key) × (answer ≡ Err evaluation))
-
--- what it may of a moment
-abbrev pub AllowsMomentMethod : List ℕ → DateTimeValue → List Value → Answer → Type 0
-AllowsMomentMethod key t vs answer =
-    ((m : DateTimeMethod) × (moment_method m ≡ key) × AnsweredAt m t vs answer) ⊎ (((m : DateTimeMethod) → moment_method m ≢ key) × (answer ≡ Err evaluation))
-
--- and of a zone, a month or a day of the week
-abbrev pub AllowsNameMethod : List ℕ → Value → List Value → Answer → Type 0
-AllowsNameMethod key v vs answer =
-    ((m : NameMethod) × (name_method m ≡ key) × (answer ≡ name_answer m v vs)) ⊎ (((m : NameMethod) → name_method m ≢ key) × (answer ≡ Err evaluation))
-
-abbrev pub AllowsMethodLayer : List ℕ → Value → Value-F Value → List Value → Answer → Type 0
-AllowsMethodLayer key v (Value-F.Duration n) vs answer = AllowsDurationMethod key n vs answer
-AllowsMethodLayer key v (Value-F.DateTime t) vs answer = AllowsMomentMethod key t vs answer
-AllowsMethodLayer key v (Value-F.Timezone z) vs answer = AllowsNameMethod key v vs answer
-AllowsMethodLayer key v (Value-F.Month n) vs answer = AllowsNameMethod key v vs answer
-AllowsMethodLayer key v (Value-F.Weekday n) vs answer = AllowsNameMethod key v vs answer
-AllowsMethodLayer key v layer vs answer = answer ≡ Err evaluation
-
--- what the method of a name may answer of a value, on these arguments; values of other kinds have none
-abbrev pub AllowsMethod : List ℕ → Value → List Value → Answer → Type 0
-AllowsMethod key v vs answer = AllowsMethodLayer key v (out-Value v) vs answer

@@ -1,11 +1,9 @@
 pub mod Allows
 pub mod Begun
 pub mod Calls
-pub mod Context
 pub mod Host
 pub mod Independence
 pub mod Plain
-pub mod Scope
 pub mod Several
 pub use Rattle.expr_operators.specs.Sides
 pub use Rattle.expr_operators.specs.Operators

@@ -1,7 +1,7 @@
 //! Laws of the evaluation, each on a function without a body.
 ghost use Rattle.std.specs.Prelude.{◌≡◌, ◌↔◌, Ok, false, true};
 ghost use Rattle.expr_evaluation.specs.Allows.{Allows};
-ghost use Rattle.expr_evaluation.specs.Context.{Context};
+ghost use Rattle.expr_steps.specs.Context.{Context};
 ghost use Rattle.expr_tree.specs.Term.{Term, literal, operation};
 ghost use Rattle.expr_tree.specs.declared.operator.Operator.TheVariants.{And, Or};
 ghost use Rattle.expr_value.specs.Answers.{Answer};

@@ -4,8 +4,6 @@
 mod environment;
 mod evaluation;
 mod laws;
-mod messages;
-mod scope;
 
 pub use environment::{ExprCall, Functions, NoFunctions};
 pub use evaluation::{

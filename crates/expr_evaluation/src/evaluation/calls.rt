@@ -8,11 +8,11 @@ ghost use Rattle.expr_value.specs.Answers.{Gives};
 ghost use Rattle.expr_value.specs.Fault.{fault_of, memory};
 
 use crate::environment::{AddedZones, ExprCall, Functions};
-use crate::messages::unknown_function;
 use expr_builtins::Builtin;
 use expr_encoding::Encoding;
 use expr_operators::Held;
 use expr_predicates::{Asking, PredicateRun, sort};
+use expr_steps::unknown_function;
 use expr_time::TimeCall;
 use expr_value::{Items, Result, Value};
 use std::alloc::Global;

@@ -4,7 +4,7 @@ use Rattle.expr_tree.specs.Context.{AgreeFor}
 use Rattle.expr_tree.specs.Term.{Block}
 use Rattle.expr_tree.specs.Written.{program_written}
 use Rattle.expr_evaluation.specs.Allows.{AllowsBlock}
-use Rattle.expr_evaluation.specs.Context.{Context}
+use Rattle.expr_steps.specs.Context.{Context}
 use Rattle.expr_evaluation.specs.Host.{Host}
 use Rattle.expr.specs.Hosted.{host_of}
 use Rattle.expr.specs.Texts.{MayAnswer}

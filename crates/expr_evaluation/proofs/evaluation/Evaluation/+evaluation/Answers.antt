@@ -17,9 +17,10 @@ use Rattle.expr_value.specs.Fault.{fault_of}
 use Rattle.expr_value.specs.Names.{put_all}
 use Rattle.expr_value.specs.declared.value.Value as value
 use Rattle.expr_value.specs.declared.value.Value.{Value}
-use Rattle.expr_evaluation.specs.Allows.{Allows, AllowsAll, AllowsAsked, AllowsBlock, AllowsBound, AllowsCall, AllowsMore, AllowsPairs, AllowsPiped, AllowsPostfix, Continued, ContinuedAs, is_given, listed}
+use Rattle.expr_evaluation.specs.Allows.{Allows, AllowsAll, AllowsAsked, AllowsBlock, AllowsBound, AllowsCall, AllowsMore, AllowsPairs, AllowsPiped, AllowsPostfix, Continued, ContinuedAs, is_given}
+use Rattle.expr_steps.specs.Given.{listed}
 use Rattle.expr_value.specs.Answers.{After, Answer, Gives}
-use Rattle.expr_evaluation.specs.Context.{Context}
+use Rattle.expr_steps.specs.Context.{Context}
 use Rattle.expr_evaluation.specs.Host.{Host}
 use Rattle.expr_operators.specs.Sides.{sides_of}
 use Rattle.expr_operators.specs.Operators.{applied}
@@ -27,10 +28,10 @@ use Rattle.expr_operators.specs.declared.sides.Sides.TheVariants.{Both, EndsAtFa
 use Rattle.expr_operators.specs.Positions.{sliced}
 use Rattle.expr_evaluation.specs.Plain.{is_plain}
 use Rattle.expr_operators.specs.Plain.{is_plain_operator, is_plain_value}
-use Rattle.expr_evaluation.specs.Scope.{inside}
+use Rattle.expr_steps.specs.Scope.{inside}
 use Rattle.expr_evaluation.specs.Several.{pairs_written, terms_written}
-use Rattle.expr_evaluation.specs.declared.scope.Binding.{Binding}
-use Rattle.expr_evaluation.specs.declared.scope.Scope.{Scope, Scope-F, out-Scope, roll-Scope, out-roll-Scope}
+use Rattle.expr_steps.specs.declared.scope.Binding.{Binding}
+use Rattle.expr_steps.specs.declared.scope.Scope.{Scope, Scope-F, out-Scope, roll-Scope, out-roll-Scope}
 use Rattle.expr_evaluation.proofs.Literal.{OnLiteral, OnLiteral-continued, OnLiteral-only}
 use Rattle.expr_evaluation.proofs.Allowed.{prepended, drop-at, loop-step, loop-failed, loop-done, AllowsAll-first, AllowsPairs-first, AllowsBlock-line, AllowsMore-all, AllowsMore-rest}
 use Rattle.expr_value.proofs.Answered.{Gives-of-Is, Gives-passed, Gives-under, first_of-After}

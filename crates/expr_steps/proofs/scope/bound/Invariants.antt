@@ -1,7 +1,7 @@
 use Rattle.std.proofs.Common.{◌≡◌, ◌≤◌, length, take}
-use Rattle.expr_evaluation.specs.Context.{Context}
-use Rattle.expr_evaluation.specs.Scope.{overridden}
-use Rattle.expr_evaluation.proofs.scope.bound.Given as goal
+use Rattle.expr_steps.specs.Context.{Context}
+use Rattle.expr_steps.specs.Scope.{overridden}
+use Rattle.expr_steps.proofs.scope.bound.Given as goal
 
 abbrev pub invariant-loop-count : goal.invariant-loop-count
 invariant-loop-count l =

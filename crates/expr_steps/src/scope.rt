@@ -1,9 +1,8 @@
 //! Inner names, beside the context that a host lends.
 ghost use Rattle.std.specs.Prelude.{◌≡◌, Some, MatchOption, bytes_eq, codes};
 ghost use Rattle.std.specs.Option.{option_copied};
-ghost use Rattle.expr_evaluation.specs.Calls.{asked_in};
-ghost use Rattle.expr_evaluation.specs.Context.{Context};
-ghost use Rattle.expr_evaluation.specs.Scope.{inside, overridden};
+ghost use Rattle.expr_steps.specs.Context.{Context, asked_in};
+ghost use Rattle.expr_steps.specs.Scope.{inside, overridden};
 ghost use Rattle.expr_predicates.specs.Gathered.{question_of};
 
 use expr_predicates::Question;

@@ -1,9 +1,9 @@
 //! What an evaluation does with the values of parts.
 ghost use Rattle.std.specs.Prelude.{◌≡◌, ◌≢◌, [], Ok, Err, IfErr, IfOk, IsTrue, bytes_eq, codes};
-ghost use Rattle.expr_evaluation.specs.Allows.{given_bound, listed};
-ghost use Rattle.expr_evaluation.specs.Calls.{AllowsDurationMethod, AllowsMethod, AllowsMomentMethod, AllowsNameMethod};
-ghost use Rattle.expr_evaluation.specs.Context.{looked_up};
-ghost use Rattle.expr_evaluation.specs.Scope.{inside};
+ghost use Rattle.expr_steps.specs.Given.{given_bound, listed};
+ghost use Rattle.expr_steps.specs.Methods.{AllowsDurationMethod, AllowsMethod, AllowsMomentMethod, AllowsNameMethod};
+ghost use Rattle.expr_steps.specs.Context.{looked_up};
+ghost use Rattle.expr_steps.specs.Scope.{inside};
 ghost use Rattle.expr_operators.specs.Matching.{Matched};
 ghost use Rattle.expr_operators.specs.Operators.{applied, prefixed, truth, truth_answer};
 ghost use Rattle.expr_operators.specs.Plain.{is_plain_operator, is_plain_value, Surely};

@@ -1,9 +1,9 @@
 use Rattle.std.proofs.Common.{◌≡◌, rules, sym, subst}
-use Rattle.expr_evaluation.specs.Calls.{AllowsMethodLayer}
+use Rattle.expr_steps.specs.Methods.{AllowsMethodLayer}
 use Rattle.expr_value.specs.Answers.{Gives}
 use Rattle.expr_value.specs.declared.value.Value.{out-Value, the_lemmas}
 use Rattle.expr_value.specs.declared.value.Value.TheOpen.{Value-F}
-use Rattle.expr_evaluation.proofs.evaluation.steps.method_answer.Goals as goal
+use Rattle.expr_steps.proofs.steps.method_answer.Goals as goal
 
 pub returns-in-Duration : goal.returns-in-Duration
 returns-in-Duration c =

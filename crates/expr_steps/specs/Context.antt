@@ -1,5 +1,6 @@
 -- What the names of a program mean.
 use Rattle.std.specs.Prelude.{ℕ, List, Option, Some, None, Ok, Err, bytes_eq, codes, if◌then◌else◌}
+use Rattle.expr_predicates.specs.Tasks.{Question}
 use Rattle.expr_value.specs.Fault.{evaluation}
 use Rattle.expr_value.specs.Names.{find}
 use Rattle.expr_value.specs.Values.{map_of}
@@ -26,3 +27,11 @@ first_of_two None None = Err evaluation
 abbrev pub looked_up : Context → List ℕ → Answer
 looked_up ctx key =
     if bytes_eq key (codes "$env") then Ok (value.Map ctx.map) else first_of_two (ctx.value_of key) (field_of (ctx.value_of hash) key)
+
+-- the context of a predicate: `#` is the item that is asked about, and `#index` and `#acc` have values where the built-in tells them
+abbrev pub told : Context → List ℕ → Option Value → Context
+told ctx key (Some v) = override ctx key v
+told ctx key None = ctx
+
+abbrev pub asked_in : Context → Question → Context
+asked_in ctx q = override (told (told ctx (codes "#acc") q.acc) (codes "#index") q.index) hash q.item
