@@ -15,7 +15,7 @@ use Rattle.expr_value.specs.declared.error.Error.{Error}
 use Rattle.expr_value.specs.declared.error.Error.TheVariants.{PestError, ParseError, ExprError, RegexError, MemoryError}
 use Rattle.expr_grammar.specs.Grammar.{TreeProgram, Spells, LiteralsFit}
 use Rattle.expr_grammar.specs.Prefixes.{SomeBegins, StopsAt}
-use Rattle.expr_syntax.specs.Reading.{IsParse, IsTooLarge}
+use Rattle.expr_parser.specs.Reading.{IsParse, IsTooLarge}
 use Rattle.expr_syntax.specs.Texts.{IsTreeOf, HasLargeLiteral, IsAnswerFor, IsAnswerWithin, IsMeasureOf, IsReadFor, IsParseRefusal, IsPlaced, FaultPlace, AtToken, AtEnd, AtUnreadable}
 
 -- a text that reads as the tokens

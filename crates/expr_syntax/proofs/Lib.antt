@@ -1,5 +1,2 @@
-pub mod Printed
-mod Whole
-mod Turns
-mod Begun
 mod Compiled
+pub mod Printed

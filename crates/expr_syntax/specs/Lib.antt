@@ -1,3 +1,2 @@
 pub mod Printed
-pub mod Reading
 pub mod Texts

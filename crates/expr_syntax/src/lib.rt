@@ -1,8 +1,7 @@
-//! From a text to its program: the parser over the grammar's machine, and `compile`.
+//! From a text to its program: `compile`.
 #![tactic(auto)]
 
 pub mod laws;
-pub mod parser;
 mod text;
 
 pub use text::{compile, compile_within};

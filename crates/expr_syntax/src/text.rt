@@ -10,7 +10,7 @@ ghost use Rattle.std.specs.Str.{IsCharBoundary};
 ghost use Rattle.expr_value.specs.declared.error.Error.{Error};
 ghost use Rattle.std.specs.Prelude.{◌<◌};
 
-use crate::parser::{ParseError, parse};
+use expr_parser::parser::{ParseError, parse};
 use expr_parts::ProgramPart;
 use expr_token::{Reading, Token, read};
 use expr_tree::node::Program;

@@ -1,4 +1,4 @@
-use Rattle.expr_syntax.proofs.Begun.{begins_parse, begins_large}
+use Rattle.expr_parser.proofs.Begun.{begins_parse, begins_large}
 use Rattle.expr_syntax.proofs.text.first_fault.Goals as goal
 use Rattle.expr_syntax.proofs.text.first_fault.Goals.{in-Err-Syntax, in-Err-Memory, in-Err-Literal, in-Ok}
 

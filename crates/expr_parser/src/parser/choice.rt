@@ -1,7 +1,7 @@
 //! The branches of a choice, and what a program between braces ends.
 
 ghost use Rattle.expr_frames.specs.Nodes as machine;
-ghost use Rattle.expr_syntax.specs.Reading.{stack, Stands};
+ghost use Rattle.expr_parser.specs.Reading.{stack, Stands};
 
 use crate::parser::{Parser, whole};
 use expr_frames::build::{branched, nested};

@@ -3,7 +3,7 @@
 ghost use Rattle.std.specs.Prelude.{◌≡◌, ◌∷◌, IfOk};
 ghost use Rattle.expr_parts.specs.Parts.{given_more, given_program};
 ghost use Rattle.expr_frames.specs.Nodes as machine;
-ghost use Rattle.expr_syntax.specs.Reading.{stack, Stands};
+ghost use Rattle.expr_parser.specs.Reading.{stack, Stands};
 
 use crate::parser::{Parser, whole};
 use expr_frames::frame::{Caller, Fault, Frame, Holder, Place};

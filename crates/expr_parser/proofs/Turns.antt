@@ -3,7 +3,7 @@ use Rattle.std.proofs.Common.{◌≡◌, ◌+◌, ◌<◌, List, ◌∷◌, ◌+
 use Rattle.std.proofs.lemmas.List.{drop_more, map-id, take-append-drop}
 use Rattle.expr_token.specs.declared.token.Token.{Token}
 use Rattle.expr_frames.specs.Nodes.{State, finish, block_of_tokens}
-use Rattle.expr_syntax.proofs.Whole.{after}
+use Rattle.expr_parser.proofs.Whole.{after}
 
 -- the tokens are those that were seen, this one and the rest
 pub split_at : (ts seen : List Token) (t : Token) → map (λ x. x) seen ≡ take (length seen) ts → length seen < length ts → t ≡ get_or ts (length seen) t

@@ -10,8 +10,8 @@ use Rattle.expr_frames.specs.declared.frame.Section.{Section}
 use Rattle.expr_frames.specs.declared.frame.Place.{Place}
 use Rattle.expr_frames.specs.declared.frame.Fault.{Fault}
 use Rattle.expr_frames.specs.declared.frame.Fault.TheVariants as fault
-use Rattle.expr_syntax.specs.declared.parser.ParseError.{ParseError}
-use Rattle.expr_syntax.specs.declared.parser.ParseError.TheVariants as error
+use Rattle.expr_parser.specs.declared.parser.ParseError.{ParseError}
+use Rattle.expr_parser.specs.declared.parser.ParseError.TheVariants as error
 use Rattle.expr_grammar.specs.Grammar.{TreeProgram, Spells, Fits, LiteralsFit}
 use Rattle.expr_frames.specs.Measures.{measured_program}
 use Rattle.expr_frames.specs.Nodes.{plug, settle, argued, bind, whole_in, State, On, Fail}

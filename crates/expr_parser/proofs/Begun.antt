@@ -11,8 +11,8 @@ use Rattle.expr_frames.proofs.Erase.{state, steps as kept_steps}
 use Rattle.expr_grammar.specs.Machine.{State, step, first_state}
 use Rattle.expr_grammar.specs.Prefixes.{SomeBegins, StopsAt}
 use Rattle.expr_grammar.proofs.Closing.{goes_on as begins_where}
-use Rattle.expr_syntax.specs.Reading.{IsParse, IsTooLarge}
-use Rattle.expr_syntax.proofs.Whole.{after, stuck_place}
+use Rattle.expr_parser.specs.Reading.{IsParse, IsTooLarge}
+use Rattle.expr_parser.proofs.Whole.{after, stuck_place}
 
 -- where the machine over what is kept stands, that over trees does
 stands : (s : State) (ts : List Token) → fold node.step (state s) ts ≡ state (fold step s ts)

@@ -5,11 +5,11 @@ use Rattle.std.specs.List.{AllByRecursion}
 use Rattle.expr_grammar.specs.Grammar.{IntegerFits}
 use Rattle.expr_frames.specs.Nodes.{On, step_in, finish_in}
 use Rattle.expr_frames.specs.Faults.{Gives}
-use Rattle.expr_syntax.specs.Reading.{stack, Stands}
-use Rattle.expr_syntax.proofs.Begun.{stops, stops_at_end}
-use Rattle.expr_syntax.proofs.Turns.{split_at, ended}
-use Rattle.expr_syntax.proofs.Whole.{parsed, too_large, only_program, no_tree, stuck, stuck_only}
-use Rattle.expr_syntax.proofs.parser.parse.Goals as goal
+use Rattle.expr_parser.specs.Reading.{stack, Stands}
+use Rattle.expr_parser.proofs.Begun.{stops, stops_at_end}
+use Rattle.expr_parser.proofs.Turns.{split_at, ended}
+use Rattle.expr_parser.proofs.Whole.{parsed, too_large, only_program, no_tree, stuck, stuck_only}
+use Rattle.expr_parser.proofs.parser.parse.Goals as goal
 
 pub returns-in-Err-Syntax-clause-only : goal.returns-in-Err-Syntax-clause-only
 returns-in-Err-Syntax-clause-only c =

@@ -5,7 +5,7 @@ ghost use Rattle.expr_parts.specs.Parts.{sliced};
 ghost use Rattle.expr_frames.specs.declared.frame.Frame.TheVariants as frame;
 ghost use Rattle.expr_frames.specs.declared.frame.Place.TheVariants as place;
 ghost use Rattle.expr_frames.specs.Nodes as machine;
-ghost use Rattle.expr_syntax.specs.Reading.{stack, Stands};
+ghost use Rattle.expr_parser.specs.Reading.{stack, Stands};
 
 use crate::parser::{Parser, whole};
 use expr_frames::frame::{Caller, Fault, Frame, Operand, Place};

@@ -9,7 +9,7 @@ ghost use Rattle.expr_frames.specs.declared.frame.Operand.TheVariants as operand
 ghost use Rattle.expr_grammar.specs.Grammar.{TreeProgram, Spells, Fits};
 ghost use Rattle.expr_frames.specs.Nodes as machine;
 ghost use Rattle.expr_frames.specs.Faults.{Gives};
-ghost use Rattle.expr_syntax.specs.Reading.{stack, Stands, IsParse, IsAnswer, IsLiteralFault, IsAtFault};
+ghost use Rattle.expr_parser.specs.Reading.{stack, Stands, IsParse, IsAnswer, IsLiteralFault, IsAtFault};
 
 mod brace;
 mod choice;

@@ -11,7 +11,7 @@ use Rattle.expr_grammar.specs.Machine.{tree_of}
 use Rattle.expr_frames.specs.Measures.{measured_program, measured_if_any}
 use Rattle.expr_frames.specs.Nodes.{State, first_state, Fail, step, finish, block_of_tokens}
 use Rattle.expr_grammar.specs.Prefixes.{NoneBegins}
-use Rattle.expr_syntax.specs.Reading.{IsParse, IsTooLarge}
+use Rattle.expr_parser.specs.Reading.{IsParse, IsTooLarge}
 use Rattle.expr_grammar.proofs.Complete.{complete}
 use Rattle.expr_grammar.proofs.Sound.{sound}
 use Rattle.expr_frames.proofs.Erase.{erases}

@@ -1,7 +1,7 @@
 //! The lines of a program, each a name and its value.
 
 ghost use Rattle.expr_frames.specs.Nodes as machine;
-ghost use Rattle.expr_syntax.specs.Reading.{stack, Stands};
+ghost use Rattle.expr_parser.specs.Reading.{stack, Stands};
 
 use crate::parser::Parser;
 use expr_frames::frame::{Fault, Frame, Place};

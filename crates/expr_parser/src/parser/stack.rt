@@ -2,7 +2,7 @@
 
 ghost use Rattle.std.specs.Prelude.{◌≡◌, ◌∷◌, [], IfOk, MatchOption, vec_len, ◌<◌};
 ghost use Rattle.expr_frames.specs.Nodes as machine;
-ghost use Rattle.expr_syntax.specs.Reading.{stack, IsBodyOnTop, IsCallOnTop, Stands, PopsAbove};
+ghost use Rattle.expr_parser.specs.Reading.{stack, IsBodyOnTop, IsCallOnTop, Stands, PopsAbove};
 
 use crate::parser::Parser;
 use expr_frames::frame::{Caller, Fault, Frame, Operand, Place, Reaching, Section};

@@ -2,7 +2,7 @@
 
 ghost use Rattle.std.specs.Prelude.{◌∷◌};
 ghost use Rattle.expr_frames.specs.Nodes as machine;
-ghost use Rattle.expr_syntax.specs.Reading.{stack, Stands};
+ghost use Rattle.expr_parser.specs.Reading.{stack, Stands};
 
 use crate::parser::{Parser, whole};
 use expr_frames::frame::{Fault, Frame, Holder, Operand, Place, Reaching, Start};

@@ -1,0 +1,3 @@
+pub mod Begun
+mod Turns
+mod Whole
