@@ -18,7 +18,7 @@ use Rattle.expr_value.specs.declared.value.Value.{Value, out-Value}
 use Rattle.expr_value.specs.declared.value.Value.TheOpen.{Value-F}
 use Rattle.expr_evaluation.specs.Allows.{Allows, AllowsAll, AllowsAsked, AllowsBlock, AllowsBound, AllowsCall, AllowsPairs, AllowsPiped, AllowsPostfix, AndThenLayer, ContinuedAs, OrElseLayer, ChosenLayer, DefaultsLayer, is_given}
 use Rattle.expr_evaluation.specs.Calls.{AllowsBuiltin}
-use Rattle.expr_steps.specs.Context.{asked_in, told, Context, override, hash, field_of, first_of_two, looked_up}
+use Rattle.expr_steps.specs.Context.{Context, asked_in, told, override, hash, field_of, first_of_two, looked_up}
 use Rattle.expr_evaluation.proofs.Begun.{AllowsBuiltin-keeps, either-keeps}
 use Rattle.expr_predicates.specs.Tasks.{Question}
 use Rattle.expr_value.proofs.Answered.{After-keeps, first-keeps}

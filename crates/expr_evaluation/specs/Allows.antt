@@ -1,5 +1,5 @@
 -- What a program may answer, by cases on its tree. Parts are asked in order, and the first refusal is the answer.
-use Rattle.std.specs.Prelude.{◌≡◌, ℕ, ℤ, Bool, List, [], ◌∷◌, ◌++◌, true, false, Option, Some, None, Result, Ok, Err, MatchBool}
+use Rattle.std.specs.Prelude.{◌≡◌, ℕ, ℤ, Bool, List, [], ◌∷◌, ◌++◌, true, false, Option, None, Result, Ok, Err, MatchBool}
 use Rattle.expr_tree.specs.Term.{Term, name, literal, list, mapping, range, call, unary, operation, postfix, choice, Postfix, index, slice, coalesce, pipe, ternary, method, Bound, unbounded, bound, Terms, no_terms, term, Pairs, pairs_end, pair, Predicate, no_predicate, predicate, Block, answers, line}
 use Rattle.expr_tree.specs.declared.operator.Operator.{Operator}
 use Rattle.expr_operators.specs.Sides.{sides_of}
@@ -12,6 +12,7 @@ use Rattle.expr_value.specs.declared.value.Value.{Value, out-Value}
 use Rattle.expr_value.specs.declared.value.Value.TheOpen.{Value-F}
 use Rattle.expr_value.specs.Answers.{Answer, After}
 use Rattle.expr_evaluation.specs.Calls.{AllowsBuiltin}
+use Rattle.expr_steps.specs.Given.{given_bound}
 use Rattle.expr_steps.specs.Methods.{AllowsMethod}
 use Rattle.expr_steps.specs.Context.{Context, asked_in, override, looked_up}
 use Rattle.expr_predicates.specs.Runs.{AsksItself}

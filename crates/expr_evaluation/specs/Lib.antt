@@ -8,6 +8,8 @@ pub mod Several
 pub use Rattle.expr_operators.specs.Sides
 pub use Rattle.expr_operators.specs.Operators
 pub use Rattle.expr_operators.specs.Positions
+pub use Rattle.expr_steps.specs.Context
+pub use Rattle.expr_steps.specs.Methods
 pub use Rattle.expr_tree.specs.Names
 pub use Rattle.expr_tree.specs.Term
 pub use Rattle.expr_tree.specs.Written
