@@ -1,7 +1,7 @@
 //! The program `expr`: evaluates its first word, under the names that the others bind.
 #![tactic(auto)]
 
-use expr_serve::{refuse_usage, serve};
+use expr_serve::serve::{refuse_usage, serve};
 use std::alloc::AllocError;
 use std::io::BufWriter;
 use std::process::ExitCode;

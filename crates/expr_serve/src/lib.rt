@@ -1,6 +1,4 @@
 //! What the program `expr` does with its words and its streams.
 #![tactic(auto)]
 
-mod serve;
-
-pub use serve::{refuse_usage, serve};
+pub mod serve;

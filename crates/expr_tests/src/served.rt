@@ -1,5 +1,5 @@
 //! The table of the runs of the program `expr`.
-use expr_serve::serve;
+use expr_serve::serve::serve;
 use std::alloc::{AllocError, Global};
 use std::io;
 use std::io::Write;
