@@ -1,8 +1,8 @@
 //! Answers that depend on what a host lends, and the calls for one node, operator or call.
-use crate::said::{printed, said};
+use crate::page::Page;
 use expr::{
-    Context, ContextProvider, Error, Node, Pattern, Result, Value, compile, eval_expr, eval_func,
-    eval_operator, eval_postfix_operator, eval_unary_operator, run, value,
+    Context, ContextProvider, Error, Node, Pattern, Result, Value, compile, eval, eval_expr,
+    eval_func, eval_operator, eval_postfix_operator, eval_unary_operator, run, value,
 };
 use std::alloc::Global;
 use std::test::Fail;
@@ -38,20 +38,14 @@ impl ContextProvider for Odd {
     }
 }
 
-fn made(alloc: Global, refuses: bool) -> Result<Odd> {
+fn odd(alloc: Global) -> Result<Odd> {
     let names = Context::try_from(alloc, value!(in alloc; {"#": {"x": 7}, "$env": 1, "a": 2})?)?;
     let shown = Context::try_from(alloc, value!(in alloc; {"a": 3})?)?;
     Ok(Odd {
         names,
         shown,
-        refuses,
+        refuses: false,
     })
-}
-
-/// What a text answers under the odd provider.
-fn said_by_odd(alloc: Global, refuses: bool, code: &str) -> Result<String> {
-    let provider = made(alloc, refuses)?;
-    Ok(said(alloc, &provider, code)?)
 }
 
 /// Texts, whether the odd provider refuses its map, and what they answer under it.
@@ -68,18 +62,10 @@ const UNDER_ODD_PROVIDERS: &[(&str, bool, &str)] = &[
     ("a", true, "2"),
 ];
 
-#[test]
-fn function_and_map_may_disagree(rt: HostRuntime) -> Tested {
-    for (code, refuses, expected) in UNDER_ODD_PROVIDERS {
-        let answer = said_by_odd(rt.alloc(), *refuses, code)?;
-        assert_eq!(rt; answer.as_str(), *expected, "{code}");
-    }
-    Ok(())
-}
-
-/// What the last node of a text answers, by the call for nodes of its kind.
-fn by_its_parts(alloc: Global, code: &str) -> Result<Value> {
+/// What the last node of a text answers, by the call for nodes of its kind, with the pattern of a source handed in if that has one.
+fn by_its_parts(alloc: Global, code: &str, source: &str) -> Result<Value> {
     let context = Context::new(alloc);
+    let pattern = Pattern::new(alloc, source).ok();
     let program = compile(alloc, code)?;
     match &program.expr {
         Node::Operation {
@@ -87,52 +73,25 @@ fn by_its_parts(alloc: Global, code: &str) -> Result<Value> {
             left,
             right,
             ..
-        } => eval_operator(alloc, &context, operator, left, right, None),
+        } => eval_operator(alloc, &context, operator, left, right, pattern.as_ref()),
         Node::Unary { operator, node } => eval_unary_operator(alloc, &context, operator, node),
         Node::Postfix { operator, node } => eval_postfix_operator(alloc, &context, operator, node),
         Node::Func { ident, .. } => eval_func(alloc, &context, ident, Vec::new(alloc), None),
-        other => eval_expr(alloc, &context, other),
+        other if program.lines.is_empty() => eval_expr(alloc, &context, other),
+        _ => run(alloc, &program, &context),
     }
 }
 
-/// Texts and their answers.
-const BY_PARTS: &[(&str, &str)] = &[
-    ("[1, 2]", "[1, 2]"),
-    ("1 + 2 * 3 + 1", "8"),
-    ("false and 1 / 0", "false"),
-    ("not true", "false"),
-    (r#"["a", "b"][-1]"#, "\"b\""),
-    ("nil ?? 4", "4"),
-    ("nope()", "!evaluation"),
-];
-
-#[test]
-fn parts_are_called_alone(rt: HostRuntime) -> Tested {
-    for (code, expected) in BY_PARTS {
-        let answer = printed(rt.alloc(), by_its_parts(rt.alloc(), code))?;
-        assert_eq!(rt; answer.as_str(), *expected, "{code}");
-    }
-    Ok(())
-}
-
-/// What the operator of a text answers between its sides, with a pattern handed in that was built from another text.
-fn with_pattern(alloc: Global, code: &str, source: &str) -> Result<Value> {
-    let context = Context::new(alloc);
-    let program = compile(alloc, code)?;
-    let pattern = Pattern::new(alloc, source)?;
-    match &program.expr {
-        Node::Operation {
-            operator,
-            left,
-            right,
-            ..
-        } => eval_operator(alloc, &context, operator, left, right, Some(&pattern)),
-        other => eval_expr(alloc, &context, other),
-    }
-}
-
-/// Texts, patterns that are handed in, and answers: a pattern of any other text is passed over.
-const WITH_PATTERNS: &[(&str, &str, &str)] = &[
+/// Texts, sources of patterns (`(` is that of none), and answers: a pattern of any other source is passed over.
+const BY_PARTS: &[(&str, &str, &str)] = &[
+    ("[1, 2]", "(", "[1, 2]"),
+    ("1 + 2 * 3 + 1", "(", "8"),
+    ("false and 1 / 0", "(", "false"),
+    ("not true", "(", "false"),
+    (r#"["a", "b"][-1]"#, "(", "\"b\""),
+    ("nil ?? 4", "(", "4"),
+    ("nope()", "(", "!evaluation"),
+    (r#"let b = "c"; [1, "a" + b]"#, "(", "[1, \"ac\"]"),
     (r#""foo" matches "^" + "f""#, "^f", "true"),
     (r#""foo" matches "^" + "o""#, "^f", "false"),
     (r#""foo" matches "(" + "f""#, "^f", "!pattern"),
@@ -140,29 +99,17 @@ const WITH_PATTERNS: &[(&str, &str, &str)] = &[
 ];
 
 #[test]
-fn patterns_are_handed_in(rt: HostRuntime) -> Tested {
-    for (code, source, expected) in WITH_PATTERNS {
-        let answer = printed(rt.alloc(), with_pattern(rt.alloc(), code, source))?;
-        assert_eq!(rt; answer.as_str(), *expected, "{code}");
+fn answers_follow_the_host(rt: HostRuntime) -> Tested {
+    let alloc = rt.alloc();
+    let mut odd = odd(alloc)?;
+    let mut wrong = Page::new(alloc);
+    for (code, refuses, expected) in UNDER_ODD_PROVIDERS {
+        odd.refuses = *refuses;
+        wrong.answer(code, eval(alloc, code, &odd), expected);
     }
-    Ok(())
-}
-
-/// What the program of a text answers in the context of a map.
-fn answered(alloc: Global, code: &str, names: Result<Value>) -> Result<Value> {
-    let program = compile(alloc, code)?;
-    let context = Context::try_from(alloc, names?)?;
-    run(alloc, &program, &context)
-}
-
-// No clause can say that memory is left: a body that is always out of memory is proved.
-#[test]
-fn programs_run(rt: HostRuntime) -> Tested {
-    let answer = answered(
-        rt.alloc(),
-        "[1, \"a\" + b]",
-        value!(in rt.alloc(); {"b": "c"}),
-    );
-    assert_eq!(rt; printed(rt.alloc(), answer)?.as_str(), "[1, \"ac\"]");
+    for (code, source, expected) in BY_PARTS {
+        wrong.answer(code, by_its_parts(alloc, code, source), expected);
+    }
+    wrong.assert(&rt, "");
     Ok(())
 }

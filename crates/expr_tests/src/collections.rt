@@ -1,104 +1,113 @@
-//! What collections, texts and contexts give to who walks, copies and prints them.
+//! What collections, texts and contexts give to who walks, asks, copies and prints them.
+use crate::page::Page;
 use expr::{Context, Items, Key, KeyedMap, Result, Text, Value, ValueMap, value};
+use expr_value::Boxed;
 use std::alloc::Global;
 use std::test::Fail;
 
-type Tested = std::result::Result<(), Fail>;
-
-/// What the loops over some values print, then their copy, and whether that is the same.
-fn said(alloc: Global, walked: &str, copied: &str, is_same: bool) -> Result<String> {
-    Ok(format!(in alloc; "{walked}{copied} {is_same}")?)
-}
-
-fn items_said(alloc: Global) -> Result<String> {
-    let items = Items::from_vec(vec![in alloc; Value::from(1_i64), Value::from(2_i64)]?);
-    let mut walked = String::new(alloc);
+/// Puts the items of a list, its copy, and the facts of it that don't hold.
+fn put_items(alloc: Global, page: &mut Page) -> Result<()> {
+    let items = Items::from_vec(vec![in alloc; Value::Integer(1), Value::Integer(2)]?);
     for item in items.iter() {
-        walked.push_str(format!(in alloc; "{item};")?.as_str())?;
+        page.put_made(format!(in alloc; "{item};"));
     }
     let copies = items.clone()?;
-    let is_same = copies == items && items.get(1) == Some(&Value::Integer(2));
-    let is_whole = !items.is_empty() && items.get(2).is_none();
-    let copied = format!(in alloc; "{copies:?}")?;
-    said(alloc, &walked, &copied, is_same && is_whole)
+    page.put_made(format!(in alloc; "{copies:?}\n"));
+    page.fact("a list is its copy", copies == items);
+    page.fact("a list has items", !items.is_empty() && items.len() == 2);
+    page.fact("a list has its last", matches!(items.get(1), Some(Value::Integer(2))));
+    page.fact("a list has no more", items.get(2).is_none());
+    Ok(())
 }
 
-fn names_said(alloc: Global) -> Result<String> {
+/// Puts the pairs of a map, its copy, and the facts of it that don't hold.
+fn put_names(alloc: Global, page: &mut Page) -> Result<()> {
     let mut map = ValueMap::new(alloc);
-    let was_empty = map.is_empty();
-    map.insert(Text::copy(alloc, "a")?, Value::from(1_i64))?;
-    let mut walked = String::new(alloc);
+    page.fact("a new map is empty", map.is_empty());
+    map.insert(Text::copy(alloc, "a")?, Value::Integer(1))?;
     for (name, value) in map.iter() {
-        walked.push_str(format!(in alloc; "{name}={value};")?.as_str())?;
+        page.put_made(format!(in alloc; "{name}={value};"));
     }
     let copies = map.clone()?;
-    let is_same = copies == map && map.get_by_key(&Text::copy(alloc, "a")?).is_some();
-    let copied = format!(in alloc; "{copies:?}")?;
-    said(
-        alloc,
-        &walked,
-        &copied,
-        is_same && was_empty && !map.is_empty(),
-    )
+    page.put_made(format!(in alloc; "{copies:?}\n"));
+    page.fact("a map is its copy", copies == map && !map.is_empty());
+    page.fact("a map has its name", map.get("a").is_some() && map.get("").is_none());
+    page.fact("a map has a first", map.get_index(0).is_some() && map.get_index(1).is_none());
+    page.fact("a map has pairs", map.keys().len() == map.values().len() && copies.len() == 1);
+    page.fact("a map has its text", map.get_by_key(&Text::copy(alloc, "a")?).is_some());
+    Ok(())
 }
 
-fn keys_said(alloc: Global) -> Result<String> {
+/// Puts the pairs of a keyed map, its copy, and the facts of it that don't hold.
+fn put_keys(alloc: Global, page: &mut Page) -> Result<()> {
     let mut map = KeyedMap::new(alloc);
-    let was_empty = map.is_empty();
+    page.fact("a new keyed map is empty", map.is_empty());
     map.insert(Key::Integer(2), Value::Nil)?;
-    map.insert(Key::String(Text::copy(alloc, "x")?), Value::from(true))?;
-    let mut walked = String::new(alloc);
+    map.insert(Key::String(Text::copy(alloc, "x")?), Value::Bool(true))?;
     for (key, value) in map.iter() {
-        walked.push_str(format!(in alloc; "{key:?}={value};")?.as_str())?;
+        page.put_made(format!(in alloc; "{key:?}={value};"));
     }
     let copies = map.clone()?;
-    let is_same = copies == map && map.get_by_key(&Key::Integer(2)).is_some();
-    let copied = format!(in alloc; "{copies:?}")?;
-    said(
-        alloc,
-        &walked,
-        &copied,
-        is_same && was_empty && !map.is_empty(),
-    )
+    page.put_made(format!(in alloc; "{copies:?}\n"));
+    page.fact("a keyed map is its copy", copies == map && !map.is_empty());
+    page.fact("a keyed map has pairs", map.keys().len() == map.values().len());
+    page.fact("a keyed map has a last", map.get_index(1).is_some() && map.get_index(2).is_none());
+    page.fact("a keyed map has its integer", map.get(&Value::Integer(2)).is_some());
+    for key in map.keys() {
+        page.fact("a keyed map has its keys", map.get_by_key(key).is_some());
+        let value = key.to_value(alloc)?;
+        page.fact("a keyed map has its keys' values", map.get(&value).is_some());
+        page.fact("a key comes back", value.into_key() == Some(key.clone()?));
+    }
+    Ok(())
 }
 
-fn texts_said(alloc: Global) -> Result<String> {
+/// Puts a text, and the facts of texts, of the bytes of one and of what is held that don't hold.
+fn put_texts(alloc: Global, page: &mut Page) -> Result<()> {
     let text = Text::copy(alloc, "a\"b")?;
-    let walked = format!(in alloc; "{text};")?;
-    let copied = format!(in alloc; "{text:?}")?;
-    said(alloc, &walked, &copied, text.len() == 3 && !text.is_empty())
+    page.put_made(format!(in alloc; "{text};{text:?}\n"));
+    page.fact("a text has a length", text.len() == 3 && !text.is_empty());
+    let bytes = Items::from_vec(text.as_str().as_bytes().to_vec(alloc)?);
+    page.fact("a text lends bytes", bytes.as_slice() == text.as_str().as_bytes());
+    let copies = bytes.clone()?.into_vec();
+    page.fact("bytes are their copy", copies.as_slice() == bytes.as_slice());
+    let held = Boxed::new(alloc, text)?;
+    page.fact("a box lends", held.get().as_str() == "a\"b");
+    page.fact("a box gives back", held.into_inner().into_string().as_str() == "a\"b");
+    Ok(())
 }
 
-fn contexts_said(alloc: Global) -> Result<String> {
+/// Puts the names of a context, its copy, and the facts of it that don't hold.
+fn put_context(alloc: Global, page: &mut Page) -> Result<()> {
     let context = Context::try_from(alloc, value!(in alloc; {"a": 1, "b": nil})?)?;
-    let mut walked = String::new(alloc);
     for (name, value) in context.iter() {
-        walked.push_str(format!(in alloc; "{name}={value};")?.as_str())?;
+        page.put_made(format!(in alloc; "{name}={value};"));
     }
     let copies = context.clone()?;
-    let is_same = copies == context && context.len() == 2 && !context.is_empty();
-    let copied = format!(in alloc; "{copies:?}")?;
-    said(
-        alloc,
-        &walked,
-        &copied,
-        is_same && Context::new(alloc).is_empty(),
-    )
+    page.put_made(format!(in alloc; "{copies:?}\n"));
+    page.fact("a context is its copy", copies == context);
+    page.fact("a context has names", context.len() == 2 && !context.is_empty());
+    page.fact("a new context is empty", Context::new(alloc).is_empty());
+    Ok(())
 }
 
+/// What all of them put.
+const SAID: &str = r#"1;2;[1, 2]
+a=1;{a: 1}
+2=nil;"x"=true;{2: nil, "x": true}
+a"b;"a\"b"
+a=1;b=nil;{a: 1, b: nil}
+"#;
+
 #[test]
-fn collections_are_walked_and_copied(rt: HostRuntime) -> Tested {
+fn collections_are_walked_and_copied(rt: HostRuntime) -> std::result::Result<(), Fail> {
     let alloc = rt.alloc();
-    assert_eq!(rt; items_said(alloc)?.as_str(), "1;2;[1, 2] true");
-    assert_eq!(rt; names_said(alloc)?.as_str(), "a=1;{a: 1} true");
-    assert_eq!(rt;
-        keys_said(alloc)?.as_str(),
-        "2=nil;\"x\"=true;{2: nil, \"x\": true} true"
-    );
-    assert_eq!(rt; texts_said(alloc)?.as_str(), "a\"b;\"a\\\"b\" true");
-    assert_eq!(rt;
-        contexts_said(alloc)?.as_str(),
-        "a=1;b=nil;{a: 1, b: nil} true"
-    );
+    let mut page = Page::new(alloc);
+    put_items(alloc, &mut page)?;
+    put_names(alloc, &mut page)?;
+    put_keys(alloc, &mut page)?;
+    put_texts(alloc, &mut page)?;
+    put_context(alloc, &mut page)?;
+    page.assert(&rt, SAID);
     Ok(())
 }

@@ -1,4 +1,5 @@
 //! The rule engine of docs/HOSTS.md.
+use crate::page::Page;
 use rules::{is_large, report};
 use std::test::Fail;
 
@@ -45,7 +46,10 @@ record 3
 
 #[test]
 fn rules_are_told(rt: HostRuntime) -> Result<(), Fail> {
-    assert!(rt; is_large(rt.alloc(), 60, 2)?);
-    assert_eq!(rt; report(rt.alloc(), RULES)?.as_str(), SAID);
+    let alloc = rt.alloc();
+    let mut page = Page::new(alloc);
+    page.fact("an order of 120 is large", is_large(alloc, 60, 2)?);
+    page.put(report(alloc, RULES)?.as_str());
+    page.assert(&rt, SAID);
     Ok(())
 }

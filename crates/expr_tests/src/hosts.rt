@@ -1,8 +1,6 @@
-//! Hosts of the tests' own: functions that are added to an environment, and to a parser.
-use crate::said::{printed, said};
-use expr::{
-    Context, Environment, Error, ExprCall, Node, Parser, Result, Value, bail, compile, value,
-};
+//! Hosts of the tests' own: functions and zones that are added to an environment, and a function that is added to a parser.
+use crate::page::Page;
+use expr::{Context, Environment, Error, ExprCall, Node, Parser, Result, Value, compile};
 use jiff::Timestamp;
 use jiff::tz::{Offset, TimeZone};
 use std::alloc::Global;
@@ -30,43 +28,22 @@ fn number(call: ExprCall) -> Result<Value> {
     })
 }
 
+/// Names of functions that sum their arguments, the second of which then counts them, and the third of which is a built-in's.
+const SUMS: &[&str] = &["add", "n", "len"];
+
+/// Names of functions that count their arguments, the second of which is a built-in's.
+const NUMBERS: &[&str] = &["n", "map"];
+
 /// An environment with functions of the tests' own.
 fn hosted(alloc: Global) -> Result<Environment> {
     let calls = Cell::new(0_i64);
     let mut host = Environment::new(alloc);
-    host.add_function("add", Box::new(alloc, |call: ExprCall| sum(call))?)?;
-    host.add_function("n", Box::new(alloc, |call: ExprCall| sum(call))?)?;
-    host.add_function("n", Box::new(alloc, |call: ExprCall| number(call))?)?;
-    host.add_function("map", Box::new(alloc, |call: ExprCall| number(call))?)?;
-    host.add_function(
-        "len",
-        Box::new(alloc, |_call: ExprCall| Ok(Value::Integer(0)))?,
-    )?;
-    host.add_function(
-        "p",
-        Box::new(alloc, |call: ExprCall| Err(Error::ParseError(call.ident)))?,
-    )?;
-    host.add_function(
-        "tick",
-        Box::new(alloc, move |_call: ExprCall| {
-            calls.set(calls.get().wrapping_add(1));
-            Ok(Value::Integer(calls.get()))
-        })?,
-    )?;
-    Ok(host)
-}
-
-/// A parser with the same functions.
-fn parser(alloc: Global) -> Result<Parser> {
-    let calls = Cell::new(0_i64);
-    let mut host = Parser::new(alloc);
-    host.add_function("add", Box::new(alloc, |call: ExprCall| sum(call))?)?;
-    host.add_function("n", Box::new(alloc, |call: ExprCall| number(call))?)?;
-    host.add_function("map", Box::new(alloc, |call: ExprCall| number(call))?)?;
-    host.add_function(
-        "len",
-        Box::new(alloc, |_call: ExprCall| Ok(Value::Integer(0)))?,
-    )?;
+    for name in SUMS {
+        host.add_function(name, Box::new(alloc, |call: ExprCall| sum(call))?)?;
+    }
+    for name in NUMBERS {
+        host.add_function(name, Box::new(alloc, |call: ExprCall| number(call))?)?;
+    }
     host.add_function(
         "p",
         Box::new(alloc, |call: ExprCall| Err(Error::ParseError(call.ident)))?,
@@ -96,33 +73,8 @@ const WITH_FUNCTIONS: &[(&str, &str)] = &[
     ("tick() + tick() * 10", "21"),
 ];
 
-fn by_environment(alloc: Global, code: &str) -> Result<Value> {
-    let host = hosted(alloc)?;
-    host.eval(alloc, code, &Context::new(alloc))
-}
-
-fn by_parser(alloc: Global, code: &str) -> Result<Value> {
-    let host = parser(alloc)?;
-    let program = host.compile(alloc, code)?;
-    host.run(alloc, &program, &Context::new(alloc))
-}
-
-#[test]
-fn functions_are_called(rt: HostRuntime) -> Tested {
-    for (code, expected) in WITH_FUNCTIONS {
-        let answer = printed(rt.alloc(), by_environment(rt.alloc(), code))?;
-        assert_eq!(rt; answer.as_str(), *expected, "{code}");
-        let answer = printed(rt.alloc(), by_parser(rt.alloc(), code))?;
-        assert_eq!(rt; answer.as_str(), *expected, "{code}");
-    }
-    let answer = said(rt.alloc(), &Context::new(rt.alloc()), "len([1])")?;
-    assert_eq!(rt; answer.as_str(), "1");
-    Ok(())
-}
-
 /// What the last node of a text answers, by the environment's call for nodes of its kind.
-fn by_its_parts(alloc: Global, code: &str) -> Result<Value> {
-    let host = hosted(alloc)?;
+fn by_its_parts(alloc: Global, host: &Environment, code: &str) -> Result<Value> {
     let context = Context::new(alloc);
     let program = compile(alloc, code)?;
     match &program.expr {
@@ -132,15 +84,11 @@ fn by_its_parts(alloc: Global, code: &str) -> Result<Value> {
             right,
             ..
         } => host.eval_operator(alloc, &context, operator, left, right, None),
-        Node::Unary { operator, node } => {
-            host.eval_unary_operator(alloc, &context, operator, node)
-        }
+        Node::Unary { operator, node } => host.eval_unary_operator(alloc, &context, operator, node),
         Node::Postfix { operator, node } => {
             host.eval_postfix_operator(alloc, &context, operator, node)
         }
-        Node::Func { ident, .. } => {
-            host.eval_func(alloc, &context, ident, Vec::new(alloc), None)
-        }
+        Node::Func { ident, .. } => host.eval_func(alloc, &context, ident, Vec::new(alloc), None),
         other => host.eval_expr(alloc, &context, other),
     }
 }
@@ -155,51 +103,40 @@ const BY_PARTS: &[(&str, &str)] = &[
     ("nope()", "!evaluation"),
 ];
 
-#[test]
-fn parts_call_functions(rt: HostRuntime) -> Tested {
-    for (code, expected) in BY_PARTS {
-        let answer = printed(rt.alloc(), by_its_parts(rt.alloc(), code))?;
-        assert_eq!(rt; answer.as_str(), *expected, "{code}");
-    }
-    let alloc = rt.alloc();
+/// Puts what is wrong of a parser's answer to a text of one argument, by each of its calls.
+fn put_parser(alloc: Global, code: &str, wrong: &mut Page) -> Result<()> {
     let context = Context::new(alloc);
-    let node = Node::Value(value!(in alloc; [1])?);
-    let answer = parser(alloc)?.eval_expr(alloc, &context, &node);
-    assert_eq!(rt; printed(alloc, answer)?.as_str(), "[1]");
-    let answer = parser(alloc)?.eval(alloc, "n(1)", &context);
-    assert_eq!(rt; printed(alloc, answer)?.as_str(), "1");
+    let mut host = Parser::new(alloc);
+    host.add_function("n", Box::new(alloc, |call: ExprCall| number(call))?)?;
+    let program = host.compile(alloc, code)?;
+    wrong.answer("run", host.run(alloc, &program, &context), "1");
+    wrong.answer("eval", host.eval(alloc, code, &context), "1");
+    wrong.answer("eval_expr", host.eval_expr(alloc, &context, &program.expr), "1");
     Ok(())
 }
 
-/// Whether a zone of this name may be added, and the moment after it.
-fn is_added(alloc: Global, name: &str) -> Result<bool> {
-    let mut host = Environment::new(alloc);
-    host.set_now(Timestamp::UNIX_EPOCH);
-    match host.add_timezone(name, TimeZone::UTC) {
-        Ok(()) => Ok(true),
-        Err(Error::ExprError(_)) => Ok(false),
-        Err(error) => Err(error),
-    }
-}
-
 #[test]
-fn zones_have_names_of_their_own(rt: HostRuntime) -> Tested {
-    assert!(rt; matches!(is_added(rt.alloc(), "UTC"), Ok(false)));
-    assert!(rt; matches!(is_added(rt.alloc(), "utc"), Ok(true)));
+fn functions_are_called(rt: HostRuntime) -> Tested {
+    let alloc = rt.alloc();
+    let host = hosted(alloc)?;
+    let context = Context::new(alloc);
+    let mut wrong = Page::new(alloc);
+    for (code, expected) in WITH_FUNCTIONS {
+        wrong.answer(code, host.eval(alloc, code, &context), expected);
+    }
+    for (code, expected) in BY_PARTS {
+        wrong.answer(code, by_its_parts(alloc, &host, code), expected);
+    }
+    put_parser(alloc, "n(1, {#})", &mut wrong)?;
+    wrong.assert(&rt, "");
     Ok(())
 }
 
 /// An environment with zones of a rule and of an offset, whose moment is the instant 0.
-fn zoned(alloc: Global) -> Result<Environment> {
+fn zoned(alloc: Global) -> std::result::Result<Environment, Fail> {
     let mut host = Environment::new(alloc);
-    let Ok(rules) = TimeZone::posix("EST5EDT,M3.2.0,M11.1.0") else {
-        bail!(in alloc; "no rules");
-    };
-    host.add_timezone("E", rules)?;
-    let Ok(ahead) = Offset::from_seconds(3600) else {
-        bail!(in alloc; "no offset");
-    };
-    host.add_timezone("X/Plus1", TimeZone::fixed(ahead))?;
+    host.add_timezone("E", TimeZone::posix("EST5EDT,M3.2.0,M11.1.0")?)?;
+    host.add_timezone("X/Plus1", TimeZone::fixed(Offset::from_seconds(3600)?))?;
     host.set_now(Timestamp::UNIX_EPOCH);
     Ok(host)
 }
@@ -219,9 +156,19 @@ const WITH_ZONES: &[(&str, &str)] = &[
         r#""2024-07-01 08:00:00 -0400 E""#,
     ),
     (
+        r#"fromPairs([[date("2024-07-01T12:00:00Z").In(timezone("E")), 1], [date("2024-07-01T12:00:00Z"), 2]])"#,
+        "{2024-07-01T08:00:00-04:00: 2}",
+    ),
+    (
+        r#"string(fromPairs([[date("2024-07-01T12:00:00Z").In(timezone("E")), 1], [date("2024-07-01T12:00:00Z"), 2]]))"#,
+        r#""map[2024-07-01 08:00:00 -0400 E:2]""#,
+    ),
+    (
         r#"date("2024-01-01 00:00:00", "2006-01-02 15:04:05", "X/Plus1").Unix()"#,
         "1704063600",
     ),
+    ("now()", "1970-01-01T00:00:00+00:00"),
+    ("string(now())", r#""1970-01-01 00:00:00 +0000 UTC""#),
     ("now().Unix()", "0"),
     ("now().Location().String()", r#""UTC""#),
     (r#"timezone("e")"#, "!evaluation"),
@@ -230,10 +177,15 @@ const WITH_ZONES: &[(&str, &str)] = &[
 #[test]
 fn zones_are_asked_by_their_names(rt: HostRuntime) -> Tested {
     let alloc = rt.alloc();
-    let host = zoned(alloc)?;
+    let mut host = zoned(alloc)?;
+    let context = Context::new(alloc);
+    let mut wrong = Page::new(alloc);
     for (code, expected) in WITH_ZONES {
-        let answer = printed(alloc, host.eval(alloc, code, &Context::new(alloc)))?;
-        assert_eq!(rt; answer.as_str(), *expected, "{code}");
+        wrong.answer(code, host.eval(alloc, code, &context), expected);
     }
+    let taken = host.add_timezone("UTC", TimeZone::UTC);
+    wrong.fact("UTC is taken", matches!(taken, Err(Error::ExprError(_))));
+    wrong.fact("utc is free", host.add_timezone("utc", TimeZone::UTC).is_ok());
+    wrong.assert(&rt, "");
     Ok(())
 }

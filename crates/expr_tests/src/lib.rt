@@ -6,19 +6,17 @@ mod answers;
 #[cfg(test)]
 mod collections;
 #[cfg(test)]
+mod engine;
+#[cfg(test)]
 mod hosts;
 #[cfg(test)]
 mod macros;
-#[cfg(test)]
-mod moments;
 #[cfg(test)]
 mod page;
 #[cfg(test)]
 mod programs;
 #[cfg(test)]
 mod reading_back;
-#[cfg(test)]
-mod said;
 #[cfg(test)]
 mod served;
 #[cfg(test)]

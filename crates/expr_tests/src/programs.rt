@@ -1,25 +1,22 @@
 //! Programs of texts, their refusals and their names.
-use crate::page::Page;
+use crate::page::{Page, word_of};
 use crate::shown::show_program;
-use expr::{Error, Node, Pattern, Result, compile, compile_within};
+use expr::{Error, Program, Result, compile, compile_within};
 use std::alloc::Global;
 use std::test::Fail;
 
-type Tested = std::result::Result<(), Fail>;
-
-/// The program of a text with each of its brackets, or its refusal.
-fn shown(alloc: Global, text: &str) -> Result<String> {
+/// A program with each of its brackets, or its refusal.
+fn shown(alloc: Global, program: Result<Program>) -> Page {
     let mut page = Page::new(alloc);
-    match compile(alloc, text) {
+    match program {
         Ok(program) => show_program(&program, &mut page),
         Err(Error::PestError(place)) => {
             page.put("syntax fault at ");
             page.put_made(place.to_string(alloc));
         }
-        Err(Error::ParseError(_message)) => page.put("literal out of range"),
-        Err(other) => return Err(other),
+        Err(other) => page.put(word_of(&other)),
     }
-    Ok(page.finished()?)
+    page
 }
 
 /// Texts of one program, and that program, or their refusal.
@@ -96,159 +93,89 @@ const PROGRAMS: &[(&[&str], &str)] = &[
     (&["a b"], "syntax fault at 2"),
     (&["a b \""], "syntax fault at 2"),
     (&["a + \""], "syntax fault at 4"),
-    (&["-9223372036854775808"], "literal out of range"),
+    (&[r#"x matches "^a""#], r#"(x matches "^a" by ^a)"#),
+    (&[r#"x matches "(""#], r#"(x matches "(")"#),
+    (&["x matches y"], "(x matches y)"),
+    (&[r#"x contains "^a""#], r#"(x contains "^a")"#),
+    (&["-9223372036854775808"], "!literal"),
     (&["-9223372036854775808 +"], "syntax fault at 22"),
 ];
 
-#[test]
-fn texts_have_their_programs(rt: HostRuntime) -> Tested {
-    for (texts, program) in PROGRAMS {
-        for text in *texts {
-            assert_eq!(rt; shown(rt.alloc(), text)?.as_str(), *program, "{text}");
-        }
-    }
-    Ok(())
-}
-
-/// The text of the pattern that a program keeps at its last operator, or a word for none.
-fn kept(alloc: Global, text: &str) -> Result<String> {
-    let program = compile(alloc, text)?;
-    let pattern = match &program.expr {
-        Node::Operation {
-            compiled_regex: Some(pattern),
-            ..
-        } => pattern.text(),
-        _ => "none",
-    };
-    Ok(String::from_str(alloc, pattern)?)
-}
-
-/// Texts, and the patterns that their programs keep.
-const KEPT: &[(&str, &str)] = &[
-    (r#"x matches "^a""#, "^a"),
-    (r#"x matches "(""#, "none"),
-    ("x matches y", "none"),
-    (r#"x contains "^a""#, "none"),
-];
-
-#[test]
-fn programs_keep_patterns(rt: HostRuntime) -> Tested {
-    for (text, expected) in KEPT {
-        assert_eq!(rt; kept(rt.alloc(), text)?.as_str(), *expected, "{text}");
-    }
-    Ok(())
-}
-
-/// Patterns, texts, and whether they match.
-const MATCHES: &[(&str, &str, bool)] = &[
-    (r"^[a-z]\d$", "a1", true),
-    ("^f", "foo", true),
-    ("^f", "of", false),
-    ("", "", true),
-];
-
-#[test]
-fn patterns_match(rt: HostRuntime) -> Tested {
-    let alloc = rt.alloc();
-    for (pattern, text, expected) in MATCHES {
-        let pattern = Pattern::new(alloc, pattern)?;
-        assert_eq!(rt; pattern.is_match(alloc, text)?, *expected, "{text}");
-    }
-    assert!(rt; matches!(Pattern::new(alloc, "("), Err(Error::RegexError(_))));
-    Ok(())
-}
-
-/// Texts, a bound on the height of their trees, and what each is read as: a program, `high` or `syntax`.
+/// Texts, a bound on the height of their trees, and their programs within that bound.
 const HEIGHTS: &[(&str, usize, &str)] = &[
-    ("1", 0, "high"),
-    ("(1)", 1, "high"),
-    ("1 + 2 * 3", 2, "high"),
-    ("a | f(b)", 2, "high"),
-    ("if a { b } else if c { d } else { e }", 2, "high"),
-    ("map(xs, {let y = (1); y})", 2, "high"),
-    ("{k: {k: (1)}}", 3, "high"),
-    ("1", 1, "program"),
-    ("(1)", 2, "program"),
-    ("1 + 2 * 3", 3, "program"),
-    ("a | f(b)", 3, "program"),
-    ("let a = (1); a", 2, "program"),
-    ("if a { b } else if c { d } else { e }", 3, "program"),
-    ("map(xs, {let y = (1); y})", 3, "program"),
-    ("{k: {k: (1)}}", 4, "program"),
-    ("-.a", 2, "program"),
-    ("1 +", 0, "syntax"),
+    ("1", 0, "!literal"),
+    ("(1)", 1, "!literal"),
+    ("1 + 2 * 3", 2, "!literal"),
+    ("a | f(b)", 2, "!literal"),
+    ("if a { b } else if c { d } else { e }", 2, "!literal"),
+    ("map(xs, {let y = (1); y})", 2, "!literal"),
+    ("{k: {k: (1)}}", 3, "!literal"),
+    ("1", 1, "1"),
+    ("(1)", 2, "1"),
+    ("1 + 2 * 3", 3, "(1 + (2 * 3))"),
+    ("a | f(b)", 3, "(a | f[b,])"),
+    ("let a = (1); a", 2, "a = 1; a"),
+    ("if a { b } else if c { d } else { e }", 3, "if a {b} {if c {d} {e}}"),
+    ("map(xs, {let y = (1); y})", 3, "map[xs,]{y = 1; y}"),
+    ("{k: {k: (1)}}", 4, "{k: {k: 1}}"),
+    ("-.a", 2, r#"-(#["a"])"#),
+    ("1 +", 0, "syntax fault at 3"),
 ];
 
-/// What a text is read as under a bound on height.
-fn read_within(alloc: Global, text: &str, height: usize) -> Result<&'static str> {
-    match compile_within(alloc, text, height) {
-        Ok(_program) => Ok("program"),
-        Err(Error::ParseError(_message)) => Ok("high"),
-        Err(Error::PestError(_place)) => Ok("syntax"),
-        Err(other) => Err(other),
-    }
-}
-
-#[test]
-fn trees_are_read_within_a_height(rt: HostRuntime) -> Tested {
-    for (text, height, expected) in HEIGHTS {
-        assert_eq!(rt;
-            read_within(rt.alloc(), text, *height)?,
-            *expected,
-            "{text}"
-        );
-    }
-    Ok(())
-}
-
-/// The names of a text's program, and whether it uses `$env`.
-fn names(alloc: Global, text: &str) -> Result<String> {
+/// Puts the names of a text's program, and whether it uses `$env`.
+fn put_names(alloc: Global, text: &str, page: &mut Page) -> Result<()> {
     let program = compile(alloc, text)?;
-    let mut names = program.names(alloc)?.join(alloc, " ")?;
-    if program.uses_env() {
-        names.push_str(" with $env")?;
-    }
-    Ok(names)
+    let names = program.names(alloc)?;
+    page.put_made(names.join(alloc, " "));
+    page.put(if program.uses_env() {
+        " with $env;"
+    } else {
+        ";"
+    });
+    Ok(())
 }
 
 /// Texts, and the names of their programs.
-const NAMES: &[(&str, &str)] = &[
-    (
-        "let a = b; xs | map(a + #) | f(c.d, {k: 1}, $env)",
-        "# a b c xs with $env",
-    ),
-    ("x?.y[z]", "x z"),
-    ("f({a})", "a"),
-    ("f({a: 1})", ""),
-    ("map(xs, {a}, {b})", "b xs"),
-    ("map(xs, .v)", "# xs"),
-    ("{k: v, w: {z: q}}", "q v"),
+const NAMES: &[&str] = &[
+    "let a = b; xs | map(a + #) | f(c.d, {k: 1}, $env)",
+    "x?.y[z]",
+    "f({a})",
+    "f({a: 1})",
+    "map(xs, {a}, {b})",
+    "map(xs, .v)",
+    "{k: v, w: {z: q}}",
 ];
 
+/// The names of each of those texts' programs.
+const SAID: &str = "# a b c xs with $env;x z;a;;b xs;# xs;q v;";
+
+/// Whether a text of 200,000 fronts, a middle and as many backs has a program.
+fn is_compiled(alloc: Global, front: &str, middle: &str, back: &str) -> bool {
+    let mut text = Page::new(alloc);
+    text.put_times(front, 200_000);
+    text.put(middle);
+    text.put_times(back, 200_000);
+    compile(alloc, text.text()).is_ok()
+}
+
 #[test]
-fn programs_have_their_names(rt: HostRuntime) -> Tested {
-    for (text, expected) in NAMES {
-        assert_eq!(rt; names(rt.alloc(), text)?.as_str(), *expected, "{text}");
+fn texts_have_their_programs(rt: HostRuntime) -> std::result::Result<(), Fail> {
+    let alloc = rt.alloc();
+    let mut page = Page::new(alloc);
+    for (texts, program) in PROGRAMS {
+        for text in *texts {
+            page.row(text, shown(alloc, compile(alloc, text)).text(), program);
+        }
     }
-    Ok(())
-}
-
-/// Whether a text of 200,000 fronts, a middle and as many backs has a program without lines.
-fn is_compiled(alloc: Global, front: &str, middle: &str, back: &str) -> Result<bool> {
-    let mut text = front.repeat(alloc, 200_000)?;
-    text.push_str(middle)?;
-    text.push_str(&back.repeat(alloc, 200_000)?)?;
-    Ok(compile(alloc, &text)?.lines.is_empty())
-}
-
-#[test]
-fn brackets_take_no_stack(rt: HostRuntime) -> Tested {
-    assert!(rt; is_compiled(rt.alloc(), "(", "1", ")")?);
-    Ok(())
-}
-
-#[test]
-fn prefixes_take_no_stack(rt: HostRuntime) -> Tested {
-    assert!(rt; is_compiled(rt.alloc(), "not ", "true", "")?);
+    for (text, height, program) in HEIGHTS {
+        let within = compile_within(alloc, text, *height);
+        page.row(text, shown(alloc, within).text(), program);
+    }
+    for text in NAMES {
+        put_names(alloc, text, &mut page)?;
+    }
+    page.fact("brackets take no stack", is_compiled(alloc, "(", "1", ")"));
+    page.fact("prefixes take no stack", is_compiled(alloc, "not ", "true", ""));
+    page.assert(&rt, SAID);
     Ok(())
 }
