@@ -15,7 +15,10 @@ fn put_items(alloc: Global, page: &mut Page) -> Result<()> {
     page.put_made(format!(in alloc; "{copies:?}\n"));
     page.fact("a list is its copy", copies == items);
     page.fact("a list has items", !items.is_empty() && items.len() == 2);
-    page.fact("a list has its last", matches!(items.get(1), Some(Value::Integer(2))));
+    page.fact(
+        "a list has its last",
+        matches!(items.get(1), Some(Value::Integer(2))),
+    );
     page.fact("a list has no more", items.get(2).is_none());
     Ok(())
 }
@@ -31,10 +34,22 @@ fn put_names(alloc: Global, page: &mut Page) -> Result<()> {
     let copies = map.clone()?;
     page.put_made(format!(in alloc; "{copies:?}\n"));
     page.fact("a map is its copy", copies == map && !map.is_empty());
-    page.fact("a map has its name", map.get("a").is_some() && map.get("").is_none());
-    page.fact("a map has a first", map.get_index(0).is_some() && map.get_index(1).is_none());
-    page.fact("a map has pairs", map.keys().len() == map.values().len() && copies.len() == 1);
-    page.fact("a map has its text", map.get_by_key(&Text::copy(alloc, "a")?).is_some());
+    page.fact(
+        "a map has its name",
+        map.get("a").is_some() && map.get("").is_none(),
+    );
+    page.fact(
+        "a map has a first",
+        map.get_index(0).is_some() && map.get_index(1).is_none(),
+    );
+    page.fact(
+        "a map has pairs",
+        map.keys().len() == map.values().len() && copies.len() == 1,
+    );
+    page.fact(
+        "a map has its text",
+        map.get_by_key(&Text::copy(alloc, "a")?).is_some(),
+    );
     Ok(())
 }
 
@@ -50,13 +65,25 @@ fn put_keys(alloc: Global, page: &mut Page) -> Result<()> {
     let copies = map.clone()?;
     page.put_made(format!(in alloc; "{copies:?}\n"));
     page.fact("a keyed map is its copy", copies == map && !map.is_empty());
-    page.fact("a keyed map has pairs", map.keys().len() == map.values().len());
-    page.fact("a keyed map has a last", map.get_index(1).is_some() && map.get_index(2).is_none());
-    page.fact("a keyed map has its integer", map.get(&Value::Integer(2)).is_some());
+    page.fact(
+        "a keyed map has pairs",
+        map.keys().len() == map.values().len(),
+    );
+    page.fact(
+        "a keyed map has a last",
+        map.get_index(1).is_some() && map.get_index(2).is_none(),
+    );
+    page.fact(
+        "a keyed map has its integer",
+        map.get(&Value::Integer(2)).is_some(),
+    );
     for key in map.keys() {
         page.fact("a keyed map has its keys", map.get_by_key(key).is_some());
         let value = key.to_value(alloc)?;
-        page.fact("a keyed map has its keys' values", map.get(&value).is_some());
+        page.fact(
+            "a keyed map has its keys' values",
+            map.get(&value).is_some(),
+        );
         page.fact("a key comes back", value.into_key() == Some(key.clone()?));
     }
     Ok(())
@@ -68,12 +95,21 @@ fn put_texts(alloc: Global, page: &mut Page) -> Result<()> {
     page.put_made(format!(in alloc; "{text};{text:?}\n"));
     page.fact("a text has a length", text.len() == 3 && !text.is_empty());
     let bytes = Items::from_vec(text.as_str().as_bytes().to_vec(alloc)?);
-    page.fact("a text lends bytes", bytes.as_slice() == text.as_str().as_bytes());
+    page.fact(
+        "a text lends bytes",
+        bytes.as_slice() == text.as_str().as_bytes(),
+    );
     let copies = bytes.clone()?.into_vec();
-    page.fact("bytes are their copy", copies.as_slice() == bytes.as_slice());
+    page.fact(
+        "bytes are their copy",
+        copies.as_slice() == bytes.as_slice(),
+    );
     let held = Boxed::new(alloc, text)?;
     page.fact("a box lends", held.get().as_str() == "a\"b");
-    page.fact("a box gives back", held.into_inner().into_string().as_str() == "a\"b");
+    page.fact(
+        "a box gives back",
+        held.into_inner().into_string().as_str() == "a\"b",
+    );
     Ok(())
 }
 
@@ -86,7 +122,10 @@ fn put_context(alloc: Global, page: &mut Page) -> Result<()> {
     let copies = context.clone()?;
     page.put_made(format!(in alloc; "{copies:?}\n"));
     page.fact("a context is its copy", copies == context);
-    page.fact("a context has names", context.len() == 2 && !context.is_empty());
+    page.fact(
+        "a context has names",
+        context.len() == 2 && !context.is_empty(),
+    );
     page.fact("a new context is empty", Context::new(alloc).is_empty());
     Ok(())
 }

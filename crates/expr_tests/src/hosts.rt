@@ -111,7 +111,11 @@ fn put_parser(alloc: Global, code: &str, wrong: &mut Page) -> Result<()> {
     let program = host.compile(alloc, code)?;
     wrong.answer("run", host.run(alloc, &program, &context), "1");
     wrong.answer("eval", host.eval(alloc, code, &context), "1");
-    wrong.answer("eval_expr", host.eval_expr(alloc, &context, &program.expr), "1");
+    wrong.answer(
+        "eval_expr",
+        host.eval_expr(alloc, &context, &program.expr),
+        "1",
+    );
     Ok(())
 }
 
@@ -185,7 +189,10 @@ fn zones_are_asked_by_their_names(rt: HostRuntime) -> Tested {
     }
     let taken = host.add_timezone("UTC", TimeZone::UTC);
     wrong.fact("UTC is taken", matches!(taken, Err(Error::ExprError(_))));
-    wrong.fact("utc is free", host.add_timezone("utc", TimeZone::UTC).is_ok());
+    wrong.fact(
+        "utc is free",
+        host.add_timezone("utc", TimeZone::UTC).is_ok(),
+    );
     wrong.assert(&rt, "");
     Ok(())
 }

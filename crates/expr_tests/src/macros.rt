@@ -20,7 +20,8 @@ fn literals(alloc: Global, key: &str) -> Result<Value> {
 }
 
 /// What they print.
-const LITERALS: &str = r#"[{a: [1, nil, {b: true}], c: "x"}, {key: 42, d: {}, e: [[]]}, {key: true, keys: "x"}, [[1], 2], [{a: 1}, 2], {a: nil, b: 1}]"#;
+const LITERALS: &str =
+    r#"[{a: [1, nil, {b: true}], c: "x"}, {key: 42, d: {}, e: [[]]}, {key: true, keys: "x"}, [[1], 2], [{a: 1}, 2], {a: nil, b: 1}]"#;
 
 fn quotient(alloc: Global, a: i64, b: i64) -> Result<Value> {
     if b == 0 {

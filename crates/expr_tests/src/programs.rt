@@ -115,7 +115,11 @@ const HEIGHTS: &[(&str, usize, &str)] = &[
     ("1 + 2 * 3", 3, "(1 + (2 * 3))"),
     ("a | f(b)", 3, "(a | f[b,])"),
     ("let a = (1); a", 2, "a = 1; a"),
-    ("if a { b } else if c { d } else { e }", 3, "if a {b} {if c {d} {e}}"),
+    (
+        "if a { b } else if c { d } else { e }",
+        3,
+        "if a {b} {if c {d} {e}}",
+    ),
     ("map(xs, {let y = (1); y})", 3, "map[xs,]{y = 1; y}"),
     ("{k: {k: (1)}}", 4, "{k: {k: 1}}"),
     ("-.a", 2, r#"-(#["a"])"#),
@@ -175,7 +179,10 @@ fn texts_have_their_programs(rt: HostRuntime) -> std::result::Result<(), Fail> {
         put_names(alloc, text, &mut page)?;
     }
     page.fact("brackets take no stack", is_compiled(alloc, "(", "1", ")"));
-    page.fact("prefixes take no stack", is_compiled(alloc, "not ", "true", ""));
+    page.fact(
+        "prefixes take no stack",
+        is_compiled(alloc, "not ", "true", ""),
+    );
     page.assert(&rt, SAID);
     Ok(())
 }

@@ -47,10 +47,12 @@ const ANSWERS: &[(&str, &str)] = &[
 ];
 
 /// Values that no text makes and some others.
-const LIST: &str = r#"[fromPairs([["1x", 1], [10, 2], [2, 3], [nil, 4]]), nested, last, no_day, [1, {a: "x"}], b"\x01\x02"]"#;
+const LIST: &str =
+    r#"[fromPairs([["1x", 1], [10, 2], [2, 3], [nil, 4]]), nested, last, no_day, [1, {a: "x"}], b"\x01\x02"]"#;
 
 /// The `string` text of that list.
-const STRING: &str = "[map[<nil>:4 2:3 10:2 1x:1] map[a:map[c:<nil>] b:[1 x]] December  [1 map[a:x]] [1 2]]";
+const STRING: &str =
+    "[map[<nil>:4 2:3 10:2 1x:1] map[a:map[c:<nil>] b:[1 x]] December  [1 map[a:x]] [1 2]]";
 
 /// Puts what is wrong of a list and its copy.
 fn put_list(alloc: Global, names: &Context, wrong: &mut Page) -> Result<()> {
@@ -101,7 +103,8 @@ fn put_contexts(alloc: Global, page: &mut Page) -> Result<()> {
 
 /// Puts what a value lends to each of the calls that ask for one kind.
 fn put_lent(alloc: Global, value: &Value, page: &mut Page) {
-    page.put_made(format!(in alloc; "\n{:?} {:?} {:?} {} {} {} {}",
+    page.put_made(format!(in alloc;
+        "\n{:?} {:?} {:?} {} {} {} {}",
         value.as_integer(),
         value.as_bool(),
         value.as_duration(),
@@ -130,13 +133,28 @@ fn values_lend_what_they_hold(rt: HostRuntime) -> std::result::Result<(), Fail> 
     put_lent(alloc, &Value::Nil, &mut page);
     let keyed = eval(alloc, "fromPairs([[1, 2]])", &Context::new(alloc))?;
     page.fact("a keyed map makes no context", is_no_context(alloc, keyed));
-    page.fact("an integer makes no context", is_no_context(alloc, Value::Integer(1)));
-    page.fact("a new context has no name", Context::new(alloc).get("b").is_none());
+    page.fact(
+        "an integer makes no context",
+        is_no_context(alloc, Value::Integer(1)),
+    );
+    page.fact(
+        "a new context has no name",
+        Context::new(alloc).get("b").is_none(),
+    );
     page.fact("nil is before a boolean", Key::Nil < Key::Bool(false));
     page.fact("false is before true", Key::Bool(false) < Key::Bool(true));
-    page.fact("a boolean is before an integer", Key::Bool(true) < Key::Integer(-10));
-    page.fact("an integer is before a greater one", Key::Integer(-10) < Key::Integer(10));
-    page.fact("an integer is before a duration", Key::Integer(10) < Key::Duration(-10));
+    page.fact(
+        "a boolean is before an integer",
+        Key::Bool(true) < Key::Integer(-10),
+    );
+    page.fact(
+        "an integer is before a greater one",
+        Key::Integer(-10) < Key::Integer(10),
+    );
+    page.fact(
+        "an integer is before a duration",
+        Key::Integer(10) < Key::Duration(-10),
+    );
     page.assert(&rt, SAID);
     Ok(())
 }
