@@ -107,15 +107,12 @@ const READINGS: &[(&str, &str)] = &[
 /// Texts, and their readings with the places where the tokens start.
 const STARTS: &[(&str, &str)] = &[("'é' /* é */ ab+1", "q<é> ab + 1 @[0, 14, 16, 17]")];
 
-#[test]
-fn texts_have_their_readings(rt: HostRuntime) {
-    let alloc = rt.alloc();
-    let mut wrong = Page::new(alloc);
+/// Puts what is wrong of these readings.
+pub fn put_readings(alloc: Global, wrong: &mut Page) {
     for (text, tokens) in READINGS {
         wrong.row(text, shown(alloc, text, false).text(), tokens);
     }
     for (text, tokens) in STARTS {
         wrong.row(text, shown(alloc, text, true).text(), tokens);
     }
-    wrong.assert(&rt, "");
 }

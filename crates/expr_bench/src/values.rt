@@ -2,7 +2,6 @@
 use crate::page::Page;
 use expr::{Context, ContextProvider, Error, Key, Result, Value, eval, value};
 use std::alloc::Global;
-use std::test::Fail;
 
 /// Names and integers, a name of them twice.
 const NAMED: &[(&str, i64)] = &[("b", 1), ("a", 2), ("b", 3)];
@@ -62,17 +61,13 @@ fn put_list(alloc: Global, names: &Context, wrong: &mut Page) -> Result<()> {
     Ok(())
 }
 
-#[test]
-fn made_values_answer(rt: HostRuntime) -> std::result::Result<(), Fail> {
-    let alloc = rt.alloc();
+/// Puts what is wrong of the answers.
+fn put_answers(alloc: Global, wrong: &mut Page) -> Result<()> {
     let names = made(alloc)?;
-    let mut wrong = Page::new(alloc);
     for (code, answer) in ANSWERS {
         wrong.answer(code, eval(alloc, code, &names), answer);
     }
-    put_list(alloc, &names, &mut wrong)?;
-    wrong.assert(&rt, "");
-    Ok(())
+    put_list(alloc, &names, wrong)
 }
 
 /// Whether a value makes no context.
@@ -115,22 +110,14 @@ fn put_lent(alloc: Global, value: &Value, page: &mut Page) {
     ));
 }
 
-/// Two contexts, and what an integer, a boolean, a duration and nil lend.
-const SAID: &str = "{b: nil, a: 2}{b: 3, a: 2, c: nil}
-Some(7) None None false false false false
-None Some(true) None false false false false
-None None Some(7) false false false false
-None None None false false false true";
-
-#[test]
-fn values_lend_what_they_hold(rt: HostRuntime) -> std::result::Result<(), Fail> {
-    let alloc = rt.alloc();
-    let mut page = Page::new(alloc);
-    put_contexts(alloc, &mut page)?;
-    put_lent(alloc, &Value::from(7_i32), &mut page);
-    put_lent(alloc, &Value::from(true), &mut page);
-    put_lent(alloc, &Value::Duration(7), &mut page);
-    put_lent(alloc, &Value::Nil, &mut page);
+/// Puts two contexts, what an integer, a boolean, a duration and nil lend, and what is wrong of values.
+pub fn put_values(alloc: Global, page: &mut Page) -> Result<()> {
+    put_answers(alloc, page)?;
+    put_contexts(alloc, page)?;
+    put_lent(alloc, &Value::from(7_i32), page);
+    put_lent(alloc, &Value::from(true), page);
+    put_lent(alloc, &Value::Duration(7), page);
+    put_lent(alloc, &Value::Nil, page);
     let keyed = eval(alloc, "fromPairs([[1, 2]])", &Context::new(alloc))?;
     page.fact("a keyed map makes no context", is_no_context(alloc, keyed));
     page.fact(
@@ -155,6 +142,6 @@ fn values_lend_what_they_hold(rt: HostRuntime) -> std::result::Result<(), Fail> 
         "an integer is before a duration",
         Key::Integer(10) < Key::Duration(-10),
     );
-    page.assert(&rt, SAID);
+    page.put("\n");
     Ok(())
 }

@@ -3,7 +3,6 @@ use crate::page::Page;
 use expr::{Context, Items, Key, KeyedMap, Result, Text, Value, ValueMap, value};
 use expr_value::Boxed;
 use std::alloc::Global;
-use std::test::Fail;
 
 /// Puts the items of a list, its copy, and the facts of it that don't hold.
 fn put_items(alloc: Global, page: &mut Page) -> Result<()> {
@@ -130,23 +129,11 @@ fn put_context(alloc: Global, page: &mut Page) -> Result<()> {
     Ok(())
 }
 
-/// What all of them put.
-const SAID: &str = r#"1;2;[1, 2]
-a=1;{a: 1}
-2=nil;"x"=true;{2: nil, "x": true}
-a"b;"a\"b"
-a=1;b=nil;{a: 1, b: nil}
-"#;
-
-#[test]
-fn collections_are_walked_and_copied(rt: HostRuntime) -> std::result::Result<(), Fail> {
-    let alloc = rt.alloc();
-    let mut page = Page::new(alloc);
-    put_items(alloc, &mut page)?;
-    put_names(alloc, &mut page)?;
-    put_keys(alloc, &mut page)?;
-    put_texts(alloc, &mut page)?;
-    put_context(alloc, &mut page)?;
-    page.assert(&rt, SAID);
-    Ok(())
+/// Puts all of them.
+pub fn put_collections(alloc: Global, page: &mut Page) -> Result<()> {
+    put_items(alloc, page)?;
+    put_names(alloc, page)?;
+    put_keys(alloc, page)?;
+    put_texts(alloc, page)?;
+    put_context(alloc, page)
 }

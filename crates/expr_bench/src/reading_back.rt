@@ -3,7 +3,6 @@ use crate::page::Page;
 use expr::{Context, Result, Value, eval};
 use expr_value::assembly::{IntoName, array, map, no_items, no_pairs, placed, pushed};
 use std::alloc::Global;
-use std::test::Fail;
 
 /// Numbers that follow from a seed.
 #[derive(Drop)]
@@ -131,15 +130,12 @@ fn made(alloc: Global, seed: u64) -> Result<Value> {
     value
 }
 
-#[test]
-fn printed_values_are_read_back(rt: HostRuntime) -> std::result::Result<(), Fail> {
-    let alloc = rt.alloc();
+/// Puts the printed values that aren't read back.
+pub fn put_reading_back(alloc: Global, wrong: &mut Page) -> Result<()> {
     let names = Context::new(alloc);
-    let mut wrong = Page::new(alloc);
     for seed in 0..5_000_u64 {
         let text = made(alloc, seed)?.to_string(alloc)?;
         wrong.answer(&text, eval(alloc, &text, &names), &text);
     }
-    wrong.assert(&rt, "");
     Ok(())
 }

@@ -15,11 +15,9 @@ const SIZES: &[(&str, usize, usize)] = &[
     ("Node", size_of::<Node>(), 72),
 ];
 
-#[test]
-fn types_are_small(rt: HostRuntime) {
-    let mut wrong = Page::new(rt.alloc());
+/// Puts the types that are too large.
+pub fn put_sizes(wrong: &mut Page) {
     for (name, bytes, most) in SIZES {
         wrong.fact(name, bytes <= most);
     }
-    wrong.assert(&rt, "");
 }

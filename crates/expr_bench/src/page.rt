@@ -1,7 +1,6 @@
-//! A text that is written piece by piece, and the one assertion of the tests over tables.
+//! A text that is written piece by piece.
 use expr::{Error, Value};
 use std::alloc::{AllocError, Global};
-use std::process::Abort;
 
 /// A text so far, and whether there was memory for each piece of it.
 #[derive(Drop)]
@@ -95,10 +94,5 @@ impl Page {
         } else {
             "no memory"
         }
-    }
-
-    /// Ends the test unless this is the text.
-    pub fn assert(&self, rt: &impl Abort, expected: &str) {
-        assert_eq!(rt; self.text(), expected);
     }
 }

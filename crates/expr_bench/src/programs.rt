@@ -3,7 +3,6 @@ use crate::page::{Page, word_of};
 use crate::shown::show_program;
 use expr::{Error, Program, Result, compile, compile_within};
 use std::alloc::Global;
-use std::test::Fail;
 
 /// A program with each of its brackets, or its refusal.
 fn shown(alloc: Global, program: Result<Program>) -> Page {
@@ -150,9 +149,6 @@ const NAMES: &[&str] = &[
     "{k: v, w: {z: q}}",
 ];
 
-/// The names of each of those texts' programs.
-const SAID: &str = "# a b c xs with $env;x z;a;;b xs;# xs;q v;";
-
 /// Whether a text of 200,000 fronts, a middle and as many backs has a program.
 fn is_compiled(alloc: Global, front: &str, middle: &str, back: &str) -> bool {
     let mut text = Page::new(alloc);
@@ -162,10 +158,8 @@ fn is_compiled(alloc: Global, front: &str, middle: &str, back: &str) -> bool {
     compile(alloc, text.text()).is_ok()
 }
 
-#[test]
-fn texts_have_their_programs(rt: HostRuntime) -> std::result::Result<(), Fail> {
-    let alloc = rt.alloc();
-    let mut page = Page::new(alloc);
+/// Puts the names of programs, and what is wrong of programs of texts.
+pub fn put_programs(alloc: Global, page: &mut Page) -> Result<()> {
     for (texts, program) in PROGRAMS {
         for text in *texts {
             page.row(text, shown(alloc, compile(alloc, text)).text(), program);
@@ -176,13 +170,13 @@ fn texts_have_their_programs(rt: HostRuntime) -> std::result::Result<(), Fail> {
         page.row(text, shown(alloc, within).text(), program);
     }
     for text in NAMES {
-        put_names(alloc, text, &mut page)?;
+        put_names(alloc, text, page)?;
     }
     page.fact("brackets take no stack", is_compiled(alloc, "(", "1", ")"));
     page.fact(
         "prefixes take no stack",
         is_compiled(alloc, "not ", "true", ""),
     );
-    page.assert(&rt, SAID);
+    page.put("\n");
     Ok(())
 }

@@ -1,13 +1,10 @@
-//! Hosts of the tests' own: functions and zones that are added to an environment, and a function that is added to a parser.
+//! Hosts of the bench's own: functions and zones that are added to an environment, and a function that is added to a parser.
 use crate::page::Page;
 use expr::{Context, Environment, Error, ExprCall, Node, Parser, Result, Value, compile};
 use jiff::Timestamp;
 use jiff::tz::{Offset, TimeZone};
 use std::alloc::Global;
 use std::cell::Cell;
-use std::test::Fail;
-
-type Tested = std::result::Result<(), Fail>;
 
 /// The sum of the integers among the arguments.
 fn sum(call: ExprCall) -> Result<Value> {
@@ -33,30 +30,6 @@ const SUMS: &[&str] = &["add", "n", "len"];
 
 /// Names of functions that count their arguments, the second of which is a built-in's.
 const NUMBERS: &[&str] = &["n", "map"];
-
-/// An environment with functions of the tests' own.
-fn hosted(alloc: Global) -> Result<Environment> {
-    let calls = Cell::new(0_i64);
-    let mut host = Environment::new(alloc);
-    for name in SUMS {
-        host.add_function(name, Box::new(alloc, |call: ExprCall| sum(call))?)?;
-    }
-    for name in NUMBERS {
-        host.add_function(name, Box::new(alloc, |call: ExprCall| number(call))?)?;
-    }
-    host.add_function(
-        "p",
-        Box::new(alloc, |call: ExprCall| Err(Error::ParseError(call.ident)))?,
-    )?;
-    host.add_function(
-        "tick",
-        Box::new(alloc, move |_call: ExprCall| {
-            calls.set(calls.get().wrapping_add(1));
-            Ok(Value::Integer(calls.get()))
-        })?,
-    )?;
-    Ok(host)
-}
 
 /// Texts, and what they answer where those functions are added.
 const WITH_FUNCTIONS: &[(&str, &str)] = &[
@@ -119,28 +92,51 @@ fn put_parser(alloc: Global, code: &str, wrong: &mut Page) -> Result<()> {
     Ok(())
 }
 
-#[test]
-fn functions_are_called(rt: HostRuntime) -> Tested {
-    let alloc = rt.alloc();
-    let host = hosted(alloc)?;
+/// Puts what is wrong of the answers of an environment with those functions.
+fn put_answers(alloc: Global, host: &Environment, wrong: &mut Page) {
     let context = Context::new(alloc);
-    let mut wrong = Page::new(alloc);
     for (code, expected) in WITH_FUNCTIONS {
         wrong.answer(code, host.eval(alloc, code, &context), expected);
     }
     for (code, expected) in BY_PARTS {
-        wrong.answer(code, by_its_parts(alloc, &host, code), expected);
+        wrong.answer(code, by_its_parts(alloc, host, code), expected);
     }
-    put_parser(alloc, "n(1, {#})", &mut wrong)?;
-    wrong.assert(&rt, "");
+}
+
+/// Puts what is wrong of an environment with functions of its own.
+fn put_environment(alloc: Global, wrong: &mut Page) -> Result<()> {
+    let calls = Cell::new(0_i64);
+    let mut host = Environment::new(alloc);
+    for name in SUMS {
+        host.add_function(name, Box::new(alloc, |call: ExprCall| sum(call))?)?;
+    }
+    for name in NUMBERS {
+        host.add_function(name, Box::new(alloc, |call: ExprCall| number(call))?)?;
+    }
+    host.add_function(
+        "p",
+        Box::new(alloc, |call: ExprCall| Err(Error::ParseError(call.ident)))?,
+    )?;
+    host.add_function(
+        "tick",
+        Box::new(alloc, move |_call: ExprCall| {
+            calls.set(calls.get().wrapping_add(1));
+            Ok(Value::Integer(calls.get()))
+        })?,
+    )?;
+    put_answers(alloc, &host, wrong);
     Ok(())
 }
 
 /// An environment with zones of a rule and of an offset, whose moment is the instant 0.
-fn zoned(alloc: Global) -> std::result::Result<Environment, Fail> {
+fn zoned(alloc: Global) -> Result<Environment> {
     let mut host = Environment::new(alloc);
-    host.add_timezone("E", TimeZone::posix("EST5EDT,M3.2.0,M11.1.0")?)?;
-    host.add_timezone("X/Plus1", TimeZone::fixed(Offset::from_seconds(3600)?))?;
+    if let Ok(rules) = TimeZone::posix("EST5EDT,M3.2.0,M11.1.0") {
+        host.add_timezone("E", rules)?;
+    }
+    if let Ok(ahead) = Offset::from_seconds(3600) {
+        host.add_timezone("X/Plus1", TimeZone::fixed(ahead))?;
+    }
     host.set_now(Timestamp::UNIX_EPOCH);
     Ok(host)
 }
@@ -178,12 +174,10 @@ const WITH_ZONES: &[(&str, &str)] = &[
     (r#"timezone("e")"#, "!evaluation"),
 ];
 
-#[test]
-fn zones_are_asked_by_their_names(rt: HostRuntime) -> Tested {
-    let alloc = rt.alloc();
+/// Puts what is wrong of an environment with zones of its own.
+fn put_zones(alloc: Global, wrong: &mut Page) -> Result<()> {
     let mut host = zoned(alloc)?;
     let context = Context::new(alloc);
-    let mut wrong = Page::new(alloc);
     for (code, expected) in WITH_ZONES {
         wrong.answer(code, host.eval(alloc, code, &context), expected);
     }
@@ -193,6 +187,12 @@ fn zones_are_asked_by_their_names(rt: HostRuntime) -> Tested {
         "utc is free",
         host.add_timezone("utc", TimeZone::UTC).is_ok(),
     );
-    wrong.assert(&rt, "");
     Ok(())
+}
+
+/// Puts what is wrong of hosts.
+pub fn put_hosts(alloc: Global, wrong: &mut Page) -> Result<()> {
+    put_environment(alloc, wrong)?;
+    put_parser(alloc, "n(1, {#})", wrong)?;
+    put_zones(alloc, wrong)
 }

@@ -1,7 +1,8 @@
 //! The rule engine of docs/HOSTS.md.
 use crate::page::Page;
+use expr::Result;
 use rules::{is_large, report};
-use std::test::Fail;
+use std::alloc::Global;
 
 /// Rules and records.
 const RULES: &str = r#"// Rules of a shop, each on a line of its own.
@@ -18,38 +19,9 @@ huge: price > 9223372036854775808
 {"price": 20,
 "#;
 
-/// What the engine says of them.
-const SAID: &str = "large asks for blocked count price
-rebate asks for price
-near asks for country
-first asks for line
-named asks for customer
-cheap is refused: line 1, column 16
- price * (count
-               ^
-huge is refused: an integer literal is 2^63 or more
-record 1
-  large: true
-  rebate: 6
-  near: true
-  first: true
-  named: true
-record 2
-  large: false
-  rebate: 0
-  near: unknown name country
-  first: false
-  named: false
-record 3
-  refused: not a JSON text
-";
-
-#[test]
-fn rules_are_told(rt: HostRuntime) -> Result<(), Fail> {
-    let alloc = rt.alloc();
-    let mut page = Page::new(alloc);
+/// Puts what the engine says of them.
+pub fn put_engine(alloc: Global, page: &mut Page) -> Result<()> {
     page.fact("an order of 120 is large", is_large(alloc, 60, 2)?);
     page.put(report(alloc, RULES)?.as_str());
-    page.assert(&rt, SAID);
     Ok(())
 }
