@@ -38,7 +38,7 @@ impl ContextProvider for Odd {
     }
 }
 
-fn odd(alloc: Global) -> Result<Odd> {
+fn disagreeing(alloc: Global) -> Result<Odd> {
     let names = Context::try_from(alloc, value!(in alloc; {"#": {"x": 7}, "$env": 1, "a": 2})?)?;
     let shown = Context::try_from(alloc, value!(in alloc; {"a": 3})?)?;
     Ok(Odd {
@@ -101,7 +101,7 @@ const BY_PARTS: &[(&str, &str, &str)] = &[
 #[test]
 fn answers_follow_the_host(rt: HostRuntime) -> Tested {
     let alloc = rt.alloc();
-    let mut odd = odd(alloc)?;
+    let mut odd = disagreeing(alloc)?;
     let mut wrong = Page::new(alloc);
     for (code, refuses, expected) in UNDER_ODD_PROVIDERS {
         odd.refuses = *refuses;

@@ -20,7 +20,7 @@ fn literals(alloc: Global, key: &str) -> Result<Value> {
 }
 
 /// What they print.
-const LITERALS: &str =
+const PRINTED: &str =
     r#"[{a: [1, nil, {b: true}], c: "x"}, {key: 42, d: {}, e: [[]]}, {key: true, keys: "x"}, [[1], 2], [{a: 1}, 2], {a: nil, b: 1}]"#;
 
 fn quotient(alloc: Global, a: i64, b: i64) -> Result<Value> {
@@ -35,7 +35,7 @@ fn literals_and_refusals_have_their_kinds(rt: HostRuntime) -> Tested {
     let alloc = rt.alloc();
     let message = String::from_str(alloc, "no")?;
     let mut wrong = Page::new(alloc);
-    wrong.answer("literals", literals(alloc, "key"), LITERALS);
+    wrong.answer("literals", literals(alloc, "key"), PRINTED);
     wrong.answer("bail!", quotient(alloc, 7, 0), "!evaluation");
     wrong.answer("refusal", Err(refusal(alloc, "no")), "!evaluation");
     wrong.answer("a text", Err(Error::from(message)), "!evaluation");
