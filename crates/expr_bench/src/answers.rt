@@ -35,7 +35,7 @@ impl ContextProvider for Odd {
     }
 }
 
-fn odd(alloc: Global) -> Result<Odd> {
+fn disagreeing(alloc: Global) -> Result<Odd> {
     let names = Context::try_from(alloc, value!(in alloc; {"#": {"x": 7}, "$env": 1, "a": 2})?)?;
     let shown = Context::try_from(alloc, value!(in alloc; {"a": 3})?)?;
     Ok(Odd {
@@ -97,7 +97,7 @@ const BY_PARTS: &[(&str, &str, &str)] = &[
 
 /// Puts what is wrong of these answers.
 pub fn put_answers(alloc: Global, wrong: &mut Page) -> Result<()> {
-    let mut odd = odd(alloc)?;
+    let mut odd = disagreeing(alloc)?;
     for (code, refuses, expected) in UNDER_ODD_PROVIDERS {
         odd.refuses = *refuses;
         wrong.answer(code, eval(alloc, code, &odd), expected);

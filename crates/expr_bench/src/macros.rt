@@ -17,7 +17,7 @@ fn literals(alloc: Global, key: &str) -> Result<Value> {
 }
 
 /// What they print.
-const LITERALS: &str =
+const PRINTED: &str =
     r#"[{a: [1, nil, {b: true}], c: "x"}, {key: 42, d: {}, e: [[]]}, {key: true, keys: "x"}, [[1], 2], [{a: 1}, 2], {a: nil, b: 1}]"#;
 
 fn quotient(alloc: Global, a: i64, b: i64) -> Result<Value> {
@@ -30,7 +30,7 @@ fn quotient(alloc: Global, a: i64, b: i64) -> Result<Value> {
 /// Puts what is wrong of literals and refusals.
 pub fn put_macros(alloc: Global, wrong: &mut Page) -> Result<()> {
     let message = String::from_str(alloc, "no")?;
-    wrong.answer("literals", literals(alloc, "key"), LITERALS);
+    wrong.answer("literals", literals(alloc, "key"), PRINTED);
     wrong.answer("bail!", quotient(alloc, 7, 0), "!evaluation");
     wrong.answer("refusal", Err(refusal(alloc, "no")), "!evaluation");
     wrong.answer("a text", Err(Error::from(message)), "!evaluation");

@@ -1,14 +1,14 @@
 //! Values that no text makes, and each public call on values once with memory to spare.
 use crate::page::Page;
-use expr::{Context, ContextProvider, Error, Key, Result, Value, eval, value};
+use expr::{Context, ContextProvider, Error, Result, Value, eval, value};
 use std::alloc::Global;
 
 /// Names and integers, a name of them twice.
-const NAMED: &[(&str, i64)] = &[("b", 1), ("a", 2), ("b", 3)];
+const NUMBERED: &[(&str, i64)] = &[("b", 1), ("a", 2), ("b", 3)];
 
 fn named(alloc: Global) -> Result<Vec<(String, Value)>> {
     let mut pairs = Vec::new(alloc);
-    for (name, number) in NAMED {
+    for (name, number) in NUMBERED {
         pairs.push((String::from_str(alloc, name)?, Value::from(*number)))?;
     }
     Ok(pairs)
@@ -127,20 +127,6 @@ pub fn put_values(alloc: Global, page: &mut Page) -> Result<()> {
     page.fact(
         "a new context has no name",
         Context::new(alloc).get("b").is_none(),
-    );
-    page.fact("nil is before a boolean", Key::Nil < Key::Bool(false));
-    page.fact("false is before true", Key::Bool(false) < Key::Bool(true));
-    page.fact(
-        "a boolean is before an integer",
-        Key::Bool(true) < Key::Integer(-10),
-    );
-    page.fact(
-        "an integer is before a greater one",
-        Key::Integer(-10) < Key::Integer(10),
-    );
-    page.fact(
-        "an integer is before a duration",
-        Key::Integer(10) < Key::Duration(-10),
     );
     page.put("\n");
     Ok(())
