@@ -1,9 +1,24 @@
 //! Vectors: reads a line for each expression and prints a line for its answer: its `Display`, or `!` and the word of its
 //! refusal. In both a backslash, newline, carriage return and tab are written `\\`, `\n`, `\r`, `\t`. After the
-//! expression a line may bind names, each as a tab and `NAME=CODE`.
+//! expression a line may bind names, each as a tab and `NAME=CODE`. The line `%tables` asks for what only code can see.
 #![tactic(auto)]
 
-use expr::{Context, Error, Result, Value, eval};
+mod answers;
+mod collections;
+mod engine;
+mod hosts;
+mod macros;
+mod page;
+mod programs;
+mod reading_back;
+mod served;
+mod shown;
+mod sizes;
+mod tokens;
+mod values;
+
+use expr::{Context, Result, Value, eval};
+use page::{Page, word_of};
 use std::alloc::{AllocError, Global};
 use std::io;
 
@@ -44,17 +59,6 @@ fn escaped(alloc: Global, text: &str) -> std::result::Result<String, AllocError>
     Ok(line)
 }
 
-/// The word for a kind of refusal.
-fn word_of(error: &Error) -> &'static str {
-    match error {
-        Error::PestError(_) => "!syntax",
-        Error::ParseError(_) => "!literal",
-        Error::ExprError(_) => "!evaluation",
-        Error::RegexError(_) => "!pattern",
-        Error::MemoryError => "!memory",
-    }
-}
-
 /// Binds a name as a part of a line says, `NAME=CODE`. The code is evaluated in an empty context.
 fn bind(alloc: Global, part: &str, context: &mut Context) -> Result<()> {
     let (name, code) = part.split_once('=').unwrap_or((part, ""));
@@ -75,8 +79,29 @@ fn answer(alloc: Global, line: &str) -> Result<Value> {
     eval(alloc, &code, &context)
 }
 
+/// What the modules print, and below it a line for each row of their tables that doesn't hold.
+fn tables(alloc: Global) -> Result<Page> {
+    let mut page = Page::new(alloc);
+    collections::put_collections(alloc, &mut page)?;
+    programs::put_programs(alloc, &mut page)?;
+    values::put_values(alloc, &mut page)?;
+    engine::put_engine(alloc, &mut page)?;
+    answers::put_answers(alloc, &mut page)?;
+    hosts::put_hosts(alloc, &mut page)?;
+    macros::put_macros(alloc, &mut page)?;
+    reading_back::put_reading_back(alloc, &mut page)?;
+    served::put_served(alloc, &mut page);
+    sizes::put_sizes(&mut page);
+    tokens::put_readings(alloc, &mut page);
+    Ok(page)
+}
+
 /// The line of a line's answer.
 fn answer_line(alloc: Global, line: &str) -> std::result::Result<String, AllocError> {
+    if line == "%tables" {
+        let page = tables(alloc).map_err(|_| AllocError)?;
+        return String::from_str(alloc, page.text());
+    }
     match answer(alloc, line) {
         Ok(value) => escaped(alloc, value.to_string(alloc)?.as_str()),
         Err(error) => String::from_str(alloc, word_of(&error)),

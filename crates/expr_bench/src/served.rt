@@ -1,9 +1,9 @@
 //! The table of the runs of the program `expr`.
+use crate::page::Page;
 use expr_serve::serve::serve;
 use std::alloc::{AllocError, Global};
 use std::io;
 use std::io::Write;
-use std::test::Fail;
 
 /// A writer that fails at its nth write.
 #[derive(Drop)]
@@ -44,14 +44,19 @@ fn words(alloc: Global, line: &str) -> Result<Vec<String>, AllocError> {
 }
 
 /// What the words of a line print on two streams that take so many writes, and the status, with bars between.
-fn run(alloc: Global, line: &str, out_writes: u32, err_writes: u32) -> Result<String, Fail> {
-    let words = words(alloc, line)?;
-    let mut out = writer(alloc, out_writes);
-    let mut err = writer(alloc, err_writes);
-    let status = serve(alloc, words.as_slice(), &mut out, &mut err);
-    let printed = std::str::from_utf8(&out.said)?;
-    let refused = std::str::from_utf8(&err.said)?;
-    Ok(format!(in alloc; "{printed}|{refused}|{status}")?)
+fn served(alloc: Global, line: &str, out_writes: u32, err_writes: u32) -> Page {
+    let mut page = Page::new(alloc);
+    if let Ok(words) = words(alloc, line) {
+        let mut out = writer(alloc, out_writes);
+        let mut err = writer(alloc, err_writes);
+        let status = serve(alloc, words.as_slice(), &mut out, &mut err);
+        page.put(std::str::from_utf8(&out.said).unwrap_or("no text"));
+        page.put("|");
+        page.put(std::str::from_utf8(&err.said).unwrap_or("no text"));
+        page.put("|");
+        page.put_made(status.to_string(alloc));
+    }
+    page
 }
 
 /// Lines, the writes that output and error stream take, and what the run gives.
@@ -85,30 +90,27 @@ const RUNS: &[(&str, u32, u32, &str)] = &[
     ("|1 +|b", 9, 0, "||2"),
 ];
 
-#[test]
-fn answers_its_table(rt: HostRuntime) -> Result<(), Fail> {
+/// A line with 1 in so many pairs of brackets.
+fn bracketed(alloc: Global, pairs: u32) -> Page {
+    let mut line = Page::new(alloc);
+    line.put("|");
+    line.put_times("(", pairs);
+    line.put("1");
+    line.put_times(")", pairs);
+    line
+}
+
+/// Pairs of brackets, and what a line with so many gives: the trees that are read are 500 high at most.
+const HEIGHTS: &[(u32, &str)] = &[(499, "1\n||0"), (500, "|literal\n|1")];
+
+/// Puts what is wrong of these runs.
+pub fn put_served(alloc: Global, wrong: &mut Page) {
     for (line, out_writes, err_writes, expected) in RUNS {
-        let given = run(rt.alloc(), line, *out_writes, *err_writes)?;
-        assert_eq!(rt; given.as_str(), *expected, "{line}");
+        let given = served(alloc, line, *out_writes, *err_writes);
+        wrong.row(line, given.text(), expected);
     }
-    Ok(())
-}
-
-/// The word `|` and then 1 in so many pairs of brackets.
-fn bracketed(alloc: Global, pairs: usize) -> Result<String, AllocError> {
-    let mut line = String::from_str(alloc, "|")?;
-    line.push_str("(".repeat(alloc, pairs)?.as_str())?;
-    line.push_str("1")?;
-    line.push_str(")".repeat(alloc, pairs)?.as_str())?;
-    Ok(line)
-}
-
-#[test]
-fn reads_trees_up_to_a_height_of_500(rt: HostRuntime) -> Result<(), Fail> {
-    let alloc = rt.alloc();
-    let low = bracketed(alloc, 499)?;
-    let high = bracketed(alloc, 500)?;
-    assert_eq!(rt; run(alloc, low.as_str(), 9, 9)?.as_str(), "1\n||0");
-    assert_eq!(rt; run(alloc, high.as_str(), 9, 9)?.as_str(), "|literal\n|1");
-    Ok(())
+    for (pairs, expected) in HEIGHTS {
+        let given = served(alloc, bracketed(alloc, *pairs).text(), 9, 9);
+        wrong.row("brackets", given.text(), expected);
+    }
 }

@@ -1,11 +1,7 @@
 //! Readings of texts.
 use crate::page::Page;
-use expr::Result;
 use expr_token::{Token, read};
 use std::alloc::Global;
-use std::test::Fail;
-
-type Tested = std::result::Result<(), Fail>;
 
 /// A token in a form of its own: large integers as `large`, contents in angle brackets after the first letter of their kind.
 fn show(token: &Token, page: &mut Page) {
@@ -17,10 +13,9 @@ fn show(token: &Token, page: &mut Page) {
         Token::Hash(name) => page.put(name.as_str()),
         Token::Quoted(content) => put_between("q<", content.as_str(), ">", page),
         Token::Raw(content) => put_between("r<", content.as_str(), ">", page),
-        Token::Bytes(bytes) => page.put_made(format!(in page.allocator();
-            "b<{:?}>",
-            bytes.as_slice()
-        )),
+        Token::Bytes(bytes) => {
+            page.put_made(format!(in page.allocator(); "b<{:?}>", bytes.as_slice()))
+        }
         Token::Sign(sign) => page.put(sign.spelling()),
     }
     page.put(" ");
@@ -32,18 +27,25 @@ fn put_between(front: &str, middle: &str, back: &str, page: &mut Page) {
     page.put(back);
 }
 
-/// The tokens of a text, each with a space after it, and the place of the fault, after `?`.
-fn shown(alloc: Global, text: &str) -> Result<String> {
-    let reading = read(alloc, text)?;
+/// The tokens of a text, each with a space after it, the place of the fault, after `?`, and after `@` where they start.
+fn shown(alloc: Global, text: &str, with_starts: bool) -> Page {
     let mut page = Page::new(alloc);
-    for token in &reading.tokens {
-        show(token, &mut page);
+    match read(alloc, text) {
+        Ok(reading) => {
+            for token in &reading.tokens {
+                show(token, &mut page);
+            }
+            if let Some(place) = reading.fault {
+                page.put("?");
+                page.put_made(place.to_string(alloc));
+            }
+            if with_starts {
+                page.put_made(format!(in alloc; "@{:?}", reading.starts.as_slice()));
+            }
+        }
+        Err(_) => page.put("no memory"),
     }
-    if let Some(place) = reading.fault {
-        page.put("?");
-        page.put_made(place.to_string(alloc));
-    }
-    Ok(page.finished()?)
+    page
 }
 
 /// Texts and their readings.
@@ -102,17 +104,15 @@ const READINGS: &[(&str, &str)] = &[
     ("é'é' /* é */ ab+1", "?0"),
 ];
 
-#[test]
-fn texts_have_their_readings(rt: HostRuntime) -> Tested {
-    for (text, tokens) in READINGS {
-        assert_eq!(rt; shown(rt.alloc(), text)?.as_str(), *tokens, "{text}");
-    }
-    Ok(())
-}
+/// Texts, and their readings with the places where the tokens start.
+const STARTS: &[(&str, &str)] = &[("'é' /* é */ ab+1", "q<é> ab + 1 @[0, 14, 16, 17]")];
 
-#[test]
-fn tokens_have_their_starts(rt: HostRuntime) -> Tested {
-    let reading = read(rt.alloc(), "'é' /* é */ ab+1")?;
-    assert_eq!(rt; reading.starts.as_slice(), [0, 14, 16, 17].as_slice());
-    Ok(())
+/// Puts what is wrong of these readings.
+pub fn put_readings(alloc: Global, wrong: &mut Page) {
+    for (text, tokens) in READINGS {
+        wrong.row(text, shown(alloc, text, false).text(), tokens);
+    }
+    for (text, tokens) in STARTS {
+        wrong.row(text, shown(alloc, text, true).text(), tokens);
+    }
 }

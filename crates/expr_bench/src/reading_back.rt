@@ -1,10 +1,8 @@
 //! Printed values are read back.
-use crate::said::said;
-use expr::{Context, Result, Value};
+use crate::page::Page;
+use expr::{Context, Result, Value, eval};
+use expr_value::assembly::{IntoName, array, map, no_items, no_pairs, placed, pushed};
 use std::alloc::Global;
-use std::test::Fail;
-
-type Tested = std::result::Result<(), Fail>;
 
 /// Numbers that follow from a seed.
 #[derive(Drop)]
@@ -75,12 +73,13 @@ const INTEGERS: &[i64] = &[
     -9_223_372_036_854_775_807,
 ];
 
-fn text(alloc: Global, dice: &mut Dice) -> Result<String> {
+/// A text of up to eight characters.
+fn text(alloc: Global, dice: &mut Dice) -> Result<Value> {
     let mut text = String::new(alloc);
     for _ in 0..dice.next() % 9 {
         text.push(dice.pick(CHARACTERS, 'a'))?;
     }
-    Ok(text)
+    Ok(Value::from(text))
 }
 
 fn leaf(alloc: Global, dice: &mut Dice) -> Result<Value> {
@@ -89,59 +88,54 @@ fn leaf(alloc: Global, dice: &mut Dice) -> Result<Value> {
         1 => Ok(Value::from(true)),
         2 => Ok(Value::from(false)),
         3 | 4 => Ok(Value::from(dice.pick(INTEGERS, 0))),
-        _ => Ok(Value::from(text(alloc, dice)?)),
+        _ => text(alloc, dice),
     }
 }
 
-/// An array of some leaves, a value and as many leaves at most again.
-fn array(alloc: Global, dice: &mut Dice, inside: Value) -> Result<Value> {
-    let mut items = Vec::new(alloc);
+/// A list of up to two leaves, a value and as many leaves again.
+fn list(alloc: Global, dice: &mut Dice, inside: Result<Value>) -> Result<Value> {
+    let mut items = no_items(alloc);
     for _ in 0..dice.next() % 3 {
-        items.push(leaf(alloc, dice)?)?;
+        items = pushed(items, leaf(alloc, dice));
     }
-    items.push(inside)?;
+    items = pushed(items, inside);
     for _ in 0..dice.next() % 3 {
-        items.push(leaf(alloc, dice)?)?;
+        items = pushed(items, leaf(alloc, dice));
     }
-    Ok(Value::from(items))
+    array(items)
 }
 
-fn key(alloc: Global, dice: &mut Dice) -> Result<String> {
-    Ok(String::from_str(alloc, dice.pick(WORDS, "a"))?)
-}
-
-/// A map of some leaves and a value.
-fn map(alloc: Global, dice: &mut Dice, inside: Value) -> Result<Value> {
-    let mut pairs = Vec::new(alloc);
+/// A map of up to three leaves and a value.
+fn pairs(alloc: Global, dice: &mut Dice, inside: Result<Value>) -> Result<Value> {
+    let mut pairs = no_pairs(alloc);
     for _ in 0..dice.next() % 4 {
-        pairs.push((key(alloc, dice)?, leaf(alloc, dice)?))?;
+        let key = dice.pick(WORDS, "a").into_name(alloc);
+        pairs = placed(pairs, key, leaf(alloc, dice));
     }
-    pairs.push((key(alloc, dice)?, inside))?;
-    Value::from_pairs(alloc, pairs)
+    let key = dice.pick(WORDS, "a").into_name(alloc);
+    map(placed(pairs, key, inside))
 }
 
-/// A value of a seed: a leaf in up to four arrays and maps.
+/// A value of a seed: a leaf in up to four lists and maps.
 fn made(alloc: Global, seed: u64) -> Result<Value> {
     let mut dice = Dice { state: seed };
-    let mut value = leaf(alloc, &mut dice)?;
+    let mut value = leaf(alloc, &mut dice);
     for _ in 0..dice.next() % 5 {
         value = if dice.next() % 2 == 0 {
-            array(alloc, &mut dice, value)?
+            list(alloc, &mut dice, value)
         } else {
-            map(alloc, &mut dice, value)?
+            pairs(alloc, &mut dice, value)
         };
     }
-    Ok(value)
+    value
 }
 
-#[test]
-fn printed_values_are_read_back(rt: HostRuntime) -> Tested {
-    let alloc = rt.alloc();
+/// Puts the printed values that aren't read back.
+pub fn put_reading_back(alloc: Global, wrong: &mut Page) -> Result<()> {
     let names = Context::new(alloc);
     for seed in 0..5_000_u64 {
         let text = made(alloc, seed)?.to_string(alloc)?;
-        let answer = said(alloc, &names, text.as_str())?;
-        assert_eq!(rt; answer.as_str(), text.as_str(), "{seed}");
+        wrong.answer(&text, eval(alloc, &text, &names), &text);
     }
     Ok(())
 }

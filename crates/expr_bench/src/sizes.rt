@@ -1,4 +1,5 @@
 //! How many bytes the types take.
+use crate::page::Page;
 use expr::{Context, Error, Key, KeyedMap, Node, Result, Value, ValueMap};
 use std::mem::size_of;
 
@@ -14,9 +15,9 @@ const SIZES: &[(&str, usize, usize)] = &[
     ("Node", size_of::<Node>(), 72),
 ];
 
-#[test]
-fn types_are_small(rt: HostRuntime) {
+/// Puts the types that are too large.
+pub fn put_sizes(wrong: &mut Page) {
     for (name, bytes, most) in SIZES {
-        assert!(rt; bytes <= most, "{name} has {bytes} bytes");
+        wrong.fact(name, bytes <= most);
     }
 }

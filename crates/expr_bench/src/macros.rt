@@ -1,0 +1,42 @@
+//! What `value!` and `bail!` make.
+use crate::page::Page;
+use expr::{Error, Result, Value, bail, value};
+use expr_value::refusal;
+use std::alloc::Global;
+
+/// A list of literals of each form.
+fn literals(alloc: Global, key: &str) -> Result<Value> {
+    value!(in alloc; [
+        {"a": [1, nil, {"b": true}], "c": "x",},
+        {key: 6_i64 * 7, ("d"): {}, "e": [[],],},
+        {String::from_str(alloc, key)?: true, format!(in alloc; "{key}s")?: "x"},
+        [[1], 2],
+        [{"a": 1}, 2],
+        {"a": nil, "b": 1},
+    ])
+}
+
+/// What they print.
+const PRINTED: &str =
+    r#"[{a: [1, nil, {b: true}], c: "x"}, {key: 42, d: {}, e: [[]]}, {key: true, keys: "x"}, [[1], 2], [{a: 1}, 2], {a: nil, b: 1}]"#;
+
+fn quotient(alloc: Global, a: i64, b: i64) -> Result<Value> {
+    if b == 0 {
+        bail!(in alloc; "{a} divided by zero");
+    }
+    Ok(Value::Integer(a.wrapping_div(b)))
+}
+
+/// Puts what is wrong of literals and refusals.
+pub fn put_macros(alloc: Global, wrong: &mut Page) -> Result<()> {
+    let message = String::from_str(alloc, "no")?;
+    wrong.answer("literals", literals(alloc, "key"), PRINTED);
+    wrong.answer("bail!", quotient(alloc, 7, 0), "!evaluation");
+    wrong.answer("refusal", Err(refusal(alloc, "no")), "!evaluation");
+    wrong.answer("a text", Err(Error::from(message)), "!evaluation");
+    let out_of_memory = Error::from(regex::Error::OutOfMemory);
+    wrong.answer("out of memory", Err(out_of_memory), "!memory");
+    let too_big = Error::from(regex::Error::CompiledTooBig);
+    wrong.answer("too big", Err(too_big), "!pattern");
+    Ok(())
+}

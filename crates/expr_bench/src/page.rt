@@ -1,0 +1,98 @@
+//! A text that is written piece by piece.
+use expr::{Error, Value};
+use std::alloc::{AllocError, Global};
+
+/// A text so far, and whether there was memory for each piece of it.
+#[derive(Drop)]
+pub struct Page {
+    text: String,
+    is_whole: bool,
+}
+
+/// The word for a kind of refusal, after a sign that begins no value.
+pub fn word_of(error: &Error) -> &'static str {
+    match error {
+        Error::PestError(_) => "!syntax",
+        Error::ParseError(_) => "!literal",
+        Error::ExprError(_) => "!evaluation",
+        Error::RegexError(_) => "!pattern",
+        Error::MemoryError => "!memory",
+    }
+}
+
+impl Page {
+    pub fn new(alloc: Global) -> Page {
+        Page {
+            text: String::new(alloc),
+            is_whole: true,
+        }
+    }
+
+    /// Puts a piece at the end.
+    pub fn put(&mut self, piece: &str) {
+        if self.text.push_str(piece).is_err() {
+            self.is_whole = false;
+        }
+    }
+
+    /// Puts a piece at the end so many times.
+    pub fn put_times(&mut self, piece: &str, times: u32) {
+        for _ in 0..times {
+            self.put(piece);
+        }
+    }
+
+    /// Puts a piece at the end that itself took memory.
+    pub fn put_made(&mut self, piece: Result<String, AllocError>) {
+        match piece {
+            Ok(piece) => self.put(piece.as_str()),
+            Err(_) => self.is_whole = false,
+        }
+    }
+
+    /// Puts the printed text of an answer at the end, or its refusal's word.
+    pub fn put_answer(&mut self, answer: expr::Result<Value>) {
+        match answer {
+            Ok(value) => self.put_made(value.to_string(self.allocator())),
+            Err(error) => self.put(word_of(&error)),
+        }
+    }
+
+    /// Puts a fact that doesn't hold at the end.
+    pub fn fact(&mut self, fact: &str, holds: bool) {
+        if !holds {
+            self.put(fact);
+            self.put("\n");
+        }
+    }
+
+    /// Puts the row of a text at the end that gives another text than it should.
+    pub fn row(&mut self, text: &str, given: &str, expected: &str) {
+        if given != expected {
+            self.put(text);
+            self.put(": ");
+            self.put(given);
+            self.put("\n");
+        }
+    }
+
+    /// Puts the row of a text at the end that answers something else than it should.
+    pub fn answer(&mut self, text: &str, answer: expr::Result<Value>, expected: &str) {
+        let mut given = Page::new(self.allocator());
+        given.put_answer(answer);
+        self.row(text, given.text(), expected);
+    }
+
+    pub fn allocator(&self) -> Global {
+        *self.text.allocator()
+    }
+
+    /// The text, or a word where there was no memory for all of it.
+    pub fn text(&self) -> &str {
+        if self.is_whole {
+            self.text.as_str()
+        } else {
+            "no memory"
+        }
+    }
+}
