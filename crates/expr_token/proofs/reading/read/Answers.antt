@@ -71,3 +71,9 @@ returns-in_default-clause-before c = c.loop-at.invariant.1
 
 pub returns-in_default-clause-place : goal.returns-in_default-clause-place
 returns-in_default-clause-place c = c.loop-at.invariant.0
+
+pub returns-in_default-clause-reads : goal.returns-in_default-clause-reads
+returns-in_default-clause-reads c = λ e. absurd (cc)
+
+pub returns-in_default-clause-unique : goal.returns-in_default-clause-unique
+returns-in_default-clause-unique c = λ e. absurd (cc)

@@ -1,5 +1,5 @@
-use Rattle.std.proofs.Common.{◌≡◌, ℕ, false, ◌==◌, List, [], ◌∷◌, length, drop, Option, Some, None, IfOk, if◌then◌else◌, sym, ap, ◌∙◌, subst}
-use Rattle.std.specs.Prelude.{slice_get}
+use Rattle.std.proofs.Common.{◌≡◌, ℕ, false, ◌==◌, List, [], ◌∷◌, length, drop, Option, Some, None, IfOk, if◌then◌else◌, sym, ap, ◌∙◌, subst, rules}
+use Rattle.std.specs.Prelude.{slice_get, MatchOption, IsSomeAnd}
 use Rattle.std.specs.Char.{is_ascii_digit}
 use Rattle.std.specs.Option.{option_map}
 use Rattle.std.proofs.lemmas.Bool.{cond-true, cond-false, eq-eqb, ne_eqb}
@@ -7,6 +7,7 @@ use Rattle.expr_token.specs.Kinds.{is_word_byte}
 use Rattle.expr_token.specs.Lexer.{token_at, integer_at, begins_bytes, bytes_at, word_at, hash_at, raw_at, quoted_at, sign_at}
 use Rattle.expr_token.specs.Spellings.{sign_text}
 use Rattle.expr_token.specs.Tokens.{is_quote}
+use Rattle.expr_token.specs.declared.sign.Sign.{Sign}
 use Rattle.expr_token.specs.declared.token.Token.{Token}
 use Rattle.expr_token.proofs.Cuts.{rest_at}
 use Rattle.expr_token.proofs.reading.token_at.Goals as goal
@@ -15,8 +16,11 @@ abbrev Found : Type 0
 Found = Option (ℕ × Token)
 
 -- what is found where the tests before have failed
+abbrev of_sign : Sign → ℕ × Token
+of_sign x = (length (sign_text x), Token.Sign x)
+
 abbrev by_sign : List ℕ → Found
-by_sign s = option_map (λ x. (length (sign_text x), Token.Sign x)) (sign_at s)
+by_sign s = option_map of_sign (sign_at s)
 
 abbrev by_quote : ℕ → List ℕ → Found
 by_quote b s = if is_quote b then quoted_at s else by_sign s
@@ -63,6 +67,11 @@ module _ (s : List ℕ) (b : ℕ) (first : Some b ≡ slice_get s 0) (digit : is
 
         no_tick : (b ≡ 96 → ⊥) → token_at s ≡ by_quote b s
         no_tick tick = no_hash ∙ cond-false _ _ _ (ne_eqb b 96 tick)
+
+sign_mapped : (o : Option Sign) (r : Found) (P : Sign → ℕ × Token → Type 0) → ((x : Sign) (y : ℕ × Token) → P x y → y ≡ of_sign x) → MatchOption o (r ≡ None) (λ x. IsSomeAnd r (P x)) → r ≡ option_map of_sign o
+sign_mapped None r P is h = h
+sign_mapped (Some x) None P is h = absurd h
+sign_mapped (Some x) (Some y) P is h = ap Some (is x y h)
 
 pub returns-in_default : goal.returns-in_default
 returns-in_default c =
@@ -122,3 +131,13 @@ returns-then-is_quote c =
     (sym (no_tick s b (c.in-Some.ensures.value ∙ ap (λ l. slice_get l 0) rest) (sym c.is_ascii_digit.ensures.value ∙ c.if-is_ascii_digit.false) (sym (ap begins_bytes rest) ∙ sym c.begins_bytes.ensures ∙ c.if-begins_bytes.false) (sym c.is_word_byte.ensures ∙ c.if-is_word_byte.false) c.if-first-eq35.false c.if-first-eq96.false
     ∙ cond-true _ _ _ (sym c.is_quote.ensures ∙ c.if-is_quote.true)))
     c.quoted_at.ensures
+
+pub returns : goal.returns
+returns c =
+    let s = drop c.args.at c.args.text.now in
+    let b = c.in-Some.first.now in
+    let rest = rest_at c.args.text.now _ c.args.at c.as_bytes.ensures.value in
+    sign_mapped c.sign_at.result c.map.result _ (λ x y h. search rules) c.map.ensures.cases
+    ∙ ap (option_map of_sign) (c.sign_at.ensures ∙ ap sign_at rest)
+    ∙ sym (no_tick s b (c.in-Some.ensures.value ∙ ap (λ l. slice_get l 0) rest) (sym c.is_ascii_digit.ensures.value ∙ c.if-is_ascii_digit.false) (sym (ap begins_bytes rest) ∙ sym c.begins_bytes.ensures ∙ c.if-begins_bytes.false) (sym c.is_word_byte.ensures ∙ c.if-is_word_byte.false) c.if-first-eq35.false c.if-first-eq96.false
+    ∙ cond-false _ _ _ (sym c.is_quote.ensures ∙ c.if-is_quote.false))
