@@ -3,7 +3,7 @@ use Rattle.std.specs.Str.{IsCharBoundary}
 use Rattle.std.proofs.lemmas.List.{drop-drop}
 use Rattle.std.proofs.lemmas.Str.{IsCharBoundary-start}
 use Rattle.expr_token.specs.Lexer.{unescaped}
-use Rattle.expr_token.proofs.Cuts.{rest_at, front_at, cut_after}
+use Rattle.expr_token.proofs.Cuts.{rest_at, front_at, cut_after, cut_before}
 use Rattle.expr_token.proofs.Unescaping.{joined}
 use Rattle.expr_token.proofs.quoted.unescaped.Goals as goal
 
@@ -32,3 +32,24 @@ loop-len-preserved c =
           ∙ ap (λ l. content ++ l) (sym found)
           ∙ c.loop-len.invariant.2,
     )
+
+pub range-requires-clause-start_boundary : goal.range-requires-clause-start_boundary
+range-requires-clause-start_boundary c _ = c.loop-len.invariant.1
+
+pub range-requires-clause-end_boundary : goal.range-requires-clause-end_boundary
+range-requires-clause-end_boundary c =
+    let text = c.args.text.now in
+    let from = c.loop-len.from in
+    let len = c.in-Some.len in
+    let rest = rest_at text c.as_bytes-bytes.result.now from c.as_bytes-bytes.ensures.value in
+    cut_before text from len (omega (arith, c.in-Some.ensures.within, ap length rest, length-drop from text)) (subst (λ l. get_or l len 0 < 128) rest c.in-Some.ensures.ascii.0)
+
+pub range_from-requires : goal.range_from-requires
+range_from-requires c _ = c.loop-len.invariant.1
+
+pub returns : goal.returns
+returns c =
+    let rest = rest_at c.args.text.now c.as_bytes-bytes.result.now c.loop-len.from c.as_bytes-bytes.ensures.value in
+    c.from_string.ensures ∙ c.in_ok-push_str-3.ensures.bytes
+    ∙ ap (λ l. string_bytes c.loop-len.content ++ l) (c.range_from.ensures.value ∙ sym (subst (λ l. unescaped l ≡ l) rest c.in_default.ensures.value))
+    ∙ c.loop-len.invariant.2

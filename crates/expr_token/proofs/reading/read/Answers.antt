@@ -2,7 +2,7 @@ use Rattle.std.proofs.Common.{◌≡◌, ℕ, ◌+◌, ◌-◌, ◌<◌, ◌≤�
 use Rattle.std.proofs.lemmas.List.{take_rest}
 use Rattle.expr_token.specs.Lexer.{gap_len}
 use Rattle.expr_token.specs.Reading.{Begins}
-use Rattle.expr_token.proofs.Readings.{none_right, begun_paired, begun_below, begun_gap, no_gap, begun_token, no_piece, begun_unique, begun_stuck}
+use Rattle.expr_token.proofs.Readings.{none_right, begun_ended, begun_paired, begun_below, begun_gap, no_gap, begun_token, no_piece, begun_unique, begun_stuck}
 use Rattle.expr_token.proofs.reading.read.Goals as goal
 
 gap_is : (s bytes : List ℕ) (at n : ℕ) → bytes ≡ s → n ≡ gap_len (take (length bytes - at) (drop at bytes)) → n ≡ gap_len (drop at s)
@@ -62,3 +62,18 @@ returns-clause-paired c = begun_paired c.args.text.now c.loop-at.at c.loop-at.to
 
 pub returns-clause-within : goal.returns-clause-within
 returns-clause-within c = begun_below c.args.text.now c.loop-at.at c.loop-at.tokens.items c.loop-at.starts.items c.loop-at.invariant.1 c.loop-at.invariant.0
+
+pub returns-clause-reads : goal.returns-clause-reads
+returns-clause-reads c = λ _. begun_ended c.args.text.now c.loop-at.at c.loop-at.tokens.items c.loop-at.starts.items c.loop-at.invariant.1 (omega arith)
+
+pub returns-in_default-clause-before : goal.returns-in_default-clause-before
+returns-in_default-clause-before c = c.loop-at.invariant.1
+
+pub returns-in_default-clause-place : goal.returns-in_default-clause-place
+returns-in_default-clause-place c = c.loop-at.invariant.0
+
+pub returns-in_default-clause-reads : goal.returns-in_default-clause-reads
+returns-in_default-clause-reads c = λ e. absurd (cc)
+
+pub returns-in_default-clause-unique : goal.returns-in_default-clause-unique
+returns-in_default-clause-unique c = λ e. absurd (cc)
