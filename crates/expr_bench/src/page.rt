@@ -36,10 +36,8 @@ impl Page {
     }
 
     /// Puts a piece at the end so many times.
-    pub fn put_times(&mut self, piece: &str, times: u32) {
-        for _ in 0..times {
-            self.put(piece);
-        }
+    pub fn put_times(&mut self, piece: &str, times: usize) {
+        self.put_made(piece.repeat(self.allocator(), times));
     }
 
     /// Puts a piece at the end that itself took memory.

@@ -91,7 +91,7 @@ const RUNS: &[(&str, u32, u32, &str)] = &[
 ];
 
 /// A line with 1 in so many pairs of brackets.
-fn bracketed(alloc: Global, pairs: u32) -> Page {
+fn bracketed(alloc: Global, pairs: usize) -> Page {
     let mut line = Page::new(alloc);
     line.put("|");
     line.put_times("(", pairs);
@@ -101,7 +101,7 @@ fn bracketed(alloc: Global, pairs: u32) -> Page {
 }
 
 /// Pairs of brackets, and what a line with so many gives: the trees that are read are 500 high at most.
-const HEIGHTS: &[(u32, &str)] = &[(499, "1\n||0"), (500, "|literal\n|1")];
+const HEIGHTS: &[(usize, &str)] = &[(499, "1\n||0"), (500, "|literal\n|1")];
 
 /// Puts what is wrong of these runs.
 pub fn put_served(alloc: Global, wrong: &mut Page) {
