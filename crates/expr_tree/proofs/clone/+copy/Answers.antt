@@ -1,9 +1,24 @@
-use Rattle.std.proofs.Common.{sym, ap, ◌∙◌}
+use Rattle.std.proofs.Common.{◌≡◌, ℕ, ◌+◌, ◌<◌, List, [], ◌∷◌, ◌++◌, map, take, length, get_or, sym, ap, ◌∙◌}
+use Rattle.std.proofs.lemmas.List.{take_more, map-append}
 use Rattle.expr_tree.specs.Term.{name, list, range, call, unary, operation, postfix, choice, block_with, mapping, pairs_of, index, slice, ternary, method}
-use Rattle.expr_tree.specs.Written.{written, postfix_written, terms_of}
+use Rattle.expr_tree.specs.Written.{written, postfix_written, line_written, terms_of}
 use Rattle.expr_tree.proofs.Programs.{written-parts}
 use Rattle.expr_tree.proofs.Shapes.{written-Ident, written-Array, written-Map, written-Range, written-Func, written-Unary, written-Operation, written-Postfix, written-Conditional, written-Index, written-Slice, written-Ternary, written-Method}
 use Rattle.expr_tree.proofs.clone.+copy.Goals as goal
+
+-- one copy more
+copied_next : {X Y : Type 0} (f : X → Y) (xs ys next : List X) (i : ℕ) (x y : X) → i < length xs → x ≡ get_or xs i x → map f ys ≡ map f (take i xs) → next ≡ ys ++ y ∷ [] → f y ≡ f x → map f next ≡ map f (take (i + 1) xs)
+copied_next f xs ys next i x y within at before pushed same =
+    ap (map f) pushed ∙ map-append f ys (y ∷ []) ∙ (λ j. before j ++ same j ∷ [])
+    ∙ sym (ap (map f) (take_more xs i x within ∙ ap (λ z. take i xs ++ z ∷ []) (sym at)) ∙ map-append f (take i xs) (x ∷ []))
+
+pub copy_nodes-loop-node-preserved : goal.copy_nodes-loop-node-preserved
+copy_nodes-loop-node-preserved t c =
+    copied_next written _ _ _ _ _ _ c.loop-node-test.true c.node-item.is c.loop-node.invariant c.in_ok-push.ensures.items c.in_ok-copy.ensures
+
+pub copy_lines-loop-name-preserved : goal.copy_lines-loop-name-preserved
+copy_lines-loop-name-preserved t c =
+    copied_next line_written _ _ _ _ _ _ c.loop-name-test.true c.loop-name-item.is c.loop-name.invariant c.in_ok-push.ensures.items (λ i. (c.in_ok-name.ensures.cases i, c.in_ok-value.ensures i))
 
 pub copy_program-returns : goal.copy_program-returns
 copy_program-returns t c =
