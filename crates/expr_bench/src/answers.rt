@@ -1,8 +1,8 @@
 //! Answers that depend on what a host lends, and the calls for one node, operator or call.
 use crate::page::Page;
 use expr::{
-    Context, ContextProvider, Error, Node, Pattern, Result, Value, compile, eval, eval_expr,
-    eval_func, eval_operator, eval_postfix_operator, eval_unary_operator, run, value,
+    Context, ContextProvider, Error, Node, Pattern, Program, Result, Value, compile, eval,
+    eval_expr, eval_func, eval_operator, eval_postfix_operator, eval_unary_operator, run, value,
 };
 use std::alloc::Global;
 
@@ -59,24 +59,33 @@ const UNDER_ODD_PROVIDERS: &[(&str, bool, &str)] = &[
     ("a", true, "2"),
 ];
 
-/// What the last node of a text answers, by the call for nodes of its kind, with the pattern of a source handed in if that has one.
-fn by_its_parts(alloc: Global, code: &str, source: &str) -> Result<Value> {
-    let context = Context::new(alloc);
-    let pattern = Pattern::new(alloc, source).ok();
-    let program = compile(alloc, code)?;
+/// What a program answers, by the call for nodes of its last node's kind, with a pattern handed in.
+fn by_its_kind(
+    alloc: Global,
+    context: &Context,
+    program: &Program,
+    pattern: Option<&Pattern>,
+) -> Result<Value> {
     match &program.expr {
         Node::Operation {
             operator,
             left,
             right,
             ..
-        } => eval_operator(alloc, &context, operator, left, right, pattern.as_ref()),
-        Node::Unary { operator, node } => eval_unary_operator(alloc, &context, operator, node),
-        Node::Postfix { operator, node } => eval_postfix_operator(alloc, &context, operator, node),
-        Node::Func { ident, .. } => eval_func(alloc, &context, ident, Vec::new(alloc), None),
-        other if program.lines.is_empty() => eval_expr(alloc, &context, other),
-        _ => run(alloc, &program, &context),
+        } => eval_operator(alloc, context, operator, left, right, pattern),
+        Node::Unary { operator, node } => eval_unary_operator(alloc, context, operator, node),
+        Node::Postfix { operator, node } => eval_postfix_operator(alloc, context, operator, node),
+        Node::Func { ident, .. } => eval_func(alloc, context, ident, Vec::new(alloc), None),
+        other if program.lines.is_empty() => eval_expr(alloc, context, other),
+        _ => run(alloc, program, context),
     }
+}
+
+/// What the program of a text answers by its kind, with the pattern of a source handed in if that has one.
+fn by_its_parts(alloc: Global, code: &str, source: &str) -> Result<Value> {
+    let program = compile(alloc, code)?;
+    let pattern = Pattern::new(alloc, source).ok();
+    by_its_kind(alloc, &Context::new(alloc), &program, pattern.as_ref())
 }
 
 /// Texts, sources of patterns (`(` is that of none), and answers: a pattern of any other source is passed over.

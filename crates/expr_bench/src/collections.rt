@@ -30,7 +30,11 @@ fn put_names(alloc: Global, page: &mut Page) -> Result<()> {
     for (name, value) in map.iter() {
         page.put_made(format!(in alloc; "{name}={value};"));
     }
-    let copies = map.clone()?;
+    put_map(alloc, &map, &map.clone()?, page)
+}
+
+/// Puts the copy of a map of one name, and the facts of both that don't hold.
+fn put_map(alloc: Global, map: &ValueMap, copies: &ValueMap, page: &mut Page) -> Result<()> {
     page.put_made(format!(in alloc; "{copies:?}\n"));
     page.fact("a map is its copy", copies == map && !map.is_empty());
     page.fact(
@@ -61,7 +65,11 @@ fn put_keys(alloc: Global, page: &mut Page) -> Result<()> {
     for (key, value) in map.iter() {
         page.put_made(format!(in alloc; "{key:?}={value};"));
     }
-    let copies = map.clone()?;
+    put_keyed(alloc, &map, &map.clone()?, page)
+}
+
+/// Puts the copy of a keyed map of two keys, and the facts of both that don't hold.
+fn put_keyed(alloc: Global, map: &KeyedMap, copies: &KeyedMap, page: &mut Page) -> Result<()> {
     page.put_made(format!(in alloc; "{copies:?}\n"));
     page.fact("a keyed map is its copy", copies == map && !map.is_empty());
     page.fact(
@@ -77,14 +85,19 @@ fn put_keys(alloc: Global, page: &mut Page) -> Result<()> {
         map.get(&Value::Integer(2)).is_some(),
     );
     for key in map.keys() {
-        page.fact("a keyed map has its keys", map.get_by_key(key).is_some());
-        let value = key.to_value(alloc)?;
-        page.fact(
-            "a keyed map has its keys' values",
-            map.get(&value).is_some(),
-        );
-        page.fact("a key comes back", value.into_key() == Some(key.clone()?));
+        put_key(alloc, map, key, page)?;
     }
+    Ok(())
+}
+
+/// Puts the facts of a keyed map and a key of it that don't hold.
+fn put_key(alloc: Global, map: &KeyedMap, key: &Key, page: &mut Page) -> Result<()> {
+    page.fact("a keyed map has its keys", map.get_by_key(key).is_some());
+    let value = key.to_value(alloc)?;
+    let is_there = map.get(&value).is_some();
+    page.fact("a keyed map has its keys' values", is_there);
+    let comes_back = matches!(value.into_key(), Some(other) if other == *key);
+    page.fact("a key comes back", comes_back);
     Ok(())
 }
 

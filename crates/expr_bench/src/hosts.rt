@@ -47,22 +47,26 @@ const WITH_FUNCTIONS: &[(&str, &str)] = &[
 ];
 
 /// What the last node of a text answers, by the environment's call for nodes of its kind.
-fn by_its_parts(alloc: Global, host: &Environment, code: &str) -> Result<Value> {
-    let context = Context::new(alloc);
+fn by_its_parts(alloc: Global, host: &Environment, context: &Context, code: &str) -> Result<Value> {
     let program = compile(alloc, code)?;
-    match &program.expr {
+    by_its_kind(alloc, host, context, &program.expr)
+}
+
+/// What a node answers, by the environment's call for nodes of its kind.
+fn by_its_kind(alloc: Global, host: &Environment, context: &Context, node: &Node) -> Result<Value> {
+    match node {
         Node::Operation {
             operator,
             left,
             right,
             ..
-        } => host.eval_operator(alloc, &context, operator, left, right, None),
-        Node::Unary { operator, node } => host.eval_unary_operator(alloc, &context, operator, node),
+        } => host.eval_operator(alloc, context, operator, left, right, None),
+        Node::Unary { operator, node } => host.eval_unary_operator(alloc, context, operator, node),
         Node::Postfix { operator, node } => {
-            host.eval_postfix_operator(alloc, &context, operator, node)
+            host.eval_postfix_operator(alloc, context, operator, node)
         }
-        Node::Func { ident, .. } => host.eval_func(alloc, &context, ident, Vec::new(alloc), None),
-        other => host.eval_expr(alloc, &context, other),
+        Node::Func { ident, .. } => host.eval_func(alloc, context, ident, Vec::new(alloc), None),
+        other => host.eval_expr(alloc, context, other),
     }
 }
 
@@ -78,17 +82,18 @@ const BY_PARTS: &[(&str, &str)] = &[
 
 /// Puts what is wrong of a parser's answer to a text of one argument, by each of its calls.
 fn put_parser(alloc: Global, code: &str, wrong: &mut Page) -> Result<()> {
-    let context = Context::new(alloc);
     let mut host = Parser::new(alloc);
     host.add_function("n", Box::new(alloc, |call: ExprCall| number(call))?)?;
+    put_parsed(alloc, &host, code, wrong)
+}
+
+fn put_parsed(alloc: Global, host: &Parser, code: &str, wrong: &mut Page) -> Result<()> {
+    let context = Context::new(alloc);
+    wrong.answer("eval", host.eval(alloc, code, &context), "1");
     let program = host.compile(alloc, code)?;
     wrong.answer("run", host.run(alloc, &program, &context), "1");
-    wrong.answer("eval", host.eval(alloc, code, &context), "1");
-    wrong.answer(
-        "eval_expr",
-        host.eval_expr(alloc, &context, &program.expr),
-        "1",
-    );
+    let answer = host.eval_expr(alloc, &context, &program.expr);
+    wrong.answer("eval_expr", answer, "1");
     Ok(())
 }
 
@@ -99,7 +104,7 @@ fn put_answers(alloc: Global, host: &Environment, wrong: &mut Page) {
         wrong.answer(code, host.eval(alloc, code, &context), expected);
     }
     for (code, expected) in BY_PARTS {
-        wrong.answer(code, by_its_parts(alloc, host, code), expected);
+        wrong.answer(code, by_its_parts(alloc, host, &context, code), expected);
     }
 }
 

@@ -82,11 +82,16 @@ fn has_name<P: ContextProvider>(alloc: Global, provider: &P, name: &str) -> Resu
     Ok(map == shown && provider.get(name).is_some())
 }
 
-/// Puts contexts as maps, each with one name more, and the facts of them that don't hold.
-fn put_contexts(alloc: Global, page: &mut Page) -> Result<()> {
+/// Puts a context of a map, with one name again.
+fn put_context(alloc: Global, page: &mut Page) -> Result<()> {
     let mut context = Context::try_from(alloc, value!(in alloc; {"b": 1, "a": 2})?)?;
     context.insert(String::from_str(alloc, "b")?, Value::Nil)?;
     page.put_answer(eval(alloc, "$env", &context));
+    Ok(())
+}
+
+/// Puts a context of pairs, with one name more, and the facts of it that don't hold.
+fn put_contexts(alloc: Global, page: &mut Page) -> Result<()> {
     let mut context = Context::from_pairs(alloc, named(alloc)?)?;
     context.insert(String::from_str(alloc, "c")?, Value::Nil)?;
     page.put_answer(eval(alloc, "$env", &context));
@@ -113,6 +118,7 @@ fn put_lent(alloc: Global, value: &Value, page: &mut Page) {
 /// Puts two contexts, what an integer, a boolean, a duration and nil lend, and what is wrong of values.
 pub fn put_values(alloc: Global, page: &mut Page) -> Result<()> {
     put_answers(alloc, page)?;
+    put_context(alloc, page)?;
     put_contexts(alloc, page)?;
     put_lent(alloc, &Value::from(7_i32), page);
     put_lent(alloc, &Value::from(true), page);
