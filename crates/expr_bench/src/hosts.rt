@@ -133,19 +133,6 @@ fn put_environment(alloc: Global, wrong: &mut Page) -> Result<()> {
     Ok(())
 }
 
-/// An environment with zones of a rule and of an offset, whose moment is the instant 0.
-fn zoned(alloc: Global) -> Result<Environment> {
-    let mut host = Environment::new(alloc);
-    if let Ok(rules) = TimeZone::posix("EST5EDT,M3.2.0,M11.1.0") {
-        host.add_timezone("E", rules)?;
-    }
-    if let Ok(ahead) = Offset::from_seconds(3600) {
-        host.add_timezone("X/Plus1", TimeZone::fixed(ahead))?;
-    }
-    host.set_now(Timestamp::UNIX_EPOCH);
-    Ok(host)
-}
-
 /// Texts, and what they answer where those zones are added.
 const WITH_ZONES: &[(&str, &str)] = &[
     (
@@ -179,13 +166,25 @@ const WITH_ZONES: &[(&str, &str)] = &[
     (r#"timezone("e")"#, "!evaluation"),
 ];
 
-/// Puts what is wrong of an environment with zones of its own.
-fn put_zones(alloc: Global, wrong: &mut Page) -> Result<()> {
-    let mut host = zoned(alloc)?;
+/// Puts what is wrong of the answers of an environment with those zones.
+fn put_zoned(alloc: Global, host: &Environment, wrong: &mut Page) {
     let context = Context::new(alloc);
     for (code, expected) in WITH_ZONES {
         wrong.answer(code, host.eval(alloc, code, &context), expected);
     }
+}
+
+/// Puts what is wrong of an environment with zones of a rule and of an offset, whose moment is the instant 0.
+fn put_zones(alloc: Global, wrong: &mut Page) -> Result<()> {
+    let mut host = Environment::new(alloc);
+    if let Ok(rules) = TimeZone::posix("EST5EDT,M3.2.0,M11.1.0") {
+        host.add_timezone("E", rules)?;
+    }
+    if let Ok(ahead) = Offset::from_seconds(3600) {
+        host.add_timezone("X/Plus1", TimeZone::fixed(ahead))?;
+    }
+    host.set_now(Timestamp::UNIX_EPOCH);
+    put_zoned(alloc, &host, wrong);
     let taken = host.add_timezone("UTC", TimeZone::UTC);
     wrong.fact("UTC is taken", matches!(taken, Err(Error::ExprError(_))));
     wrong.fact(
