@@ -24,9 +24,9 @@ use Rattle.expr_value.specs.declared.value.Value as value
 use Rattle.expr_value.specs.declared.value.Value.{Value, roll-Value, map-Value, fold-roll-Value, the_lemmas}
 use Rattle.expr_value.specs.declared.value.Value.TheOpen.{Value-F}
 use Rattle.expr_operators.specs.Operators.{prefixed}
-use Rattle.expr_evaluation.specs.Allows.{Allows, AllowsAll, AllowsPairs}
+use Rattle.expr_meaning.specs.Allows.{Allows, AllowsAll, AllowsPairs}
 use Rattle.expr_steps.specs.Context.{Context}
-use Rattle.expr_evaluation.specs.Host.{Host}
+use Rattle.expr_meaning.specs.Host.{Host}
 
 -- a step that answers this value alone
 abbrev pub Only : {A : Type 0} → (Result A Fault → Type 0) → A → Type 0

@@ -15,9 +15,9 @@ use Rattle.expr_value.specs.Values.{text_of}
 use Rattle.expr_value.specs.declared.error.Error.{Error}
 use Rattle.expr_value.specs.declared.error.Error.TheVariants.{PestError, ParseError, ExprError, RegexError, MemoryError}
 use Rattle.expr_value.specs.declared.value.Value.{Value}
-use Rattle.expr_evaluation.specs.Allows.{Allows, AllowsBlock}
+use Rattle.expr_meaning.specs.Allows.{Allows, AllowsBlock}
 use Rattle.expr_steps.specs.Context.{Context}
-use Rattle.expr_evaluation.specs.Host.{Host}
+use Rattle.expr_meaning.specs.Host.{Host}
 use Rattle.expr.proofs.Meant.{printed_only}
 
 -- what a program of that text gives is the value

@@ -11,9 +11,9 @@ use Rattle.expr_syntax.specs.Printed.{printed_term}
 use Rattle.expr_syntax.specs.Texts.{IsProgramOf}
 use Rattle.expr_value.specs.Values.{text_of}
 use Rattle.expr_value.specs.declared.value.Value.{Value}
-use Rattle.expr_evaluation.specs.Allows.{AllowsBlock}
+use Rattle.expr_meaning.specs.Allows.{AllowsBlock}
 use Rattle.expr_steps.specs.Context.{Context}
-use Rattle.expr_evaluation.specs.Host.{no_host}
+use Rattle.expr_meaning.specs.Host.{no_host}
 use Rattle.expr.proofs.Meant.{printed_only}
 
 -- a text has one program

@@ -7,8 +7,8 @@ use Rattle.expr_value.specs.declared.error.Error.{Error}
 use Rattle.expr_value.specs.declared.moment.DateTimeValue.{DateTimeValue}
 use Rattle.expr_value.specs.declared.value.Value.{Value}
 use Rattle.expr_value.specs.declared.zone.TimezoneValue.{TimezoneValue}
-use Rattle.expr_evaluation.specs.Host.{Host}
-use Rattle.expr_evaluation.specs.declared.environment.ExprCall.{ExprCall}
+use Rattle.expr_meaning.specs.Host.{Host}
+use Rattle.expr_meaning.specs.declared.environment.ExprCall.{ExprCall}
 use Rattle.expr.specs.declared.environment.Environment.{Environment}
 use Rattle.expr.specs.declared.registered.Registered.{Registered}
 

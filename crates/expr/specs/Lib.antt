@@ -4,10 +4,10 @@ pub mod Parsers
 pub mod Spots
 pub mod Texts
 pub use Rattle.expr_builtins.specs.Calls as Builtins
-pub use Rattle.expr_evaluation.specs.Allows
-pub use Rattle.expr_evaluation.specs.Calls
-pub use Rattle.expr_evaluation.specs.Host
-pub use Rattle.expr_evaluation.specs.Independence
+pub use Rattle.expr_meaning.specs.Allows
+pub use Rattle.expr_meaning.specs.Calls
+pub use Rattle.expr_meaning.specs.Host
+pub use Rattle.expr_meaning.specs.Independence
 pub use Rattle.expr_evaluation.specs.Plain
 pub use Rattle.expr_evaluation.specs.Several
 pub use Rattle.expr_operators.specs.Operators

@@ -15,12 +15,12 @@ pub use expr_builtins::{
 };
 pub use expr_duration::{texts_have_one_meaning, texts_spell_lengths};
 pub use expr_evaluation::{
-    ExprCall, eval_expr, eval_func, eval_operator, eval_postfix_operator, eval_unary_operator,
-    left_side_decides, run,
+    eval_expr, eval_func, eval_operator, eval_postfix_operator, eval_unary_operator, run,
 };
 pub use expr_frames::laws::brackets_leave_program;
 pub use expr_grammar::laws::{brackets_fit, one_tree};
 pub use expr_layout::layouts_have_one_reading;
+pub use expr_meaning::{ExprCall, left_side_decides};
 pub use expr_operators::{
     outside_is_not_within, part_stands_between_front_and_back, unequal_is_not_equal,
 };

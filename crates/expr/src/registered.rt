@@ -1,5 +1,5 @@
 //! Functions that a host adds, which are kept and called later.
-use expr_evaluation::ExprCall;
+use expr_meaning::ExprCall;
 use expr_value::{Result, Value};
 
 /// A function that a host adds: a closure that is kept, and called on the name and the arguments of a call.

@@ -2,7 +2,7 @@
 ghost use Rattle.std.specs.Prelude.{◌≡◌, IsTrue, Ok};
 ghost use Rattle.expr.specs.Texts.{MayAnswer};
 ghost use Rattle.expr_steps.specs.Context.{Context};
-ghost use Rattle.expr_evaluation.specs.Host.{no_host};
+ghost use Rattle.expr_meaning.specs.Host.{no_host};
 ghost use Rattle.expr_syntax.specs.Texts.{IsProgramOf};
 ghost use Rattle.expr_token.specs.Printed.{is_readable};
 ghost use Rattle.expr_tree.specs.Context.{AgreeFor};

@@ -14,11 +14,11 @@ use Rattle.std.specs.declared.boxed.Box.{Box}
 use Rattle.expr_value.specs.declared.value.Value as value
 use Rattle.expr_value.specs.declared.value.Value.{Value, out-Value}
 use Rattle.expr_value.specs.declared.value.Value.TheOpen.{Value-F}
-use Rattle.expr_evaluation.specs.Allows.{Allows, AllowsBlock, AndThenLayer, ContinuedAs, OrElseLayer, Continued}
+use Rattle.expr_meaning.specs.Allows.{Allows, AllowsBlock, AndThenLayer, ContinuedAs, OrElseLayer, Continued}
 use Rattle.expr_operators.proofs.Plainly.{plain-Bool, plain-at, applied-plain, prefixed-plain, bool-plain}
 use Rattle.expr_value.specs.Answers.{Answer, After}
 use Rattle.expr_steps.specs.Context.{Context}
-use Rattle.expr_evaluation.specs.Host.{Host}
+use Rattle.expr_meaning.specs.Host.{Host}
 use Rattle.expr_operators.specs.Sides.{sides_of}
 use Rattle.expr_operators.specs.Matching.{Matched, MatchedLayers}
 use Rattle.expr_operators.specs.Operators.{applied, truth, prefixed}

@@ -1,10 +1,10 @@
-pub mod Allows
-pub mod Begun
-pub mod Calls
-pub mod Host
-pub mod Independence
 pub mod Plain
 pub mod Several
+pub use Rattle.expr_meaning.specs.Allows
+pub use Rattle.expr_meaning.specs.Begun
+pub use Rattle.expr_meaning.specs.Calls
+pub use Rattle.expr_meaning.specs.Host
+pub use Rattle.expr_meaning.specs.Independence
 pub use Rattle.expr_operators.specs.Sides
 pub use Rattle.expr_operators.specs.Operators
 pub use Rattle.expr_operators.specs.Positions

@@ -3,13 +3,13 @@ use Rattle.expr_syntax.specs.Texts.{IsProgramOf}
 use Rattle.expr_tree.specs.Context.{AgreeFor}
 use Rattle.expr_tree.specs.Term.{Block}
 use Rattle.expr_tree.specs.Written.{program_written}
-use Rattle.expr_evaluation.specs.Allows.{AllowsBlock}
+use Rattle.expr_meaning.specs.Allows.{AllowsBlock}
 use Rattle.expr_steps.specs.Context.{Context}
-use Rattle.expr_evaluation.specs.Host.{Host}
+use Rattle.expr_meaning.specs.Host.{Host}
 use Rattle.expr.specs.Hosted.{host_of}
 use Rattle.expr.specs.Texts.{MayAnswer}
 use Rattle.expr_value.proofs.Answered.{Gives-under}
-use Rattle.expr_evaluation.proofs.Independent.{AllowsBlock-keeps}
+use Rattle.expr_meaning.proofs.Independent.{AllowsBlock-keeps}
 use Rattle.expr.proofs.ReadsBack.{back_from_run, back_refused}
 use Rattle.expr.proofs.environment.Environment.eval.Goals as goal
 

@@ -9,19 +9,19 @@ use Rattle.expr_predicates.specs.Gathered.{left, question_of}
 use Rattle.expr_predicates.specs.Runs.{Asks}
 use Rattle.expr_predicates.specs.Tasks.{Question}
 use Rattle.expr_tree.specs.Term.{call, mapping, operation, predicate, slice}
-use Rattle.expr_evaluation.specs.Begun.{Begins}
-use Rattle.expr_evaluation.proofs.Begun.{AllowsCall-answered, AllowsCall-refused, AllowsCall-run}
+use Rattle.expr_meaning.specs.Begun.{Begins}
+use Rattle.expr_meaning.proofs.Begun.{AllowsCall-answered, AllowsCall-refused, AllowsCall-run}
 use Rattle.expr_tree.specs.Written.{written, bound_written, postfix_written, predicate_written, program_written, block_of}
 use Rattle.expr_tree.specs.declared.node.Node.{Node}
 use Rattle.expr_value.specs.Fault.{fault_of}
 use Rattle.expr_value.specs.Names.{put_all}
 use Rattle.expr_value.specs.declared.value.Value as value
 use Rattle.expr_value.specs.declared.value.Value.{Value}
-use Rattle.expr_evaluation.specs.Allows.{Allows, AllowsAll, AllowsAsked, AllowsBlock, AllowsBound, AllowsCall, AllowsMore, AllowsPairs, AllowsPiped, AllowsPostfix, Continued, ContinuedAs, is_given}
+use Rattle.expr_meaning.specs.Allows.{Allows, AllowsAll, AllowsAsked, AllowsBlock, AllowsBound, AllowsCall, AllowsMore, AllowsPairs, AllowsPiped, AllowsPostfix, Continued, ContinuedAs, is_given}
 use Rattle.expr_steps.specs.Given.{listed}
 use Rattle.expr_value.specs.Answers.{After, Answer, Gives}
 use Rattle.expr_steps.specs.Context.{Context}
-use Rattle.expr_evaluation.specs.Host.{Host}
+use Rattle.expr_meaning.specs.Host.{Host}
 use Rattle.expr_operators.specs.Sides.{sides_of}
 use Rattle.expr_operators.specs.Operators.{applied}
 use Rattle.expr_operators.specs.declared.sides.Sides.TheVariants.{Both, EndsAtFalse, EndsAtTrue}
@@ -32,7 +32,7 @@ use Rattle.expr_steps.specs.Scope.{inside}
 use Rattle.expr_evaluation.specs.Several.{pairs_written, terms_written}
 use Rattle.expr_steps.specs.declared.scope.Binding.{Binding}
 use Rattle.expr_steps.specs.declared.scope.Scope.{Scope, Scope-F, out-Scope, roll-Scope, out-roll-Scope}
-use Rattle.expr_evaluation.proofs.Literal.{OnLiteral, OnLiteral-continued, OnLiteral-only}
+use Rattle.expr_meaning.proofs.Literal.{OnLiteral, OnLiteral-continued, OnLiteral-only}
 use Rattle.expr_evaluation.proofs.Allowed.{prepended, drop-at, loop-step, loop-failed, loop-done, AllowsAll-first, AllowsPairs-first, AllowsBlock-line, AllowsMore-all, AllowsMore-rest}
 use Rattle.expr_value.proofs.Answered.{Gives-of-Is, Gives-passed, Gives-under, first_of-After}
 use Rattle.expr_operators.proofs.Plainly.{Surely-at}

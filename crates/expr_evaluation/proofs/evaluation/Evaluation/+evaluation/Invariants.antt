@@ -7,11 +7,11 @@ use Rattle.expr_tree.specs.Term.{predicate}
 use Rattle.expr_tree.specs.Written.{block_of, written, program_written}
 use Rattle.expr_value.specs.Fault.{Fault}
 use Rattle.expr_value.specs.declared.value.Value.{Value}
-use Rattle.expr_evaluation.specs.Allows.{AllowsAll, AllowsAsked, AllowsBlock, AllowsMore, AllowsPairs}
+use Rattle.expr_meaning.specs.Allows.{AllowsAll, AllowsAsked, AllowsBlock, AllowsMore, AllowsPairs}
 use Rattle.expr_steps.specs.Given.{listed}
 use Rattle.expr_value.specs.Answers.{Answer}
 use Rattle.expr_steps.specs.Context.{Context}
-use Rattle.expr_evaluation.specs.Host.{Host}
+use Rattle.expr_meaning.specs.Host.{Host}
 use Rattle.expr_steps.specs.Scope.{inside}
 use Rattle.expr_evaluation.specs.Several.{pairs_written, terms_written}
 use Rattle.expr_evaluation.proofs.Allowed.{prepended}

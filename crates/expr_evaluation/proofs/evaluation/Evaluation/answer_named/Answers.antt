@@ -7,9 +7,9 @@ use Rattle.expr_value.specs.Fault.{fault_of}
 use Rattle.expr_value.specs.declared.error.Error.{Error}
 use Rattle.expr_value.specs.declared.value.Value.{Value}
 use Rattle.expr_value.proofs.Answered.{Gives-of-Is, Gives-passed}
-use Rattle.expr_evaluation.specs.Allows.{AllowsAsked, AllowsCall, is_given}
+use Rattle.expr_meaning.specs.Allows.{AllowsAsked, AllowsCall, is_given}
 use Rattle.expr_steps.specs.Context.{Context}
-use Rattle.expr_evaluation.specs.Host.{Host}
+use Rattle.expr_meaning.specs.Host.{Host}
 use Rattle.expr_evaluation.specs.Several.{predicate_lent}
 use Rattle.expr_evaluation.proofs.evaluation.Evaluation.answer_named.Goals as goal
 

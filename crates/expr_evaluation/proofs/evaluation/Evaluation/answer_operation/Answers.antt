@@ -1,7 +1,7 @@
 use Rattle.std.proofs.Common.{◌≡◌, Ok, Err, ◌&&◌, IsTrue, ap, sym, subst, ◌∙◌}
-use Rattle.expr_evaluation.specs.Allows.{Allows, Continued}
+use Rattle.expr_meaning.specs.Allows.{Allows, Continued}
 use Rattle.expr_steps.specs.Context.{Context}
-use Rattle.expr_evaluation.specs.Host.{Host}
+use Rattle.expr_meaning.specs.Host.{Host}
 use Rattle.expr_evaluation.specs.Plain.{is_plain}
 use Rattle.expr_operators.specs.Plain.{is_plain_operator, is_plain_value}
 use Rattle.expr_steps.specs.Scope.{inside}

@@ -1,7 +1,7 @@
 use Rattle.std.proofs.Common.{◌≡◌, ap, sym, ◌∙◌}
-use Rattle.expr_evaluation.specs.Allows.{Allows}
+use Rattle.expr_meaning.specs.Allows.{Allows}
 use Rattle.expr_steps.specs.Context.{Context}
-use Rattle.expr_evaluation.specs.Host.{Host}
+use Rattle.expr_meaning.specs.Host.{Host}
 use Rattle.expr_operators.proofs.Plainly.{Surely-at}
 use Rattle.expr_operators.specs.Operators.{prefixed}
 use Rattle.expr_tree.specs.Written.{written}

@@ -1,0 +1,16 @@
+pub mod Allows
+pub mod Begun
+pub mod Calls
+pub mod Host
+pub mod Independence
+pub use Rattle.expr_operators.specs.Sides
+pub use Rattle.expr_operators.specs.Operators
+pub use Rattle.expr_operators.specs.Positions
+pub use Rattle.expr_steps.specs.Context
+pub use Rattle.expr_steps.specs.Methods
+pub use Rattle.expr_tree.specs.Names
+pub use Rattle.expr_tree.specs.Term
+pub use Rattle.expr_tree.specs.Written
+pub use Rattle.expr_value.specs.Answers
+pub use Rattle.expr_value.specs.Fault
+pub use Rattle.expr_value.specs.Values

@@ -1,0 +1,131 @@
+//! Calls, up to where a predicate is asked.
+ghost use Rattle.std.specs.Prelude.{◌≡◌, ◌≢◌, IfErr, IfOk, false, true};
+ghost use Rattle.expr_meaning.specs.Allows.{AllowsCall};
+ghost use Rattle.expr_meaning.specs.Begun.{Begins, BeginsBuiltin, Refuses, RefusesBuiltin};
+ghost use Rattle.expr_meaning.specs.Calls.{AllowsOnValues};
+ghost use Rattle.expr_predicates.specs.Runs.{AsksItself};
+ghost use Rattle.expr_value.specs.Answers.{Gives};
+ghost use Rattle.expr_value.specs.Fault.{fault_of, memory};
+
+use crate::environment::{AddedZones, ExprCall, Functions};
+use expr_builtins::Builtin;
+use expr_encoding::Encoding;
+use expr_operators::Held;
+use expr_predicates::{Asking, PredicateRun, sort};
+use expr_steps::unknown_function;
+use expr_time::TimeCall;
+use expr_value::{Items, Result, Value};
+use std::alloc::Global;
+
+/// What a call begins with.
+#[derive(Drop)]
+pub enum Begun {
+    /// The answer of a function that asks no predicate.
+    Answered(Value),
+    /// A built-in that asks one, or takes each item as the answer about itself.
+    Asks(PredicateRun),
+}
+
+/// Begins a call on these values, with a predicate or without one: of the host's function of the name, else of the
+/// built-in.
+pub fn begin<H: Functions>(
+    alloc: Global,
+    host: &H,
+    ident: &str,
+    args: Items<Held<'_>>,
+    given: bool,
+) -> Result<Begun>
+    ensures begun { IfOk result (λ b. Begins (H.host host.now) ident.now args.entry given b) }
+    ensures refused { IfErr result (λ e. fault_of e ≢ memory → Refuses (H.host host.now) ident.now args.entry given (fault_of e)) }
+{
+    if host.has(ident) {
+        let answer = call_added(alloc, host, ident, args)?;
+        return Ok(Begun::Answered(answer));
+    }
+    begin_builtin(alloc, host, ident, args, given)
+}
+
+/// Begins a call of the built-in of a name.
+fn begin_builtin<H: Functions>(
+    alloc: Global,
+    host: &H,
+    ident: &str,
+    args: Items<Held<'_>>,
+    given: bool,
+) -> Result<Begun>
+    ensures begun { IfOk result (λ b. BeginsBuiltin (H.host host.now) ident.now args.entry given b) }
+    ensures refused { IfErr result (λ e. fault_of e ≢ memory → RefusesBuiltin (H.host host.now) ident.now args.entry given (fault_of e)) }
+{
+    if ident == "sort" {
+        let args = values_of(alloc, args)?;
+        return Ok(Begun::Answered(sort(alloc, args)?));
+    }
+    let Some(asking) = Asking::named(ident) else {
+        return Ok(Begun::Answered(call_on_values(alloc, host, ident, args)?));
+    };
+    let args = values_of(alloc, args)?;
+    Ok(Begun::Asks(PredicateRun::begin(alloc, asking, args, given)?))
+}
+
+/// What the built-in of a name answers that asks no predicate.
+fn call_on_values<H: Functions>(
+    alloc: Global,
+    host: &H,
+    ident: &str,
+    args: Items<Held<'_>>,
+) -> Result<Value>
+    ensures { Gives result (AllowsOnValues (H.host host.now) ident.now args.entry) }
+{
+    if let Some(builtin) = Builtin::named(ident) {
+        return builtin.call(alloc, args.into_vec());
+    }
+    if let Some(encoding) = Encoding::named(ident) {
+        return encoding.call(alloc, args.as_slice());
+    }
+    if let Some(call) = TimeCall::named(ident) {
+        let zones = AddedZones { host };
+        return call.call(alloc, &zones, host.moment(), args.as_slice());
+    }
+    Err(unknown_function(alloc, ident))
+}
+
+/// What a call answers that is given no predicate.
+pub fn call_alone<'s, H: Functions>(
+    alloc: Global,
+    host: &H,
+    ident: &str,
+    args: Items<Held<'_>>,
+) -> Result<Held<'s>>
+    ensures { Gives result (AllowsCall (H.host host.now) ident.now args.entry false AsksItself) }
+{
+    match begin(alloc, host, ident, args, false)? {
+        Begun::Answered(answer) => Ok(Held::own(answer)),
+        Begun::Asks(run) => Ok(Held::own(run.complete(alloc)?)),
+    }
+}
+
+/// What a function answers on these values that the host has added.
+fn call_added<H: Functions>(
+    alloc: Global,
+    host: &H,
+    ident: &str,
+    args: Items<Held<'_>>,
+) -> Result<Value>
+    ensures { (H.host host.now).is_added ident.now ≡ true → Gives result ((H.host host.now).calls ident.now args.entry) }
+{
+    let ident = String::from_str(alloc, ident)?;
+    let args = values_of(alloc, args)?;
+    host.ask(ExprCall { ident, args })
+}
+
+/// The values that are held, to be kept.
+fn values_of(alloc: Global, held: Items<Held<'_>>) -> Result<Vec<Value>>
+    ensures ok { IfOk result (λ vs. vs.items ≡ held.entry) }
+    ensures refusal { IfErr result (λ e. fault_of e ≡ memory) }
+{
+    let mut values = Vec::with_capacity(alloc, held.len())?;
+    for value in held.into_vec() {
+        values.push(value.into_value()?)?;
+    }
+    Ok(values)
+}

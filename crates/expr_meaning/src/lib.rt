@@ -1,0 +1,10 @@
+//! What a program means in a host and a context, and calls: up to where a predicate is asked.
+#![tactic(auto)]
+
+mod calls;
+mod environment;
+mod laws;
+
+pub use calls::{Begun, begin, call_alone};
+pub use environment::{ExprCall, Functions, NoFunctions};
+pub use laws::left_side_decides;
