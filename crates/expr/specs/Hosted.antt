@@ -1,8 +1,10 @@
 -- What an environment has added.
-use Rattle.std.specs.Prelude.{◌≡◌, ℕ, List, Result, Ok, Err, Option, IfSome, is_some, option_map, string_bytes}
+use Rattle.jiff.specs.Types.{TimeZone as Rules}
+use Rattle.std.specs.Prelude.{◌≡◌, ℕ, List, Result, Ok, Err, Option, Some, IfSome, bytes_eq, if◌then◌else◌, is_some, option_map, string_bytes}
 use Rattle.std.specs.HashMap.{get_by_text}
 use Rattle.expr_value.specs.Answers.{Answer}
 use Rattle.expr_value.specs.Fault.{fault_of}
+use Rattle.expr_value.specs.Times.{rules_of, zone_name}
 use Rattle.expr_value.specs.declared.error.Error.{Error}
 use Rattle.expr_value.specs.declared.moment.DateTimeValue.{DateTimeValue}
 use Rattle.expr_value.specs.declared.value.Value.{Value}
@@ -37,6 +39,13 @@ relation_of {g = g} r call result = g.post (r.function.vtable, r.function.value)
 -- the zone of a name
 abbrev pub zone_at : {x f g : _} → Environment x f g → List ℕ → Option TimezoneValue
 zone_at env key = get_by_text env.zones key
+
+-- Under one name there is a zone of that name and these rules now, and under each other what there was.
+pub record IsZoneAdded (name : List ℕ) (rules : Rules) (old new : List ℕ → Option TimezoneValue) : Type 0 where
+  pub zone : TimezoneValue
+  pub has_name : zone_name zone ≡ name
+  pub has_rules : rules_of zone ≡ rules
+  pub stands : (key : List ℕ) → new key ≡ (if bytes_eq name key then Some zone else old key)
 
 -- the moment that is taken for now
 abbrev pub moment_at : {x f g : _} → Environment x f g → Option DateTimeValue

@@ -9,7 +9,7 @@ ghost use Rattle.expr_meaning.specs.Allows.{Allows, AllowsBlock};
 ghost use Rattle.expr_steps.specs.Context.{Context};
 ghost use Rattle.expr_meaning.specs.Independence.{AgreeAt};
 ghost use Rattle.expr_evaluation.specs.Plain.{is_plain, is_plain_program};
-ghost use Rattle.expr_syntax.specs.Texts.{IsAnswerFor, IsCompiled, IsPlaced, IsProgramOf, IsTreeOf};
+ghost use Rattle.expr_syntax.specs.Texts.{HasNoTree, IsAnswerFor, IsCompiled, IsPlaced, IsProgramOf, IsTreeOf};
 ghost use Rattle.expr_token.specs.Printed.{is_readable};
 ghost use Rattle.expr_tree.specs.Context.{AgreeFor};
 ghost use Rattle.expr_tree.specs.Names.{AreNamesOf};
@@ -105,6 +105,8 @@ impl Parser {
         ensures independent { Gives result (λ a. (other : Context)
             → ((b : Block) → IsProgramOf code.now b → AgreeFor (context ctx.now) other b)
             → MayAnswer code.now (host_of (environment_of self.now)) other a) }
+        ensures place { HasNoTree code.now → IsPlaced code.now result }
+        ensures boundary { HasNoTree code.now → (place : ℕ) → result ≡ Err (Error.PestError place) → IsCharBoundary code.now place }
         ensures reads_back { (v : Value) → IsTrue (is_readable v) → code.now ≡ text_of v → Is result (Ok v) }
     {
         self.environment.eval(alloc, code, ctx)
