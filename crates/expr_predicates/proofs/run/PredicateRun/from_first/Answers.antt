@@ -1,12 +1,13 @@
-use Rattle.std.proofs.Common.{◌≡◌, ◌∷◌, refl, sym, ap, ◌∙◌}
+use Rattle.std.proofs.Common.{refl, sym, ap, ◌∙◌}
 use Rattle.expr_predicates.specs.Arrays.{items_held}
 use Rattle.expr_predicates.specs.Calls.{reduced_from_first}
 use Rattle.expr_predicates.specs.Tasks.{reducing}
+use Rattle.expr_predicates.proofs.Beginning.{same_ok}
 use Rattle.expr_predicates.proofs.run.PredicateRun.from_first.Goals as goal
 
 pub returns-in-Some-clause-begun : goal.returns-in-Some-clause-begun
 returns-in-Some-clause-begun c =
     let x = c.in-Some.first in
     let whole = sym c.forward-left.ensures ∙ c.in-Some.ensures in
-    let first : c.in_ok-acc.acc ≡ x = cc in
-    (reducing x 1, ap reduced_from_first whole, record { asked = refl; gathered = (x, 1, refl, first) })
+    let acc = c.in_ok-acc-in-Some.acc in
+    (reducing x 1, ap reduced_from_first whole, record { asked = refl; gathered = (x, 1, refl, same_ok acc x (sym c.in_ok-acc-in-Some.ensures.answer)) })
