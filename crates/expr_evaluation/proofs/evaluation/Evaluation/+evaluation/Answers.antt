@@ -1,4 +1,4 @@
-use Rattle.std.proofs.Common.{◌≡◌, ◌&&◌, IsTrue, ◌+◌, ◌≤◌, ◌++◌, List, [], ◌∷◌, length, map, get_or, drop, arith, rules, true, sym, ap, ◌∙◌, subst, refl, Ok, Err, String, Global, string_bytes}
+use Rattle.std.proofs.Common.{◌≡◌, ◌&&◌, IsTrue, ◌+◌, ◌≤◌, ◌++◌, List, [], ◌∷◌, length, map, get_or, drop, arith, rules, true, sym, ap, ◌∙◌, subst, refl, ◌≢◌, Ok, Err, String, Global, string_bytes}
 use Rattle.std.proofs.lemmas.List.{drop_all}
 use denote.Param.Weighed.{most, at_most}
 use Rattle.expr_tree.specs.declared.node.Node.TheShapes.{weighed-Node-Map-0-at-2}
@@ -14,7 +14,7 @@ use Rattle.expr_meaning.specs.Begun.{Begins}
 use Rattle.expr_meaning.proofs.Begun.{AllowsCall-answered, AllowsCall-refused, AllowsCall-run}
 use Rattle.expr_tree.specs.Written.{written, bound_written, postfix_written, predicate_written, program_written, block_of}
 use Rattle.expr_tree.specs.declared.node.Node.{Node}
-use Rattle.expr_value.specs.Fault.{fault_of}
+use Rattle.expr_value.specs.Fault.{fault_of, pattern}
 use Rattle.expr_value.specs.Names.{put_all}
 use Rattle.expr_value.specs.declared.value.Value as value
 use Rattle.expr_value.specs.declared.value.Value.{Value}
@@ -37,6 +37,7 @@ use Rattle.expr_meaning.proofs.Literal.{OnLiteral, OnLiteral-continued, OnLitera
 use Rattle.expr_evaluation.proofs.Allowed.{prepended, drop-at, loop-step, loop-failed, loop-done, AllowsAll-first, AllowsPairs-first, AllowsBlock-line, AllowsMore-all, AllowsMore-rest}
 use Rattle.expr_value.proofs.Answered.{Gives-of-Is, Gives-passed, Gives-under, first_of-After}
 use Rattle.expr_operators.proofs.Plainly.{Surely-at}
+use Rattle.expr_evaluation.proofs.Handed.{handed-not-Both, handed-not-EndsAtFalse, handed-not-EndsAtTrue, handed-refused, handed-value, refusal-passed}
 use Rattle.expr_evaluation.proofs.Plainly.{Ident-plain, Array-plain, Map-plain, Range-plain, Func-plain, Postfix-plain, Conditional-plain, Allows-plain, left-true, no-lines, right-true, written-Operation, written-pairs}
 use Rattle.expr_evaluation.proofs.evaluation.Evaluation.+evaluation.Goals as goal
 
@@ -247,7 +248,31 @@ operate-returns-in-Both g t c =
           let same : second ≡ found.0 = cc (c.in_ok-second-in-Both.ensures.plain found.0 q found.1) in
           let second_plain = subst (λ w. IsTrue (is_plain_value w)) (sym same) (Allows-plain host ctx (written c.args.right.now) found.0 q found.1) in
           Surely-at c.apply_held.result (applied op first second) v (c.apply_held.ensures.plain o p second_plain) (ap (applied op first) same ∙ sym found.2);
+      handed = λ h. absurd (handed-not-Both _ _ _ h asked);
     }
+
+pub operate-returns-in-EndsAtFalse-clause-handed : goal.operate-returns-in-EndsAtFalse-clause-handed
+operate-returns-in-EndsAtFalse-clause-handed g t c = λ h. absurd (handed-not-EndsAtFalse _ _ _ h (sym c.sides_asked.ensures ∙ c.in-EndsAtFalse.is))
+
+pub operate-returns-in-EndsAtTrue-clause-handed : goal.operate-returns-in-EndsAtTrue-clause-handed
+operate-returns-in-EndsAtTrue-clause-handed g t c = λ h. absurd (handed-not-EndsAtTrue _ _ _ h (sym c.sides_asked.ensures ∙ c.in-EndsAtTrue.is))
+
+pub operate-returns-in_err-second-in-Both-clause-handed : goal.operate-returns-in_err-second-in-Both-clause-handed
+operate-returns-in_err-second-in-Both-clause-handed g t c = λ h. absurd (handed-not-Both _ _ _ h (sym c.sides_asked.ensures ∙ c.in-Both.is))
+
+pub operate-returns-in_err-source-in-Pattern-clause-handed : goal.operate-returns-in_err-source-in-Pattern-clause-handed
+operate-returns-in_err-source-in-Pattern-clause-handed g t c = λ h.
+    let host : Host = g.H.Functions.host c.args.self.now.host.now in
+    let ctx : Context = inside c.args.scope.now (g.P.ContextProvider.context c.args.self.now.provider) in
+    let e = c.in_err-source-in-Pattern.field-0.0 in
+    refusal-passed _ e (λ x. fault_of x ≢ pattern) c.from_residual-in_err-source-in-Pattern.ensures.1 (handed-refused _ _ _ h host ctx e c.in_err-source-in-Pattern.ensures.answer)
+
+pub operate-returns-in-Pattern-clause-handed : goal.operate-returns-in-Pattern-clause-handed
+operate-returns-in-Pattern-clause-handed g t c = λ h.
+    let host : Host = g.H.Functions.host c.args.self.now.host.now in
+    let ctx : Context = inside c.args.scope.now (g.P.ContextProvider.context c.args.self.now.provider) in
+    let source = c.in_ok-source-in-Pattern.source in
+    c.match_held.ensures.kept h.text (handed-value _ _ _ h host ctx source c.in_ok-source-in-Pattern.ensures.answer) h.of_text
 
 pub follow-returns-in_err-start-in-Range : goal.follow-returns-in_err-start-in-Range
 follow-returns-in_err-start-in-Range g t c =
