@@ -1,3 +1,4 @@
+pub mod Handed
 pub mod Plain
 pub mod Several
 pub use Rattle.expr_meaning.specs.Allows

@@ -19,22 +19,22 @@ use std::alloc::Global;
 
 /// What a call begins with.
 #[derive(Drop)]
-pub enum Begun {
+pub enum Begun<'s> {
     /// The answer of a function that asks no predicate.
     Answered(Value),
     /// A built-in that asks one, or takes each item as the answer about itself.
-    Asks(PredicateRun),
+    Asks(PredicateRun<'s>),
 }
 
 /// Begins a call on these values, with a predicate or without one: of the host's function of the name, else of the
-/// built-in.
-pub fn begin<H: Functions>(
+/// built-in. A built-in that asks a predicate holds its array as the call did.
+pub fn begin<'s, H: Functions>(
     alloc: Global,
     host: &H,
     ident: &str,
-    args: Items<Held<'_>>,
+    args: Items<Held<'s>>,
     given: bool,
-) -> Result<Begun>
+) -> Result<Begun<'s>>
     ensures begun { IfOk result (λ b. Begins (H.host host.now) ident.now args.entry given b) }
     ensures refused { IfErr result (λ e. fault_of e ≢ memory → Refuses (H.host host.now) ident.now args.entry given (fault_of e)) }
 {
@@ -46,24 +46,22 @@ pub fn begin<H: Functions>(
 }
 
 /// Begins a call of the built-in of a name.
-fn begin_builtin<H: Functions>(
+fn begin_builtin<'s, H: Functions>(
     alloc: Global,
     host: &H,
     ident: &str,
-    args: Items<Held<'_>>,
+    args: Items<Held<'s>>,
     given: bool,
-) -> Result<Begun>
+) -> Result<Begun<'s>>
     ensures begun { IfOk result (λ b. BeginsBuiltin (H.host host.now) ident.now args.entry given b) }
     ensures refused { IfErr result (λ e. fault_of e ≢ memory → RefusesBuiltin (H.host host.now) ident.now args.entry given (fault_of e)) }
 {
     if ident == "sort" {
-        let args = values_of(alloc, args)?;
         return Ok(Begun::Answered(sort(alloc, args)?));
     }
     let Some(asking) = Asking::named(ident) else {
         return Ok(Begun::Answered(call_on_values(alloc, host, ident, args)?));
     };
-    let args = values_of(alloc, args)?;
     Ok(Begun::Asks(PredicateRun::begin(alloc, asking, args, given)?))
 }
 

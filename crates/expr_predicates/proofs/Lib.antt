@@ -1,4 +1,4 @@
-pub mod Asked
+pub mod Answered
 pub mod Beginning
 pub mod Gathering
 pub mod Grouped

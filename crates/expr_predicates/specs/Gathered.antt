@@ -1,9 +1,10 @@
 -- What a run keeps of its replies.
-use Rattle.std.specs.Prelude.{◌≡◌, ℕ, ◌+◌, List, length, map, reverse, count_by, vec_len, option_map}
+use Rattle.std.specs.Prelude.{◌≡◌, ℕ, ◌+◌, List, length, map, count_by, option_map}
 use Rattle.std.specs.List.{filter, find, list_any, position_from}
 use Rattle.expr_value.specs.declared.value.Value.{Value}
+use Rattle.expr_predicates.specs.Lefts.{left_of}
 use Rattle.expr_predicates.specs.Sorting.{beside_keys}
-use Rattle.expr_predicates.specs.Tasks.{Task, all_hold, any_holds, none_holds, one_holds, mapping, filtering, finding, finding_place, finding_last_place, counting, summing, reducing, grouping, sorting, Reply, Question, holds, fails, acc_after, first_place, number, total, keyed}
+use Rattle.expr_predicates.specs.Tasks.{Task, all_hold, any_holds, none_holds, one_holds, mapping, filtering, finding, finding_place, finding_last_place, counting, summing, reducing, grouping, sorting, Reply, holds, fails, acc_after, first_place, total, keyed}
 use Rattle.expr_predicates.specs.declared.run.Gathered.{Gathered}
 use Rattle.expr_predicates.specs.declared.run.Gathered.TheVariants as gathered
 use Rattle.expr_predicates.specs.declared.noted.Noted.{Noted}
@@ -11,7 +12,6 @@ use Rattle.expr_predicates.specs.declared.noted.Noted.TheVariants as noted
 use Rattle.expr_predicates.specs.declared.kept.Kept.{Kept}
 use Rattle.expr_predicates.specs.declared.kept.Kept.TheVariants as kept
 use Rattle.expr_predicates.specs.declared.run.PredicateRun.{PredicateRun}
-use Rattle.expr_predicates.specs.declared.question.Question.{Question as Lent}
 
 -- what is kept is what the replies so far say
 abbrev pub Notes : Noted → Task → List Reply → Type 0
@@ -25,10 +25,10 @@ Notes (noted.Count n) t rs = (t ≡ counting) × (n ≡ count_by holds rs)
 Notes (noted.Sum n) t rs = (t ≡ summing) × (n ≡ total rs)
 
 abbrev pub Keeps : Kept → Task → List Reply → Type 0
-Keeps (kept.Map mapped) t rs = (t ≡ mapping) × (mapped.values.items ≡ map (λ r. r.1) rs) × (mapped.place ≡ number (length rs))
+Keeps (kept.Map values) t rs = (t ≡ mapping) × (values.items ≡ map (λ r. r.1) rs)
 Keeps (kept.Filter values) t rs = (t ≡ filtering) × (values.items ≡ map (λ r. r.0) (filter holds rs))
 Keeps (kept.Find found) t rs = (t ≡ finding) × (found ≡ option_map (λ r. r.0) (find holds rs))
-Keeps (kept.Reduce reduced) t rs = (init : Value) × (first : ℕ) × (t ≡ reducing init first) × (reduced.acc ≡ acc_after init rs) × (reduced.place ≡ number (first + length rs))
+Keeps (kept.Reduce acc) t rs = (init : Value) × (first : ℕ) × (t ≡ reducing init first) × (acc ≡ acc_after init rs)
 Keeps (kept.GroupBy pairs) t rs = (t ≡ grouping) × (pairs.items ≡ keyed rs)
 Keeps (kept.SortBy down pairs) t rs = (t ≡ sorting down) × (pairs.items ≡ beside_keys rs)
 
@@ -36,18 +36,29 @@ abbrev pub Gathers : Gathered → Task → List Reply → Type 0
 Gathers (gathered.Noted n) t rs = Notes n t rs
 Gathers (gathered.Kept k) t rs = Keeps k t rs
 
+-- the same while an item is out: what has been made so far is out with it
+abbrev pub KeepsRest : Kept → Task → List Reply → Type 0
+KeepsRest (kept.Reduce acc) t rs = (init : Value) × (first : ℕ) × (t ≡ reducing init first)
+KeepsRest k t rs = Keeps k t rs
+
+abbrev pub GathersRest : Gathered → Task → List Reply → Type 0
+GathersRest (gathered.Noted n) t rs = Notes n t rs
+GathersRest (gathered.Kept k) t rs = KeepsRest k t rs
+
 -- a run stands where these replies lead
 pub record Stands (run : PredicateRun) (t : Task) (rs : List Reply) : Type 0 where
   pub asked : run.asked ≡ first_place t + length rs
   pub gathered : Gathers run.gathered t rs
 
+-- a run waits for the answer that follows these replies: an item is out
+pub record Awaits (run : PredicateRun) (t : Task) (rs : List Reply) : Type 0 where
+  pub asked : run.asked ≡ first_place t + length rs + 1
+  pub gathered : GathersRest run.gathered t rs
+
 -- the items that are left, in the order in which they are asked about
 abbrev pub left : PredicateRun → List Value
-left run = reverse run.left.items
+left run = left_of run.left
 
 -- how many they are
 abbrev pub to_ask : PredicateRun → ℕ
-to_ask run = vec_len run.left
-
-abbrev pub question_of : Lent → Question
-question_of q = record { item = q.item.now; index = option_map (λ v. v.now) q.index; acc = option_map (λ v. v.now) q.acc }
+to_ask run = length (left run)

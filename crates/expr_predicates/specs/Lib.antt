@@ -1,7 +1,10 @@
+pub mod Arrays
 pub mod Calls
 pub mod Gathered
 pub mod Grouped
 pub mod Grouping
+pub mod Lefts
+pub mod Questions
 pub mod Replies
 pub mod Runs
 pub mod Sorting

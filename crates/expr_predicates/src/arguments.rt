@@ -1,28 +1,34 @@
 //! The arguments of a call that asks a predicate.
-ghost use Rattle.std.specs.Prelude.{◌≡◌, ◌≢◌, IfOk, IfErr, Ok, Err, Some, None};
+ghost use Rattle.std.specs.Prelude.{◌≡◌, ◌≢◌, IfOk, IfErr, Ok, Err};
 ghost use Rattle.expr_value.specs.Answers.{Is};
-ghost use Rattle.expr_value.specs.Fault.{fault_of, memory, evaluation};
-ghost use Rattle.expr_value.specs.Values.{items_of, string_of};
+ghost use Rattle.expr_value.specs.Fault.{fault_of, memory};
+ghost use Rattle.expr_value.specs.Values.{string_of};
+ghost use Rattle.expr_predicates.specs.Arrays.{items_held};
 ghost use Rattle.expr_predicates.specs.Calls.{array_and_more, direction_named, direction_of};
 
-use expr_value::{Result, Value, refusal};
+use crate::array::{Array, array_of};
+use expr_held::Held;
+use expr_value::{Items, Result, Value, refusal};
 use std::alloc::Global;
 
 /// The items of an array, and one more argument if there is one.
-pub(crate) fn array_and_more(alloc: Global, args: Vec<Value>) -> Result<(Vec<Value>, Option<Value>)>
-    ensures value { IfOk result (λ p. array_and_more args.items ≡ Ok (p.0.items, p.1)) }
-    ensures refusal { IfErr result (λ e. fault_of e ≢ memory → array_and_more args.items ≡ Err (fault_of e)) }
+pub(crate) fn array_and_more<'s>(
+    alloc: Global,
+    args: Items<Held<'s>>,
+) -> Result<(Array<'s>, Option<Held<'s>>)>
+    ensures value { IfOk result (λ p. array_and_more args.entry ≡ Ok (items_held p.0, p.1)) }
+    ensures refusal { IfErr result (λ e. fault_of e ≢ memory → array_and_more args.entry ≡ Err (fault_of e)) }
 {
-    let mut args = args;
+    let mut args = args.into_vec();
     if args.len() == 1 {
         if let Some(array) = args.pop() {
-            return Ok((items_of(alloc, array)?, None));
+            return Ok((array_of(alloc, array)?, None));
         }
     }
     if args.len() == 2 {
         if let Some(more) = args.pop() {
             if let Some(array) = args.pop() {
-                return Ok((items_of(alloc, array)?, Some(more)));
+                return Ok((array_of(alloc, array)?, Some(more)));
             }
         }
     }
@@ -44,22 +50,11 @@ pub(crate) fn direction(alloc: Global, order: &Value) -> Result<bool>
 }
 
 /// Whether an order is downward, which it isn't where none is given.
-pub(crate) fn is_downward(alloc: Global, order: Option<Value>) -> Result<bool>
-    ensures { Is result (direction_of order) }
+pub(crate) fn is_downward(alloc: Global, order: Option<Held<'_>>) -> Result<bool>
+    ensures { Is result (direction_of order.entry) }
 {
     match order {
-        Some(order) => direction(alloc, &order),
+        Some(order) => direction(alloc, order.get()),
         None => Ok(false),
-    }
-}
-
-/// The items of an array.
-fn items_of(alloc: Global, value: Value) -> Result<Vec<Value>>
-    ensures value { IfOk result (λ v. items_of value ≡ Some v.items) }
-    ensures refusal { IfErr result (λ e. fault_of e ≢ memory → (items_of value ≡ None) × (fault_of e ≡ evaluation)) }
-{
-    match value {
-        Value::Array(items) => Ok(items.into_vec()),
-        _ => Err(refusal(alloc, "the function takes an array")),
     }
 }

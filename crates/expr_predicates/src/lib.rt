@@ -2,10 +2,12 @@
 #![tactic(auto)]
 
 mod arguments;
+mod array;
 mod asking;
 mod grouping;
 mod kept;
 mod laws;
+mod left;
 mod noted;
 mod question;
 mod run;
@@ -15,5 +17,5 @@ pub use asking::Asking;
 pub use laws::{
     a_list_has_one_stable_order, a_run_is_a_list_of_replies, none_is_the_opposite_of_any,
 };
-pub use question::Question;
+pub use question::{Asked, Question};
 pub use run::{PredicateRun, sort};

@@ -1,11 +1,45 @@
 //! What is asked about one item.
-ghost use Rattle.expr_value.specs.Answers.{Gives};
-ghost use Rattle.expr_predicates.specs.Gathered.{question_of};
-ghost use Rattle.expr_predicates.specs.Runs.{AsksItself};
+ghost use Rattle.std.specs.Prelude.{◌≡◌};
+ghost use Rattle.expr_predicates.specs.Questions.{asked_of, question_of};
 
-use expr_value::{Result, Value};
+use expr_held::Held;
+use expr_value::Value;
 
-/// What a predicate is asked about.
+/// What a predicate is asked about, handed out by value. The item is given back with the answer.
+#[derive(Drop)]
+pub struct Asked<'s> {
+    /// The item, which `#` is.
+    pub item: Held<'s>,
+    /// The place of the item in the array, from 0, where the built-in binds `#index`.
+    pub index: Option<Value>,
+    /// What has been made so far, where the built-in binds `#acc`.
+    pub acc: Option<Value>,
+}
+
+impl<'s> Asked<'s> {
+    /// The same, to be read.
+    #[inline]
+    pub fn question(&self) -> Question<'_>
+        ensures { question_of result ≡ asked_of self.now }
+    {
+        Question {
+            item: self.item.get(),
+            index: self.index.as_ref(),
+            acc: self.acc.as_ref(),
+        }
+    }
+
+    /// The item, to be given back.
+    #[inline]
+    pub fn into_item(self) -> Held<'s>
+        ensures { result ≡ self.entry.item }
+    {
+        let Asked { item, .. } = self;
+        item
+    }
+}
+
+/// What a predicate is asked about, to be read.
 #[derive(Clone, Copy)]
 pub struct Question<'r> {
     /// The item, which `#` is.
@@ -14,13 +48,4 @@ pub struct Question<'r> {
     pub index: Option<&'r Value>,
     /// What has been made so far, where the built-in binds `#acc`.
     pub acc: Option<&'r Value>,
-}
-
-impl<'r> Question<'r> {
-    /// A copy of the item, which is the answer about itself where no predicate is given.
-    pub(crate) fn itself(self) -> Result<Value>
-        ensures { Gives result (AsksItself (question_of self.entry)) }
-    {
-        Ok(self.item.clone()?)
-    }
 }

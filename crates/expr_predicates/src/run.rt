@@ -1,17 +1,21 @@
 //! A run of a predicate over the items of an array.
-ghost use Rattle.std.specs.Prelude.{◌≡◌, ◌≢◌, ◌+◌, ◌<◌, ◌^◌, ◌∷◌, ◌++◌, [], List, reverse, vec_len, length, IfOk, IfErr, IfSome, Ok, Err, Some, None, option_map, true, false};
+ghost use Rattle.std.specs.Prelude.{◌≡◌, ◌≢◌, ◌+◌, ◌<◌, ◌^◌, ◌∷◌, ◌++◌, [], List, reverse, length, IfOk, IfErr, IfSome, Ok, Err, Some, None, option_map, true, false};
 ghost use Rattle.expr_value.specs.Answers.{Gives};
-ghost use Rattle.expr_predicates.specs.Calls.{SortsItems};
 ghost use Rattle.expr_value.specs.Fault.{fault_of, memory, evaluation};
-ghost use Rattle.expr_value.specs.declared.value.Value.{Value};
+ghost use Rattle.expr_predicates.specs.Arrays.{items_held};
+ghost use Rattle.expr_predicates.specs.Calls.{SortsItems};
+ghost use Rattle.expr_predicates.specs.Lefts.{left_of};
 
 use crate::arguments::{array_and_more, direction, is_downward};
+use crate::array::{Array, count_items, into_items};
 use crate::asking::Asking;
-use crate::kept::{Kept, Mapped, Reduced};
+use crate::kept::Kept;
+use crate::left::Left;
 use crate::noted::Noted;
-use crate::question::Question;
+use crate::question::Asked;
 use crate::sorting::sorted_alone;
-use expr_value::{Result, Value, refusal};
+use expr_held::Held;
+use expr_value::{Items, Result, Value, refusal};
 use std::alloc::Global;
 
 /// What is kept of the answers so far.
@@ -23,7 +27,8 @@ enum Gathered {
 
 impl Gathered {
     ghost use Rattle.expr_predicates.specs.Tasks.{Task, Reply, Outcome, about, first_place, refused, stopped};
-    ghost use Rattle.expr_predicates.specs.Gathered.{Gathers, question_of};
+    ghost use Rattle.expr_predicates.specs.Gathered.{Gathers, GathersRest};
+    ghost use Rattle.expr_predicates.specs.Questions.{asked_of};
 
     /// Whether no more is to be asked.
     fn has_stopped(&self) -> bool
@@ -35,22 +40,25 @@ impl Gathered {
         }
     }
 
-    /// What is asked about an item.
-    fn question<'r>(&'r self, item: &'r Value) -> Question<'r>
-        ensures { (t : Task) (rs : List Reply) → Gathers self.now t rs → question_of result ≡ about t rs item.now }
+    /// What is asked about the item at a place. What has been made so far goes out with it.
+    fn ask<'s>(&mut self, place: usize, item: Held<'s>) -> Asked<'s>
+        ensures item { result.item ≡ item.entry }
+        ensures asked { (t : Task) (rs : List Reply) → Gathers self.old t rs → place ≡ first_place t + length rs
+            → asked_of result ≡ about t rs item.entry }
+        ensures gathered { (t : Task) (rs : List Reply) → Gathers self.old t rs → GathersRest self.new t rs }
     {
         match self {
-            Gathered::Kept(Kept::Map(mapped)) => Question {
+            Gathered::Kept(Kept::Map(_)) => Asked {
                 item,
-                index: Some(&mapped.place),
+                index: Some(Value::from(place)),
                 acc: None,
             },
-            Gathered::Kept(Kept::Reduce(reduced)) => Question {
+            Gathered::Kept(Kept::Reduce(acc)) => Asked {
                 item,
-                index: Some(&reduced.place),
-                acc: Some(&reduced.acc),
+                index: Some(Value::from(place)),
+                acc: Some(std::mem::replace(acc, Value::Nil)),
             },
-            _ => Question {
+            _ => Asked {
                 item,
                 index: None,
                 acc: None,
@@ -58,17 +66,34 @@ impl Gathered {
         }
     }
 
-    /// One more answer, about the item that stands behind so many others.
-    fn take(&mut self, alloc: Global, asked: usize, item: Value, answer: Value) -> Result<()>
-        requires { asked + 1 < 2 ^ 64 }
-        ensures gathered { IfOk result (λ _. (t : Task) (rs : List Reply) → Gathers self.old t rs → asked ≡ first_place t + length rs
-            → Gathers self.new t (rs ++ (item, answer) ∷ []) × (refused t answer ≡ false)) }
-        ensures refused { IfErr result (λ e. fault_of e ≢ memory → (t : Task) (rs : List Reply) → Gathers self.old t rs
+    /// One more answer, about the item at a place.
+    fn take(&mut self, alloc: Global, place: usize, item: Held<'_>, answer: Value) -> Result<()>
+        requires { place + 1 < 2 ^ 64 }
+        ensures gathered { IfOk result (λ _. (t : Task) (rs : List Reply) → GathersRest self.old t rs → place ≡ first_place t + length rs
+            → Gathers self.new t (rs ++ (item.entry, answer) ∷ []) × (refused t answer ≡ false)) }
+        ensures refused { IfErr result (λ e. fault_of e ≢ memory → (t : Task) (rs : List Reply) → GathersRest self.old t rs
             → (refused t answer ≡ true) × (fault_of e ≡ evaluation)) }
     {
         match self {
-            Gathered::Noted(noted) => noted.take(alloc, asked, &answer),
-            Gathered::Kept(kept) => kept.take(alloc, asked, item, answer),
+            Gathered::Noted(noted) => noted.take(alloc, place, &answer),
+            Gathered::Kept(kept) => kept.take(alloc, item, answer),
+        }
+    }
+
+    /// The item at a place, as the answer about itself.
+    fn take_itself(&mut self, alloc: Global, place: usize, item: Held<'_>) -> Result<()>
+        requires { place + 1 < 2 ^ 64 }
+        ensures gathered { IfOk result (λ _. (t : Task) (rs : List Reply) → GathersRest self.old t rs → place ≡ first_place t + length rs
+            → Gathers self.new t (rs ++ (item.entry, item.entry) ∷ []) × (refused t item.entry ≡ false)) }
+        ensures refused { IfErr result (λ e. fault_of e ≢ memory → (t : Task) (rs : List Reply) → GathersRest self.old t rs
+            → (refused t item.entry ≡ true) × (fault_of e ≡ evaluation)) }
+    {
+        match self {
+            Gathered::Noted(noted) => noted.take(alloc, place, item.get()),
+            Gathered::Kept(kept) => {
+                let answer = item.get().clone()?;
+                kept.take(alloc, item, answer)
+            }
         }
     }
 
@@ -83,114 +108,127 @@ impl Gathered {
     }
 }
 
-/// A built-in between two answers of its predicate. It runs no predicate: it says what is asked next, takes the answer,
-/// and gives its value once no more is asked.
-#[derive(Drop)]
-pub struct PredicateRun {
-    /// The items that are left; the next one is the last.
-    left: Vec<Value>,
-    /// How many stand before the next one.
+/// A built-in between two answers of its predicate. It runs no predicate: it hands out what is asked next, takes it back
+/// with the answer, and gives its value once no more is asked. Items that are lent to it are copied only where they are
+/// kept.
+pub struct PredicateRun<'s> {
+    left: Left<'s>,
+    /// How many items have been handed out.
     asked: usize,
     gathered: Gathered,
-    ghost fits: { asked + vec_len left < 2 ^ 64 },
+    ghost fits: { asked + length (left_of left) < 2 ^ 64 },
 }
 
-impl PredicateRun {
-    ghost use Rattle.expr_value.specs.Answers.{Answer, Gives};
+// Written out so that letting go of one is a single step in the proofs above.
+impl<'s> Drop for PredicateRun<'s> {
+    #[inline(always)]
+    fn drop(self) {
+        let PredicateRun {
+            left: _,
+            asked: _,
+            gathered: _,
+        } = self;
+    }
+}
+
+impl<'s> PredicateRun<'s> {
+    ghost use Rattle.expr_value.specs.declared.value.Value.{Value};
     ghost use Rattle.expr_predicates.specs.Calls.{begun, reduced_from_first, started};
-    ghost use Rattle.expr_predicates.specs.Gathered.{Stands, left, question_of, to_ask};
+    ghost use Rattle.expr_predicates.specs.Gathered.{Awaits, Stands, left, to_ask};
+    ghost use Rattle.expr_predicates.specs.Questions.{asked_of};
     ghost use Rattle.expr_predicates.specs.Runs.{Asks, AsksItself, next_question};
-    ghost use Rattle.expr_predicates.specs.Tasks.{Task, Reply, Outcome, refused, stopped};
+    ghost use Rattle.expr_predicates.specs.Tasks.{Task, Reply, Outcome, refused};
 
     /// A built-in on its arguments, with or without a predicate: an array, and for `reduce` what it begins with or for
-    /// `sortBy` its direction. The items are moved out of the array. Other arguments, no predicate where one is needed, and
-    /// `reduce` of no items with nothing to begin with are refused with [`Error::ExprError`](expr_value::Error::ExprError).
+    /// `sortBy` its direction. An array that is lent stays where it stands. Other arguments, no predicate where one is
+    /// needed, and `reduce` of no items with nothing to begin with are refused with
+    /// [`Error::ExprError`](expr_value::Error::ExprError).
     pub fn begin(
         alloc: Global,
         asking: Asking,
-        args: Vec<Value>,
+        args: Items<Held<'s>>,
         given: bool,
-    ) -> Result<PredicateRun>
-        ensures begun { IfOk result (λ r. (t : Task) × (begun asking args.items given ≡ Ok (record { task = t; items = left r })) × Stands r t []) }
-        ensures refused { IfErr result (λ e. fault_of e ≢ memory → begun asking args.items given ≡ Err (fault_of e)) }
+    ) -> Result<PredicateRun<'s>>
+        ensures begun { IfOk result (λ r. (t : Task) × (begun asking args.entry given ≡ Ok (record { task = t; items = left r })) × Stands r t []) }
+        ensures refused { IfErr result (λ e. fault_of e ≢ memory → begun asking args.entry given ≡ Err (fault_of e)) }
     {
         if !given && !asking.runs_alone() {
             return Err(refusal(alloc, "the function takes a predicate"));
         }
-        let (items, more) = array_and_more(alloc, args)?;
+        let (array, more) = array_and_more(alloc, args)?;
         match more {
-            None => PredicateRun::on(alloc, asking, items),
-            Some(more) => PredicateRun::on_more(alloc, asking, items, more),
+            None => PredicateRun::on(alloc, asking, array),
+            Some(more) => PredicateRun::on_more(alloc, asking, array, more),
         }
     }
 
-    /// A built-in on the items of an array alone.
-    fn on(alloc: Global, asking: Asking, items: Vec<Value>) -> Result<PredicateRun>
-        ensures begun { IfOk result (λ r. (t : Task) × (started asking items.items None ≡ Ok (record { task = t; items = left r })) × Stands r t []) }
-        ensures refused { IfErr result (λ e. fault_of e ≢ memory → started asking items.items None ≡ Err (fault_of e)) }
+    /// A built-in on an array alone.
+    fn on(alloc: Global, asking: Asking, array: Array<'s>) -> Result<PredicateRun<'s>>
+        ensures begun { IfOk result (λ r. (t : Task) × (started asking (items_held array.entry) None ≡ Ok (record { task = t; items = left r })) × Stands r t []) }
+        ensures refused { IfErr result (λ e. fault_of e ≢ memory → started asking (items_held array.entry) None ≡ Err (fault_of e)) }
     {
         match asking {
-            Asking::All => Ok(PredicateRun::forward(items, Gathered::Noted(Noted::All(false)))),
-            Asking::Any => Ok(PredicateRun::forward(items, Gathered::Noted(Noted::Any(false)))),
+            Asking::All => Ok(PredicateRun::forward(array, Gathered::Noted(Noted::All(false)))),
+            Asking::Any => Ok(PredicateRun::forward(array, Gathered::Noted(Noted::Any(false)))),
             Asking::NoneOf => Ok(PredicateRun::forward(
-                items,
+                array,
                 Gathered::Noted(Noted::NoneOf(false)),
             )),
-            Asking::One => Ok(PredicateRun::forward(items, Gathered::Noted(Noted::One(0)))),
+            Asking::One => Ok(PredicateRun::forward(array, Gathered::Noted(Noted::One(0)))),
             Asking::Map => Ok(PredicateRun::forward(
-                items,
-                Gathered::Kept(Kept::Map(Mapped::new(alloc))),
+                array,
+                Gathered::Kept(Kept::Map(Vec::new(alloc))),
             )),
             Asking::Filter => Ok(PredicateRun::forward(
-                items,
+                array,
                 Gathered::Kept(Kept::Filter(Vec::new(alloc))),
             )),
-            Asking::Find => Ok(PredicateRun::forward(items, Gathered::Kept(Kept::Find(None)))),
+            Asking::Find => Ok(PredicateRun::forward(array, Gathered::Kept(Kept::Find(None)))),
             Asking::FindIndex => Ok(PredicateRun::forward(
-                items,
+                array,
                 Gathered::Noted(Noted::FindIndex(None)),
             )),
-            Asking::FindLast => Ok(PredicateRun::backward(items, Gathered::Kept(Kept::Find(None)))),
+            Asking::FindLast => Ok(PredicateRun::backward(array, Gathered::Kept(Kept::Find(None)))),
             Asking::FindLastIndex => {
-                let count = items.len();
+                let count = count_items(&array);
                 Ok(PredicateRun::backward(
-                    items,
+                    array,
                     Gathered::Noted(Noted::FindLastIndex(count, None)),
                 ))
             }
-            Asking::Count => Ok(PredicateRun::forward(items, Gathered::Noted(Noted::Count(0)))),
-            Asking::Sum => Ok(PredicateRun::forward(items, Gathered::Noted(Noted::Sum(0)))),
-            Asking::Reduce => PredicateRun::from_first(alloc, items),
+            Asking::Count => Ok(PredicateRun::forward(array, Gathered::Noted(Noted::Count(0)))),
+            Asking::Sum => Ok(PredicateRun::forward(array, Gathered::Noted(Noted::Sum(0)))),
+            Asking::Reduce => PredicateRun::from_first(alloc, array),
             Asking::GroupBy => Ok(PredicateRun::forward(
-                items,
+                array,
                 Gathered::Kept(Kept::GroupBy(Vec::new(alloc))),
             )),
             Asking::SortBy => Ok(PredicateRun::forward(
-                items,
+                array,
                 Gathered::Kept(Kept::SortBy(false, Vec::new(alloc))),
             )),
         }
     }
 
-    /// A built-in on the items of an array and one more argument.
+    /// A built-in on an array and one more argument.
     fn on_more(
         alloc: Global,
         asking: Asking,
-        items: Vec<Value>,
-        more: Value,
-    ) -> Result<PredicateRun>
-        ensures begun { IfOk result (λ r. (t : Task) × (started asking items.items (Some more) ≡ Ok (record { task = t; items = left r })) × Stands r t []) }
-        ensures refused { IfErr result (λ e. fault_of e ≢ memory → started asking items.items (Some more) ≡ Err (fault_of e)) }
+        array: Array<'s>,
+        more: Held<'_>,
+    ) -> Result<PredicateRun<'s>>
+        ensures begun { IfOk result (λ r. (t : Task) × (started asking (items_held array.entry) (Some more.entry) ≡ Ok (record { task = t; items = left r })) × Stands r t []) }
+        ensures refused { IfErr result (λ e. fault_of e ≢ memory → started asking (items_held array.entry) (Some more.entry) ≡ Err (fault_of e)) }
     {
         match asking {
-            Asking::Reduce => Ok(PredicateRun::forward(
-                items,
-                Gathered::Kept(Kept::Reduce(Reduced::new(more, 0))),
-            )),
+            Asking::Reduce => {
+                let init = more.into_value()?;
+                Ok(PredicateRun::forward(array, Gathered::Kept(Kept::Reduce(init))))
+            }
             Asking::SortBy => {
-                let down = direction(alloc, &more)?;
+                let down = direction(alloc, more.get())?;
                 Ok(PredicateRun::forward(
-                    items,
+                    array,
                     Gathered::Kept(Kept::SortBy(down, Vec::new(alloc))),
                 ))
             }
@@ -199,89 +237,101 @@ impl PredicateRun {
     }
 
     /// A run that asks about the items from the front.
-    fn forward(items: Vec<Value>, gathered: Gathered) -> PredicateRun
-        ensures left { left result ≡ items.items }
+    fn forward(array: Array<'s>, gathered: Gathered) -> PredicateRun<'s>
+        ensures left { left result ≡ items_held array.entry }
         ensures asked { result.asked ≡ 0 }
         ensures gathered { result.gathered ≡ gathered }
     {
-        let mut left = items;
-        left.reverse();
         PredicateRun {
-            left,
+            left: Left::forward(array),
             asked: 0,
             gathered,
         }
     }
 
     /// A run that asks about the items from the back.
-    fn backward(items: Vec<Value>, gathered: Gathered) -> PredicateRun
-        ensures left { left result ≡ reverse items.items }
+    fn backward(array: Array<'s>, gathered: Gathered) -> PredicateRun<'s>
+        ensures left { left result ≡ reverse (items_held array.entry) }
         ensures asked { result.asked ≡ 0 }
         ensures gathered { result.gathered ≡ gathered }
     {
         PredicateRun {
-            left: items,
+            left: Left::backward(array),
             asked: 0,
             gathered,
         }
     }
 
-    /// A run that begins with the first item as what has been made so far.
-    fn from_first(alloc: Global, items: Vec<Value>) -> Result<PredicateRun>
-        ensures begun { IfOk result (λ r. (t : Task) × (reduced_from_first items.items ≡ Ok (record { task = t; items = left r })) × Stands r t []) }
-        ensures refused { IfErr result (λ e. fault_of e ≢ memory → reduced_from_first items.items ≡ Err (fault_of e)) }
+    /// A run that begins with the first item as what has been made so far, which is copied where it is lent.
+    fn from_first(alloc: Global, array: Array<'s>) -> Result<PredicateRun<'s>>
+        ensures begun { IfOk result (λ r. (t : Task) × (reduced_from_first (items_held array.entry) ≡ Ok (record { task = t; items = left r })) × Stands r t []) }
+        ensures refused { IfErr result (λ e. fault_of e ≢ memory → reduced_from_first (items_held array.entry) ≡ Err (fault_of e)) }
     {
-        let mut left = items;
-        left.reverse();
+        let mut left = Left::forward(array);
         match left.pop() {
-            Some(first) => Ok(PredicateRun {
-                left,
-                asked: 1,
-                gathered: Gathered::Kept(Kept::Reduce(Reduced::new(first, 1))),
-            }),
+            Some(first) => {
+                let acc = first.into_value()?;
+                Ok(PredicateRun {
+                    left,
+                    asked: 1,
+                    gathered: Gathered::Kept(Kept::Reduce(acc)),
+                })
+            }
             None => Err(refusal(alloc, "reduce of no items takes a value to begin with")),
         }
     }
 
-    /// What is asked next, or none where no more is.
-    pub fn next(&self) -> Option<Question<'_>>
-        ensures question { (t : Task) (rs : List Reply) → Stands self.now t rs → option_map question_of result ≡ next_question t rs (left self.now) }
-        ensures more { IfSome result (λ _. 0 < to_ask self.now) }
+    /// What is asked next, handed out by value, or none where no more is.
+    pub fn next(&mut self) -> Option<Asked<'s>>
+        ensures question { (t : Task) (rs : List Reply) → Stands self.old t rs → option_map asked_of result ≡ next_question t rs (left self.old) }
+        ensures out { IfSome result (λ q. (t : Task) (rs : List Reply) → Stands self.old t rs
+            → (left self.old ≡ q.item ∷ left self.new) × Awaits self.new t rs) }
+        ensures fewer { IfSome result (λ _. to_ask self.new < to_ask self.old) }
+        ensures done { result ≡ None → (t : Task) (rs : List Reply) → Stands self.old t rs → Stands self.new t rs }
     {
         if self.gathered.has_stopped() {
             return None;
         }
-        let item = self.left.last()?;
-        Some(self.gathered.question(item))
+        let item = self.left.pop()?;
+        let place = self.asked;
+        self.asked += 1;
+        Some(self.gathered.ask(place, item))
     }
 
-    /// Takes the answer to what is asked next: the item and the answer are moved. An answer that is no boolean for `count`,
-    /// no integer for `sum` or no scalar for `groupBy` is refused with [`Error::ExprError`](expr_value::Error::ExprError),
-    /// and nothing is left of the run. Where nothing is asked next, the answer is let go.
-    pub fn answer(&mut self, alloc: Global, answer: Value) -> Result<()>
-        ensures value { IfOk result (λ _. (t : Task) (rs : List Reply) (x : Value) (rest : List Value) → Stands self.old t rs → left self.old ≡ x ∷ rest
-            → (refused t answer ≡ false) × (left self.new ≡ rest) × Stands self.new t (rs ++ (x, answer) ∷ [])) }
-        ensures refused { IfErr result (λ e. fault_of e ≢ memory → (t : Task) (rs : List Reply) → Stands self.old t rs
+    /// Takes an item back that was handed out, with the answer about it. An answer that is no boolean for `count`, no
+    /// integer for `sum` or no scalar for `groupBy` is refused with [`Error::ExprError`](expr_value::Error::ExprError),
+    /// and nothing is left of the run.
+    pub fn answer(&mut self, alloc: Global, item: Held<'_>, answer: Value) -> Result<()>
+        ensures value { IfOk result (λ _. (t : Task) (rs : List Reply) → Awaits self.old t rs
+            → (refused t answer ≡ false) × (left self.new ≡ left self.old) × Stands self.new t (rs ++ (item.entry, answer) ∷ [])) }
+        ensures refused { IfErr result (λ e. fault_of e ≢ memory → (t : Task) (rs : List Reply) → Awaits self.old t rs
             → (refused t answer ≡ true) × (fault_of e ≡ evaluation)) }
-        ensures fewer { 0 < to_ask self.old → to_ask self.new < to_ask self.old }
+        ensures same { to_ask self.new ≡ to_ask self.old }
     {
-        let Some(item) = self.left.pop() else {
-            return Ok(());
-        };
-        self.gathered.take(alloc, self.asked, item, answer)?;
-        self.asked += 1;
-        Ok(())
+        let place = self.asked.saturating_sub(1);
+        self.gathered.take(alloc, place, item, answer)
+    }
+
+    /// Takes an item back that was handed out, as the answer about itself.
+    fn answer_itself(&mut self, alloc: Global, item: Held<'_>) -> Result<()>
+        ensures value { IfOk result (λ _. (t : Task) (rs : List Reply) → Awaits self.old t rs
+            → (refused t item.entry ≡ false) × (left self.new ≡ left self.old) × Stands self.new t (rs ++ (item.entry, item.entry) ∷ [])) }
+        ensures refused { IfErr result (λ e. fault_of e ≢ memory → (t : Task) (rs : List Reply) → Awaits self.old t rs
+            → (refused t item.entry ≡ true) × (fault_of e ≡ evaluation)) }
+        ensures same { to_ask self.new ≡ to_ask self.old }
+    {
+        let place = self.asked.saturating_sub(1);
+        self.gathered.take_itself(alloc, place, item)
     }
 
     /// What the run comes to where each item is the answer about itself, as for `count` and `sum` without a predicate. An
     /// item that is refused as an answer is refused with [`Error::ExprError`](expr_value::Error::ExprError).
     pub fn complete(self, alloc: Global) -> Result<Value>
-        ensures { (t : Task) → Stands self t [] → Gives result (Asks t AsksItself (left self) []) }
+        ensures { (t : Task) → Stands self.entry t [] → Gives result (Asks t AsksItself (left self.entry) []) }
     {
         let mut run = self;
-        while let Some(question) = run.next() {
-            let answer = question.itself()?;
-            run.answer(alloc, answer)?;
+        while let Some(asked) = run.next() {
+            run.answer_itself(alloc, asked.into_item())?;
         }
         run.finish(alloc)
     }
@@ -289,7 +339,7 @@ impl PredicateRun {
     /// What the answers come to, once no more is asked. Keys of `sortBy` that are neither all integers nor all texts are
     /// refused with [`Error::ExprError`](expr_value::Error::ExprError).
     pub fn finish(self, alloc: Global) -> Result<Value>
-        ensures { (t : Task) (rs : List Reply) → Stands self t rs → Gives result (Outcome t rs) }
+        ensures { (t : Task) (rs : List Reply) → Stands self.entry t rs → Gives result (Outcome t rs) }
     {
         let PredicateRun {
             left: _,
@@ -300,13 +350,14 @@ impl PredicateRun {
     }
 }
 
-/// The items of an array in their order, upward or, with `"desc"`, downward, each being its own key. No predicate is asked,
-/// and no item is copied. Items that are neither all integers nor all texts, and other arguments, are refused with
-/// [`Error::ExprError`](expr_value::Error::ExprError).
-pub fn sort(alloc: Global, args: Vec<Value>) -> Result<Value>
-    ensures { Gives result (SortsItems args.items) }
+/// The items of an array in their order, upward or, with `"desc"`, downward, each being its own key. No predicate is
+/// asked, and items are copied only where the array is lent. Items that are neither all integers nor all texts, and other
+/// arguments, are refused with [`Error::ExprError`](expr_value::Error::ExprError).
+pub fn sort(alloc: Global, args: Items<Held<'_>>) -> Result<Value>
+    ensures { Gives result (SortsItems args.entry) }
 {
-    let (items, order) = array_and_more(alloc, args)?;
+    let (array, order) = array_and_more(alloc, args)?;
     let down = is_downward(alloc, order)?;
+    let items = into_items(alloc, array)?;
     sorted_alone(alloc, down, items)
 }

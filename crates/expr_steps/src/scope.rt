@@ -3,7 +3,7 @@ ghost use Rattle.std.specs.Prelude.{◌≡◌, Some, MatchOption, bytes_eq, code
 ghost use Rattle.std.specs.Option.{option_copied};
 ghost use Rattle.expr_steps.specs.Context.{Context, asked_in};
 ghost use Rattle.expr_steps.specs.Scope.{inside, overridden};
-ghost use Rattle.expr_predicates.specs.Gathered.{question_of};
+ghost use Rattle.expr_predicates.specs.Questions.{question_of};
 
 use expr_predicates::Question;
 use expr_value::{ContextProvider, Value};

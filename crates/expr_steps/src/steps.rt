@@ -1,5 +1,6 @@
 //! What an evaluation does with the values of parts.
-ghost use Rattle.std.specs.Prelude.{◌≡◌, ◌≢◌, [], Ok, Err, IfErr, IfOk, IsTrue, bytes_eq, codes};
+ghost use Rattle.std.specs.Prelude.{◌≡◌, ◌≢◌, ℕ, List, [], Ok, Err, Some, IfErr, IfOk, IsTrue, bytes_eq, codes};
+ghost use Rattle.std.specs.Option.{option_copied};
 ghost use Rattle.expr_steps.specs.Given.{given_bound, listed};
 ghost use Rattle.expr_steps.specs.Methods.{AllowsDurationMethod, AllowsMethod, AllowsMomentMethod, AllowsNameMethod};
 ghost use Rattle.expr_steps.specs.Context.{looked_up};
@@ -9,7 +10,7 @@ ghost use Rattle.expr_operators.specs.Operators.{applied, prefixed, truth, truth
 ghost use Rattle.expr_operators.specs.Plain.{is_plain_operator, is_plain_value, Surely};
 ghost use Rattle.expr_operators.specs.Positions.{bound_checked, indexed, ranged, sliced};
 ghost use Rattle.expr_value.specs.Answers.{Gives, Is};
-ghost use Rattle.expr_value.specs.Fault.{fault_of, memory};
+ghost use Rattle.expr_value.specs.Fault.{fault_of, memory, pattern as bad_pattern};
 ghost use Rattle.expr_value.specs.Names.{put_all};
 ghost use Rattle.expr_value.specs.declared.value.Value as value;
 
@@ -89,7 +90,9 @@ pub fn match_held<'s>(
     source: &Held<'_>,
     kept: Option<&Pattern>,
 ) -> Result<Held<'s>>
-    ensures { Gives result (Matched text.now source.now) }
+    ensures answer { Gives result (Matched text.now source.now) }
+    ensures kept { (s : List ℕ) → source.now ≡ value.String s → option_copied kept.entry ≡ Some s
+        → IfErr result (λ e. fault_of e ≢ bad_pattern) }
 {
     let value = match_pattern(alloc, text.get(), source.get(), kept)?;
     Ok(Held::own(value))

@@ -1,11 +1,12 @@
-use Rattle.std.proofs.Common.{◌≡◌, ◌&&◌, IsTrue, ◌+◌, ◌≤◌, ◌++◌, List, [], ◌∷◌, length, map, get_or, drop, arith, rules, true, sym, ap, ◌∙◌, subst, refl, Ok, Err, String, Global, string_bytes}
+use Rattle.std.proofs.Common.{◌≡◌, ◌&&◌, IsTrue, ◌+◌, ◌≤◌, ◌++◌, List, [], ◌∷◌, length, map, get_or, drop, arith, rules, true, sym, ap, ◌∙◌, subst, refl, ◌≢◌, Ok, Err, String, Global, string_bytes}
 use Rattle.std.proofs.lemmas.List.{drop_all}
 use denote.Param.Weighed.{most, at_most}
 use Rattle.expr_tree.specs.declared.node.Node.TheShapes.{weighed-Node-Map-0-at-2}
 use Rattle.expr_tree.proofs.node.Node.TheLaws.{the_size}
 use Rattle.expr_tree.proofs.Shapes.{written-Func, written-Slice}
-use Rattle.expr_predicates.proofs.Turns.{turn_on, turn_refused, turn_misanswered, turn_done}
-use Rattle.expr_predicates.specs.Gathered.{left, question_of}
+use Rattle.expr_predicates.proofs.Turns.{Answers, turn_on, turn_refused, turn_misanswered, turn_done}
+use Rattle.expr_predicates.specs.Gathered.{left}
+use Rattle.expr_predicates.specs.Questions.{asked_of}
 use Rattle.expr_predicates.specs.Runs.{Asks}
 use Rattle.expr_predicates.specs.Tasks.{Question}
 use Rattle.expr_tree.specs.Term.{call, mapping, operation, predicate, slice}
@@ -13,7 +14,7 @@ use Rattle.expr_meaning.specs.Begun.{Begins}
 use Rattle.expr_meaning.proofs.Begun.{AllowsCall-answered, AllowsCall-refused, AllowsCall-run}
 use Rattle.expr_tree.specs.Written.{written, bound_written, postfix_written, predicate_written, program_written, block_of}
 use Rattle.expr_tree.specs.declared.node.Node.{Node}
-use Rattle.expr_value.specs.Fault.{fault_of}
+use Rattle.expr_value.specs.Fault.{fault_of, pattern}
 use Rattle.expr_value.specs.Names.{put_all}
 use Rattle.expr_value.specs.declared.value.Value as value
 use Rattle.expr_value.specs.declared.value.Value.{Value}
@@ -36,6 +37,7 @@ use Rattle.expr_meaning.proofs.Literal.{OnLiteral, OnLiteral-continued, OnLitera
 use Rattle.expr_evaluation.proofs.Allowed.{prepended, drop-at, loop-step, loop-failed, loop-done, AllowsAll-first, AllowsPairs-first, AllowsBlock-line, AllowsMore-all, AllowsMore-rest}
 use Rattle.expr_value.proofs.Answered.{Gives-of-Is, Gives-passed, Gives-under, first_of-After}
 use Rattle.expr_operators.proofs.Plainly.{Surely-at}
+use Rattle.expr_evaluation.proofs.Handed.{handed-not-Both, handed-not-EndsAtFalse, handed-not-EndsAtTrue, handed-refused, handed-value, refusal-passed}
 use Rattle.expr_evaluation.proofs.Plainly.{Ident-plain, Array-plain, Map-plain, Range-plain, Func-plain, Postfix-plain, Conditional-plain, Allows-plain, left-true, no-lines, right-true, written-Operation, written-pairs}
 use Rattle.expr_evaluation.proofs.evaluation.Evaluation.+evaluation.Goals as goal
 
@@ -246,7 +248,31 @@ operate-returns-in-Both g t c =
           let same : second ≡ found.0 = cc (c.in_ok-second-in-Both.ensures.plain found.0 q found.1) in
           let second_plain = subst (λ w. IsTrue (is_plain_value w)) (sym same) (Allows-plain host ctx (written c.args.right.now) found.0 q found.1) in
           Surely-at c.apply_held.result (applied op first second) v (c.apply_held.ensures.plain o p second_plain) (ap (applied op first) same ∙ sym found.2);
+      handed = λ h. absurd (handed-not-Both _ _ _ h asked);
     }
+
+pub operate-returns-in-EndsAtFalse-clause-handed : goal.operate-returns-in-EndsAtFalse-clause-handed
+operate-returns-in-EndsAtFalse-clause-handed g t c = λ h. absurd (handed-not-EndsAtFalse _ _ _ h (sym c.sides_asked.ensures ∙ c.in-EndsAtFalse.is))
+
+pub operate-returns-in-EndsAtTrue-clause-handed : goal.operate-returns-in-EndsAtTrue-clause-handed
+operate-returns-in-EndsAtTrue-clause-handed g t c = λ h. absurd (handed-not-EndsAtTrue _ _ _ h (sym c.sides_asked.ensures ∙ c.in-EndsAtTrue.is))
+
+pub operate-returns-in_err-second-in-Both-clause-handed : goal.operate-returns-in_err-second-in-Both-clause-handed
+operate-returns-in_err-second-in-Both-clause-handed g t c = λ h. absurd (handed-not-Both _ _ _ h (sym c.sides_asked.ensures ∙ c.in-Both.is))
+
+pub operate-returns-in_err-source-in-Pattern-clause-handed : goal.operate-returns-in_err-source-in-Pattern-clause-handed
+operate-returns-in_err-source-in-Pattern-clause-handed g t c = λ h.
+    let host : Host = g.H.Functions.host c.args.self.now.host.now in
+    let ctx : Context = inside c.args.scope.now (g.P.ContextProvider.context c.args.self.now.provider) in
+    let e = c.in_err-source-in-Pattern.field-0.0 in
+    refusal-passed _ e (λ x. fault_of x ≢ pattern) c.from_residual-in_err-source-in-Pattern.ensures.1 (handed-refused _ _ _ h host ctx e c.in_err-source-in-Pattern.ensures.answer)
+
+pub operate-returns-in-Pattern-clause-handed : goal.operate-returns-in-Pattern-clause-handed
+operate-returns-in-Pattern-clause-handed g t c = λ h.
+    let host : Host = g.H.Functions.host c.args.self.now.host.now in
+    let ctx : Context = inside c.args.scope.now (g.P.ContextProvider.context c.args.self.now.provider) in
+    let source = c.in_ok-source-in-Pattern.source in
+    c.match_held.ensures.kept h.text (handed-value _ _ _ h host ctx source c.in_ok-source-in-Pattern.ensures.answer) h.of_text
 
 pub follow-returns-in_err-start-in-Range : goal.follow-returns-in_err-start-in-Range
 follow-returns-in_err-start-in-Range g t c =
@@ -636,49 +662,61 @@ call_with-returns-in_ok-ask-in-Asks g t c =
     let begins = subst (λ b. Begins host key vs true b) c.in-Asks.is c.in_ok-answer.ensures.begun in
     subst (λ w. AllowsCall host key vs true asks (Ok w)) (sym c.own-in-Asks.ensures) (AllowsCall-run host key vs true asks c.in-Asks.run' begins (Ok v) c.in_ok-ask-in-Asks.ensures)
 
-pub ask-loop-question-preserved : goal.ask-loop-question-preserved
-ask-loop-question-preserved g t c = λ u s.
+pub ask-loop-asked-preserved : goal.ask-loop-asked-preserved
+ask-loop-asked-preserved g t c = λ u s.
     let host : Host = g.H.Functions.host c.args.self.now.host.now in
     let ctx : Context = inside c.args.scope.now (g.P.ContextProvider.context c.args.self.now.provider) in
     let asks : Question → Answer → Type 0 = AllowsAsked host ctx (predicate (program_written c.args.program.now)) in
-    let at = c.loop-question.invariant u s in
+    let at = c.loop-asked.invariant u s in
     let whole : Answer → Type 0 = Asks u asks (left c.args.run) [] in
-    let run = c.loop-question.run in
-    let q = question_of c.in-Some.question in
+    let run = c.loop-asked.run in
+    let out = c.next.new.self in
+    let q = asked_of c.in-Some.asked in
     let next = sym (c.in-Some.ensures.question u at.0 at.1) in
-    turn_on asks whole u run q at next c.in_ok-answer.answer c.answer.new.self c.in_ok-answer.ensures c.in_ok-answer-2.ensures.value
+    let v = c.in_ok-answer.answer in
+    let said : asks q (Ok v) = subst (λ x. asks x (Ok v)) c.question.ensures c.in_ok-answer.ensures in
+    turn_on asks whole u run out q at next c.in-Some.ensures.out v c.answer.new.self said (subst (λ x. Answers out x v c.answer.new.self) c.into_item.ensures c.in_ok-answer-2.ensures.value)
 
 pub ask-returns-in_err-answer : goal.ask-returns-in_err-answer
 ask-returns-in_err-answer g t c = λ u s.
     let host : Host = g.H.Functions.host c.args.self.now.host.now in
     let ctx : Context = inside c.args.scope.now (g.P.ContextProvider.context c.args.self.now.provider) in
     let asks : Question → Answer → Type 0 = AllowsAsked host ctx (predicate (program_written c.args.program.now)) in
-    let at = c.loop-question.invariant u s in
+    let at = c.loop-asked.invariant u s in
     let whole : Answer → Type 0 = Asks u asks (left c.args.run) [] in
-    let run = c.loop-question.run in
-    let q = question_of c.in-Some.question in
+    let run = c.loop-asked.run in
+    let out = c.next.new.self in
+    let q = asked_of c.in-Some.asked in
     let next = sym (c.in-Some.ensures.question u at.0 at.1) in
     let e = c.in_err-answer.field-0.0 in
-    Gives-passed _ e whole c.from_residual.ensures.1 (λ m. turn_refused asks whole u run q at next (fault_of e) (c.in_err-answer.ensures m))
+    Gives-passed _ e whole c.from_residual.ensures.1 (
+    λ m. turn_refused asks whole u run out q at next c.in-Some.ensures.out (fault_of e) (subst (λ x. asks x (Err (fault_of e))) c.question.ensures (c.in_err-answer.ensures m))
+    )
 
 pub ask-returns-in_err-answer-2 : goal.ask-returns-in_err-answer-2
 ask-returns-in_err-answer-2 g t c = λ u s.
     let host : Host = g.H.Functions.host c.args.self.now.host.now in
     let ctx : Context = inside c.args.scope.now (g.P.ContextProvider.context c.args.self.now.provider) in
     let asks : Question → Answer → Type 0 = AllowsAsked host ctx (predicate (program_written c.args.program.now)) in
-    let at = c.loop-question.invariant u s in
+    let at = c.loop-asked.invariant u s in
     let whole : Answer → Type 0 = Asks u asks (left c.args.run) [] in
-    let run = c.loop-question.run in
-    let q = question_of c.in-Some.question in
+    let run = c.loop-asked.run in
+    let out = c.next.new.self in
+    let q = asked_of c.in-Some.asked in
     let next = sym (c.in-Some.ensures.question u at.0 at.1) in
+    let v = c.in_ok-answer.answer in
     let e = c.in_err-answer-2.field-0.0 in
-    Gives-passed _ e whole c.from_residual-in_err-answer-2.ensures.1 (turn_misanswered asks whole u run q at next c.in_ok-answer.answer e c.in_ok-answer.ensures c.in_err-answer-2.ensures.refused)
+    let said : asks q (Ok v) = subst (λ x. asks x (Ok v)) c.question.ensures c.in_ok-answer.ensures in
+    Gives-passed _ e whole c.from_residual-in_err-answer-2.ensures.1 (
+    turn_misanswered asks whole u run out q at next c.in-Some.ensures.out v e said c.in_err-answer-2.ensures.refused
+    )
 
 pub ask-returns : goal.ask-returns
 ask-returns g t c = λ u s.
     let host : Host = g.H.Functions.host c.args.self.now.host.now in
     let ctx : Context = inside c.args.scope.now (g.P.ContextProvider.context c.args.self.now.provider) in
     let asks : Question → Answer → Type 0 = AllowsAsked host ctx (predicate (program_written c.args.program.now)) in
-    let at = c.loop-question.invariant u s in
+    let at = c.loop-asked.invariant u s in
     let whole : Answer → Type 0 = Asks u asks (left c.args.run) [] in
-    turn_done asks whole u c.loop-question.run at (sym (c.in_default.ensures.question u at.0 at.1)) c.finish.result (c.finish.ensures u at.0 at.1)
+    let run = c.loop-asked.run in
+    turn_done asks whole u run at (sym (c.in_default.ensures.question u at.0 at.1)) c.finish.result (c.finish.ensures u at.0 (c.in_default.ensures.done refl u at.0 at.1))

@@ -45,12 +45,12 @@ invariant-run_lines-loop-name g l =
     (answer : Answer) → AllowsBlock host (inside l.inner base) (block_of (map (λ p. (p.0, written p.1)) (drop l.name-index l.program.lines.items)) (written l.program.expr)) answer
     → AllowsBlock host (inside l.scope base) (program_written l.program) answer
 
-abbrev pub invariant-ask-loop-question : goal.invariant-ask-loop-question
-invariant-ask-loop-question g l =
+abbrev pub invariant-ask-loop-asked : goal.invariant-ask-loop-asked
+invariant-ask-loop-asked g l =
     let host : Host = g.H.Functions.host l.self.host.now in
     let ctx : Context = inside l.scope (g.P.ContextProvider.context l.self.provider) in
     let asks : Question → Answer → Type 0 = AllowsAsked host ctx (predicate (program_written l.program)) in
     (t : Task) → Stands l.fn.run t [] → Leads asks (Asks t asks (left l.fn.run) []) t l.run
 
-abbrev pub decreases-ask-loop-question : goal.decreases-ask-loop-question
-decreases-ask-loop-question g l = to_ask l.run
+abbrev pub decreases-ask-loop-asked : goal.decreases-ask-loop-asked
+decreases-ask-loop-asked g l = to_ask l.run

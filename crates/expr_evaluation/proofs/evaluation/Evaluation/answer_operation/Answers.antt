@@ -7,8 +7,9 @@ use Rattle.expr_operators.specs.Plain.{is_plain_operator, is_plain_value}
 use Rattle.expr_steps.specs.Scope.{inside}
 use Rattle.expr_tree.specs.Term.{operation}
 use Rattle.expr_tree.specs.Written.{written}
-use Rattle.expr_value.specs.Fault.{fault_of}
+use Rattle.expr_value.specs.Fault.{fault_of, pattern}
 use Rattle.expr_value.proofs.Answered.{Gives-of-Is, Gives-passed, first_of-After}
+use Rattle.expr_evaluation.proofs.Handed.{memory-alone, refusal-passed, refused-pattern}
 use Rattle.expr_evaluation.proofs.Plainly.{Allows-plain, left-true, right-true}
 use Rattle.expr_evaluation.proofs.evaluation.Evaluation.answer_operation.Goals as goal
 
@@ -101,3 +102,29 @@ returns-in_err-answer-clause-answer g c =
     Gives-passed _ c.in_err-answer.field-0.0 (whole lent) c.from_residual-in_err-answer.ensures.1 (
     λ m. subst (λ x. whole x (Err k)) none (Ok c.in_ok-first.first, c.in_ok-first.ensures.answer, c.in_err-answer.ensures.answer m)
     )
+
+pub returns-in_err-first-clause-handed : goal.returns-in_err-first-clause-handed
+returns-in_err-first-clause-handed g c =
+    let host : Host = g.H.Functions.host c.args.self.now.host.now in
+    let lent : Context = g.P.ContextProvider.context c.args.self.now.provider in
+    let base : Context = inside c.outermost-scope.result lent in
+    let none : base ≡ lent = c.outermost-scope.ensures lent in
+    let l = written c.args.left.now in
+    let e = c.in_err-first.field-0.0 in
+    λ h. refusal-passed _ e (λ x. fault_of x ≡ pattern → Allows host lent l (Err pattern)) c.from_residual.ensures.1 (
+    λ is. subst (λ x. Allows host x l (Err pattern)) none (refused-pattern (Allows host base l) e c.in_err-first.ensures.answer is)
+    )
+
+pub returns-in_err-answer-clause-handed : goal.returns-in_err-answer-clause-handed
+returns-in_err-answer-clause-handed g c =
+    let host : Host = g.H.Functions.host c.args.self.now.host.now in
+    let lent : Context = g.P.ContextProvider.context c.args.self.now.provider in
+    let l = written c.args.left.now in
+    let e = c.in_err-answer.field-0.0 in
+    λ h. refusal-passed _ e (λ x. fault_of x ≡ pattern → Allows host lent l (Err pattern)) c.from_residual-in_err-answer.ensures.1 (λ is. absurd (c.in_err-answer.ensures.handed h is))
+
+pub returns-clause-handed : goal.returns-clause-handed
+returns-clause-handed g c =
+    let host : Host = g.H.Functions.host c.args.self.now.host.now in
+    let lent : Context = g.P.ContextProvider.context c.args.self.now.provider in
+    λ h. memory-alone c.into_value.result (Allows host lent (written c.args.left.now) (Err pattern)) c.into_value.ensures.refusal

@@ -1,25 +1,30 @@
-use Rattle.std.proofs.Common.{◌≡◌, ◌+◌, List, [], ◌∷◌, ◌++◌, length, false, sym, ap, ◌∙◌, subst, not}
+use Rattle.std.proofs.Common.{◌≡◌, List, [], ◌∷◌, ◌++◌, false, sym, ap, ◌∙◌, subst, not}
 use Rattle.std.specs.Option.{is_some}
-use Rattle.expr_predicates.specs.Tasks.{Task, Reply, first_place, refused}
-use Rattle.expr_predicates.specs.Gathered.{Keeps}
+use Rattle.expr_predicates.specs.Tasks.{Task, Reply, refused}
+use Rattle.expr_predicates.specs.Gathered.{Keeps, KeepsRest}
 use Rattle.expr_predicates.specs.declared.kept.Kept.TheVariants as kept
 use Rattle.expr_predicates.proofs.Gathering.{find_push, if_ok, keyed_push}
 use Rattle.expr_predicates.proofs.kept.Kept.take.Goals as goal
 
 pub returns-in-Find-clause-kept : goal.returns-in-Find-clause-kept
-returns-in-Find-clause-kept c = λ t rs h a.
-    let g = subst (λ s. Keeps s t rs) c.in-Find.is h in (
-      (g.0, find_push c.in-Find.found c.find_if.new.found rs (c.args.item, c.args.answer) c.is_true-in-Find.result g.1 (sym c.is_true-in-Find.ensures) c.find_if.ensures),
+returns-in-Find-clause-kept c =
+    let Q : Unit {0} → Type 0 =
+    λ u. (t : Task) (rs : List Reply) → KeepsRest c.args.self.now t rs
+    → Keeps (kept.Find c.find_if.new.found) t (rs ++ (c.args.item, c.args.answer) ∷ []) × (refused t c.args.answer ≡ false) in
+    if_ok {Q = Q} c.find_if.result c.find_if.ensures.ok (λ u k t rs h.
+    let g = subst (λ s. KeepsRest s t rs) c.in-Find.is h in (
+      (g.0, find_push c.in-Find.found c.find_if.new.found rs (c.args.item, c.args.answer) c.is_true-in-Find.result g.1 (sym c.is_true-in-Find.ensures) k),
       ap (λ u. refused u c.args.answer) g.0,
+    )
     )
 
 pub returns-in-GroupBy-clause-kept : goal.returns-in-GroupBy-clause-kept
 returns-in-GroupBy-clause-kept c =
     let Q : Unit {0} → Type 0 =
-    λ u. (t : Task) (rs : List Reply) → Keeps c.args.self.now t rs → c.args.asked ≡ first_place t + length rs
+    λ u. (t : Task) (rs : List Reply) → KeepsRest c.args.self.now t rs
     → Keeps (kept.GroupBy c.put_beside.new.pairs) t (rs ++ (c.args.item, c.args.answer) ∷ []) × (refused t c.args.answer ≡ false) in
-    if_ok {Q = Q} c.put_beside.result c.put_beside.ensures.ok (λ u k t rs h a.
-    let g = subst (λ s. Keeps s t rs) c.in-GroupBy.is h in (
+    if_ok {Q = Q} c.put_beside.result c.put_beside.ensures.ok (λ u k t rs h.
+    let g = subst (λ s. KeepsRest s t rs) c.in-GroupBy.is h in (
       (g.0, k.2 ∙ keyed_push c.in-GroupBy.pairs.items rs c.args.item c.args.answer k.0 g.1 k.1),
       ap (λ u. refused u c.args.answer) g.0 ∙ ap (λ o. not (is_some o)) k.1,
     )

@@ -1,5 +1,6 @@
-use Rattle.std.proofs.Common.{rules, length, ◌≡◌, reverse, Ok, None, false, refl, ap}
+use Rattle.std.proofs.Common.{reverse, Ok, None, false, refl, sym, ap}
 use Rattle.std.specs.Prelude.{pos}
+use Rattle.expr_predicates.specs.Arrays.{items_held}
 use Rattle.expr_predicates.specs.Tasks.{all_hold, any_holds, none_holds, one_holds, mapping, filtering, finding, finding_place, finding_last_place, counting, summing, grouping, sorting}
 use Rattle.expr_predicates.specs.declared.asking.Asking.TheVariants as asking
 use Rattle.expr_predicates.specs.declared.run.Gathered.TheVariants as gathered
@@ -10,56 +11,56 @@ use Rattle.expr_predicates.proofs.run.PredicateRun.on.Goals as goal
 
 pub returns-in-All-clause-begun : goal.returns-in-All-clause-begun
 returns-in-All-clause-begun c =
-    begun_as c.args.asking c.args.items.items None c.forward.result asking.All all_hold c.args.items.items (gathered.Noted (noted.All false)) c.in-All.is refl c.forward.ensures.left c.forward.ensures.asked c.forward.ensures.gathered (refl, refl)
+    begun_as c.args.asking (items_held c.args.array) None c.forward.result asking.All all_hold (items_held c.args.array) (gathered.Noted (noted.All false)) c.in-All.is refl c.forward.ensures.left c.forward.ensures.asked c.forward.ensures.gathered (refl, refl)
 
 pub returns-in-Any-clause-begun : goal.returns-in-Any-clause-begun
 returns-in-Any-clause-begun c =
-    begun_as c.args.asking c.args.items.items None c.forward-in-Any.result asking.Any any_holds c.args.items.items (gathered.Noted (noted.Any false)) c.in-Any.is refl c.forward-in-Any.ensures.left c.forward-in-Any.ensures.asked c.forward-in-Any.ensures.gathered (refl, refl)
+    begun_as c.args.asking (items_held c.args.array) None c.forward-in-Any.result asking.Any any_holds (items_held c.args.array) (gathered.Noted (noted.Any false)) c.in-Any.is refl c.forward-in-Any.ensures.left c.forward-in-Any.ensures.asked c.forward-in-Any.ensures.gathered (refl, refl)
 
 pub returns-in-NoneOf-clause-begun : goal.returns-in-NoneOf-clause-begun
 returns-in-NoneOf-clause-begun c =
-    begun_as c.args.asking c.args.items.items None c.forward-in-NoneOf.result asking.NoneOf none_holds c.args.items.items (gathered.Noted (noted.NoneOf false)) c.in-NoneOf.is refl c.forward-in-NoneOf.ensures.left c.forward-in-NoneOf.ensures.asked c.forward-in-NoneOf.ensures.gathered (refl, refl)
+    begun_as c.args.asking (items_held c.args.array) None c.forward-in-NoneOf.result asking.NoneOf none_holds (items_held c.args.array) (gathered.Noted (noted.NoneOf false)) c.in-NoneOf.is refl c.forward-in-NoneOf.ensures.left c.forward-in-NoneOf.ensures.asked c.forward-in-NoneOf.ensures.gathered (refl, refl)
 
 pub returns-in-One-clause-begun : goal.returns-in-One-clause-begun
 returns-in-One-clause-begun c =
-    begun_as c.args.asking c.args.items.items None c.forward-in-One.result asking.One one_holds c.args.items.items (gathered.Noted (noted.One 0)) c.in-One.is refl c.forward-in-One.ensures.left c.forward-in-One.ensures.asked c.forward-in-One.ensures.gathered (refl, refl)
+    begun_as c.args.asking (items_held c.args.array) None c.forward-in-One.result asking.One one_holds (items_held c.args.array) (gathered.Noted (noted.One 0)) c.in-One.is refl c.forward-in-One.ensures.left c.forward-in-One.ensures.asked c.forward-in-One.ensures.gathered (refl, refl)
 
 pub returns-in-Map-clause-begun : goal.returns-in-Map-clause-begun
 returns-in-Map-clause-begun c =
-    begun_as c.args.asking c.args.items.items None c.forward-in-Map.result asking.Map mapping c.args.items.items (gathered.Kept (kept.Map c.new.result)) c.in-Map.is refl c.forward-in-Map.ensures.left c.forward-in-Map.ensures.asked c.forward-in-Map.ensures.gathered (refl, c.new.ensures.values, c.new.ensures.place)
+    begun_as c.args.asking (items_held c.args.array) None c.forward-in-Map.result asking.Map mapping (items_held c.args.array) (gathered.Kept (kept.Map c.new.result)) c.in-Map.is refl c.forward-in-Map.ensures.left c.forward-in-Map.ensures.asked c.forward-in-Map.ensures.gathered (refl, c.new.ensures.items)
 
 pub returns-in-Filter-clause-begun : goal.returns-in-Filter-clause-begun
 returns-in-Filter-clause-begun c =
-    begun_as c.args.asking c.args.items.items None c.forward-in-Filter.result asking.Filter filtering c.args.items.items (gathered.Kept (kept.Filter c.new-in-Filter.result)) c.in-Filter.is refl c.forward-in-Filter.ensures.left c.forward-in-Filter.ensures.asked c.forward-in-Filter.ensures.gathered (refl, c.new-in-Filter.ensures.items)
+    begun_as c.args.asking (items_held c.args.array) None c.forward-in-Filter.result asking.Filter filtering (items_held c.args.array) (gathered.Kept (kept.Filter c.new-in-Filter.result)) c.in-Filter.is refl c.forward-in-Filter.ensures.left c.forward-in-Filter.ensures.asked c.forward-in-Filter.ensures.gathered (refl, c.new-in-Filter.ensures.items)
 
 pub returns-in-Find-clause-begun : goal.returns-in-Find-clause-begun
 returns-in-Find-clause-begun c =
-    begun_as c.args.asking c.args.items.items None c.forward-in-Find.result asking.Find finding c.args.items.items (gathered.Kept (kept.Find None)) c.in-Find.is refl c.forward-in-Find.ensures.left c.forward-in-Find.ensures.asked c.forward-in-Find.ensures.gathered (refl, refl)
+    begun_as c.args.asking (items_held c.args.array) None c.forward-in-Find.result asking.Find finding (items_held c.args.array) (gathered.Kept (kept.Find None)) c.in-Find.is refl c.forward-in-Find.ensures.left c.forward-in-Find.ensures.asked c.forward-in-Find.ensures.gathered (refl, refl)
 
 pub returns-in-FindIndex-clause-begun : goal.returns-in-FindIndex-clause-begun
 returns-in-FindIndex-clause-begun c =
-    begun_as c.args.asking c.args.items.items None c.forward-in-FindIndex.result asking.FindIndex finding_place c.args.items.items (gathered.Noted (noted.FindIndex None)) c.in-FindIndex.is refl c.forward-in-FindIndex.ensures.left c.forward-in-FindIndex.ensures.asked c.forward-in-FindIndex.ensures.gathered (refl, refl)
+    begun_as c.args.asking (items_held c.args.array) None c.forward-in-FindIndex.result asking.FindIndex finding_place (items_held c.args.array) (gathered.Noted (noted.FindIndex None)) c.in-FindIndex.is refl c.forward-in-FindIndex.ensures.left c.forward-in-FindIndex.ensures.asked c.forward-in-FindIndex.ensures.gathered (refl, refl)
 
 pub returns-in-FindLast-clause-begun : goal.returns-in-FindLast-clause-begun
 returns-in-FindLast-clause-begun c =
-    begun_as c.args.asking c.args.items.items None c.backward.result asking.FindLast finding (reverse c.args.items.items) (gathered.Kept (kept.Find None)) c.in-FindLast.is refl c.backward.ensures.left c.backward.ensures.asked c.backward.ensures.gathered (refl, refl)
+    begun_as c.args.asking (items_held c.args.array) None c.backward.result asking.FindLast finding (reverse (items_held c.args.array)) (gathered.Kept (kept.Find None)) c.in-FindLast.is refl c.backward.ensures.left c.backward.ensures.asked c.backward.ensures.gathered (refl, refl)
 
 pub returns-in-FindLastIndex-clause-begun : goal.returns-in-FindLastIndex-clause-begun
 returns-in-FindLastIndex-clause-begun c =
-    begun_as c.args.asking c.args.items.items None c.backward-in-FindLastIndex.result asking.FindLastIndex (finding_last_place c.len-count.result) (reverse c.args.items.items) (gathered.Noted (noted.FindLastIndex c.len-count.result None)) c.in-FindLastIndex.is (ap (λ n. Ok (record { task = finding_last_place n; items = reverse c.args.items.items })) (let e : length c.args.items.items ≡ c.len-count.result = search rules in e)) c.backward-in-FindLastIndex.ensures.left c.backward-in-FindLastIndex.ensures.asked c.backward-in-FindLastIndex.ensures.gathered (refl, refl)
+    begun_as c.args.asking (items_held c.args.array) None c.backward-in-FindLastIndex.result asking.FindLastIndex (finding_last_place c.count_items-count.result) (reverse (items_held c.args.array)) (gathered.Noted (noted.FindLastIndex c.count_items-count.result None)) c.in-FindLastIndex.is (ap (λ n. Ok (record { task = finding_last_place n; items = reverse (items_held c.args.array) })) (sym c.count_items-count.ensures)) c.backward-in-FindLastIndex.ensures.left c.backward-in-FindLastIndex.ensures.asked c.backward-in-FindLastIndex.ensures.gathered (refl, refl)
 
 pub returns-in-Count-clause-begun : goal.returns-in-Count-clause-begun
 returns-in-Count-clause-begun c =
-    begun_as c.args.asking c.args.items.items None c.forward-in-Count.result asking.Count counting c.args.items.items (gathered.Noted (noted.Count 0)) c.in-Count.is refl c.forward-in-Count.ensures.left c.forward-in-Count.ensures.asked c.forward-in-Count.ensures.gathered (refl, refl)
+    begun_as c.args.asking (items_held c.args.array) None c.forward-in-Count.result asking.Count counting (items_held c.args.array) (gathered.Noted (noted.Count 0)) c.in-Count.is refl c.forward-in-Count.ensures.left c.forward-in-Count.ensures.asked c.forward-in-Count.ensures.gathered (refl, refl)
 
 pub returns-in-Sum-clause-begun : goal.returns-in-Sum-clause-begun
 returns-in-Sum-clause-begun c =
-    begun_as c.args.asking c.args.items.items None c.forward-in-Sum.result asking.Sum summing c.args.items.items (gathered.Noted (noted.Sum (pos 0))) c.in-Sum.is refl c.forward-in-Sum.ensures.left c.forward-in-Sum.ensures.asked c.forward-in-Sum.ensures.gathered (refl, refl)
+    begun_as c.args.asking (items_held c.args.array) None c.forward-in-Sum.result asking.Sum summing (items_held c.args.array) (gathered.Noted (noted.Sum (pos 0))) c.in-Sum.is refl c.forward-in-Sum.ensures.left c.forward-in-Sum.ensures.asked c.forward-in-Sum.ensures.gathered (refl, refl)
 
 pub returns-in-GroupBy-clause-begun : goal.returns-in-GroupBy-clause-begun
 returns-in-GroupBy-clause-begun c =
-    begun_as c.args.asking c.args.items.items None c.forward-in-GroupBy.result asking.GroupBy grouping c.args.items.items (gathered.Kept (kept.GroupBy c.new-in-GroupBy.result)) c.in-GroupBy.is refl c.forward-in-GroupBy.ensures.left c.forward-in-GroupBy.ensures.asked c.forward-in-GroupBy.ensures.gathered (refl, c.new-in-GroupBy.ensures.items)
+    begun_as c.args.asking (items_held c.args.array) None c.forward-in-GroupBy.result asking.GroupBy grouping (items_held c.args.array) (gathered.Kept (kept.GroupBy c.new-in-GroupBy.result)) c.in-GroupBy.is refl c.forward-in-GroupBy.ensures.left c.forward-in-GroupBy.ensures.asked c.forward-in-GroupBy.ensures.gathered (refl, c.new-in-GroupBy.ensures.items)
 
 pub returns-in-SortBy-clause-begun : goal.returns-in-SortBy-clause-begun
 returns-in-SortBy-clause-begun c =
-    begun_as c.args.asking c.args.items.items None c.forward-in-SortBy.result asking.SortBy (sorting false) c.args.items.items (gathered.Kept (kept.SortBy false c.new-in-SortBy.result)) c.in-SortBy.is refl c.forward-in-SortBy.ensures.left c.forward-in-SortBy.ensures.asked c.forward-in-SortBy.ensures.gathered (refl, c.new-in-SortBy.ensures.items)
+    begun_as c.args.asking (items_held c.args.array) None c.forward-in-SortBy.result asking.SortBy (sorting false) (items_held c.args.array) (gathered.Kept (kept.SortBy false c.new-in-SortBy.result)) c.in-SortBy.is refl c.forward-in-SortBy.ensures.left c.forward-in-SortBy.ensures.asked c.forward-in-SortBy.ensures.gathered (refl, c.new-in-SortBy.ensures.items)
