@@ -19,7 +19,7 @@ use Rattle.expr_value.specs.declared.value.Value.TheOpen.{Value-F}
 use Rattle.expr_meaning.specs.Allows.{Allows, AllowsAll, AllowsAsked, AllowsBlock, AllowsBound, AllowsCall, AllowsPairs, AllowsPiped, AllowsPostfix, AndThenLayer, ContinuedAs, OrElseLayer, ChosenLayer, DefaultsLayer, is_given}
 use Rattle.expr_meaning.specs.Calls.{AllowsBuiltin}
 use Rattle.expr_steps.specs.Context.{Context, asked_in, told, override, hash, field_of, first_of_two, looked_up}
-use Rattle.expr_meaning.proofs.Begun.{AllowsBuiltin-keeps, either-keeps}
+use Rattle.expr_meaning.proofs.Beginning.{AllowsBuiltin-keeps, either-keeps}
 use Rattle.expr_predicates.specs.Tasks.{Question}
 use Rattle.expr_value.proofs.Answered.{After-keeps, first-keeps}
 use Rattle.expr_value.specs.Answers.{Answer}

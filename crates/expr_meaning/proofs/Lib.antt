@@ -1,3 +1,3 @@
-pub mod Begun
+pub mod Beginning
 pub mod Independent
 pub mod Literal

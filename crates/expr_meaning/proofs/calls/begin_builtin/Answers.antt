@@ -4,7 +4,7 @@ use Rattle.expr_value.specs.Fault.{fault_of}
 use Rattle.expr_meaning.specs.Begun.{RefusesBuiltin}
 use Rattle.expr_meaning.specs.Calls.{AllowsOnValues}
 use Rattle.expr_meaning.specs.Host.{Host}
-use Rattle.expr_meaning.proofs.Begun.{ByName-on_values, passed_on}
+use Rattle.expr_meaning.proofs.Beginning.{ByName-on_values, passed_on}
 use Rattle.expr_meaning.proofs.calls.begin_builtin.Goals as goal
 
 pub returns-in_err-call_on_values-clause-refused : goal.returns-in_err-call_on_values-clause-refused

@@ -5,7 +5,7 @@ use Rattle.expr_meaning.specs.Host.{Host}
 use Rattle.expr_predicates.specs.Runs.{AsksItself}
 use Rattle.expr_value.specs.Fault.{fault_of}
 use Rattle.expr_value.proofs.Answered.{Gives-passed}
-use Rattle.expr_meaning.proofs.Begun.{AllowsCall-answered, AllowsCall-refused, AllowsCall-run}
+use Rattle.expr_meaning.proofs.Beginning.{AllowsCall-answered, AllowsCall-refused, AllowsCall-run}
 use Rattle.expr_meaning.proofs.calls.call_alone.Goals as goal
 
 pub returns-in_err-answer : goal.returns-in_err-answer

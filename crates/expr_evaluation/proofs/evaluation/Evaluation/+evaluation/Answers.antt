@@ -11,7 +11,7 @@ use Rattle.expr_predicates.specs.Runs.{Asks}
 use Rattle.expr_predicates.specs.Tasks.{Question}
 use Rattle.expr_tree.specs.Term.{call, mapping, operation, predicate, slice}
 use Rattle.expr_meaning.specs.Begun.{Begins}
-use Rattle.expr_meaning.proofs.Begun.{AllowsCall-answered, AllowsCall-refused, AllowsCall-run}
+use Rattle.expr_meaning.proofs.Beginning.{AllowsCall-answered, AllowsCall-refused, AllowsCall-run}
 use Rattle.expr_tree.specs.Written.{written, bound_written, postfix_written, predicate_written, program_written, block_of}
 use Rattle.expr_tree.specs.declared.node.Node.{Node}
 use Rattle.expr_value.specs.Fault.{fault_of, pattern}
