@@ -11,8 +11,8 @@ use Rattle.expr_tree.specs.Term.{Term}
 use Rattle.expr_tree.specs.declared.operator.Operator.{Operator}
 use Rattle.expr_value.specs.Answers.{Answer}
 use Rattle.expr_value.specs.Fault.{Fault, fault_of, memory, pattern}
-use Rattle.expr_value.specs.declared.error.Error as error
 use Rattle.expr_value.specs.declared.error.Error.{Error}
+use Rattle.expr_value.specs.declared.error.Error.TheVariants.{MemoryError}
 use Rattle.expr_value.specs.declared.value.Value as value
 use Rattle.expr_value.specs.declared.value.Value.{Value}
 
@@ -52,7 +52,7 @@ pub refused-pattern : (R : Answer → Type 0) (e : Error) → (fault_of e ≢ me
 refused-pattern R e p is = subst (λ f. R (Err f)) is (p (not-memory (fault_of e) is))
 
 -- want of memory is no such refusal
-pub memory-alone : {A : Type 0} (r : Result A Error) (P : Type 0) → IfErr r (λ e. e ≡ error.MemoryError) → IfErr r (λ e. fault_of e ≡ pattern → P)
+pub memory-alone : {A : Type 0} (r : Result A Error) (P : Type 0) → IfErr r (λ e. e ≡ MemoryError) → IfErr r (λ e. fault_of e ≡ pattern → P)
 memory-alone (Ok v) P p = p
 memory-alone (Err e) P p = λ is. absurd (not-memory (fault_of e) is (ap fault_of p))
 

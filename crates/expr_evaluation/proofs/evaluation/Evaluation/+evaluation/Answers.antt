@@ -267,8 +267,8 @@ operate-returns-in_err-source-in-Pattern-clause-handed g t c = λ h.
     let e = c.in_err-source-in-Pattern.field-0.0 in
     refusal-passed _ e (λ x. fault_of x ≢ pattern) c.from_residual-in_err-source-in-Pattern.ensures.1 (handed-refused _ _ _ h host ctx e c.in_err-source-in-Pattern.ensures.answer)
 
-pub operate-returns-in-Pattern-clause-handed : goal.operate-returns-in-Pattern-clause-handed
-operate-returns-in-Pattern-clause-handed g t c = λ h.
+pub operate-returns-clause-handed : goal.operate-returns-clause-handed
+operate-returns-clause-handed g t c = λ h.
     let host : Host = g.H.Functions.host c.args.self.now.host.now in
     let ctx : Context = inside c.args.scope.now (g.P.ContextProvider.context c.args.self.now.provider) in
     let source = c.in_ok-source-in-Pattern.source in
