@@ -2,9 +2,6 @@
 #![tactic(auto)]
 
 mod code;
-mod holder;
-mod instruction;
 
-pub use code::{Block, Code};
-pub use holder::Holder;
-pub use instruction::{Instruction, PredicateCall};
+pub use code::Code;
+pub use expr_instructions::{Block, Holder, Instruction, PredicateCall};

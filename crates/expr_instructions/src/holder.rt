@@ -3,6 +3,7 @@ ghost use Rattle.std.specs.Prelude.{◌≡◌};
 
 /// What holds a literal, a name or a pattern: the code itself, in a box, or another, who lends it.
 pub trait Holder<T> {
+    /// What is held.
     ghost held: { Self → T };
 
     /// What is held.

@@ -1,0 +1,8 @@
+//! Instructions of flat code in memory.
+#![tactic(auto)]
+
+mod holder;
+mod instruction;
+
+pub use holder::Holder;
+pub use instruction::{Block, Instruction, PredicateCall};
