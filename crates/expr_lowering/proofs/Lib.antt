@@ -1,0 +1,7 @@
+pub mod Finishing
+pub mod Formed
+pub mod Keeping
+pub mod Leading
+pub mod Promising
+pub mod Scoping
+pub mod Standing

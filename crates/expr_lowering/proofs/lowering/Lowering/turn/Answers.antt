@@ -1,0 +1,17 @@
+use Rattle.std.proofs.Common.{length, ap, ◌∙◌}
+use Rattle.expr_code.specs.Machine.{jump, jump_if_false}
+use Rattle.expr_tree.specs.Written.{written}
+use Rattle.expr_lowering.specs.Going.{with_op, with_task}
+use Rattle.expr_lowering.specs.States.{state_of}
+use Rattle.expr_lowering.specs.Tasks.{jump_task}
+use Rattle.expr_lowering.proofs.Standing.{on_ok}
+use Rattle.expr_lowering.proofs.lowering.Lowering.turn.Goals as goal
+
+pub returns : goal.returns
+returns c =
+    let t = written c.args.condition.now in
+    let s = state_of c.args.self.now in
+    on_ok c.put_off.result (
+    λ e. e ∙ ap (λ m. with_task (jump_task jump_if_false t m) (state_of c.emit.new.self)) c.here-here.ensures
+    ∙ ap (with_task (jump_task jump_if_false t (length s.ops))) (c.in_ok-emit.ensures ∙ ap (λ n. with_op (jump n) s) c.passed-passed.ensures)
+    ) c.put_off.ensures

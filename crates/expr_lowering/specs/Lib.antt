@@ -1,0 +1,9 @@
+pub mod Blocks
+pub mod Going
+pub mod Lent
+pub mod Scoping
+pub mod Owned
+pub mod States
+pub mod Tasks
+pub use Rattle.expr_instructions.specs.InMemory
+pub use Rattle.expr_instructions.specs.Shapes

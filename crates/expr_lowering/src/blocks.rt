@@ -1,0 +1,111 @@
+//! Blocks, one after the other, each from its end to its start.
+ghost use Rattle.std.specs.Prelude.{◌≡◌, ◌≤◌, [], length, map, vec_len, IfOk, OnOk};
+ghost use Rattle.expr_code.specs.Codes.{IsCode};
+ghost use Rattle.expr_tree.specs.Written.{program_written, written};
+ghost use Rattle.expr_lowering.specs.Going.{Leads, Writes, block_begun, turned, with_task};
+ghost use Rattle.expr_lowering.specs.Lent.{task_of, works_of};
+ghost use Rattle.expr_lowering.specs.States.{lent_blocks, lent_ops, state_of};
+
+use crate::lowering::{LentBlock, Lowering};
+use crate::works::Work;
+use expr_instructions::Instruction;
+use expr_tree::node::{Node, Program};
+use std::alloc::AllocError;
+use std::mem;
+
+impl<'p> Lowering<'p> {
+    /// A part that waited.
+    fn work(&mut self, work: Work<'p>) -> Result<(), AllocError>
+        ensures { OnOk result (Leads 1 (with_task (task_of work.entry) (state_of self.old)) (state_of self.new)) }
+    {
+        match work {
+            Work::Node(node) => self.form(node),
+            Work::Line(node) => {
+                let slot = self.scopes.leave();
+                self.emit(Instruction::Store(slot))?;
+                self.form(node)
+            }
+            Work::Bound(node) => {
+                self.emit(Instruction::CheckBound)?;
+                self.form(node)
+            }
+            Work::AndThen(node, mark) => {
+                let passed = self.passed(mark);
+                self.emit(Instruction::AndThen(passed))?;
+                self.form(node)
+            }
+            Work::OrElse(node, mark) => {
+                let passed = self.passed(mark);
+                self.emit(Instruction::OrElse(passed))?;
+                self.form(node)
+            }
+            Work::UnlessNil(node, mark) => {
+                let passed = self.passed(mark);
+                self.emit(Instruction::UnlessNil(passed))?;
+                self.form(node)
+            }
+            Work::JumpIfFalse(node, mark) => {
+                let passed = self.passed(mark);
+                self.emit(Instruction::JumpIfFalse(passed))?;
+                self.form(node)
+            }
+            Work::Choice(condition, program, mark) => {
+                self.turn(condition, mark)?;
+                self.lines(&program.lines)?;
+                self.form(&program.expr)
+            }
+            Work::Ternary(condition, node, mark) => {
+                self.turn(condition, mark)?;
+                self.form(node)
+            }
+        }
+    }
+
+    /// The jump over the second of two ways, which is written; the test between the condition and the first waits.
+    fn turn(&mut self, condition: &'p Node, mark: usize) -> Result<(), AllocError>
+        ensures { OnOk result (state_of self.new ≡ turned (written condition.now) mark (state_of self.old)) }
+    {
+        let here = self.here();
+        let passed = self.passed(mark);
+        self.emit(Instruction::Jump(passed))?;
+        self.put_off(Work::JumpIfFalse(condition, here))
+    }
+
+    /// The block of a program in the present scope, of whose promised programs so many have no later block.
+    fn block(&mut self, program: &'p Program, earlier: usize) -> Result<LentBlock<'p>, AllocError>
+        requires { works_of self.old.works.next self.old.works.rest.items ≡ [] }
+        ensures block { IfOk result (λ block. Writes (block_begun earlier (state_of self.old)) (program_written program.now)
+            (state_of self.new) (lent_ops block.items)) }
+        ensures done { OnOk result (works_of self.new.works.next self.new.works.rest.items ≡ []) }
+    {
+        self.earlier = earlier;
+        self.block = Vec::with_capacity(self.alloc, 16)?;
+        self.lines(&program.lines)?;
+        self.form(&program.expr)?;
+        while let Some(work) = self.works.pop() {
+            self.work(work)?;
+        }
+        Ok(mem::replace(&mut self.block, Vec::new(self.alloc)))
+    }
+
+    /// The blocks of a program and of those that are promised one on the way.
+    pub(crate) fn blocks(
+        &mut self,
+        program: &'p Program,
+    ) -> Result<(LentBlock<'p>, Vec<LentBlock<'p>>), AllocError>
+        requires works { works_of self.old.works.next self.old.works.rest.items ≡ [] }
+        requires scope { self.old.scopes.scope ≡ 0 }
+        requires promised { vec_len self.old.promised ≡ 0 }
+        ensures { IfOk result (λ blocks. IsCode (program_written program.now) (lent_blocks blocks.0 blocks.1)) }
+    {
+        let first = self.block(program, 0)?;
+        let mut later = Vec::new(self.alloc);
+        while later.len() < self.promised.len() {
+            let promised = self.promised[later.len()];
+            self.scopes.enter(promised.scope);
+            let block = self.block(promised.program, later.len() + 1)?;
+            later.push(block)?;
+        }
+        Ok((first, later))
+    }
+}

@@ -1,0 +1,45 @@
+//! Flat code in memory.
+ghost use Rattle.expr_instructions.specs.Shapes.{IsSafeShape};
+
+use crate::lowering::Lowering;
+use expr_instructions::Block;
+use expr_tree::node::{Pattern, Program};
+use expr_value::{Result, Value};
+use std::alloc::Global;
+
+/// Flat code: blocks of instructions, and nothing else. Each jump stays within its block, each call with a predicate asks a
+/// later block, and each instruction finds its operands and slots.
+#[derive(Drop)]
+pub struct Code<L, N, P> {
+    /// The block that is run.
+    pub first: Block<L, N, P>,
+    /// The blocks of predicates.
+    pub later: Vec<Block<L, N, P>>,
+    pub ghost safe: { IsSafeShape first later },
+}
+
+impl<'p> Code<&'p Value, &'p String, &'p Pattern> {
+    ghost use Rattle.std.specs.Prelude.{◌≡◌, IfOk, IfErr, string_bytes};
+    ghost use Rattle.expr_code.specs.Codes.{IsCode};
+    ghost use Rattle.expr_lowering.specs.Blocks.{blocks_of};
+    ghost use Rattle.expr_tree.specs.Written.{program_written};
+    ghost use Rattle.expr_value.specs.Fault.{fault_of, memory};
+
+    /// The code of a program, which lends its literals, its names and the patterns that it keeps.
+    ///
+    /// # Errors
+    ///
+    /// `MemoryError`, if a growth is refused.
+    pub fn lower(
+        alloc: Global,
+        program: &'p Program,
+    ) -> Result<Code<&'p Value, &'p String, &'p Pattern>>
+        ensures code { IfOk result (λ c. IsCode (program_written program.now)
+            (blocks_of (λ v. v.now) (λ n. string_bytes n.now) c)) }
+        ensures refused { IfErr result (λ e. fault_of e ≡ memory) }
+    {
+        let mut lowering = Lowering::new(alloc);
+        let (first, later) = lowering.blocks(program)?;
+        Ok(Code { first, later })
+    }
+}

@@ -1,0 +1,113 @@
+//! Many top values at once, the deepest of them first.
+ghost use Rattle.std.specs.Prelude.{◌≡◌, ◌≤◌, [], Ok, IfErr, IfOk, drop, length, reverse, take, vec_len};
+ghost use Rattle.expr_code.specs.Machine.{beside};
+ghost use Rattle.expr_stack.specs.Cells.{shown_all};
+ghost use Rattle.expr_stack.specs.Made.{Makes, OnMany};
+ghost use Rattle.expr_value.specs.Fault.{fault_of, memory};
+ghost use Rattle.expr_value.specs.Names.{put_all};
+ghost use Rattle.expr_value.specs.declared.value.Value as value;
+
+use crate::stack::Stack;
+use expr_held::Held;
+use expr_value::{Items, Result, Text, Value, ValueMap};
+use std::alloc::Global;
+
+impl<'s> Stack<'s> {
+    /// So many top values taken off, to be read; those in places are lent from there.
+    #[inline(never)]
+    pub fn pop_many<'k>(
+        &mut self,
+        alloc: Global,
+        kept: &'k [Value],
+        count: usize,
+    ) -> Result<Vec<Held<'k>>>
+    where
+        's: 'k,
+        requires { count ≤ length self.old }
+        ensures taken { OnMany count kept.now self.old
+            (λ vs rest. IfOk result (λ hs. (hs.items ≡ vs) × (self.new ≡ rest))) }
+        ensures refusal { IfErr result (λ e. fault_of e ≡ memory) }
+    {
+        let mut values = Vec::with_capacity(alloc, count)?;
+        while values.len() < count {
+            values.push_reserved(self.pop(kept));
+        }
+        values.reverse();
+        Ok(values)
+    }
+
+    /// So many top values taken off, held for longer than the places stand: those in places are copied.
+    #[inline(never)]
+    pub fn take_many(
+        &mut self,
+        alloc: Global,
+        kept: &[Value],
+        count: usize,
+    ) -> Result<Vec<Held<'s>>>
+        requires { count ≤ length self.old }
+        ensures taken { OnMany count kept.now self.old
+            (λ vs rest. IfOk result (λ hs. (hs.items ≡ vs) × (self.new ≡ rest))) }
+        ensures refusal { IfErr result (λ e. fault_of e ≡ memory) }
+    {
+        let mut values = Vec::with_capacity(alloc, count)?;
+        while values.len() < count {
+            values.push_reserved(self.take_top().held_apart(kept)?);
+        }
+        values.reverse();
+        Ok(values)
+    }
+
+    /// So many top values taken off, to be kept: those that are lent or in places are copied.
+    #[inline(never)]
+    pub fn take_values(&mut self, alloc: Global, kept: &[Value], count: usize) -> Result<Vec<Value>>
+        requires { count ≤ length self.old }
+        ensures taken { OnMany count kept.now self.old
+            (λ vs rest. IfOk result (λ got. (got.items ≡ vs) × (self.new ≡ rest))) }
+        ensures refusal { IfErr result (λ e. fault_of e ≡ memory) }
+    {
+        let mut values = Vec::with_capacity(alloc, count)?;
+        while values.len() < count {
+            values.push_reserved(self.pop_value(kept)?);
+        }
+        values.reverse();
+        Ok(values)
+    }
+
+    /// Puts the array of so many top values in their place.
+    #[inline(never)]
+    pub fn collect(&mut self, alloc: Global, kept: &[Value], count: usize) -> Result<()>
+        requires { count ≤ length self.old }
+        ensures { OnMany count kept.now self.old
+            (λ vs rest. Makes result (λ a. a ≡ Ok (value.Array vs)) rest self.new) }
+    {
+        let values = self.take_values(alloc, kept, count)?;
+        self.push_own(Value::Array(Items::from_vec(values)))?;
+        Ok(())
+    }
+
+    /// Puts the map of as many top values as there are keys, each under its key, in their place. A repeated key keeps its first
+    /// place and has the later value.
+    #[inline(never)]
+    pub fn gather(&mut self, alloc: Global, kept: &[Value], keys: Vec<Text>) -> Result<()>
+        requires { vec_len keys ≤ length self.old }
+        ensures { OnMany (vec_len keys) kept.now self.old
+            (λ vs rest. Makes result (λ a. a ≡ Ok (value.Map (put_all [] (beside keys.items vs)))) rest self.new) }
+    {
+        let values = self.take_values(alloc, kept, keys.len())?;
+        let map = map_under(alloc, keys, values)?;
+        self.push_own(Value::Map(map))?;
+        Ok(())
+    }
+}
+
+/// The map of these values, each under its key.
+pub fn map_under(alloc: Global, keys: Vec<Text>, values: Vec<Value>) -> Result<ValueMap>
+    ensures ok { IfOk result (λ map. map ≡ put_all [] (beside keys.items values.items)) }
+    ensures refusal { IfErr result (λ e. fault_of e ≡ memory) }
+{
+    let mut map = ValueMap::with_capacity(alloc, keys.len())?;
+    for (key, value) in keys.into_iter().zip(values.into_iter()) {
+        map.insert(key, value)?;
+    }
+    Ok(map)
+}
