@@ -13,13 +13,19 @@ pub use expr_builtins::{
     arrays_are_opened, pairs_of_a_map_make_it_again, parts_after_joined_are_the_text,
     parts_joined_are_the_text,
 };
+pub use expr_code::{
+    codes_are_safe, execution_answers_programs, programs_have_codes, runs_as_programs,
+    shadowed_lines_are_refused, stale_slots_are_refused,
+};
 pub use expr_duration::{texts_have_one_meaning, texts_spell_lengths};
 pub use expr_evaluation::{
-    eval_expr, eval_func, eval_operator, eval_postfix_operator, eval_unary_operator, run,
+    eval_expr, eval_func, eval_operator, eval_postfix_operator, eval_unary_operator,
 };
 pub use expr_frames::laws::brackets_leave_program;
 pub use expr_grammar::laws::{brackets_fit, one_tree};
 pub use expr_layout::layouts_have_one_reading;
+pub use expr_lowering::{Code, Holder, KeptCode};
+pub use expr_machine::{execute, run};
 pub use expr_meaning::{ExprCall, left_side_decides};
 pub use expr_operators::{
     outside_is_not_within, part_stands_between_front_and_back, unequal_is_not_equal,

@@ -8,7 +8,7 @@ ghost use Rattle.expr_grammar.specs.Grammar.{TreeProgram};
 ghost use Rattle.expr_meaning.specs.Allows.{Allows, AllowsBlock};
 ghost use Rattle.expr_steps.specs.Context.{Context};
 ghost use Rattle.expr_meaning.specs.Independence.{AgreeAt};
-ghost use Rattle.expr_evaluation.specs.Plain.{is_plain, is_plain_program};
+ghost use Rattle.expr_evaluation.specs.Plain.{is_plain};
 ghost use Rattle.expr_syntax.specs.Texts.{HasNoTree, IsAnswerFor, IsCompiled, IsPlaced, IsProgramOf, IsTreeOf};
 ghost use Rattle.expr_token.specs.Printed.{is_readable};
 ghost use Rattle.expr_tree.specs.Context.{AgreeFor};
@@ -85,9 +85,6 @@ impl Parser {
     /// What [`Environment::run`] refuses.
     pub fn run(&self, alloc: Global, program: &Program, ctx: &dyn ContextProvider) -> Result<Value>
         ensures answer { Gives result (AllowsBlock (host_of (environment_of self.now)) (context ctx.now) (program_written program.now)) }
-        ensures plain { (v : Value) → IsTrue (is_plain_program (program_written program.now))
-            → AllowsBlock (host_of (environment_of self.now)) (context ctx.now) (program_written program.now) (Ok v)
-            → result ≡ Ok v }
         ensures independent { Gives result (λ a. (other : Context) (names : List (List ℕ)) → AreNamesOf names (program_written program.now)
             → AgreeAt names (program_written program.now) (context ctx.now) other
             → AllowsBlock (host_of (environment_of self.now)) other (program_written program.now) a) }

@@ -11,7 +11,7 @@ ghost use Rattle.expr_tree.specs.Term.{Block};
 ghost use Rattle.expr_value.specs.Answers.{Gives, Is};
 ghost use Rattle.expr_value.specs.Values.{text_of};
 
-use expr_evaluation::run;
+use expr_machine::run;
 use expr_syntax::compile;
 use expr_value::{ContextProvider, Error, Result, Value};
 use std::alloc::Global;

@@ -16,11 +16,13 @@ mod shown;
 mod sizes;
 mod tokens;
 mod values;
+mod ways;
 
 use expr::{Context, Result, Value, eval};
 use page::{Page, word_of};
 use std::alloc::{AllocError, Global};
 use std::io;
+use ways::{Answers, answer_by_all};
 
 /// The text that a line writes.
 fn unescaped(alloc: Global, line: &str) -> std::result::Result<String, AllocError> {
@@ -68,15 +70,16 @@ fn bind(alloc: Global, part: &str, context: &mut Context) -> Result<()> {
     Ok(())
 }
 
-/// What a line's expression answers among the names that the line binds, from left to right.
-fn answer(alloc: Global, line: &str) -> Result<Value> {
+/// What a line's expression answers among the names that the line binds, from left to right, by each way from a text to
+/// its answer.
+fn answers(alloc: Global, line: &str) -> Result<Answers> {
     let mut context = Context::new(alloc);
     let mut parts = line.split('\t');
     let code = unescaped(alloc, parts.next().unwrap_or(""))?;
     for part in parts {
         bind(alloc, part, &mut context)?;
     }
-    eval(alloc, &code, &context)
+    Ok(answer_by_all(alloc, &code, &context)?)
 }
 
 /// What the modules print, and below it a line for each row of their tables that doesn't hold.
@@ -96,14 +99,23 @@ fn tables(alloc: Global) -> Result<Page> {
     Ok(page)
 }
 
+/// The line of an answer.
+fn answer_text(alloc: Global, answer: &Result<Value>) -> std::result::Result<String, AllocError> {
+    match answer {
+        Ok(value) => escaped(alloc, value.to_string(alloc)?.as_str()),
+        Err(error) => String::from_str(alloc, word_of(error)),
+    }
+}
+
 /// The line of a line's answer.
 fn answer_line(alloc: Global, line: &str) -> std::result::Result<String, AllocError> {
     if line == "%tables" {
         let page = tables(alloc).map_err(|_| AllocError)?;
         return String::from_str(alloc, page.text());
     }
-    match answer(alloc, line) {
-        Ok(value) => escaped(alloc, value.to_string(alloc)?.as_str()),
+    match answers(alloc, line) {
+        Ok(Answers { first, are_same: true }) => answer_text(alloc, &first),
+        Ok(_) => String::from_str(alloc, "!!the ways to an answer differ"),
         Err(error) => String::from_str(alloc, word_of(&error)),
     }
 }

@@ -11,6 +11,9 @@ use expr_pattern::Pattern;
 use expr_value::{Result, Value};
 use std::alloc::{AllocError, Global};
 
+/// Code that owns its literals, its names and its patterns, so that it outlives its program.
+pub type KeptCode = Code<Box<Value>, Box<String>, Box<Pattern>>;
+
 /// An instruction that owns what it holds.
 type OwnInstruction = Instruction<Box<Value>, Box<String>, Box<Pattern>>;
 
@@ -21,7 +24,7 @@ impl<L: Holder<Value>, N: Holder<String>, P: Holder<Pattern>> Code<L, N, P> {
     /// # Errors
     ///
     /// `MemoryError`, if a growth is refused.
-    pub fn keep(&self, alloc: Global) -> Result<Code<Box<Value>, Box<String>, Box<Pattern>>>
+    pub fn keep(&self, alloc: Global) -> Result<KeptCode>
         ensures blocks { IfOk result (λ c. blocks_of own_value own_text c ≡ blocks_of L.held (λ n. string_bytes (N.held n)) self.now) }
         ensures refused { IfErr result (λ e. fault_of e ≡ memory) }
     {

@@ -11,3 +11,4 @@ mod works;
 
 pub use code::Code;
 pub use expr_instructions::{Block, Holder, Instruction, PredicateCall};
+pub use kept::KeptCode;

@@ -1,8 +1,7 @@
 -- What a call begins with: its answer, or a run that asks a predicate.
-use Rattle.std.specs.Prelude.{◌≡◌, ℕ, Bool, List, [], Ok, Err, MatchBool}
+use Rattle.std.specs.Prelude.{◌≡◌, ℕ, Bool, List, Ok, Err, MatchBool}
 use Rattle.expr_predicates.specs.Calls.{SortsItems, begun}
-use Rattle.expr_predicates.specs.Gathered.{Stands, left}
-use Rattle.expr_predicates.specs.Tasks.{Task}
+use Rattle.expr_predicates.specs.Gathered.{StartsWith}
 use Rattle.expr_predicates.specs.declared.asking.Asking.{Asking}
 use Rattle.expr_predicates.specs.declared.run.PredicateRun.{PredicateRun}
 use Rattle.expr_value.specs.Fault.{Fault}
@@ -14,7 +13,7 @@ use Rattle.expr_meaning.specs.declared.calls.Begun.TheVariants.{Answered, Asks}
 
 -- a run that stands at its beginning
 abbrev pub Starts : PredicateRun → List Value → Bool → Asking → Type 0
-Starts run vs given b = (t : Task) × (begun b vs given ≡ Ok (record { task = t; items = left run })) × Stands run t []
+Starts run vs given b = StartsWith run (begun b vs given)
 
 -- where the host has added no function of the name
 abbrev pub BeginsBuiltin : Host → List ℕ → List Value → Bool → Begun → Type 0

@@ -1,7 +1,9 @@
 -- What a run keeps of its replies.
-use Rattle.std.specs.Prelude.{◌≡◌, ℕ, ◌+◌, List, length, map, count_by, option_map}
+use Rattle.std.specs.Prelude.{◌≡◌, ℕ, ◌+◌, List, [], length, map, count_by, option_map, Result, Ok}
 use Rattle.std.specs.List.{filter, find, list_any, position_from}
+use Rattle.expr_value.specs.Fault.{Fault}
 use Rattle.expr_value.specs.declared.value.Value.{Value}
+use Rattle.expr_predicates.specs.Calls.{Start}
 use Rattle.expr_predicates.specs.Lefts.{left_of}
 use Rattle.expr_predicates.specs.Sorting.{beside_keys}
 use Rattle.expr_predicates.specs.Tasks.{Task, all_hold, any_holds, none_holds, one_holds, mapping, filtering, finding, finding_place, finding_last_place, counting, summing, reducing, grouping, sorting, Reply, holds, fails, acc_after, first_place, total, keyed}
@@ -62,3 +64,7 @@ left run = left_of run.left
 -- how many they are
 abbrev pub to_ask : PredicateRun → ℕ
 to_ask run = length (left run)
+
+-- a run stands at its beginning, where this is what its built-in begins with
+abbrev pub StartsWith : PredicateRun → Result Start Fault → Type 0
+StartsWith run start = (t : Task) × (start ≡ Ok (record { task = t; items = left run })) × Stands run t []

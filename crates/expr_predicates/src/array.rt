@@ -20,7 +20,8 @@ pub(crate) enum Array<'s> {
 /// The array that a value is.
 pub(crate) fn array_of<'s>(alloc: Global, value: Held<'s>) -> Result<Array<'s>>
     ensures value { IfOk result (λ array. items_of value.entry ≡ Some (items_held array)) }
-    ensures refusal { IfErr result (λ e. fault_of e ≢ memory → (items_of value.entry ≡ None) × (fault_of e ≡ evaluation)) }
+    ensures refusal { IfErr result (λ e. fault_of e ≢ memory
+        → (items_of value.entry ≡ None) × (fault_of e ≡ evaluation)) }
 {
     match value.into_holding() {
         Holding::Own(Value::Array(items)) => Ok(Array::Own(items.into_vec())),

@@ -49,8 +49,8 @@ impl Kept {
     pub(crate) fn take(&mut self, alloc: Global, item: Held<'_>, answer: Value) -> Result<()>
         ensures kept { IfOk result (λ _. (t : Task) (rs : List Reply) → KeepsRest self.old t rs
             → Keeps self.new t (rs ++ (item.entry, answer) ∷ []) × (refused t answer ≡ false)) }
-        ensures refused { IfErr result (λ e. fault_of e ≢ memory → (t : Task) (rs : List Reply) → KeepsRest self.old t rs
-            → (refused t answer ≡ true) × (fault_of e ≡ evaluation)) }
+        ensures refused { IfErr result (λ e. fault_of e ≢ memory → (t : Task) (rs : List Reply)
+            → KeepsRest self.old t rs → (refused t answer ≡ true) × (fault_of e ≡ evaluation)) }
     {
         match self {
             Kept::Map(answers) => keep(answers, answer),
@@ -85,7 +85,8 @@ impl Kept {
 /// An item kept, if it is to be.
 #[inline]
 fn keep_if(kept: &mut Vec<Value>, is_kept: bool, item: Held<'_>) -> Result<()>
-    ensures ok { IfOk result (λ _. kept.new.items ≡ kept.old.items ++ (if is_kept then item.entry ∷ [] else [])) }
+    ensures ok { IfOk result (λ _. kept.new.items
+        ≡ kept.old.items ++ (if is_kept then item.entry ∷ [] else [])) }
     ensures err { IfErr result (λ e. e ≡ Error.MemoryError) }
 {
     if is_kept {
@@ -118,7 +119,8 @@ fn keep(kept: &mut Vec<Value>, value: Value) -> Result<()>
 /// What was found, or else this item, if it is what is sought.
 #[inline(never)]
 fn find_if(found: &mut Option<Value>, is_sought: bool, item: Held<'_>) -> Result<()>
-    ensures ok { IfOk result (λ _. found.new ≡ option_or found.old (if is_sought then Some item.entry else None)) }
+    ensures ok { IfOk result (λ _. found.new
+        ≡ option_or found.old (if is_sought then Some item.entry else None)) }
     ensures err { IfErr result (λ e. e ≡ Error.MemoryError) }
 {
     if is_sought && found.is_none() {
@@ -135,8 +137,10 @@ fn put_beside(
     answer: Value,
     item: Held<'_>,
 ) -> Result<()>
-    ensures ok { IfOk result (λ _. (k : key) × (key_of answer ≡ Some k) × (pairs.new.items ≡ pairs.old.items ++ (k, item.entry) ∷ [])) }
-    ensures err { IfErr result (λ e. fault_of e ≢ memory → (key_of answer ≡ None) × (fault_of e ≡ evaluation)) }
+    ensures ok { IfOk result (λ _. (k : key) × (key_of answer ≡ Some k)
+        × (pairs.new.items ≡ pairs.old.items ++ (k, item.entry) ∷ [])) }
+    ensures err { IfErr result (λ e. fault_of e ≢ memory
+        → (key_of answer ≡ None) × (fault_of e ≡ evaluation)) }
 {
     let Some(key) = answer.into_key() else {
         return Err(refusal(alloc, "groupBy takes a predicate that answers a scalar"));

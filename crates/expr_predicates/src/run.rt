@@ -43,8 +43,8 @@ impl Gathered {
     /// What is asked about the item at a place. What has been made so far goes out with it.
     fn ask<'s>(&mut self, place: usize, item: Held<'s>) -> Asked<'s>
         ensures item { result.item ≡ item.entry }
-        ensures asked { (t : Task) (rs : List Reply) → Gathers self.old t rs → place ≡ first_place t + length rs
-            → asked_of result ≡ about t rs item.entry }
+        ensures asked { (t : Task) (rs : List Reply) → Gathers self.old t rs
+            → place ≡ first_place t + length rs → asked_of result ≡ about t rs item.entry }
         ensures gathered { (t : Task) (rs : List Reply) → Gathers self.old t rs → GathersRest self.new t rs }
     {
         match self {
@@ -69,10 +69,11 @@ impl Gathered {
     /// One more answer, about the item at a place.
     fn take(&mut self, alloc: Global, place: usize, item: Held<'_>, answer: Value) -> Result<()>
         requires { place + 1 < 2 ^ 64 }
-        ensures gathered { IfOk result (λ _. (t : Task) (rs : List Reply) → GathersRest self.old t rs → place ≡ first_place t + length rs
+        ensures gathered { IfOk result (λ _. (t : Task) (rs : List Reply) → GathersRest self.old t rs
+            → place ≡ first_place t + length rs
             → Gathers self.new t (rs ++ (item.entry, answer) ∷ []) × (refused t answer ≡ false)) }
-        ensures refused { IfErr result (λ e. fault_of e ≢ memory → (t : Task) (rs : List Reply) → GathersRest self.old t rs
-            → (refused t answer ≡ true) × (fault_of e ≡ evaluation)) }
+        ensures refused { IfErr result (λ e. fault_of e ≢ memory → (t : Task) (rs : List Reply)
+            → GathersRest self.old t rs → (refused t answer ≡ true) × (fault_of e ≡ evaluation)) }
     {
         match self {
             Gathered::Noted(noted) => noted.take(alloc, place, &answer),
@@ -83,10 +84,11 @@ impl Gathered {
     /// The item at a place, as the answer about itself.
     fn take_itself(&mut self, alloc: Global, place: usize, item: Held<'_>) -> Result<()>
         requires { place + 1 < 2 ^ 64 }
-        ensures gathered { IfOk result (λ _. (t : Task) (rs : List Reply) → GathersRest self.old t rs → place ≡ first_place t + length rs
+        ensures gathered { IfOk result (λ _. (t : Task) (rs : List Reply) → GathersRest self.old t rs
+            → place ≡ first_place t + length rs
             → Gathers self.new t (rs ++ (item.entry, item.entry) ∷ []) × (refused t item.entry ≡ false)) }
-        ensures refused { IfErr result (λ e. fault_of e ≢ memory → (t : Task) (rs : List Reply) → GathersRest self.old t rs
-            → (refused t item.entry ≡ true) × (fault_of e ≡ evaluation)) }
+        ensures refused { IfErr result (λ e. fault_of e ≢ memory → (t : Task) (rs : List Reply)
+            → GathersRest self.old t rs → (refused t item.entry ≡ true) × (fault_of e ≡ evaluation)) }
     {
         match self {
             Gathered::Noted(noted) => noted.take(alloc, place, item.get()),
@@ -134,7 +136,7 @@ impl<'s> Drop for PredicateRun<'s> {
 impl<'s> PredicateRun<'s> {
     ghost use Rattle.expr_value.specs.declared.value.Value.{Value};
     ghost use Rattle.expr_predicates.specs.Calls.{begun, reduced_from_first, started};
-    ghost use Rattle.expr_predicates.specs.Gathered.{Awaits, Stands, left, to_ask};
+    ghost use Rattle.expr_predicates.specs.Gathered.{Awaits, Stands, StartsWith, left, to_ask};
     ghost use Rattle.expr_predicates.specs.Questions.{asked_of};
     ghost use Rattle.expr_predicates.specs.Runs.{Asks, AsksItself, next_question};
     ghost use Rattle.expr_predicates.specs.Tasks.{Task, Reply, Outcome, refused};
@@ -149,8 +151,9 @@ impl<'s> PredicateRun<'s> {
         args: Items<Held<'s>>,
         given: bool,
     ) -> Result<PredicateRun<'s>>
-        ensures begun { IfOk result (λ r. (t : Task) × (begun asking args.entry given ≡ Ok (record { task = t; items = left r })) × Stands r t []) }
-        ensures refused { IfErr result (λ e. fault_of e ≢ memory → begun asking args.entry given ≡ Err (fault_of e)) }
+        ensures begun { IfOk result (λ r. StartsWith r (begun asking args.entry given)) }
+        ensures refused { IfErr result (λ e. fault_of e ≢ memory
+            → begun asking args.entry given ≡ Err (fault_of e)) }
     {
         if !given && !asking.runs_alone() {
             return Err(refusal(alloc, "the function takes a predicate"));
@@ -164,8 +167,9 @@ impl<'s> PredicateRun<'s> {
 
     /// A built-in on an array alone.
     fn on(alloc: Global, asking: Asking, array: Array<'s>) -> Result<PredicateRun<'s>>
-        ensures begun { IfOk result (λ r. (t : Task) × (started asking (items_held array.entry) None ≡ Ok (record { task = t; items = left r })) × Stands r t []) }
-        ensures refused { IfErr result (λ e. fault_of e ≢ memory → started asking (items_held array.entry) None ≡ Err (fault_of e)) }
+        ensures begun { IfOk result (λ r. StartsWith r (started asking (items_held array.entry) None)) }
+        ensures refused { IfErr result (λ e. fault_of e ≢ memory
+            → started asking (items_held array.entry) None ≡ Err (fault_of e)) }
     {
         match asking {
             Asking::All => Ok(PredicateRun::forward(array, Gathered::Noted(Noted::All(false)))),
@@ -217,8 +221,10 @@ impl<'s> PredicateRun<'s> {
         array: Array<'s>,
         more: Held<'_>,
     ) -> Result<PredicateRun<'s>>
-        ensures begun { IfOk result (λ r. (t : Task) × (started asking (items_held array.entry) (Some more.entry) ≡ Ok (record { task = t; items = left r })) × Stands r t []) }
-        ensures refused { IfErr result (λ e. fault_of e ≢ memory → started asking (items_held array.entry) (Some more.entry) ≡ Err (fault_of e)) }
+        ensures begun { IfOk result (λ r. StartsWith r
+            (started asking (items_held array.entry) (Some more.entry))) }
+        ensures refused { IfErr result (λ e. fault_of e ≢ memory
+            → started asking (items_held array.entry) (Some more.entry) ≡ Err (fault_of e)) }
     {
         match asking {
             Asking::Reduce => {
@@ -264,8 +270,9 @@ impl<'s> PredicateRun<'s> {
 
     /// A run that begins with the first item as what has been made so far, which is copied where it is lent.
     fn from_first(alloc: Global, array: Array<'s>) -> Result<PredicateRun<'s>>
-        ensures begun { IfOk result (λ r. (t : Task) × (reduced_from_first (items_held array.entry) ≡ Ok (record { task = t; items = left r })) × Stands r t []) }
-        ensures refused { IfErr result (λ e. fault_of e ≢ memory → reduced_from_first (items_held array.entry) ≡ Err (fault_of e)) }
+        ensures begun { IfOk result (λ r. StartsWith r (reduced_from_first (items_held array.entry))) }
+        ensures refused { IfErr result (λ e. fault_of e ≢ memory
+            → reduced_from_first (items_held array.entry) ≡ Err (fault_of e)) }
     {
         let mut left = Left::forward(array);
         match left.pop() {
@@ -283,11 +290,13 @@ impl<'s> PredicateRun<'s> {
 
     /// What is asked next, handed out by value, or none where no more is.
     pub fn next(&mut self) -> Option<Asked<'s>>
-        ensures question { (t : Task) (rs : List Reply) → Stands self.old t rs → option_map asked_of result ≡ next_question t rs (left self.old) }
+        ensures question { (t : Task) (rs : List Reply) → Stands self.old t rs
+            → option_map asked_of result ≡ next_question t rs (left self.old) }
         ensures out { IfSome result (λ q. (t : Task) (rs : List Reply) → Stands self.old t rs
             → (left self.old ≡ q.item ∷ left self.new) × Awaits self.new t rs) }
         ensures fewer { IfSome result (λ _. to_ask self.new < to_ask self.old) }
-        ensures done { result ≡ None → (t : Task) (rs : List Reply) → Stands self.old t rs → Stands self.new t rs }
+        ensures done { result ≡ None → (t : Task) (rs : List Reply) → Stands self.old t rs
+            → Stands self.new t rs }
     {
         if self.gathered.has_stopped() {
             return None;
@@ -303,9 +312,10 @@ impl<'s> PredicateRun<'s> {
     /// and nothing is left of the run.
     pub fn answer(&mut self, alloc: Global, item: Held<'_>, answer: Value) -> Result<()>
         ensures value { IfOk result (λ _. (t : Task) (rs : List Reply) → Awaits self.old t rs
-            → (refused t answer ≡ false) × (left self.new ≡ left self.old) × Stands self.new t (rs ++ (item.entry, answer) ∷ [])) }
-        ensures refused { IfErr result (λ e. fault_of e ≢ memory → (t : Task) (rs : List Reply) → Awaits self.old t rs
-            → (refused t answer ≡ true) × (fault_of e ≡ evaluation)) }
+            → (refused t answer ≡ false) × (left self.new ≡ left self.old)
+            × Stands self.new t (rs ++ (item.entry, answer) ∷ [])) }
+        ensures refused { IfErr result (λ e. fault_of e ≢ memory → (t : Task) (rs : List Reply)
+            → Awaits self.old t rs → (refused t answer ≡ true) × (fault_of e ≡ evaluation)) }
         ensures same { to_ask self.new ≡ to_ask self.old }
     {
         let place = self.asked.saturating_sub(1);
@@ -315,9 +325,10 @@ impl<'s> PredicateRun<'s> {
     /// Takes an item back that was handed out, as the answer about itself.
     fn answer_itself(&mut self, alloc: Global, item: Held<'_>) -> Result<()>
         ensures value { IfOk result (λ _. (t : Task) (rs : List Reply) → Awaits self.old t rs
-            → (refused t item.entry ≡ false) × (left self.new ≡ left self.old) × Stands self.new t (rs ++ (item.entry, item.entry) ∷ [])) }
-        ensures refused { IfErr result (λ e. fault_of e ≢ memory → (t : Task) (rs : List Reply) → Awaits self.old t rs
-            → (refused t item.entry ≡ true) × (fault_of e ≡ evaluation)) }
+            → (refused t item.entry ≡ false) × (left self.new ≡ left self.old)
+            × Stands self.new t (rs ++ (item.entry, item.entry) ∷ [])) }
+        ensures refused { IfErr result (λ e. fault_of e ≢ memory → (t : Task) (rs : List Reply)
+            → Awaits self.old t rs → (refused t item.entry ≡ true) × (fault_of e ≡ evaluation)) }
         ensures same { to_ask self.new ≡ to_ask self.old }
     {
         let place = self.asked.saturating_sub(1);
@@ -327,7 +338,8 @@ impl<'s> PredicateRun<'s> {
     /// What the run comes to where each item is the answer about itself, as for `count` and `sum` without a predicate. An
     /// item that is refused as an answer is refused with [`Error::ExprError`](expr_value::Error::ExprError).
     pub fn complete(self, alloc: Global) -> Result<Value>
-        ensures { (t : Task) → Stands self.entry t [] → Gives result (Asks t AsksItself (left self.entry) []) }
+        ensures { (t : Task) → Stands self.entry t []
+            → Gives result (Asks t AsksItself (left self.entry) []) }
     {
         let mut run = self;
         while let Some(asked) = run.next() {

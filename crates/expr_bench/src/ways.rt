@@ -1,0 +1,64 @@
+//! The ways from a text to its answer: `eval`, `execute` of code that is kept without its program, and `eval_expr` of the
+//! last node where a program has no lines.
+use crate::page::word_of;
+use expr::{Code, Context, KeptCode, Result, Value, compile, eval, eval_expr, execute};
+use std::alloc::{AllocError, Global};
+
+/// The code of a text, which outlives its program.
+fn kept_code(alloc: Global, text: &str) -> Result<KeptCode> {
+    let program = compile(alloc, text)?;
+    Code::lower(alloc, &program)?.keep(alloc)
+}
+
+/// What the kept code of a text answers.
+fn by_code(alloc: Global, text: &str, context: &Context) -> Result<Value> {
+    let code = kept_code(alloc, text)?;
+    execute(alloc, &code, context)
+}
+
+/// What the tree of a text answers, by recursion on it; none where its program has lines.
+fn by_tree(alloc: Global, text: &str, context: &Context) -> Result<Option<Value>> {
+    let program = compile(alloc, text)?;
+    if !program.lines.is_empty() {
+        return Ok(None);
+    }
+    Ok(Some(eval_expr(alloc, context, &program.expr)?))
+}
+
+/// Whether two ways answer the same, as it is printed, or refuse in the same way.
+fn is_same(alloc: Global, one: &Result<Value>, other: &Result<Value>) -> std::result::Result<bool, AllocError> {
+    match (one, other) {
+        (Ok(one), Ok(other)) => {
+            let shown = one.to_string(alloc)?;
+            Ok(shown.as_str() == other.to_string(alloc)?.as_str())
+        }
+        (Err(one), Err(other)) => Ok(word_of(one) == word_of(other)),
+        _ => Ok(false),
+    }
+}
+
+/// What a text answers by one way, and whether all ways to it say the same.
+#[derive(Drop)]
+pub struct Answers {
+    pub first: Result<Value>,
+    pub are_same: bool,
+}
+
+/// What a text answers among some names, by each way.
+pub fn answer_by_all(
+    alloc: Global,
+    text: &str,
+    context: &Context,
+) -> std::result::Result<Answers, AllocError> {
+    let first = eval(alloc, text, context);
+    let code_agrees = is_same(alloc, &first, &by_code(alloc, text, context))?;
+    let tree_agrees = match by_tree(alloc, text, context) {
+        Ok(None) => true,
+        Ok(Some(value)) => is_same(alloc, &first, &Ok(value))?,
+        Err(error) => is_same(alloc, &first, &Err(error))?,
+    };
+    Ok(Answers {
+        first,
+        are_same: code_agrees && tree_agrees,
+    })
+}

@@ -1,0 +1,14 @@
+pub mod Acted
+pub mod Arms
+pub mod Blocks
+pub mod Bound
+pub mod Cells
+pub mod Counted
+pub mod Deciding
+pub mod Ended
+pub mod Others
+pub mod Rares
+pub mod Reversed
+pub mod Running
+pub mod Turned
+pub mod Ways
