@@ -24,7 +24,7 @@ pub use expr_evaluation::{
 pub use expr_frames::laws::brackets_leave_program;
 pub use expr_grammar::laws::{brackets_fit, one_tree};
 pub use expr_layout::layouts_have_one_reading;
-pub use expr_lowering::{Code, Holder, KeptCode};
+pub use expr_lowering::{Block, Code, Holder, Instruction, KeptCode, PredicateCall};
 pub use expr_machine::{execute, run};
 pub use expr_meaning::{ExprCall, left_side_decides};
 pub use expr_operators::{

@@ -1,10 +1,12 @@
 //! Vectors: reads a line for each expression and prints a line for its answer: its `Display`, or `!` and the word of its
 //! refusal. In both a backslash, newline, carriage return and tab are written `\\`, `\n`, `\r`, `\t`. After the
-//! expression a line may bind names, each as a tab and `NAME=CODE`. The line `%tables` asks for what only code can see.
+//! expression a line may bind names, each as a tab and `NAME=CODE`. A line is answered by each way from a text to its
+//! answer, but one that begins with `%once ` by `eval` alone. The line `%tables` asks for what only code can see.
 #![tactic(auto)]
 
 mod answers;
 mod collections;
+mod deep;
 mod engine;
 mod hosts;
 mod macros;
@@ -70,22 +72,36 @@ fn bind(alloc: Global, part: &str, context: &mut Context) -> Result<()> {
     Ok(())
 }
 
-/// What a line's expression answers among the names that the line binds, from left to right, by each way from a text to
-/// its answer.
-fn answers(alloc: Global, line: &str) -> Result<Answers> {
+/// What a line's expression answers among the names that the line binds, from left to right: by `eval` alone behind
+/// `%once`, and else by each way from a text to its answer.
+fn line_answers(alloc: Global, line: &str) -> Result<Answers> {
+    if let Some(line) = line.strip_prefix("%once ") {
+        let (code, context) = read(alloc, line)?;
+        return Ok(Answers {
+            first: eval(alloc, &code, &context),
+            are_same: true,
+        });
+    }
+    let (code, context) = read(alloc, line)?;
+    Ok(answer_by_all(alloc, &code, &context)?)
+}
+
+/// A line's expression, and the names that the line binds, from left to right.
+fn read(alloc: Global, line: &str) -> Result<(String, Context)> {
     let mut context = Context::new(alloc);
     let mut parts = line.split('\t');
     let code = unescaped(alloc, parts.next().unwrap_or(""))?;
     for part in parts {
         bind(alloc, part, &mut context)?;
     }
-    Ok(answer_by_all(alloc, &code, &context)?)
+    Ok((code, context))
 }
 
 /// What the modules print, and below it a line for each row of their tables that doesn't hold.
 fn tables(alloc: Global) -> Result<Page> {
     let mut page = Page::new(alloc);
     collections::put_collections(alloc, &mut page)?;
+    deep::put_deep(alloc, &mut page);
     programs::put_programs(alloc, &mut page)?;
     values::put_values(alloc, &mut page)?;
     engine::put_engine(alloc, &mut page)?;
@@ -113,7 +129,7 @@ fn answer_line(alloc: Global, line: &str) -> std::result::Result<String, AllocEr
         let page = tables(alloc).map_err(|_| AllocError)?;
         return String::from_str(alloc, page.text());
     }
-    match answers(alloc, line) {
+    match line_answers(alloc, line) {
         Ok(Answers { first, are_same: true }) => answer_text(alloc, &first),
         Ok(_) => String::from_str(alloc, "!!the ways to an answer differ"),
         Err(error) => String::from_str(alloc, word_of(&error)),

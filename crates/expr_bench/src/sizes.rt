@@ -1,6 +1,8 @@
 //! How many bytes the types take.
 use crate::page::Page;
-use expr::{Context, Error, Key, KeyedMap, Node, Result, Value, ValueMap};
+use expr::{
+    Context, Error, Instruction, Key, KeyedMap, Node, Pattern, Result, Value, ValueMap,
+};
 use std::mem::size_of;
 
 /// Bytes of a type, and how many they may be at most.
@@ -13,6 +15,11 @@ const SIZES: &[(&str, usize, usize)] = &[
     ("Error", size_of::<Error>(), 40),
     ("Result<Value>", size_of::<Result<Value>>(), 48),
     ("Node", size_of::<Node>(), 72),
+    (
+        "Instruction that lends",
+        size_of::<Instruction<&'static Value, &'static String, &'static Pattern>>(),
+        24,
+    ),
 ];
 
 /// Puts the types that are too large.

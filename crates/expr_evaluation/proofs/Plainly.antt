@@ -26,7 +26,7 @@ use Rattle.expr_operators.specs.declared.sides.Sides.{Sides}
 use Rattle.expr_operators.specs.declared.sides.Sides.TheVariants.{Both, EndsAtFalse, EndsAtTrue, Pattern}
 use Rattle.expr_value.proofs.Answered.{first_of-After}
 use Rattle.expr_evaluation.specs.Several.{pairs_written}
-use Rattle.expr_evaluation.specs.Plain.{is_plain, is_plain_program}
+use Rattle.expr_evaluation.specs.Plain.{is_plain}
 use Rattle.expr_operators.specs.Plain.{is_plain_operator, is_plain_value}
 
 pub written-pairs : (ps : Vec (String Global × Node) Global) → written (node.Map ps) ≡ mapping (pairs_written ps.items)
@@ -119,15 +119,3 @@ Postfix-plain {o = o} {m = m} n e p = not-plain (written n) (postfix (postfix_wr
 
 pub Conditional-plain : {A : Type 0} (q : Box Node Global) (a b : Box Program Global) (n : Node) → n ≡ node.Conditional q a b → IsTrue (is_plain (written n)) → A
 Conditional-plain q a b n e p = not-plain (written n) (choice (written q.value) (program_written a.value) (program_written b.value)) (ap written e ∙ written-Conditional q a b) refl p
-
--- a plain program has no lines
-none-before : (ls : List (String Global × Node)) (t : Term) → IsTrue (is_plain_program (block_with (map line_written ls) t)) → ls ≡ []
-none-before [] t p = refl
-none-before (l ∷ ls) t p = cc
-
-pub no-lines : (p : Program) → IsTrue (is_plain_program (program_written p)) → p.lines.items ≡ []
-no-lines p plain = none-before p.lines.items (written p.expr) (subst (λ b. IsTrue (is_plain_program b)) (written-parts p) plain)
-
-pub AllowsBlock-plain : (host : Host) (base : Context) (b : Block) (v : Value) → IsTrue (is_plain_program b) → AllowsBlock host base b (Ok v) → IsTrue (is_plain_value v)
-AllowsBlock-plain host base (answers t) v p h = Allows-plain host base t v p h
-AllowsBlock-plain host base (line key t b) v p h = cc

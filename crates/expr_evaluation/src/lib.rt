@@ -5,5 +5,4 @@ mod evaluation;
 
 pub use evaluation::{
     Evaluation, eval_expr, eval_func, eval_operator, eval_postfix_operator, eval_unary_operator,
-    run,
 };

@@ -5,5 +5,7 @@ mod acts;
 mod conditions;
 mod machine;
 mod names;
+mod stores;
+mod turns;
 
 pub use machine::{Machine, execute, run};

@@ -38,7 +38,7 @@ use Rattle.expr_evaluation.proofs.Allowed.{prepended, drop-at, loop-step, loop-f
 use Rattle.expr_value.proofs.Answered.{Gives-of-Is, Gives-passed, Gives-under, first_of-After}
 use Rattle.expr_operators.proofs.Plainly.{Surely-at}
 use Rattle.expr_evaluation.proofs.Handed.{handed-not-Both, handed-not-EndsAtFalse, handed-not-EndsAtTrue, handed-refused, handed-value, refusal-passed}
-use Rattle.expr_evaluation.proofs.Plainly.{Ident-plain, Array-plain, Map-plain, Range-plain, Func-plain, Postfix-plain, Conditional-plain, Allows-plain, left-true, no-lines, right-true, written-Operation, written-pairs}
+use Rattle.expr_evaluation.proofs.Plainly.{Ident-plain, Array-plain, Map-plain, Range-plain, Func-plain, Postfix-plain, Conditional-plain, Allows-plain, left-true, right-true, written-Operation, written-pairs}
 use Rattle.expr_evaluation.proofs.evaluation.Evaluation.+evaluation.Goals as goal
 
 pub evaluate_form-returns-in_err-first-in-Operation-clause-plain : goal.evaluate_form-returns-in_err-first-in-Operation-clause-plain
@@ -604,12 +604,6 @@ pipe-returns g t c =
     λ a q. (Ok found.0, found.1, subst (λ xs. AllowsCall host key xs (is_given p) asks a) found.2 q)
     ) (subst (λ k. Gives c.call.result (AllowsCall host k vs (is_given p) asks)) c.deref-2.ensures c.call.ensures)
     )
-
-pub run_within-returns-in_err-answer-clause-plain : goal.run_within-returns-in_err-answer-clause-plain
-run_within-returns-in_err-answer-clause-plain g t c = λ v plain h. let none = no-lines c.args.program.now plain in search rules
-
-pub run_within-returns-clause-plain : goal.run_within-returns-clause-plain
-run_within-returns-clause-plain g t c = λ v plain h. let none = no-lines c.args.program.now plain in search rules
 
 pub call-returns-in-None : goal.call-returns-in-None
 call-returns-in-None g t c =
