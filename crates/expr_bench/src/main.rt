@@ -130,7 +130,12 @@ fn answer_line(alloc: Global, line: &str) -> std::result::Result<String, AllocEr
         return String::from_str(alloc, page.text());
     }
     match line_answers(alloc, line) {
-        Ok(Answers { first, are_same: true }) => answer_text(alloc, &first),
+        Ok(
+            Answers {
+                first,
+                are_same: true,
+            },
+        ) => answer_text(alloc, &first),
         Ok(_) => String::from_str(alloc, "!!the ways to an answer differ"),
         Err(error) => String::from_str(alloc, word_of(&error)),
     }

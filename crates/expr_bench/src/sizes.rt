@@ -1,8 +1,6 @@
 //! How many bytes the types take.
 use crate::page::Page;
-use expr::{
-    Context, Error, Instruction, Key, KeyedMap, Node, Pattern, Result, Value, ValueMap,
-};
+use expr::{Context, Error, Instruction, Key, KeyedMap, Node, Pattern, Result, Value, ValueMap};
 use std::mem::size_of;
 
 /// Bytes of a type, and how many they may be at most.

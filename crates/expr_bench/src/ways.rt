@@ -26,7 +26,11 @@ fn by_tree(alloc: Global, text: &str, context: &Context) -> Result<Option<Value>
 }
 
 /// Whether two ways answer the same, as it is printed, or refuse in the same way.
-fn is_same(alloc: Global, one: &Result<Value>, other: &Result<Value>) -> std::result::Result<bool, AllocError> {
+fn is_same(
+    alloc: Global,
+    one: &Result<Value>,
+    other: &Result<Value>,
+) -> std::result::Result<bool, AllocError> {
     match (one, other) {
         (Ok(one), Ok(other)) => {
             let shown = one.to_string(alloc)?;

@@ -6,6 +6,7 @@ pub mod Cells
 pub mod Counted
 pub mod Deciding
 pub mod Ended
+pub mod Leading
 pub mod Others
 pub mod Rares
 pub mod Reversed

@@ -1,3 +1,5 @@
+pub mod Acts
 pub mod Decides
-pub mod Rare
+pub mod Leads
+pub mod Stores
 pub mod Texts
