@@ -67,7 +67,10 @@ impl<'s> Stack<'s> {
     {
         let mut values = Vec::with_capacity(alloc, count)?;
         while values.len() < count {
-            values.push_reserved(self.pop_value(kept)?);
+            match self.take_plain() {
+                Some(value) => values.push_reserved(value),
+                None => values.push_reserved(self.pop_other(kept)?),
+            }
         }
         values.reverse();
         Ok(values)
@@ -81,21 +84,22 @@ impl<'s> Stack<'s> {
             (λ vs rest. Makes result (λ a. a ≡ Ok (value.Array vs)) rest self.new) }
     {
         let values = self.take_values(alloc, kept, count)?;
-        self.push_own(Value::Array(Items::from_vec(values)))?;
+        self.push_kept(Value::Array(Items::from_vec(values)))?;
         Ok(())
     }
 
-    /// Puts the map of as many top values as there are keys, each under its key, in their place. A repeated key keeps its first
-    /// place and has the later value.
+    /// Puts the map of as many top values as there are keys, each under its key, in their place. A repeated key
+    /// keeps its first place and has the later value.
     #[inline(never)]
     pub fn gather(&mut self, alloc: Global, kept: &[Value], keys: Vec<Text>) -> Result<()>
         requires { vec_len keys ≤ length self.old }
         ensures { OnMany (vec_len keys) kept.now self.old
-            (λ vs rest. Makes result (λ a. a ≡ Ok (value.Map (put_all [] (beside keys.items vs)))) rest self.new) }
+            (λ vs rest. Makes result
+            (λ a. a ≡ Ok (value.Map (put_all [] (beside keys.items vs)))) rest self.new) }
     {
         let values = self.take_values(alloc, kept, keys.len())?;
         let map = map_under(alloc, keys, values)?;
-        self.push_own(Value::Map(map))?;
+        self.push_kept(Value::Map(map))?;
         Ok(())
     }
 }
