@@ -1,10 +1,11 @@
 //! Blocks, one after the other, each from its end to its start.
-ghost use Rattle.std.specs.Prelude.{◌≡◌, ◌≤◌, [], length, map, vec_len, IfOk, OnOk};
+ghost use Rattle.std.specs.Prelude.{◌≡◌, ◌≤◌, [], length, map, vec_len, IfOk, OnOk, MatchOption};
 ghost use Rattle.expr_code.specs.Codes.{IsCode};
 ghost use Rattle.expr_tree.specs.Written.{program_written, written};
 ghost use Rattle.expr_lowering.specs.Going.{Leads, Writes, block_begun, turned, with_task};
 ghost use Rattle.expr_lowering.specs.Lent.{task_of, works_of};
 ghost use Rattle.expr_lowering.specs.States.{lent_blocks, lent_ops, state_of};
+ghost use Rattle.expr_lowering.specs.Tasks.{term_task};
 
 use crate::lowering::{LentBlock, Lowering};
 use crate::works::Work;
@@ -14,49 +15,51 @@ use std::alloc::AllocError;
 use std::mem;
 
 impl<'p> Lowering<'p> {
-    /// A part that waited.
-    fn work(&mut self, work: Work<'p>) -> Result<(), AllocError>
-        ensures { OnOk result (Leads 1 (with_task (task_of work.entry) (state_of self.old)) (state_of self.new)) }
+    /// A part that waited: what stands behind it, and its node, which is written next.
+    #[inline(never)]
+    fn work(&mut self, work: Work<'p>) -> Result<&'p Node, AllocError>
+        ensures { IfOk result (λ next. Leads 0 (with_task (task_of work.entry) (state_of self.old))
+            (with_task (term_task (written next.now)) (state_of self.new))) }
     {
         match work {
-            Work::Node(node) => self.form(node),
+            Work::Node(node) => Ok(node),
             Work::Line(node) => {
                 let slot = self.scopes.leave();
                 self.emit(Instruction::Store(slot))?;
-                self.form(node)
+                Ok(node)
             }
             Work::Bound(node) => {
                 self.emit(Instruction::CheckBound)?;
-                self.form(node)
+                Ok(node)
             }
             Work::AndThen(node, mark) => {
                 let passed = self.passed(mark);
                 self.emit(Instruction::AndThen(passed))?;
-                self.form(node)
+                Ok(node)
             }
             Work::OrElse(node, mark) => {
                 let passed = self.passed(mark);
                 self.emit(Instruction::OrElse(passed))?;
-                self.form(node)
+                Ok(node)
             }
             Work::UnlessNil(node, mark) => {
                 let passed = self.passed(mark);
                 self.emit(Instruction::UnlessNil(passed))?;
-                self.form(node)
+                Ok(node)
             }
             Work::JumpIfFalse(node, mark) => {
                 let passed = self.passed(mark);
                 self.emit(Instruction::JumpIfFalse(passed))?;
-                self.form(node)
+                Ok(node)
             }
             Work::Choice(condition, program, mark) => {
                 self.turn(condition, mark)?;
                 self.lines(&program.lines)?;
-                self.form(&program.expr)
+                Ok(&program.expr)
             }
             Work::Ternary(condition, node, mark) => {
                 self.turn(condition, mark)?;
-                self.form(node)
+                Ok(node)
             }
         }
     }
@@ -71,24 +74,76 @@ impl<'p> Lowering<'p> {
         self.put_off(Work::JumpIfFalse(condition, here))
     }
 
+    /// The node of the next part that waits, if there is one; what stands behind it is written.
+    #[inline(always)]
+    fn next(&mut self) -> Result<Option<&'p Node>, AllocError>
+        ensures { IfOk result (λ next. MatchOption next
+            ((state_of self.new ≡ state_of self.old) × (works_of self.new.works.next self.new.works.rest.items ≡ []))
+            (λ n. Leads 0 (state_of self.old) (with_task (term_task (written n.now)) (state_of self.new)))) }
+    {
+        match self.works.pop() {
+            None => Ok(None),
+            Some(Work::Node(node)) => Ok(Some(node)),
+            Some(work) => Ok(Some(self.work(work)?)),
+        }
+    }
+
+    /// A node, and what is written next.
+    #[inline(always)]
+    fn step(&mut self, node: &'p Node) -> Result<Option<&'p Node>, AllocError>
+        ensures { IfOk result (λ next. MatchOption next
+            ((works_of self.new.works.next self.new.works.rest.items ≡ [])
+            × Leads 1 (with_task (term_task (written node.now)) (state_of self.old)) (state_of self.new))
+            (λ n. Leads 1 (with_task (term_task (written node.now)) (state_of self.old))
+            (with_task (term_task (written n.now)) (state_of self.new)))) }
+    {
+        match self.form(node)? {
+            Some(part) => Ok(Some(part)),
+            None => self.next(),
+        }
+    }
+
+    /// A node and all that waits.
+    #[inline(always)]
+    fn rest(&mut self, node: &'p Node) -> Result<(), AllocError>
+        ensures written { OnOk result (Leads 1 (with_task (term_task (written node.now)) (state_of self.old)) (state_of self.new)) }
+        ensures done { OnOk result (works_of self.new.works.next self.new.works.rest.items ≡ []) }
+    {
+        let mut next = Some(node);
+        while let Some(node) = next {
+            next = self.step(node)?;
+        }
+        Ok(())
+    }
+
+    /// Writes the block of a program in the present scope, of whose promised programs so many have no later block.
+    #[inline(never)]
+    fn write(&mut self, program: &'p Program, earlier: usize) -> Result<(), AllocError>
+        requires { works_of self.old.works.next self.old.works.rest.items ≡ [] }
+        ensures block { OnOk result (Writes (block_begun earlier (state_of self.old)) (program_written program.now)
+            (state_of self.new) (lent_ops self.new.block.items)) }
+        ensures done { OnOk result (works_of self.new.works.next self.new.works.rest.items ≡ []) }
+    {
+        self.earlier = earlier;
+        self.block = Vec::with_capacity(self.alloc, 16)?;
+        self.lines(&program.lines)?;
+        self.rest(&program.expr)
+    }
+
     /// The block of a program in the present scope, of whose promised programs so many have no later block.
+    #[inline(always)]
     fn block(&mut self, program: &'p Program, earlier: usize) -> Result<LentBlock<'p>, AllocError>
         requires { works_of self.old.works.next self.old.works.rest.items ≡ [] }
         ensures block { IfOk result (λ block. Writes (block_begun earlier (state_of self.old)) (program_written program.now)
             (state_of self.new) (lent_ops block.items)) }
         ensures done { OnOk result (works_of self.new.works.next self.new.works.rest.items ≡ []) }
     {
-        self.earlier = earlier;
-        self.block = Vec::with_capacity(self.alloc, 16)?;
-        self.lines(&program.lines)?;
-        self.form(&program.expr)?;
-        while let Some(work) = self.works.pop() {
-            self.work(work)?;
-        }
+        self.write(program, earlier)?;
         Ok(mem::replace(&mut self.block, Vec::new(self.alloc)))
     }
 
     /// The blocks of a program and of those that are promised one on the way.
+    #[inline(always)]
     pub(crate) fn blocks(
         &mut self,
         program: &'p Program,
@@ -99,7 +154,7 @@ impl<'p> Lowering<'p> {
         ensures { IfOk result (λ blocks. IsCode (program_written program.now) (lent_blocks blocks.0 blocks.1)) }
     {
         let first = self.block(program, 0)?;
-        let mut later = Vec::new(self.alloc);
+        let mut later = Vec::with_capacity(self.alloc, self.promised.len())?;
         while later.len() < self.promised.len() {
             let promised = self.promised[later.len()];
             self.scopes.enter(promised.scope);

@@ -5,72 +5,55 @@ use Rattle.expr_lowering.specs.Going.{State, Leads, with_op, with_task}
 use Rattle.expr_lowering.specs.Lent.{entries_of, task_of}
 use Rattle.expr_lowering.specs.Scoping.{Grows}
 use Rattle.expr_lowering.specs.States.{state_of}
-use Rattle.expr_lowering.specs.Tasks.{block_task}
+use Rattle.expr_lowering.specs.Tasks.{block_task, term_task}
 use Rattle.expr_lowering.specs.declared.works.Work.{Work}
-use Rattle.expr_lowering.proofs.Formed.{leads_left, leads_bound, leads_jump, leads_first, leads_ternary_first}
-use Rattle.expr_lowering.proofs.Standing.{after_form, after_program_form, on_ok}
+use Rattle.expr_lowering.proofs.Formed.{leads_left, leads_jump, leads_first, leads_ternary_first}
+use Rattle.expr_lowering.proofs.Standing.{goes_to, program_goes}
 use Rattle.expr_lowering.proofs.lowering.Lowering.work.Goals as goal
 
 -- a part that waited, whichever it is
 from_work : (fall : ℕ) (w v : Work) (s new : State) → w ≡ v → Leads fall (with_task (task_of v) s) new → Leads fall (with_task (task_of w) s) new
 from_work fall w v s new e leads = subst (λ x. Leads fall (with_task (task_of x) s) new) (sym e) leads
 
-pub returns-in-Node : goal.returns-in-Node
-returns-in-Node c = on_ok c.form.result (from_work 1 c.args.work _ (state_of c.args.self.now) _ c.in-Node.is) c.form.ensures
-
 pub returns-in_ok-emit-in-Line : goal.returns-in_ok-emit-in-Line
 returns-in_ok-emit-in-Line c =
     let s = state_of c.args.self.now in
     let t = written c.in-Line.node.now in
     let grows : Grows (entries_of c.args.self.now.scopes.names.items) (entries_of c.leave-slot.new.self.names.items) = subst (λ v. Grows (entries_of c.args.self.now.scopes.names.items) (entries_of v.items)) (sym c.leave-slot.ensures.names) (λ n e at. at) in
-    after_form c.form-in-Line.result (with_task (task_of c.args.work) s) _ _ _ t c.in_ok-emit-in-Line.ensures c.form-in-Line.ensures (
+    goes_to 0 _ _ _ (term_task t) c.in_ok-emit-in-Line.ensures (
     from_work 0 c.args.work _ s _ c.in-Line.is (leads_left s t (entries_of c.leave-slot.new.self.names.items) c.leave-slot.new.self.scope c.leave-slot.result grows c.leave-slot.ensures.scope c.leave-slot.ensures.slot)
     )
-
-pub returns-in_ok-emit-in-Bound : goal.returns-in_ok-emit-in-Bound
-returns-in_ok-emit-in-Bound c =
-    let s = state_of c.args.self.now in
-    let t = written c.in-Bound.node.now in
-    after_form c.form-in-Bound.result (with_task (task_of c.args.work) s) _ _ _ t c.in_ok-emit-in-Bound.ensures c.form-in-Bound.ensures (from_work 0 c.args.work _ s _ c.in-Bound.is (leads_bound s t))
 
 pub returns-in_ok-emit-in-AndThen : goal.returns-in_ok-emit-in-AndThen
 returns-in_ok-emit-in-AndThen c =
     let s = state_of c.args.self.now in
     let t = written c.in-AndThen.node.now in
-    after_form c.form-in-AndThen.result (with_task (task_of c.args.work) s) _ _ _ t (c.in_ok-emit-in-AndThen.ensures ∙ ap (λ n. with_op (and_then n) s) c.passed-passed.ensures) c.form-in-AndThen.ensures (
-    from_work 0 c.args.work _ s _ c.in-AndThen.is (leads_jump s and_then t c.in-AndThen.mark)
-    )
+    goes_to 0 _ _ _ (term_task t) (c.in_ok-emit-in-AndThen.ensures ∙ ap (λ n. with_op (and_then n) s) c.passed-passed.ensures) (from_work 0 c.args.work _ s _ c.in-AndThen.is (leads_jump s and_then t c.in-AndThen.mark))
 
 pub returns-in_ok-emit-in-OrElse : goal.returns-in_ok-emit-in-OrElse
 returns-in_ok-emit-in-OrElse c =
     let s = state_of c.args.self.now in
     let t = written c.in-OrElse.node.now in
-    after_form c.form-in-OrElse.result (with_task (task_of c.args.work) s) _ _ _ t (c.in_ok-emit-in-OrElse.ensures ∙ ap (λ n. with_op (or_else n) s) c.passed-passed-in-OrElse.ensures) c.form-in-OrElse.ensures (
-    from_work 0 c.args.work _ s _ c.in-OrElse.is (leads_jump s or_else t c.in-OrElse.mark)
-    )
+    goes_to 0 _ _ _ (term_task t) (c.in_ok-emit-in-OrElse.ensures ∙ ap (λ n. with_op (or_else n) s) c.passed-passed-in-OrElse.ensures) (from_work 0 c.args.work _ s _ c.in-OrElse.is (leads_jump s or_else t c.in-OrElse.mark))
 
 pub returns-in_ok-emit-in-UnlessNil : goal.returns-in_ok-emit-in-UnlessNil
 returns-in_ok-emit-in-UnlessNil c =
     let s = state_of c.args.self.now in
     let t = written c.in-UnlessNil.node.now in
-    after_form c.form-in-UnlessNil.result (with_task (task_of c.args.work) s) _ _ _ t (c.in_ok-emit-in-UnlessNil.ensures ∙ ap (λ n. with_op (unless_nil n) s) c.passed-passed-in-UnlessNil.ensures) c.form-in-UnlessNil.ensures (
-    from_work 0 c.args.work _ s _ c.in-UnlessNil.is (leads_jump s unless_nil t c.in-UnlessNil.mark)
-    )
+    goes_to 0 _ _ _ (term_task t) (c.in_ok-emit-in-UnlessNil.ensures ∙ ap (λ n. with_op (unless_nil n) s) c.passed-passed-in-UnlessNil.ensures) (from_work 0 c.args.work _ s _ c.in-UnlessNil.is (leads_jump s unless_nil t c.in-UnlessNil.mark))
 
 pub returns-in_ok-emit-in-JumpIfFalse : goal.returns-in_ok-emit-in-JumpIfFalse
 returns-in_ok-emit-in-JumpIfFalse c =
     let s = state_of c.args.self.now in
     let t = written c.in-JumpIfFalse.node.now in
-    after_form c.form-in-JumpIfFalse.result (with_task (task_of c.args.work) s) _ _ _ t (c.in_ok-emit-in-JumpIfFalse.ensures ∙ ap (λ n. with_op (jump_if_false n) s) c.passed-passed-in-JumpIfFalse.ensures) c.form-in-JumpIfFalse.ensures (
-    from_work 0 c.args.work _ s _ c.in-JumpIfFalse.is (leads_jump s jump_if_false t c.in-JumpIfFalse.mark)
-    )
+    goes_to 0 _ _ _ (term_task t) (c.in_ok-emit-in-JumpIfFalse.ensures ∙ ap (λ n. with_op (jump_if_false n) s) c.passed-passed-in-JumpIfFalse.ensures) (from_work 0 c.args.work _ s _ c.in-JumpIfFalse.is (leads_jump s jump_if_false t c.in-JumpIfFalse.mark))
 
 pub returns-in_ok-lines-in-Choice : goal.returns-in_ok-lines-in-Choice
 returns-in_ok-lines-in-Choice c =
     let s = state_of c.args.self.now in
     let t = written c.in-Choice.condition.now in
     let b = program_written c.in-Choice.program.now in
-    after_program_form (with_task (task_of c.args.work) s) _ _ c.in-Choice.program.now _ c.deref.ensures.value c.in_ok-lines-in-Choice.ensures c.form-in-Choice.result _ c.form-in-Choice.ensures (
+    program_goes (with_task (task_of c.args.work) s) _ _ c.in-Choice.program.now _ c.deref.ensures.value c.in_ok-lines-in-Choice.ensures 0 (
     subst (λ x. Leads 0 (with_task (task_of c.args.work) s) (with_task (block_task b) x)) (sym c.in_ok-turn-in-Choice.ensures) (from_work 0 c.args.work _ s _ c.in-Choice.is (leads_first s t b c.in-Choice.mark))
     )
 
@@ -79,4 +62,4 @@ returns-in_ok-turn-in-Ternary c =
     let s = state_of c.args.self.now in
     let t = written c.in-Ternary.condition.now in
     let u = written c.in-Ternary.node.now in
-    after_form c.form-in-Ternary.result (with_task (task_of c.args.work) s) _ _ _ u c.in_ok-turn-in-Ternary.ensures c.form-in-Ternary.ensures (from_work 0 c.args.work _ s _ c.in-Ternary.is (leads_ternary_first s t u c.in-Ternary.mark))
+    goes_to 0 _ _ _ (term_task u) c.in_ok-turn-in-Ternary.ensures (from_work 0 c.args.work _ s _ c.in-Ternary.is (leads_ternary_first s t u c.in-Ternary.mark))

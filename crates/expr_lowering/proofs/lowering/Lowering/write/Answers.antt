@@ -1,0 +1,21 @@
+use Rattle.std.proofs.Common.{map, refl, ap}
+use Rattle.expr_tree.specs.Written.{program_written}
+use Rattle.expr_lowering.specs.Going.{block_begun}
+use Rattle.expr_lowering.specs.Lent.{task_of}
+use Rattle.expr_lowering.specs.States.{lent_ops, state_of}
+use Rattle.expr_lowering.proofs.Promising.{writes_block}
+use Rattle.expr_lowering.proofs.Standing.{on_both, program_begins}
+use Rattle.expr_lowering.proofs.lowering.Lowering.write.Goals as goal
+
+pub returns-clause-block : goal.returns-clause-block
+returns-clause-block c =
+    let begun = block_begun c.args.earlier (state_of c.args.self.now) in
+    let last = state_of c.rest.new.self in
+    let b = program_written c.args.program.now in
+    on_both c.rest.result (
+    λ leads none. writes_block c.args.earlier (state_of c.args.self.now) last last b (
+    program_begins begun _ _ _ c.args.program.now _ c.deref.ensures.value c.in_ok-lines.ensures leads (
+    λ i. record begun { tasks = map task_of (c.requires i); ops = lent_ops (c.in_ok-self.ensures.items i) }
+    )
+    ) (ap (map task_of) none) refl refl
+    ) c.rest.ensures.written c.rest.ensures.done
