@@ -14,7 +14,7 @@ pub fn part_of<'a>(alloc: Global, value: Held<'a>, key: &Value, optional: bool) 
     ensures { Is result (indexed value.entry key.now optional) }
 {
     match value.into_holding() {
-        Holding::Own(value) => Ok(Held::own(part_of_own(alloc, value, key, optional)?)),
+        Holding::Own(value) => part_of_given(alloc, value, key, optional),
         Holding::Lent(value) => index(alloc, value, key, optional),
     }
 }
@@ -32,6 +32,14 @@ pub fn slice_of(
         Holding::Own(value) => slice(alloc, value, start, stop),
         Holding::Lent(value) => slice_lent(alloc, value, start, stop),
     }
+}
+
+/// What a value that is given has at a key, held as one of its own.
+#[inline(never)]
+fn part_of_given<'a>(alloc: Global, value: Value, key: &Value, optional: bool) -> Result<Held<'a>>
+    ensures { Is result (indexed value key.now optional) }
+{
+    Ok(Held::own(part_of_own(alloc, value, key, optional)?))
 }
 
 /// What a value that is given has at a key, moved out.

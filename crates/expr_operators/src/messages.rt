@@ -1,5 +1,6 @@
 //! The texts of refusals: what was met, for people.
-ghost use Rattle.std.specs.Prelude.{◌≡◌, ◌≢◌};
+ghost use Rattle.std.specs.Prelude.{◌≡◌, ◌≢◌, Err};
+ghost use Rattle.expr_value.specs.Answers.{Is};
 ghost use Rattle.expr_value.specs.Fault.{fault_of, evaluation, memory};
 
 use expr_value::{Error, Value};
@@ -23,6 +24,19 @@ pub fn mismatch<D: Display>(alloc: Global, operator: &D, left: &Value, right: &V
     let left = kind_of(left);
     let right = kind_of(right);
     refused(format!(in alloc; "operator {operator} does not take {left} and {right}"))
+}
+
+/// What an operator gives on operands that it refuses.
+#[inline(never)]
+pub fn refuse<D: Display>(
+    alloc: Global,
+    operator: &D,
+    left: &Value,
+    right: &Value,
+) -> expr_value::Result<Value>
+    ensures { Is result (Err evaluation) }
+{
+    Err(mismatch(alloc, operator, left, right))
 }
 
 /// A refusal of a key that the value has no places for.

@@ -4,7 +4,7 @@ ghost use Rattle.std.specs.Option.{option_copied};
 ghost use Rattle.expr_value.specs.Answers.{Is};
 ghost use Rattle.expr_operators.specs.Positions.{bound_at, bound_checked, indexed, integers_between, item_from, or_nil, part, ranged, repaired, sliced, start_at, stop_at};
 
-use crate::messages::{mismatch, not_indexed, unexpected};
+use crate::messages::{not_indexed, refuse, unexpected};
 use bstr::ByteSlice;
 use expr_held::Held;
 use expr_value::{Error, Items, Result, Text, Value};
@@ -19,7 +19,7 @@ pub fn range(alloc: Global, first: &Value, last: &Value) -> Result<Value>
             let integers = count_up(alloc, *first, *last)?;
             Ok(Value::Array(Items::from_vec(integers)))
         }
-        _ => Err(mismatch(alloc, &"..", first, last)),
+        _ => refuse(alloc, &"..", first, last),
     }
 }
 
@@ -27,18 +27,17 @@ fn count_up(alloc: Global, first: i64, last: i64) -> Result<Vec<Value>>
     ensures ok { IfOk result (λ v. v.items ≡ integers_between first last) }
     ensures refusal { IfErr result (λ e. e ≡ Error.MemoryError) }
 {
-    let mut integers = Vec::new(alloc);
     if first > last {
-        return Ok(integers);
+        return Ok(Vec::new(alloc));
     }
     let Some(count) = (last.abs_diff(first) as usize).checked_add(1) else {
         return Err(Error::MemoryError);
     };
-    integers.reserve(count)?;
+    let mut integers = Vec::with_capacity(alloc, count)?;
     for integer in first..last {
-        integers.push(Value::Integer(integer))?;
+        integers.push_reserved(Value::Integer(integer));
     }
-    integers.push(Value::Integer(last))?;
+    integers.push_reserved(Value::Integer(last));
     Ok(integers)
 }
 

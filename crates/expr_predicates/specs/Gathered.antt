@@ -1,12 +1,12 @@
 -- What a run keeps of its replies.
-use Rattle.std.specs.Prelude.{◌≡◌, ℕ, ◌+◌, List, [], length, map, count_by, option_map, Result, Ok}
+use Rattle.std.specs.Prelude.{◌≡◌, ℕ, ◌+◌, ◌-◌, List, [], length, map, count_by, option_map, Option, Some, None, Result, Ok}
 use Rattle.std.specs.List.{filter, find, list_any, position_from}
 use Rattle.expr_value.specs.Fault.{Fault}
 use Rattle.expr_value.specs.declared.value.Value.{Value}
 use Rattle.expr_predicates.specs.Calls.{Start}
 use Rattle.expr_predicates.specs.Lefts.{left_of}
 use Rattle.expr_predicates.specs.Sorting.{beside_keys}
-use Rattle.expr_predicates.specs.Tasks.{Task, all_hold, any_holds, none_holds, one_holds, mapping, filtering, finding, finding_place, finding_last_place, counting, summing, reducing, grouping, sorting, Reply, holds, fails, acc_after, first_place, total, keyed}
+use Rattle.expr_predicates.specs.Tasks.{Task, Question, number, all_hold, any_holds, none_holds, one_holds, mapping, filtering, finding, finding_place, finding_last_place, counting, summing, reducing, grouping, sorting, Reply, holds, fails, acc_after, first_place, total, keyed}
 use Rattle.expr_predicates.specs.declared.run.Gathered.{Gathered}
 use Rattle.expr_predicates.specs.declared.run.Gathered.TheVariants as gathered
 use Rattle.expr_predicates.specs.declared.noted.Noted.{Noted}
@@ -47,6 +47,16 @@ abbrev pub GathersRest : Gathered → Task → List Reply → Type 0
 GathersRest (gathered.Noted n) t rs = Notes n t rs
 GathersRest (gathered.Kept k) t rs = KeepsRest k t rs
 
+-- what is told beside an item at a place: the place where items are mapped, and what has been made so far too where they are reduced
+abbrev pub index_beside : Gathered → ℕ → Option Value
+index_beside (gathered.Kept (kept.Map values)) place = Some (number place)
+index_beside (gathered.Kept (kept.Reduce acc)) place = Some (number place)
+index_beside g place = None
+
+abbrev pub acc_beside : Gathered → Option Value
+acc_beside (gathered.Kept (kept.Reduce acc)) = Some acc
+acc_beside g = None
+
 -- a run stands where these replies lead
 pub record Stands (run : PredicateRun) (t : Task) (rs : List Reply) : Type 0 where
   pub asked : run.asked ≡ first_place t + length rs
@@ -68,3 +78,14 @@ to_ask run = length (left run)
 -- a run stands at its beginning, where this is what its built-in begins with
 abbrev pub StartsWith : PredicateRun → Result Start Fault → Type 0
 StartsWith run start = (t : Task) × (start ≡ Ok (record { task = t; items = left run })) × Stands run t []
+
+-- what a run tells beside the item that is out, until it is taken
+abbrev pub index_out : PredicateRun → Option Value
+index_out run = index_beside run.gathered (run.asked - 1)
+
+abbrev pub acc_out : PredicateRun → Option Value
+acc_out run = acc_beside run.gathered
+
+-- what it asks about that item
+abbrev pub asked_by : PredicateRun → Value → Question
+asked_by run item = record { item = item; index = index_out run; acc = acc_out run }

@@ -1,5 +1,5 @@
 //! What is kept of the answers where items or answers are.
-ghost use Rattle.std.specs.Prelude.{◌≡◌, ◌≢◌, ◌∷◌, ◌++◌, [], List, IfOk, IfErr, Some, None, true, false, if◌then◌else◌};
+ghost use Rattle.std.specs.Prelude.{◌≡◌, ◌≢◌, ◌∷◌, ◌++◌, [], List, IfOk, IfErr, OnOk, Some, None, true, false, if◌then◌else◌};
 ghost use Rattle.std.specs.Option.{option_or};
 ghost use Rattle.expr_value.specs.Answers.{Gives};
 ghost use Rattle.expr_value.specs.Values.{key_of};
@@ -10,9 +10,9 @@ ghost use Rattle.expr_predicates.specs.Sorting.{sort_key};
 use crate::grouping::grouped;
 use crate::noted::is_true;
 use crate::sorting::sorted;
-use expr_held::Held;
+use expr_held::{Held, Holding};
 use expr_value::{Error, Items, Key, Result, Value, refusal};
-use std::alloc::Global;
+use std::alloc::{AllocError, Global};
 
 /// What is kept of the items and answers so far.
 #[derive(Drop)]
@@ -46,6 +46,7 @@ impl Kept {
     }
 
     /// One more answer, about this item. An item that is lent is copied where it is kept.
+    #[inline(always)]
     pub(crate) fn take(&mut self, alloc: Global, item: Held<'_>, answer: Value) -> Result<()>
         ensures kept { IfOk result (λ _. (t : Task) (rs : List Reply) → KeepsRest self.old t rs
             → Keeps self.new t (rs ++ (item.entry, answer) ∷ []) × (refused t answer ≡ false)) }
@@ -53,9 +54,18 @@ impl Kept {
             → KeepsRest self.old t rs → (refused t answer ≡ true) × (fault_of e ≡ evaluation)) }
     {
         match self {
-            Kept::Map(answers) => keep(answers, answer),
-            Kept::Filter(kept) => keep_if(kept, is_true(&answer), item),
-            Kept::Find(found) => find_if(found, is_true(&answer), item),
+            Kept::Map(answers) => {
+                put_last(answers, answer)?;
+                Ok(())
+            }
+            Kept::Filter(kept) => {
+                keep_if(kept, is_true(&answer), item)?;
+                Ok(())
+            }
+            Kept::Find(found) => {
+                find_if(found, is_true(&answer), item)?;
+                Ok(())
+            }
             Kept::Reduce(acc) => {
                 *acc = answer;
                 Ok(())
@@ -80,14 +90,16 @@ impl Kept {
     }
 }
 
-// Each of these but `keep_if` stands alone, so that a turn pays for the locals of its own built-in.
+// Each of these that is called seldom stands alone, so that a turn pays for the locals of its own built-in.
 
 /// An item kept, if it is to be.
-#[inline]
-fn keep_if(kept: &mut Vec<Value>, is_kept: bool, item: Held<'_>) -> Result<()>
-    ensures ok { IfOk result (λ _. kept.new.items
-        ≡ kept.old.items ++ (if is_kept then item.entry ∷ [] else [])) }
-    ensures err { IfErr result (λ e. e ≡ Error.MemoryError) }
+#[inline(always)]
+fn keep_if(
+    kept: &mut Vec<Value>,
+    is_kept: bool,
+    item: Held<'_>,
+) -> std::result::Result<(), AllocError>
+    ensures { OnOk result (kept.new.items ≡ kept.old.items ++ (if is_kept then item.entry ∷ [] else [])) }
 {
     if is_kept {
         keep_item(kept, item)
@@ -97,36 +109,59 @@ fn keep_if(kept: &mut Vec<Value>, is_kept: bool, item: Held<'_>) -> Result<()>
 }
 
 /// An item kept.
-#[inline(never)]
-fn keep_item(kept: &mut Vec<Value>, item: Held<'_>) -> Result<()>
-    ensures ok { IfOk result (λ _. kept.new.items ≡ kept.old.items ++ item.entry ∷ []) }
-    ensures err { IfErr result (λ e. e ≡ Error.MemoryError) }
+#[inline(always)]
+fn keep_item(kept: &mut Vec<Value>, item: Held<'_>) -> std::result::Result<(), AllocError>
+    ensures { OnOk result (kept.new.items ≡ kept.old.items ++ item.entry ∷ []) }
 {
-    kept.push(item.into_value()?)?;
-    Ok(())
+    match item.into_holding() {
+        Holding::Own(value) => put_last(kept, value),
+        Holding::Lent(value) => keep_copy(kept, value),
+    }
+}
+
+/// A copy of an item kept.
+#[inline(never)]
+fn keep_copy(kept: &mut Vec<Value>, item: &Value) -> std::result::Result<(), AllocError>
+    ensures { OnOk result (kept.new.items ≡ kept.old.items ++ item.now ∷ []) }
+{
+    put_last(kept, item.clone()?)
 }
 
 /// A value kept.
-#[inline(never)]
-fn keep(kept: &mut Vec<Value>, value: Value) -> Result<()>
-    ensures ok { IfOk result (λ _. kept.new.items ≡ kept.old.items ++ value ∷ []) }
-    ensures err { IfErr result (λ e. e ≡ Error.MemoryError) }
+#[inline(always)]
+fn put_last(kept: &mut Vec<Value>, value: Value) -> std::result::Result<(), AllocError>
+    ensures { OnOk result (kept.new.items ≡ kept.old.items ++ value ∷ []) }
 {
-    kept.push(value)?;
+    if kept.len() == kept.capacity() {
+        kept.reserve(1)?;
+    }
+    kept.push_reserved(value);
     Ok(())
 }
 
 /// What was found, or else this item, if it is what is sought.
 #[inline(never)]
-fn find_if(found: &mut Option<Value>, is_sought: bool, item: Held<'_>) -> Result<()>
-    ensures ok { IfOk result (λ _. found.new
-        ≡ option_or found.old (if is_sought then Some item.entry else None)) }
-    ensures err { IfErr result (λ e. e ≡ Error.MemoryError) }
+fn find_if(
+    found: &mut Option<Value>,
+    is_sought: bool,
+    item: Held<'_>,
+) -> std::result::Result<(), AllocError>
+    ensures { OnOk result (found.new ≡ option_or found.old (if is_sought then Some item.entry else None)) }
 {
     if is_sought && found.is_none() {
-        *found = Some(item.into_value()?);
+        *found = Some(own_value(item)?);
     }
     Ok(())
+}
+
+/// The value of an item, copied where it is lent.
+fn own_value(item: Held<'_>) -> std::result::Result<Value, AllocError>
+    ensures { IfOk result (λ v. v ≡ item.entry) }
+{
+    match item.into_holding() {
+        Holding::Own(value) => Ok(value),
+        Holding::Lent(value) => value.clone(),
+    }
 }
 
 /// One more item beside its key, which is a scalar.

@@ -44,6 +44,7 @@ impl<'s> Left<'s> {
     }
 
     /// The next item, by value.
+    #[inline(always)]
     pub(crate) fn pop(&mut self) -> Option<Held<'s>>
         ensures { MatchOption result ((left_of self.old ≡ []) × (left_of self.new ≡ []))
             (λ item. left_of self.old ≡ item ∷ left_of self.new) }

@@ -6,7 +6,7 @@ ghost use Rattle.expr_value.specs.Fault.{fault_of, memory, evaluation};
 ghost use Rattle.expr_value.specs.declared.value.Value.{Value as value};
 ghost use Rattle.expr_predicates.specs.Tasks.{place_or_none};
 
-use expr_value::{Result, Value, refusal};
+use expr_value::{Error, Result, Value, refusal};
 use std::alloc::Global;
 
 /// What is kept of the answers so far.
@@ -43,48 +43,84 @@ impl Noted {
         }
     }
 
-    /// One more answer, about an item that stands behind so many others.
-    pub(crate) fn with(self, alloc: Global, asked: usize, answer: &Value) -> Result<Noted>
+    /// One more answer, about an item that stands behind so many others, where it is taken.
+    #[inline(always)]
+    fn note(&mut self, asked: usize, answer: &Value) -> bool
         requires { asked + 1 < 2 ^ 64 }
-        ensures noted { IfOk result (λ n. (t : Task) (rs : List Reply) (item : value) → Notes self t rs → asked ≡ first_place t + length rs
-            → Notes n t (rs ++ (item, answer.now) ∷ []) × (refused t answer.now ≡ false)) }
-        ensures refused { IfErr result (λ e. fault_of e ≢ memory → (t : Task) (rs : List Reply) → Notes self t rs
-            → (refused t answer.now ≡ true) × (fault_of e ≡ evaluation)) }
+        ensures noted { result ≡ true → (t : Task) (rs : List Reply) (item : value) → Notes self.old t rs
+            → asked ≡ first_place t + length rs
+            → Notes self.new t (rs ++ (item, answer.now) ∷ []) × (refused t answer.now ≡ false) }
+        ensures refused { result ≡ false → (t : Task) (rs : List Reply) → Notes self.old t rs
+            → refused t answer.now ≡ true }
     {
         match self {
-            Noted::All(found) => Ok(Noted::All(found || is_false(answer))),
-            Noted::Any(found) => Ok(Noted::Any(found || is_true(answer))),
-            Noted::NoneOf(found) => Ok(Noted::NoneOf(found || is_true(answer))),
-            Noted::One(count) => Ok(Noted::One(counted(count, is_true(answer)))),
-            Noted::FindIndex(found) => {
-                Ok(Noted::FindIndex(found_if(found, is_true(answer), asked)))
+            Noted::All(found) => {
+                *found = *found || is_false(answer);
+                true
             }
-            Noted::FindLastIndex(count, found) => Ok(Noted::FindLastIndex(
-                count,
-                found_if(found, is_true(answer), asked),
-            )),
+            Noted::Any(found) => {
+                *found = *found || is_true(answer);
+                true
+            }
+            Noted::NoneOf(found) => {
+                *found = *found || is_true(answer);
+                true
+            }
+            Noted::One(count) => {
+                *count = counted(*count, is_true(answer));
+                true
+            }
+            Noted::FindIndex(found) => {
+                *found = found_if(*found, is_true(answer), asked);
+                true
+            }
+            Noted::FindLastIndex(_, found) => {
+                *found = found_if(*found, is_true(answer), asked);
+                true
+            }
             Noted::Count(count) => match answer.as_bool() {
-                Some(truth) => Ok(Noted::Count(counted(count, truth))),
-                None => Err(refusal(alloc, "count takes a predicate that answers a boolean")),
+                Some(truth) => {
+                    *count = counted(*count, truth);
+                    true
+                }
+                None => false,
             },
             Noted::Sum(total) => match answer.as_integer() {
-                Some(number) => Ok(Noted::Sum(total.wrapping_add(number))),
-                None => Err(refusal(alloc, "sum takes integers")),
+                Some(number) => {
+                    *total = total.wrapping_add(number);
+                    true
+                }
+                None => false,
             },
         }
     }
 
-    /// The same, in place.
+    /// The refusal of an answer that isn't taken.
     #[inline(never)]
+    fn refusal(&self, alloc: Global) -> Error
+        ensures { fault_of result ≢ memory → fault_of result ≡ evaluation }
+    {
+        match self {
+            Noted::Sum(_) => refusal(alloc, "sum takes integers"),
+            _ => refusal(alloc, "count takes a predicate that answers a boolean"),
+        }
+    }
+
+    /// One more answer, about an item that stands behind so many others.
+    #[inline(always)]
     pub(crate) fn take(&mut self, alloc: Global, asked: usize, answer: &Value) -> Result<()>
         requires { asked + 1 < 2 ^ 64 }
-        ensures noted { IfOk result (λ _. (t : Task) (rs : List Reply) (item : value) → Notes self.old t rs → asked ≡ first_place t + length rs
+        ensures noted { IfOk result (λ _. (t : Task) (rs : List Reply) (item : value) → Notes self.old t rs
+            → asked ≡ first_place t + length rs
             → Notes self.new t (rs ++ (item, answer.now) ∷ []) × (refused t answer.now ≡ false)) }
         ensures refused { IfErr result (λ e. fault_of e ≢ memory → (t : Task) (rs : List Reply) → Notes self.old t rs
             → (refused t answer.now ≡ true) × (fault_of e ≡ evaluation)) }
     {
-        *self = self.with(alloc, asked, answer)?;
-        Ok(())
+        if self.note(asked, answer) {
+            Ok(())
+        } else {
+            Err(self.refusal(alloc))
+        }
     }
 
     /// What the answers come to.

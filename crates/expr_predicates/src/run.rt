@@ -1,5 +1,5 @@
 //! A run of a predicate over the items of an array.
-ghost use Rattle.std.specs.Prelude.{◌≡◌, ◌≢◌, ◌+◌, ◌<◌, ◌^◌, ◌∷◌, ◌++◌, [], List, reverse, length, IfOk, IfErr, IfSome, Ok, Err, Some, None, option_map, true, false};
+ghost use Rattle.std.specs.Prelude.{◌≡◌, ◌≢◌, ℕ, ◌+◌, ◌<◌, ◌^◌, ◌∷◌, ◌++◌, [], List, reverse, length, IfOk, IfErr, IfSome, Ok, Err, Some, None, option_map, true, false};
 ghost use Rattle.expr_value.specs.Answers.{Gives};
 ghost use Rattle.expr_value.specs.Fault.{fault_of, memory, evaluation};
 ghost use Rattle.expr_predicates.specs.Arrays.{items_held};
@@ -26,11 +26,11 @@ enum Gathered {
 }
 
 impl Gathered {
-    ghost use Rattle.expr_predicates.specs.Tasks.{Task, Reply, Outcome, about, first_place, refused, stopped};
-    ghost use Rattle.expr_predicates.specs.Gathered.{Gathers, GathersRest};
-    ghost use Rattle.expr_predicates.specs.Questions.{asked_of};
+    ghost use Rattle.expr_predicates.specs.Tasks.{Task, Reply, Outcome, first_place, refused, stopped};
+    ghost use Rattle.expr_predicates.specs.Gathered.{Gathers, GathersRest, acc_beside, index_beside};
 
     /// Whether no more is to be asked.
+    #[inline(always)]
     fn has_stopped(&self) -> bool
         ensures { (t : Task) (rs : List Reply) → Gathers self.now t rs → result ≡ stopped t rs }
     {
@@ -40,33 +40,32 @@ impl Gathered {
         }
     }
 
-    /// What is asked about the item at a place. What has been made so far goes out with it.
-    fn ask<'s>(&mut self, place: usize, item: Held<'s>) -> Asked<'s>
-        ensures item { result.item ≡ item.entry }
-        ensures asked { (t : Task) (rs : List Reply) → Gathers self.old t rs
-            → place ≡ first_place t + length rs → asked_of result ≡ about t rs item.entry }
-        ensures gathered { (t : Task) (rs : List Reply) → Gathers self.old t rs → GathersRest self.new t rs }
+    /// What is told beside the item at a place: the place, where the built-in binds `#index`.
+    #[inline(always)]
+    fn index(&self, place: usize) -> Option<Value>
+        ensures { result ≡ index_beside self.now place }
     {
         match self {
-            Gathered::Kept(Kept::Map(_)) => Asked {
-                item,
-                index: Some(Value::from(place)),
-                acc: None,
-            },
-            Gathered::Kept(Kept::Reduce(acc)) => Asked {
-                item,
-                index: Some(Value::from(place)),
-                acc: Some(std::mem::replace(acc, Value::Nil)),
-            },
-            _ => Asked {
-                item,
-                index: None,
-                acc: None,
-            },
+            Gathered::Kept(Kept::Map(_) | Kept::Reduce(_)) => Some(Value::from(place)),
+            _ => None,
+        }
+    }
+
+    /// What has been made so far, where the built-in binds `#acc`; nil is left of it.
+    #[inline(always)]
+    fn take_acc(&mut self) -> Option<Value>
+        ensures acc { result ≡ acc_beside self.old }
+        ensures rest { (t : Task) (rs : List Reply) → GathersRest self.old t rs → GathersRest self.new t rs }
+        ensures index { (place : ℕ) → index_beside self.new place ≡ index_beside self.old place }
+    {
+        match self {
+            Gathered::Kept(Kept::Reduce(acc)) => Some(std::mem::replace(acc, Value::Nil)),
+            _ => None,
         }
     }
 
     /// One more answer, about the item at a place.
+    #[inline(always)]
     fn take(&mut self, alloc: Global, place: usize, item: Held<'_>, answer: Value) -> Result<()>
         requires { place + 1 < 2 ^ 64 }
         ensures gathered { IfOk result (λ _. (t : Task) (rs : List Reply) → GathersRest self.old t rs
@@ -136,7 +135,7 @@ impl<'s> Drop for PredicateRun<'s> {
 impl<'s> PredicateRun<'s> {
     ghost use Rattle.expr_value.specs.declared.value.Value.{Value};
     ghost use Rattle.expr_predicates.specs.Calls.{begun, reduced_from_first, started};
-    ghost use Rattle.expr_predicates.specs.Gathered.{Awaits, Stands, StartsWith, left, to_ask};
+    ghost use Rattle.expr_predicates.specs.Gathered.{Awaits, Stands, StartsWith, acc_out, asked_by, index_out, left, to_ask};
     ghost use Rattle.expr_predicates.specs.Questions.{asked_of};
     ghost use Rattle.expr_predicates.specs.Runs.{Asks, AsksItself, next_question};
     ghost use Rattle.expr_predicates.specs.Tasks.{Task, Reply, Outcome, refused};
@@ -298,18 +297,55 @@ impl<'s> PredicateRun<'s> {
         ensures done { result ≡ None → (t : Task) (rs : List Reply) → Stands self.old t rs
             → Stands self.new t rs }
     {
+        let item = self.next_item()?;
+        let index = self.index();
+        let acc = self.take_acc();
+        Some(Asked { item, index, acc })
+    }
+
+    /// The item that is asked about next, by value, or none where no more is. What is told beside it is had by
+    /// [`index`](PredicateRun::index) and [`take_acc`](PredicateRun::take_acc), before the answer.
+    #[inline(always)]
+    pub fn next_item(&mut self) -> Option<Held<'s>>
+        ensures question { (t : Task) (rs : List Reply) → Stands self.old t rs
+            → option_map (asked_by self.new) result ≡ next_question t rs (left self.old) }
+        ensures out { IfSome result (λ item. (t : Task) (rs : List Reply) → Stands self.old t rs
+            → (left self.old ≡ item ∷ left self.new) × Awaits self.new t rs) }
+        ensures fewer { IfSome result (λ _. to_ask self.new < to_ask self.old) }
+        ensures done { result ≡ None → (t : Task) (rs : List Reply) → Stands self.old t rs
+            → Stands self.new t rs }
+    {
         if self.gathered.has_stopped() {
             return None;
         }
         let item = self.left.pop()?;
-        let place = self.asked;
         self.asked += 1;
-        Some(self.gathered.ask(place, item))
+        Some(item)
+    }
+
+    /// The place in the array, from 0, of the item that is out, where the built-in binds `#index`.
+    #[inline(always)]
+    pub fn index(&self) -> Option<Value>
+        ensures { result ≡ index_out self.now }
+    {
+        self.gathered.index(self.asked.saturating_sub(1))
+    }
+
+    /// What has been made so far, by value, where the built-in binds `#acc`. It is told once of an item.
+    #[inline(always)]
+    pub fn take_acc(&mut self) -> Option<Value>
+        ensures acc { result ≡ acc_out self.old }
+        ensures index { index_out self.new ≡ index_out self.old }
+        ensures awaits { (t : Task) (rs : List Reply) → Awaits self.old t rs → Awaits self.new t rs }
+        ensures left { left self.new ≡ left self.old }
+    {
+        self.gathered.take_acc()
     }
 
     /// Takes an item back that was handed out, with the answer about it. An answer that is no boolean for `count`, no
     /// integer for `sum` or no scalar for `groupBy` is refused with [`Error::ExprError`](expr_value::Error::ExprError),
     /// and nothing is left of the run.
+    #[inline(always)]
     pub fn answer(&mut self, alloc: Global, item: Held<'_>, answer: Value) -> Result<()>
         ensures value { IfOk result (λ _. (t : Task) (rs : List Reply) → Awaits self.old t rs
             → (refused t answer ≡ false) × (left self.new ≡ left self.old)
@@ -342,8 +378,8 @@ impl<'s> PredicateRun<'s> {
             → Gives result (Asks t AsksItself (left self.entry) []) }
     {
         let mut run = self;
-        while let Some(asked) = run.next() {
-            run.answer_itself(alloc, asked.into_item())?;
+        while let Some(item) = run.next_item() {
+            run.answer_itself(alloc, item)?;
         }
         run.finish(alloc)
     }

@@ -6,16 +6,11 @@ use Rattle.expr_predicates.specs.declared.kept.Kept.TheVariants as kept
 use Rattle.expr_predicates.proofs.Gathering.{find_push, if_ok, keyed_push}
 use Rattle.expr_predicates.proofs.kept.Kept.take.Goals as goal
 
-pub returns-in-Find-clause-kept : goal.returns-in-Find-clause-kept
-returns-in-Find-clause-kept c =
-    let Q : Unit {0} → Type 0 =
-    λ u. (t : Task) (rs : List Reply) → KeepsRest c.args.self.now t rs
-    → Keeps (kept.Find c.find_if.new.found) t (rs ++ (c.args.item, c.args.answer) ∷ []) × (refused t c.args.answer ≡ false) in
-    if_ok {Q = Q} c.find_if.result c.find_if.ensures.ok (λ u k t rs h.
+pub returns-in_ok-find_if-in-Find-clause-kept : goal.returns-in_ok-find_if-in-Find-clause-kept
+returns-in_ok-find_if-in-Find-clause-kept c = λ t rs h.
     let g = subst (λ s. KeepsRest s t rs) c.in-Find.is h in (
-      (g.0, find_push c.in-Find.found c.find_if.new.found rs (c.args.item, c.args.answer) c.is_true-in-Find.result g.1 (sym c.is_true-in-Find.ensures) k),
+      (g.0, find_push c.in-Find.found c.find_if.new.found rs (c.args.item, c.args.answer) c.is_true-in-Find.result g.1 (sym c.is_true-in-Find.ensures) c.in_ok-find_if-in-Find.ensures),
       ap (λ u. refused u c.args.answer) g.0,
-    )
     )
 
 pub returns-in-GroupBy-clause-kept : goal.returns-in-GroupBy-clause-kept

@@ -4,10 +4,10 @@ use Rattle.expr_value.specs.Values.{truth_of}
 use Rattle.expr_predicates.specs.Tasks.{first_place, refused}
 use Rattle.expr_predicates.specs.Gathered.{Notes}
 use Rattle.expr_predicates.proofs.Gathering.{count_push, place_push}
-use Rattle.expr_predicates.proofs.noted.Noted.with.Goals as goal
+use Rattle.expr_predicates.proofs.noted.Noted.note.Goals as goal
 
 pub returns-in-One-clause-noted : goal.returns-in-One-clause-noted
-returns-in-One-clause-noted c = λ t rs item h a.
+returns-in-One-clause-noted c = λ _ t rs item h a.
     let g = subst (λ s. Notes s t rs) c.in-One.is h in
     let first = ap (λ u. first_place u + length rs) g.0 in (
       (g.0, count_push c.in-One.count c.counted.result c.args.asked rs (item, c.args.answer.now) c.is_true-in-One.result c.requires (a ∙ first) g.1 (sym c.is_true-in-One.ensures) c.counted.ensures),
@@ -15,7 +15,7 @@ returns-in-One-clause-noted c = λ t rs item h a.
     )
 
 pub returns-in-FindIndex-clause-noted : goal.returns-in-FindIndex-clause-noted
-returns-in-FindIndex-clause-noted c = λ t rs item h a.
+returns-in-FindIndex-clause-noted c = λ _ t rs item h a.
     let g = subst (λ s. Notes s t rs) c.in-FindIndex.is h in
     let first = ap (λ u. first_place u + length rs) g.0 in (
       (g.0, place_push c.in-FindIndex.found c.found_if.result c.args.asked rs (item, c.args.answer.now) c.is_true-in-FindIndex.result (a ∙ first) g.1 (sym c.is_true-in-FindIndex.ensures) c.found_if.ensures),
@@ -23,7 +23,7 @@ returns-in-FindIndex-clause-noted c = λ t rs item h a.
     )
 
 pub returns-in-FindLastIndex-clause-noted : goal.returns-in-FindLastIndex-clause-noted
-returns-in-FindLastIndex-clause-noted c = λ t rs item h a.
+returns-in-FindLastIndex-clause-noted c = λ _ t rs item h a.
     let g = subst (λ s. Notes s t rs) c.in-FindLastIndex.is h in
     let first = ap (λ u. first_place u + length rs) g.0 in (
       (g.0, place_push c.in-FindLastIndex.found c.found_if-in-FindLastIndex.result c.args.asked rs (item, c.args.answer.now) c.is_true-in-FindLastIndex.result (a ∙ first) g.1 (sym c.is_true-in-FindLastIndex.ensures) c.found_if-in-FindLastIndex.ensures),
@@ -31,7 +31,7 @@ returns-in-FindLastIndex-clause-noted c = λ t rs item h a.
     )
 
 pub returns-in-Some-clause-noted : goal.returns-in-Some-clause-noted
-returns-in-Some-clause-noted c = λ t rs item h a.
+returns-in-Some-clause-noted c = λ _ t rs item h a.
     let g = subst (λ s. Notes s t rs) c.in-Count.is h in
     let first = ap (λ u. first_place u + length rs) g.0 in
     let is : truth_of c.args.answer.now ≡ Some c.in-Some.truth = sym c.as_bool.ensures ∙ c.in-Some.is in (
