@@ -13,8 +13,8 @@ ghost use Rattle.expr_builtins.specs.Nested.{all_opened, opened};
 ghost use Rattle.expr_builtins.specs.Places.{places};
 ghost use Rattle.expr_builtins.specs.Texts.{parts, parts_after};
 
-/// A text stands in another at the places where its matches begin, from the left and without overlaps, and no other list
-/// of places is that of its matches.
+/// The places of a text in another are where its matches begin, from the left and without overlaps, and no other list
+/// of places is such.
 pub fn places_are_the_matches()
     ensures { (t s ps : List ℕ) → AreMatches t s ps ↔ ps ≡ places t s }
 {}

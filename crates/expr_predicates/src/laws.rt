@@ -14,7 +14,7 @@ pub fn a_list_has_one_stable_order()
     ensures { (down : Bool) (ps qs rs : List (key × value)) → IsSorting down ps qs → IsSorting down ps rs → qs ≡ rs }
 {}
 
-/// What a predicate may answer, whatever it is: the laws below hold of each relation between questions and answers.
+/// What a predicate may answer, whatever that is: laws over it hold of each relation between questions and answers.
 pub trait Predicate {
     ghost use Rattle.expr_predicates.specs.Tasks.{Question};
     ghost use Rattle.expr_value.specs.Answers.{Answer};
@@ -25,19 +25,23 @@ pub trait Predicate {
 
 /// What a run may come to is what some list of replies comes to: one allowed answer for each item of a beginning.
 pub fn a_run_is_a_list_of_replies<P: Predicate>()
-    ensures { (predicate : P) (t : Task) (items : List value) (answer : Answer) → Asks t (P.may predicate) items [] answer
+    ensures { (predicate : P) (t : Task) (items : List value) (answer : Answer)
+        → Asks t (P.may predicate) items [] answer
         ↔ ((replies : List Reply) × Replies t (P.may predicate) [] items replies answer) }
 {}
 
 /// What a run may come to follows from what may be answered about its own items.
 pub fn a_run_asks_about_its_items<P: Predicate, Q: Predicate>()
     ensures { (one : P) (other : Q) (t : Task) (items : List value) (answer : Answer)
-        → AreAlike t (P.may one) (Q.may other) items → Asks t (P.may one) items [] answer ↔ Asks t (Q.may other) items [] answer }
+        → AreAlike t (P.may one) (Q.may other) items
+        → Asks t (P.may one) items [] answer ↔ Asks t (Q.may other) items [] answer }
 {}
 
-/// `none` is the opposite of `any` on the same items, where one answer is allowed about each and both calls have a value.
+/// `none` is the opposite of `any` on the same items, if one answer is allowed about each and both calls have a value.
 pub fn none_is_the_opposite_of_any<P: Predicate>()
-    ensures { (predicate : P) (items : List value) (any none : value) → HasOneAnswer any_holds (P.may predicate) items
-        → Asks any_holds (P.may predicate) items [] (Ok any) → Asks none_holds (P.may predicate) items [] (Ok none)
+    ensures { (predicate : P) (items : List value) (any none : value)
+        → HasOneAnswer any_holds (P.may predicate) items
+        → Asks any_holds (P.may predicate) items [] (Ok any)
+        → Asks none_holds (P.may predicate) items [] (Ok none)
         → (b : Bool) × (any ≡ truth b) × (none ≡ truth (not b)) }
 {}
