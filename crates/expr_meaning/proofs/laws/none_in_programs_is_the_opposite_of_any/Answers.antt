@@ -34,7 +34,7 @@ module _ (host : Host) (ctx : Context) (array : Term) (block : Block) (items : L
 
   arguments : (r : Result (List Value) Fault) → AllowsAll host ctx (term array no_terms) r → r ≡ Ok (value.Array items ∷ [])
   arguments r p =
-      let rest : After (AllowsAll host ctx no_terms) (λ vs a. a ≡ Ok (value.Array items ∷ vs)) r = after_one (Allows host ctx array) _ (value.Array items) r only p in
+      let rest : After (AllowsAll host ctx no_terms) (λ vs a. a ≡ Ok (value.Array items ∷ vs)) r = after_one (Allows host ctx array) (λ v. After (AllowsAll host ctx no_terms) (λ vs a. a ≡ Ok (v ∷ vs))) (value.Array items) r only p in
       after_one (AllowsAll host ctx no_terms) (λ vs a. a ≡ Ok (value.Array items ∷ vs)) [] r (λ a e. e) rest
 
   built_in : (key : List ℕ) (v : Value) → host.is_added key ≡ false → Asked key v → AllowsBuiltin host key (value.Array items ∷ []) true asks (Ok v)
