@@ -6,7 +6,7 @@ use Rattle.std.proofs.lemmas.Bool.{false≢true, cases_order, cases_lt}
 use Rattle.std.proofs.lemmas.List.{drop-drop}
 use Rattle.std.proofs.lemmas.List.Elements.{All-nil, All-cons, All-head, All-tail}
 use Rattle.expr_builtins.specs.Matches.{AreMatches, IsMatch, next_after}
-use Rattle.expr_builtins.specs.Places.{after_match, inside, places, places_from, stands}
+use Rattle.expr_builtins.specs.Places.{inside, places, places_from, stands}
 
 -- a byte at least lies between the beginnings of two matches
 beyond : (t : List ℕ) (p : ℕ) → p < next_after t p

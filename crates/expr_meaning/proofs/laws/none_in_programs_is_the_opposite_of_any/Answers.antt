@@ -1,4 +1,4 @@
-use Rattle.std.proofs.Common.{◌≡◌, ℕ, true, false, List, [], ◌∷◌, Option, Some, None, Result, Ok, Err, MatchBool, codes, rules, ap, subst}
+use Rattle.std.proofs.Common.{◌≡◌, ℕ, true, false, List, [], ◌∷◌, Some, None, Result, Ok, MatchBool, codes, rules, ap, subst}
 use Rattle.expr_value.specs.declared.value.Value as value
 use Rattle.expr_value.specs.declared.value.Value.{Value, the_lemmas}
 use Rattle.expr_value.specs.Answers.{Answer, After, Goes}
@@ -6,7 +6,7 @@ use Rattle.expr_value.specs.Fault.{Fault}
 use Rattle.expr_value.specs.Values.{items_of}
 use Rattle.expr_tree.specs.Term.{Term, Block, call, no_terms, predicate, term}
 use Rattle.expr_predicates.proofs.Opposite.{none_opposite}
-use Rattle.expr_predicates.specs.Calls.{AllowsAsking, Start, array_then, begun, started_on}
+use Rattle.expr_predicates.specs.Calls.{AllowsAsking, array_then, begun, started_on}
 use Rattle.expr_predicates.specs.Runs.{Asks}
 use Rattle.expr_predicates.specs.Tasks.{Question, Task, any_holds, none_holds}
 use Rattle.expr_predicates.specs.declared.asking.Asking.{Asking}
