@@ -150,14 +150,14 @@ module _ (t s : List ℕ) where
   chained : (ps : List ℕ) (from : ℕ) → Begins from ps → All (IsMatch t s) ps → Apart ps → ((q : ℕ) → from ≤ q → IsMatch t s q → Within ps q) → Chain from ps
   chained [] from b m a w = λ q l n. absurd (omega (arith, (w q l n).1.1))
   chained (p ∷ ps) from b m a w =
-      let first : from ≤ p = b p (omega arith) in
-      (
-        first, All-head (IsMatch t s) p ps m,
+      let first : from ≤ p = b p (omega arith) in (
+        first,
+        All-head (IsMatch t s) p ps m,
         λ q l n i.
-          let v = w q l i in
-          let least : p ≤ v.0 = above (p ∷ ps) p (λ d z. omega arith) a v.0 v.1 in
-          omega (arith, least, v.2, n),
-        chained ps (next_after t p) (begins_next p ps a) (All-tail (IsMatch t s) p ps m) (apart_next p ps a) (λ q l i. within_next ps p q l (w q (omega (arith, l, beyond t p, first)) i))
+            let v = w q l i in
+            let least : p ≤ v.0 = above (p ∷ ps) p (λ d z. omega arith) a v.0 v.1 in
+            omega (arith, least, v.2, n),
+        chained ps (next_after t p) (begins_next p ps a) (All-tail (IsMatch t s) p ps m) (apart_next p ps a) (λ q l i. within_next ps p q l (w q (omega (arith, l, beyond t p, first)) i)),
       )
 
   places_chain : Chain 0 (places t s)
