@@ -7,7 +7,7 @@ use Rattle.expr_value.specs.Answers.{Answer, Goes}
 use Rattle.expr_predicates.proofs.Answered.{about_first, about_rest}
 use Rattle.expr_predicates.specs.Allowed.{HasOneAnswer}
 use Rattle.expr_predicates.specs.Runs.{Asks}
-use Rattle.expr_predicates.specs.Tasks.{Reply, Question, any_holds, none_holds, about, holds}
+use Rattle.expr_predicates.specs.Tasks.{Reply, Question, any_holds, none_holds, holds}
 
 module _ (asks : Question → Answer → Type 0) (x y : Value) where
   abbrev pub Opposite : Type 0
