@@ -11,7 +11,7 @@ mod text;
 pub use environment::Environment;
 pub use expr_builtins::{
     arrays_are_opened, pairs_of_a_map_make_it_again, parts_after_joined_are_the_text,
-    parts_joined_are_the_text,
+    parts_joined_are_the_text, places_are_the_matches,
 };
 pub use expr_code::{
     codes_are_safe, execution_answers_programs, programs_have_codes, runs_as_programs,
@@ -31,7 +31,8 @@ pub use expr_operators::{
     outside_is_not_within, part_stands_between_front_and_back, unequal_is_not_equal,
 };
 pub use expr_predicates::{
-    a_list_has_one_stable_order, a_run_is_a_list_of_replies, none_is_the_opposite_of_any,
+    Predicate, a_list_has_one_stable_order, a_run_asks_about_its_items, a_run_is_a_list_of_replies,
+    none_is_the_opposite_of_any,
 };
 pub use expr_syntax::laws::{one_tree_of_text, printed_text_has_program};
 pub use expr_syntax::{compile, compile_within};

@@ -3,6 +3,7 @@ pub mod Each
 pub mod Ending
 pub mod Ends
 pub mod Extremes
+pub mod Matching
 pub mod Opening
 pub mod PairsBack
 pub mod Standing

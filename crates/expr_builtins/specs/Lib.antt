@@ -6,6 +6,7 @@ pub mod Collections
 pub mod Conversions
 pub mod Distinct
 pub mod Indices
+pub mod Matches
 pub mod Nested
 pub mod Numbers
 pub mod Places

@@ -1,5 +1,5 @@
 //! What follows from the definitions of the built-ins alone.
-ghost use Rattle.std.specs.Prelude.{◌≡◌, ℕ, List, None, Ok, [], ◌∷◌, negsuc, pos, suc};
+ghost use Rattle.std.specs.Prelude.{◌≡◌, ◌↔◌, ℕ, List, None, Ok, [], ◌∷◌, negsuc, pos, suc};
 ghost use Rattle.std.specs.List.{IsDistinct};
 ghost use Rattle.std.specs.Map.{keys_of};
 ghost use Rattle.expr_value.specs.Answers.{After};
@@ -8,8 +8,16 @@ ghost use Rattle.expr_value.specs.Values.{items_of, joined};
 ghost use Rattle.expr_value.specs.declared.key.Key.{Key as key};
 ghost use Rattle.expr_value.specs.declared.value.Value.{Value as value, Array as array, KeyedMap as by_keys};
 ghost use Rattle.expr_builtins.specs.Collections.{from_pairs, to_pairs};
+ghost use Rattle.expr_builtins.specs.Matches.{AreMatches};
 ghost use Rattle.expr_builtins.specs.Nested.{all_opened, opened};
+ghost use Rattle.expr_builtins.specs.Places.{places};
 ghost use Rattle.expr_builtins.specs.Texts.{parts, parts_after};
+
+/// The places of a text in another are where its matches begin, from the left and without overlaps, and no other list
+/// of places is such.
+pub fn places_are_the_matches()
+    ensures { (t s ps : List ℕ) → AreMatches t s ps ↔ ps ≡ places t s }
+{}
 
 /// The parts of a text at a separator, joined by it, are the text again.
 pub fn parts_joined_are_the_text()

@@ -21,5 +21,5 @@ mod trimmed;
 pub use builtin::Builtin;
 pub use laws::{
     arrays_are_opened, pairs_of_a_map_make_it_again, parts_after_joined_are_the_text,
-    parts_joined_are_the_text,
+    parts_joined_are_the_text, places_are_the_matches,
 };

@@ -1,5 +1,6 @@
 -- One answer in a run of a predicate, and what follows it.
-use Rattle.std.proofs.Common.{◌≡◌, ℕ, List, [], ◌∷◌, ◌++◌, Bool, true, false, Result, Some, None, Ok, Err, MatchBool, cond, refl, sym, subst}
+use Rattle.std.proofs.Common.{◌≡◌, ℕ, suc, List, [], ◌∷◌, ◌++◌, Bool, true, false, Result, Some, None, Ok, Err, MatchBool, cond, refl, sym, subst, arith}
+use Rattle.std.specs.List.{Contains}
 use Rattle.expr_value.specs.Fault.{Fault, evaluation}
 use Rattle.expr_value.specs.declared.value.Value.{Value}
 use Rattle.expr_value.specs.Answers.{Answer, After, Goes}
@@ -71,19 +72,34 @@ after_keeps : (r r' : Answer → Type 0) (n n' : Value → Answer → Type 0) �
 after_keeps r r' n n' f g (Ok v) a p k = (Ok v, f (Ok v) p, g v a k)
 after_keeps r r' n n' f g (Err e) a p k = (Err e, f (Err e) p, k)
 
-module _ (t : Task) (asks asks' : Question → Answer → Type 0) (keeps : (q : Question) (a : Answer) → asks q a → asks' q a) where
-  pub Asks-keeps : (left : List Value) (rs : List Reply) (a : Answer) → Asks t asks left rs a → Asks t asks' left rs a
-  Asks-keeps [] rs a p = p
-  Asks-keeps (x ∷ left) rs a p =
+-- what is allowed about the items of a list, where it is about those of a longer one
+module _ (t : Task) (P : Question → Answer → Type 0) where
+  abbrev pub AllAbout : List Value → Type 0
+  AllAbout items = (rs : List Reply) (x : Value) → Contains items x → (a : Answer) → P (about t rs x) a
+
+  pub about_first : (x : Value) (items : List Value) → AllAbout (x ∷ items) → (rs : List Reply) (a : Answer) → P (about t rs x) a
+  about_first x items h rs a = h rs x (0, omega arith, refl) a
+
+  pub about_rest : (x : Value) (items : List Value) → AllAbout (x ∷ items) → AllAbout items
+  about_rest x items h rs y (k, l, e) a = h rs y (suc k, omega (arith, l), e) a
+
+module _ (t : Task) (asks asks' : Question → Answer → Type 0) where
+  abbrev Carries : Question → Answer → Type 0
+  Carries q a = asks q a → asks' q a
+
+  -- a run under another relation that allows as much about its items
+  pub Asks-carried : (left : List Value) (rs : List Reply) → AllAbout t Carries left → (a : Answer) → Asks t asks left rs a → Asks t asks' left rs a
+  Asks-carried [] rs keeps a p = p
+  Asks-carried (x ∷ left) rs keeps a p =
       or_keeps (stopped t rs) (Outcome t rs a) (Answered t asks rs x left a) (Answered t asks' rs x left a) (
-      λ k. after_keeps (asks (about t rs x)) (asks' (about t rs x)) _ (λ v b. MatchBool (refused t v) (b ≡ Err evaluation) (Asks t asks' left (rs ++ (x, v) ∷ []) b)) (keeps (about t rs x)) (
-      λ v b. or_keeps (refused t v) (b ≡ Err evaluation) (Asks t asks left (rs ++ (x, v) ∷ []) b) (Asks t asks' left (rs ++ (x, v) ∷ []) b) (Asks-keeps left (rs ++ (x, v) ∷ []) b)
+      λ k. after_keeps (asks (about t rs x)) (asks' (about t rs x)) _ (λ v b. MatchBool (refused t v) (b ≡ Err evaluation) (Asks t asks' left (rs ++ (x, v) ∷ []) b)) (about_first t Carries x left keeps rs) (
+      λ v b. or_keeps (refused t v) (b ≡ Err evaluation) (Asks t asks left (rs ++ (x, v) ∷ []) b) (Asks t asks' left (rs ++ (x, v) ∷ []) b) (Asks-carried left (rs ++ (x, v) ∷ []) (about_rest t Carries x left keeps) b)
       ) k.0 a k.1 k.2
       ) p
 
 module _ (asks asks' : Question → Answer → Type 0) (keeps : (q : Question) (a : Answer) → asks q a → asks' q a) where
   starts_keeps : (s : Result Start Fault) (a : Answer) → Goes s (λ s. Asks s.task asks s.items []) a → Goes s (λ s. Asks s.task asks' s.items []) a
-  starts_keeps (Ok s) a p = Asks-keeps s.task asks asks' keeps s.items [] a p
+  starts_keeps (Ok s) a p = Asks-carried s.task asks asks' s.items [] (λ rs x c. keeps (about s.task rs x)) a p
   starts_keeps (Err e) a p = p
 
   pub AllowsAsking-keeps : (b : Asking) (vs : List Value) (given : Bool) (a : Answer) → AllowsAsking b vs given asks a → AllowsAsking b vs given asks' a

@@ -1,3 +1,4 @@
+pub mod Allowed
 pub mod Arrays
 pub mod Calls
 pub mod Gathered

@@ -1,27 +1,47 @@
 //! What follows from the definitions of the built-ins alone.
-ghost use Rattle.std.specs.Prelude.{◌≡◌, ◌↔◌, Bool, true, not, List, [], Ok};
+ghost use Rattle.std.specs.Prelude.{◌≡◌, ◌↔◌, Bool, not, List, [], Ok};
 ghost use Rattle.expr_value.specs.Answers.{Answer};
 ghost use Rattle.expr_value.specs.declared.key.Key.{Key as key};
 ghost use Rattle.expr_value.specs.declared.value.Value.{Value as value, Bool as truth};
+ghost use Rattle.expr_predicates.specs.Allowed.{AreAlike, HasOneAnswer};
 ghost use Rattle.expr_predicates.specs.Replies.{Replies};
 ghost use Rattle.expr_predicates.specs.Runs.{Asks};
 ghost use Rattle.expr_predicates.specs.Sorting.{IsSorting};
-ghost use Rattle.expr_predicates.specs.Tasks.{Question, Reply, Task, any_holds, none_holds};
+ghost use Rattle.expr_predicates.specs.Tasks.{Reply, Task, any_holds, none_holds};
 
 /// Two stable orders of one list by the same keys, both upward or both downward, are one.
 pub fn a_list_has_one_stable_order()
     ensures { (down : Bool) (ps qs rs : List (key × value)) → IsSorting down ps qs → IsSorting down ps rs → qs ≡ rs }
 {}
 
+/// What a predicate may answer, whatever that is: laws over it hold of each relation between questions and answers.
+pub trait Predicate {
+    ghost use Rattle.expr_predicates.specs.Tasks.{Question};
+    ghost use Rattle.expr_value.specs.Answers.{Answer};
+
+    /// Whether it may give an answer to a question.
+    ghost may: { Self → Question → Answer → Type 0 };
+}
+
 /// What a run may come to is what some list of replies comes to: one allowed answer for each item of a beginning.
-pub fn a_run_is_a_list_of_replies()
-    ensures { (allowed : Question → Answer → Bool) (t : Task) (items : List value) (answer : Answer)
-        → Asks t (λ q a. allowed q a ≡ true) items [] answer ↔ ((more : List Reply) × Replies t (λ q a. allowed q a ≡ true) [] items more answer) }
+pub fn a_run_is_a_list_of_replies<P: Predicate>()
+    ensures { (predicate : P) (t : Task) (items : List value) (answer : Answer)
+        → Asks t (P.may predicate) items [] answer
+        ↔ ((replies : List Reply) × Replies t (P.may predicate) [] items replies answer) }
 {}
 
-/// `none` is the opposite of `any` on the same items, where each question has one answer and both calls have a value.
-pub fn none_is_the_opposite_of_any()
-    ensures { (given : Question → Answer) (items : List value) (any none : value)
-        → Asks any_holds (λ q a. a ≡ given q) items [] (Ok any) → Asks none_holds (λ q a. a ≡ given q) items [] (Ok none)
+/// What a run may come to follows from what may be answered about its own items.
+pub fn a_run_asks_about_its_items<P: Predicate, Q: Predicate>()
+    ensures { (one : P) (other : Q) (t : Task) (items : List value) (answer : Answer)
+        → AreAlike t (P.may one) (Q.may other) items
+        → Asks t (P.may one) items [] answer ↔ Asks t (Q.may other) items [] answer }
+{}
+
+/// `none` is the opposite of `any` on the same items, if one answer is allowed about each and both calls have a value.
+pub fn none_is_the_opposite_of_any<P: Predicate>()
+    ensures { (predicate : P) (items : List value) (any none : value)
+        → HasOneAnswer any_holds (P.may predicate) items
+        → Asks any_holds (P.may predicate) items [] (Ok any)
+        → Asks none_holds (P.may predicate) items [] (Ok none)
         → (b : Bool) × (any ≡ truth b) × (none ≡ truth (not b)) }
 {}

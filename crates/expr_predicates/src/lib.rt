@@ -15,7 +15,8 @@ mod sorting;
 
 pub use asking::Asking;
 pub use laws::{
-    a_list_has_one_stable_order, a_run_is_a_list_of_replies, none_is_the_opposite_of_any,
+    Predicate, a_list_has_one_stable_order, a_run_asks_about_its_items, a_run_is_a_list_of_replies,
+    none_is_the_opposite_of_any,
 };
 pub use question::{Asked, Question};
 pub use run::{PredicateRun, sort};
