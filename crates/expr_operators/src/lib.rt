@@ -18,6 +18,6 @@ pub use held::{part_of, slice_of};
 pub use laws::{outside_is_not_within, part_stands_between_front_and_back, unequal_is_not_equal};
 pub use matching::match_pattern;
 pub use messages::{refused, unexpected};
-pub use operators::{apply, as_condition, as_truth, prefix};
+pub use operators::{apply, as_condition, as_truth, judge, prefix};
 pub use positions::{index, range, slice, slice_bound, slice_lent};
 pub use sides::{Sides, sides_asked};

@@ -33,9 +33,11 @@ pub fn apply(alloc: Global, operator: Operator, left: &Value, right: &Value) -> 
     }
 }
 
-/// What an operator that answers yes or no says of two values.
+/// What an operator that answers yes or no says of two values, if it says something of their kinds. Any other operator says
+/// nothing.
+#[inline(never)]
 #[tactic(auto, unfolding(crate::specs::Operators::verdict))]
-fn judge(operator: Operator, left: &Value, right: &Value) -> Option<bool>
+pub fn judge(operator: Operator, left: &Value, right: &Value) -> Option<bool>
     ensures { result ≡ verdict operator left.now right.now }
 {
     match operator {
