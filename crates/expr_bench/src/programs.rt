@@ -1,7 +1,7 @@
 //! Programs of texts, their refusals and their names.
 use crate::page::{Page, word_of};
 use crate::shown::show_program;
-use expr::{Error, Program, Result, compile, compile_within};
+use expr::{Context, Error, Program, Result, compile, compile_within, run};
 use std::alloc::Global;
 
 /// A program with each of its brackets, or its refusal.
@@ -149,6 +149,24 @@ const NAMES: &[&str] = &[
     "{k: v, w: {z: q}}",
 ];
 
+/// Texts whose programs keep patterns, the copies of these, which keep none, and what a copy answers.
+const COPIES: &[(&str, &str, &str)] = &[
+    (r#""foo" matches "^f""#, r#"("foo" matches "^f")"#, "true"),
+    (
+        r#"filter(["ab", "b", "cab"], {# matches "^.?a"})"#,
+        r#"filter[["ab","b","cab",],]{(# matches "^.?a")}"#,
+        r#"["ab", "cab"]"#,
+    ),
+];
+
+/// Puts what is wrong of a copy of a text's program.
+fn put_copy(alloc: Global, text: &str, shape: &str, answer: &str, page: &mut Page) -> Result<()> {
+    let copy = compile(alloc, text)?.clone()?;
+    page.answer(text, run(alloc, &copy, &Context::new(alloc)), answer);
+    page.row(text, shown(alloc, Ok(copy)).text(), shape);
+    Ok(())
+}
+
 /// Whether a text of 200,000 fronts, a middle and as many backs has a program.
 fn is_compiled(alloc: Global, front: &str, middle: &str, back: &str) -> bool {
     let mut text = Page::new(alloc);
@@ -171,6 +189,9 @@ pub fn put_programs(alloc: Global, page: &mut Page) -> Result<()> {
     }
     for text in NAMES {
         put_names(alloc, text, page)?;
+    }
+    for (text, shape, answer) in COPIES {
+        put_copy(alloc, text, shape, answer, page)?;
     }
     page.fact("brackets take no stack", is_compiled(alloc, "(", "1", ")"));
     page.fact(

@@ -7,7 +7,7 @@ ghost use Rattle.expr_value.specs.Fault.{fault_of, memory};
 
 use crate::code::Code;
 use expr_instructions::{Block, Holder, Instruction, PredicateCall};
-use expr_pattern::Pattern;
+use expr_pattern::{Pattern, Unbuilt};
 use expr_value::{Result, Value};
 use std::alloc::{AllocError, Global};
 
@@ -154,8 +154,9 @@ fn kept_pattern<P: Holder<Pattern>>(
     let Some(pattern) = pattern else {
         return Ok(None);
     };
-    match Pattern::kept(alloc, pattern.get().text())? {
-        None => Ok(None),
-        Some(pattern) => Ok(Some(Box::new(alloc, pattern)?)),
+    match Pattern::kept(alloc, pattern.get().text()) {
+        Ok(Some(pattern)) => Ok(Some(Box::new(alloc, pattern)?)),
+        Ok(None) | Err(Unbuilt::TooBig) => Ok(None),
+        Err(Unbuilt::Memory) => Err(AllocError),
     }
 }

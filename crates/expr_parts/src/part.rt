@@ -9,7 +9,7 @@ ghost use Rattle.expr_parts.specs.Parts as parts;
 
 use crate::arguments::Arguments;
 use crate::program::ProgramPart;
-use expr_tree::node::{Node, Pattern, PostfixOperator};
+use expr_tree::node::{Node, Pattern, PostfixOperator, Unbuilt};
 use expr_tree::operator::{Operator, UnaryOperator};
 use expr_value::{Text, Value};
 use std::alloc::{AllocError, Global};
@@ -390,9 +390,10 @@ fn kept_pattern(
     let (Operator::Matches, Node::Value(Value::String(text))) = (operator, right) else {
         return Ok(None);
     };
-    match Pattern::kept(alloc, text.as_str())? {
-        None => Ok(None),
-        Some(pattern) => Ok(Some(Box::new(alloc, pattern)?)),
+    match Pattern::kept(alloc, text.as_str()) {
+        Ok(Some(pattern)) => Ok(Some(Box::new(alloc, pattern)?)),
+        Ok(None) | Err(Unbuilt::TooBig) => Ok(None),
+        Err(Unbuilt::Memory) => Err(AllocError),
     }
 }
 

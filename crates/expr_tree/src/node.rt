@@ -8,7 +8,7 @@ use crate::chain::{
     shortened_items, shortened_pairs,
 };
 use crate::operator::{Operator, UnaryOperator};
-pub use expr_pattern::Pattern;
+pub use expr_pattern::{Pattern, Unbuilt};
 use expr_value::Value;
 use std::mem;
 
