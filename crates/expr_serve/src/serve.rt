@@ -136,8 +136,10 @@ fn print<O: Write>(out: &mut O, value: &Value) -> u8
 /// Else the bindings are evaluated from left to right, each in an empty context (a repeated NAME takes the later value),
 /// then CODE in the context of the bindings. Its value's `Display` goes to `out`, status 0. The first refusal is one word
 /// on `err`, status 1: `syntax`, `literal` (an integer of 2^63 or more, or a tree higher than 500), `evaluation`, `pattern`
-/// or `memory`. `out` is written to at status 0 alone, is
-/// flushed then, and fails with status 1; a failing `err` changes no status.
+/// or `memory`.
+///
+/// `out` is written to, and flushed, where there is a value to print and nowhere else. Where it fails, the status is 1,
+/// nothing is said on `err`, and what it took before stays written. A failing `err` changes no status.
 pub fn serve<O: Write, E: Write>(alloc: Global, words: &[String], out: &mut O, err: &mut E) -> u8
     ensures status { result ≤ 2 }
     ensures usage { result ≡ 2 ↔ is_call (map string_bytes words.now) ≡ false }
