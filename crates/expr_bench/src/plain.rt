@@ -1,0 +1,25 @@
+//! Which calls on `1 + 2` ask for memory: reading it does and running it may, and evaluating its node doesn't.
+use crate::page::Page;
+use expr::{Context, Result, Value, compile, eval_expr, run};
+use std::alloc::Global;
+
+/// Puts a call and its answer.
+fn put_call(call: &str, answer: Result<Value>, page: &mut Page) {
+    page.put(call);
+    page.put(": ");
+    page.put_answer(answer);
+    page.put("\n");
+}
+
+/// Puts what the calls answer, or that there was no memory for the program.
+pub fn put_plain(alloc: Global, page: &mut Page) {
+    let context = Context::new(alloc);
+    match compile(alloc, "1 + 2") {
+        Ok(program) => {
+            put_call("run", run(alloc, &program, &context), page);
+            let answer = eval_expr(alloc, &context, &program.expr);
+            put_call("eval_expr", answer, page);
+        }
+        Err(error) => put_call("compile", Err(error), page),
+    }
+}
