@@ -51,10 +51,11 @@ impl Page {
         }
     }
 
-    /// Puts the printed text of an answer at the end, or its refusal's word.
+    /// Puts the printed text of an answer at the end, or the word for its refusal. Want of memory is a piece that is missed.
     pub fn put_answer(&mut self, answer: expr::Result<Value>) {
         match answer {
             Ok(value) => self.put_made(value.to_string(self.allocator())),
+            Err(Error::MemoryError) => self.miss(),
             Err(error) => self.put(word_of(&error)),
         }
     }
@@ -85,6 +86,16 @@ impl Page {
             self.put(": ");
             self.put(given);
             self.put("\n");
+        }
+    }
+
+    /// Puts the row of a text at the end that gives another page than it should. Where there was no memory for what it should
+    /// give, nothing is said of the row.
+    pub fn same(&mut self, text: &str, given: &Page, expected: &Page) {
+        if expected.is_whole {
+            self.row(text, given.text(), expected.text());
+        } else {
+            self.miss();
         }
     }
 

@@ -1,13 +1,16 @@
 //! Which calls on `1 + 2` ask for memory: reading it does and running it may, and evaluating its node doesn't.
-use crate::page::Page;
-use expr::{Context, Result, Value, compile, eval_expr, run};
+use crate::page::{NO_MEMORY, Page};
+use expr::{Context, Error, Result, Value, compile, eval_expr, run};
 use std::alloc::Global;
 
-/// Puts a call and its answer.
+/// Puts a call and its answer, or the word for its refusal, want of memory too.
 fn put_call(call: &str, answer: Result<Value>, page: &mut Page) {
     page.put(call);
     page.put(": ");
-    page.put_answer(answer);
+    match answer {
+        Err(Error::MemoryError) => page.put(NO_MEMORY),
+        other => page.put_answer(other),
+    }
     page.put("\n");
 }
 

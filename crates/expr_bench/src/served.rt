@@ -54,7 +54,7 @@ fn words(alloc: Global, line: &str) -> Result<Vec<String>, AllocError> {
 
 /// A run's two streams and its status.
 #[derive(Drop)]
-struct Served {
+struct ProgramRun {
     out: Stream,
     err: Stream,
     status: u8,
@@ -68,7 +68,7 @@ fn served(
     out_writes: u32,
     err_writes: u32,
     bytes: usize,
-) -> Result<Served, AllocError> {
+) -> Result<ProgramRun, AllocError> {
     let words = words(alloc, line)?;
     let mut out = writer(alloc, out_writes, bytes)?;
     let mut err = writer(alloc, err_writes, bytes)?;
@@ -76,11 +76,11 @@ fn served(
     if err.said.as_slice() == "memory\n".as_bytes() {
         return Err(AllocError);
     }
-    Ok(Served { out, err, status })
+    Ok(ProgramRun { out, err, status })
 }
 
 /// What a run said on both streams, and its status, with bars between.
-fn shown(alloc: Global, run: &Served) -> Page {
+fn shown(alloc: Global, run: &ProgramRun) -> Page {
     let mut page = Page::new(alloc);
     page.put(std::str::from_utf8(&run.out.said).unwrap_or("no text"));
     page.put("|");
@@ -131,13 +131,10 @@ const LONGER: &[&str] = &[
 ];
 
 /// A line with 1 in so many pairs of brackets.
-fn bracketed(alloc: Global, pairs: usize) -> Page {
-    let mut line = Page::new(alloc);
-    line.put("|");
-    line.put_times("(", pairs);
-    line.put("1");
-    line.put_times(")", pairs);
-    line
+fn bracketed(alloc: Global, pairs: usize) -> Result<String, AllocError> {
+    let front = "(".repeat(alloc, pairs)?;
+    let back = ")".repeat(alloc, pairs)?;
+    format!(in alloc; "|{front}1{back}")
 }
 
 /// Pairs of brackets, and what a line with so many gives: the trees that are read are 500 high at most.
@@ -147,7 +144,7 @@ const HEIGHTS: &[(usize, &str)] = &[(499, "1\n||0"), (500, "|literal\n|1")];
 fn put_failing_out(
     alloc: Global,
     line: &str,
-    whole: &Served,
+    whole: &ProgramRun,
     wrong: &mut Page,
 ) -> Result<(), AllocError> {
     for writes in 0..AMPLE.saturating_sub(whole.out.left) {
@@ -161,7 +158,7 @@ fn put_failing_out(
 fn put_failing_err(
     alloc: Global,
     line: &str,
-    whole: &Served,
+    whole: &ProgramRun,
     wrong: &mut Page,
 ) -> Result<(), AllocError> {
     for writes in 0..AMPLE.saturating_sub(whole.err.left) {
@@ -179,8 +176,7 @@ fn put_narrow(alloc: Global, line: &str, wrong: &mut Page) -> Result<(), AllocEr
     put_failing_out(alloc, line, &whole, wrong)?;
     put_failing_err(alloc, line, &whole, wrong)?;
     let short = served(alloc, line, AMPLE, AMPLE, 1)?;
-    let expected = shown(alloc, &whole);
-    wrong.row(line, shown(alloc, &short).text(), expected.text());
+    wrong.same(line, &shown(alloc, &short), &shown(alloc, &whole));
     Ok(())
 }
 
@@ -201,7 +197,8 @@ pub fn put_served(alloc: Global, wrong: &mut Page) -> Result<(), AllocError> {
         put_narrow(alloc, line, wrong)?;
     }
     for (pairs, expected) in HEIGHTS {
-        let given = served(alloc, bracketed(alloc, *pairs).text(), AMPLE, AMPLE, WHOLE)?;
+        let line = bracketed(alloc, *pairs)?;
+        let given = served(alloc, &line, AMPLE, AMPLE, WHOLE)?;
         wrong.row("brackets", shown(alloc, &given).text(), expected);
     }
     Ok(())
