@@ -1,16 +1,21 @@
 //! Vectors: reads a line for each expression and prints a line for its answer: its `Display`, or `!` and the word of its
 //! refusal. In both a backslash, newline, carriage return and tab are written `\\`, `\n`, `\r`, `\t`. After the
 //! expression a line may bind names, each as a tab and `NAME=CODE`. A line is answered by each way from a text to its
-//! answer, but one that begins with `%once ` by `eval` alone. The line `%tables` asks for what only code can see.
+//! answer, but one that begins with `%once ` by `eval` alone. A line that begins with `%damaged ` has the kinds of what
+//! the damages of its expression answer, and the line `%table TOPIC` what only code can see of a topic.
 #![tactic(auto)]
 
+mod additions;
 mod answers;
+mod calls;
 mod collections;
+mod damaged;
 mod deep;
 mod engine;
 mod hosts;
 mod macros;
 mod page;
+mod plain;
 mod programs;
 mod reading_back;
 mod served;
@@ -97,22 +102,27 @@ fn read(alloc: Global, line: &str) -> Result<(String, Context)> {
     Ok((code, context))
 }
 
-/// What the modules print, and below it a line for each row of their tables that doesn't hold.
-fn tables(alloc: Global) -> Result<Page> {
-    let mut page = Page::new(alloc);
-    collections::put_collections(alloc, &mut page)?;
-    deep::put_deep(alloc, &mut page);
-    programs::put_programs(alloc, &mut page)?;
-    values::put_values(alloc, &mut page)?;
-    engine::put_engine(alloc, &mut page)?;
-    answers::put_answers(alloc, &mut page)?;
-    hosts::put_hosts(alloc, &mut page)?;
-    macros::put_macros(alloc, &mut page)?;
-    reading_back::put_reading_back(alloc, &mut page)?;
-    served::put_served(alloc, &mut page);
-    sizes::put_sizes(&mut page);
-    tokens::put_readings(alloc, &mut page);
-    Ok(page)
+/// Puts what the module of a topic prints, and below it a line for each row of its tables that doesn't hold.
+fn put_topic(alloc: Global, topic: &str, page: &mut Page) -> Result<()> {
+    match topic {
+        "additions" => additions::put_additions(alloc, page)?,
+        "answers" => answers::put_answers(alloc, page)?,
+        "calls" => calls::put_calls(alloc, page)?,
+        "collections" => collections::put_collections(alloc, page)?,
+        "deep" => deep::put_deep(alloc, page),
+        "engine" => engine::put_engine(alloc, page)?,
+        "hosts" => hosts::put_hosts(alloc, page)?,
+        "macros" => macros::put_macros(alloc, page)?,
+        "plain" => plain::put_plain(alloc, page),
+        "programs" => programs::put_programs(alloc, page)?,
+        "reading_back" => reading_back::put_reading_back(alloc, page)?,
+        "served" => served::put_served(alloc, page)?,
+        "sizes" => sizes::put_sizes(page),
+        "tokens" => tokens::put_readings(alloc, page),
+        "values" => values::put_values(alloc, page)?,
+        _ => page.put("no such topic"),
+    }
+    Ok(())
 }
 
 /// The line of an answer.
@@ -123,22 +133,50 @@ fn answer_text(alloc: Global, answer: &Result<Value>) -> std::result::Result<Str
     }
 }
 
-/// The line of a line's answer.
-fn answer_line(alloc: Global, line: &str) -> std::result::Result<String, AllocError> {
-    if line == "%tables" {
-        let page = tables(alloc).map_err(|_| AllocError)?;
-        return String::from_str(alloc, page.text());
+/// What is printed of a topic.
+fn topic_text(alloc: Global, topic: &str) -> Result<String> {
+    let mut page = Page::new(alloc);
+    put_topic(alloc, topic, &mut page)?;
+    Ok(String::from_str(alloc, page.text())?)
+}
+
+/// What is printed of the damages of a line's expression.
+fn damages_text(alloc: Global, line: &str) -> Result<String> {
+    let (code, context) = read(alloc, line)?;
+    let mut page = Page::new(alloc);
+    damaged::put_damaged(alloc, &code, &context, &mut page)?;
+    Ok(String::from_str(alloc, page.text())?)
+}
+
+/// What is printed of a line's answer.
+fn line_text(alloc: Global, line: &str) -> Result<String> {
+    match line_answers(alloc, line)? {
+        Answers {
+            first,
+            are_same: true,
+        } => Ok(answer_text(alloc, &first)?),
+        _ => Ok(String::from_str(alloc, "!!the ways to an answer differ")?),
     }
-    match line_answers(alloc, line) {
-        Ok(
-            Answers {
-                first,
-                are_same: true,
-            },
-        ) => answer_text(alloc, &first),
-        Ok(_) => String::from_str(alloc, "!!the ways to an answer differ"),
-        Err(error) => String::from_str(alloc, word_of(&error)),
+}
+
+/// Puts what is printed of a line.
+fn put_line(
+    alloc: Global,
+    line: &str,
+    answers: &mut String,
+) -> std::result::Result<(), AllocError> {
+    let text = if let Some(topic) = line.strip_prefix("%table ") {
+        topic_text(alloc, topic)
+    } else if let Some(line) = line.strip_prefix("%damaged ") {
+        damages_text(alloc, line)
+    } else {
+        line_text(alloc, line)
+    };
+    match text {
+        Ok(text) => answers.push_str(&text)?,
+        Err(error) => answers.push_str(word_of(&error))?,
     }
+    answers.push('\n')
 }
 
 fn main(rt: HostRuntime) -> io::Result<()> {
@@ -146,8 +184,7 @@ fn main(rt: HostRuntime) -> io::Result<()> {
     let lines = io::read_to_string(alloc, rt.reader())?;
     let mut answers = String::new(alloc);
     for line in lines.lines() {
-        let answer = answer_line(alloc, line)?;
-        writeln!(answers, "{answer}")?;
+        put_line(alloc, line, &mut answers)?;
     }
     print!(rt; "{answers}")
 }

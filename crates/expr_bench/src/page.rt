@@ -2,6 +2,9 @@
 use expr::{Error, Value};
 use std::alloc::{AllocError, Global};
 
+/// The word for want of memory.
+pub const NO_MEMORY: &str = "!memory";
+
 /// A text so far, and whether there was memory for each piece of it.
 #[derive(Drop)]
 pub struct Page {
@@ -16,7 +19,7 @@ pub fn word_of(error: &Error) -> &'static str {
         Error::ParseError(_) => "!literal",
         Error::ExprError(_) => "!evaluation",
         Error::RegexError(_) => "!pattern",
-        Error::MemoryError => "!memory",
+        Error::MemoryError => NO_MEMORY,
     }
 }
 
@@ -31,7 +34,7 @@ impl Page {
     /// Puts a piece at the end.
     pub fn put(&mut self, piece: &str) {
         if self.text.push_str(piece).is_err() {
-            self.is_whole = false;
+            self.miss();
         }
     }
 
@@ -44,16 +47,22 @@ impl Page {
     pub fn put_made(&mut self, piece: Result<String, AllocError>) {
         match piece {
             Ok(piece) => self.put(piece.as_str()),
-            Err(_) => self.is_whole = false,
+            Err(_) => self.miss(),
         }
     }
 
-    /// Puts the printed text of an answer at the end, or its refusal's word.
+    /// Puts the printed text of an answer at the end, or the word for its refusal. Want of memory is a piece that is missed.
     pub fn put_answer(&mut self, answer: expr::Result<Value>) {
         match answer {
             Ok(value) => self.put_made(value.to_string(self.allocator())),
+            Err(Error::MemoryError) => self.miss(),
             Err(error) => self.put(word_of(&error)),
         }
+    }
+
+    /// Notes that there was no memory for a piece.
+    pub fn miss(&mut self) {
+        self.is_whole = false;
     }
 
     /// Puts a fact that doesn't hold at the end.
@@ -64,9 +73,15 @@ impl Page {
         }
     }
 
-    /// Puts the row of a text at the end that gives another text than it should.
+    /// Puts the row of a text at the end that gives another text than it should. One that had no memory says nothing of
+    /// the row, and the page isn't whole.
     pub fn row(&mut self, text: &str, given: &str, expected: &str) {
-        if given != expected {
+        if given == expected {
+            return;
+        }
+        if given == NO_MEMORY {
+            self.miss();
+        } else {
             self.put(text);
             self.put(": ");
             self.put(given);
@@ -74,7 +89,17 @@ impl Page {
         }
     }
 
-    /// Puts the row of a text at the end that answers something else than it should.
+    /// Puts the row of a text at the end that gives another page than it should. Where there was no memory for what it should
+    /// give, nothing is said of the row.
+    pub fn same(&mut self, text: &str, given: &Page, expected: &Page) {
+        if expected.is_whole {
+            self.row(text, given.text(), expected.text());
+        } else {
+            self.miss();
+        }
+    }
+
+    /// Puts the row of a text at the end that answers something else than it should, as [`Page::row`] does.
     pub fn answer(&mut self, text: &str, answer: expr::Result<Value>, expected: &str) {
         let mut given = Page::new(self.allocator());
         given.put_answer(answer);
@@ -90,7 +115,7 @@ impl Page {
         if self.is_whole {
             self.text.as_str()
         } else {
-            "no memory"
+            NO_MEMORY
         }
     }
 }

@@ -167,15 +167,6 @@ fn put_copy(alloc: Global, text: &str, shape: &str, answer: &str, page: &mut Pag
     Ok(())
 }
 
-/// Whether a text of 200,000 fronts, a middle and as many backs has a program.
-fn is_compiled(alloc: Global, front: &str, middle: &str, back: &str) -> bool {
-    let mut text = Page::new(alloc);
-    text.put_times(front, 200_000);
-    text.put(middle);
-    text.put_times(back, 200_000);
-    compile(alloc, text.text()).is_ok()
-}
-
 /// Puts the names of programs, and what is wrong of programs of texts.
 pub fn put_programs(alloc: Global, page: &mut Page) -> Result<()> {
     for (texts, program) in PROGRAMS {
@@ -193,11 +184,6 @@ pub fn put_programs(alloc: Global, page: &mut Page) -> Result<()> {
     for (text, shape, answer) in COPIES {
         put_copy(alloc, text, shape, answer, page)?;
     }
-    page.fact("brackets take no stack", is_compiled(alloc, "(", "1", ")"));
-    page.fact(
-        "prefixes take no stack",
-        is_compiled(alloc, "not ", "true", ""),
-    );
     page.put("\n");
     Ok(())
 }

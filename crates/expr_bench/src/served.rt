@@ -5,10 +5,17 @@ use std::alloc::{AllocError, Global};
 use std::io;
 use std::io::Write;
 
-/// A writer that fails at its nth write.
+/// How many writes a stream takes that takes all of a run.
+const AMPLE: u32 = 99;
+
+/// How many bytes of a write a stream takes that takes all of it.
+const WHOLE: usize = 4096;
+
+/// A writer that takes so many writes more, of each so many bytes at most, and then fails.
 #[derive(Drop)]
 struct Stream {
     left: u32,
+    bytes: usize,
     said: Vec<u8>,
 }
 
@@ -18,8 +25,9 @@ impl Write for Stream {
             return Err(io::Error::from(io::ErrorKind::BrokenPipe));
         }
         self.left -= 1;
-        self.said.extend_from_slice(buf)?;
-        Ok(buf.len())
+        let taken = buf.get(..self.bytes).unwrap_or(buf);
+        self.said.extend_from_slice(taken)?;
+        Ok(taken.len())
     }
 
     fn flush(&mut self) -> io::Result<()> {
@@ -27,11 +35,12 @@ impl Write for Stream {
     }
 }
 
-fn writer(alloc: Global, left: u32) -> Stream {
-    Stream {
+fn writer(alloc: Global, left: u32, bytes: usize) -> Result<Stream, AllocError> {
+    Ok(Stream {
         left,
-        said: Vec::new(alloc),
-    }
+        bytes,
+        said: Vec::with_capacity(alloc, 256)?,
+    })
 }
 
 /// The words of a line, each of which stands after a bar.
@@ -43,19 +52,41 @@ fn words(alloc: Global, line: &str) -> Result<Vec<String>, AllocError> {
     Ok(all)
 }
 
-/// What the words of a line print on two streams that take so many writes, and the status, with bars between.
-fn served(alloc: Global, line: &str, out_writes: u32, err_writes: u32) -> Page {
-    let mut page = Page::new(alloc);
-    if let Ok(words) = words(alloc, line) {
-        let mut out = writer(alloc, out_writes);
-        let mut err = writer(alloc, err_writes);
-        let status = serve(alloc, words.as_slice(), &mut out, &mut err);
-        page.put(std::str::from_utf8(&out.said).unwrap_or("no text"));
-        page.put("|");
-        page.put(std::str::from_utf8(&err.said).unwrap_or("no text"));
-        page.put("|");
-        page.put_made(status.to_string(alloc));
+/// A run's two streams and its status.
+#[derive(Drop)]
+struct ProgramRun {
+    out: Stream,
+    err: Stream,
+    status: u8,
+}
+
+/// The run of a line's words on two streams that take so many writes, of each so many bytes at most. Where the run says
+/// that it has no memory, there is none.
+fn served(
+    alloc: Global,
+    line: &str,
+    out_writes: u32,
+    err_writes: u32,
+    bytes: usize,
+) -> Result<ProgramRun, AllocError> {
+    let words = words(alloc, line)?;
+    let mut out = writer(alloc, out_writes, bytes)?;
+    let mut err = writer(alloc, err_writes, bytes)?;
+    let status = serve(alloc, words.as_slice(), &mut out, &mut err);
+    if err.said.as_slice() == "memory\n".as_bytes() {
+        return Err(AllocError);
     }
+    Ok(ProgramRun { out, err, status })
+}
+
+/// What a run said on both streams, and its status, with bars between.
+fn shown(alloc: Global, run: &ProgramRun) -> Page {
+    let mut page = Page::new(alloc);
+    page.put(std::str::from_utf8(&run.out.said).unwrap_or("no text"));
+    page.put("|");
+    page.put(std::str::from_utf8(&run.err.said).unwrap_or("no text"));
+    page.put("|");
+    page.put_made(run.status.to_string(alloc));
     page
 }
 
@@ -90,27 +121,85 @@ const RUNS: &[(&str, u32, u32, &str)] = &[
     ("|1 +|b", 9, 0, "||2"),
 ];
 
+/// Lines whose values are printed in several pieces, beside those of the runs, and lines that are refused.
+const LONGER: &[&str] = &[
+    r#"|[1, "é", {a: nil, b: [true, b"\x00"]}]"#,
+    r#"|fromPairs([[2, "b"], ["x", 1]])"#,
+    r#"|date("2024-03-02T10:00:00.5+02:00")"#,
+    r#"|"foo" matches "(""#,
+    "|nope()",
+];
+
 /// A line with 1 in so many pairs of brackets.
-fn bracketed(alloc: Global, pairs: usize) -> Page {
-    let mut line = Page::new(alloc);
-    line.put("|");
-    line.put_times("(", pairs);
-    line.put("1");
-    line.put_times(")", pairs);
-    line
+fn bracketed(alloc: Global, pairs: usize) -> Result<String, AllocError> {
+    let front = "(".repeat(alloc, pairs)?;
+    let back = ")".repeat(alloc, pairs)?;
+    format!(in alloc; "|{front}1{back}")
 }
 
 /// Pairs of brackets, and what a line with so many gives: the trees that are read are 500 high at most.
 const HEIGHTS: &[(usize, &str)] = &[(499, "1\n||0"), (500, "|literal\n|1")];
 
+/// Puts each write of a line's run at which a failing output gives another status than 1.
+fn put_failing_out(
+    alloc: Global,
+    line: &str,
+    whole: &ProgramRun,
+    wrong: &mut Page,
+) -> Result<(), AllocError> {
+    for writes in 0..AMPLE.saturating_sub(whole.out.left) {
+        let cut = served(alloc, line, writes, AMPLE, WHOLE)?;
+        wrong.fact(line, cut.status == 1);
+    }
+    Ok(())
+}
+
+/// Puts each write of a line's run at which a failing error stream changes the status or the output.
+fn put_failing_err(
+    alloc: Global,
+    line: &str,
+    whole: &ProgramRun,
+    wrong: &mut Page,
+) -> Result<(), AllocError> {
+    for writes in 0..AMPLE.saturating_sub(whole.err.left) {
+        let cut = served(alloc, line, AMPLE, writes, WHOLE)?;
+        let is_same = cut.status == whole.status
+            && cut.out.said.as_slice() == whole.out.said.as_slice();
+        wrong.fact(line, is_same);
+    }
+    Ok(())
+}
+
+/// Puts a line whose run gives something else where streams fail, or take a byte of each write.
+fn put_narrow(alloc: Global, line: &str, wrong: &mut Page) -> Result<(), AllocError> {
+    let whole = served(alloc, line, AMPLE, AMPLE, WHOLE)?;
+    put_failing_out(alloc, line, &whole, wrong)?;
+    put_failing_err(alloc, line, &whole, wrong)?;
+    let short = served(alloc, line, AMPLE, AMPLE, 1)?;
+    wrong.same(line, &shown(alloc, &short), &shown(alloc, &whole));
+    Ok(())
+}
+
 /// Puts what is wrong of these runs.
-pub fn put_served(alloc: Global, wrong: &mut Page) {
+fn put_runs(alloc: Global, wrong: &mut Page) -> Result<(), AllocError> {
     for (line, out_writes, err_writes, expected) in RUNS {
-        let given = served(alloc, line, *out_writes, *err_writes);
-        wrong.row(line, given.text(), expected);
+        let given = served(alloc, line, *out_writes, *err_writes, WHOLE)?;
+        wrong.row(line, shown(alloc, &given).text(), expected);
+        put_narrow(alloc, line, wrong)?;
+    }
+    Ok(())
+}
+
+/// Puts what is wrong of the program's runs.
+pub fn put_served(alloc: Global, wrong: &mut Page) -> Result<(), AllocError> {
+    put_runs(alloc, wrong)?;
+    for line in LONGER {
+        put_narrow(alloc, line, wrong)?;
     }
     for (pairs, expected) in HEIGHTS {
-        let given = served(alloc, bracketed(alloc, *pairs).text(), 9, 9);
-        wrong.row("brackets", given.text(), expected);
+        let line = bracketed(alloc, *pairs)?;
+        let given = served(alloc, &line, AMPLE, AMPLE, WHOLE)?;
+        wrong.row("brackets", shown(alloc, &given).text(), expected);
     }
+    Ok(())
 }

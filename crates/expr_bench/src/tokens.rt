@@ -43,7 +43,7 @@ fn shown(alloc: Global, text: &str, with_starts: bool) -> Page {
                 page.put_made(format!(in alloc; "@{:?}", reading.starts.as_slice()));
             }
         }
-        Err(_) => page.put("no memory"),
+        Err(_) => page.miss(),
     }
     page
 }

@@ -71,8 +71,12 @@ fn put_answers(alloc: Global, wrong: &mut Page) -> Result<()> {
 }
 
 /// Whether a value makes no context.
-fn is_no_context(alloc: Global, value: Value) -> bool {
-    matches!(Context::try_from(alloc, value), Err(Error::ExprError(_)))
+fn is_no_context(alloc: Global, value: Value) -> Result<bool> {
+    match Context::try_from(alloc, value) {
+        Ok(_) => Ok(false),
+        Err(Error::ExprError(_)) => Ok(true),
+        Err(other) => Err(other),
+    }
 }
 
 /// Whether both maps of a provider of any kind are the same, and it has a name.
@@ -125,11 +129,9 @@ pub fn put_values(alloc: Global, page: &mut Page) -> Result<()> {
     put_lent(alloc, &Value::Duration(7), page);
     put_lent(alloc, &Value::Nil, page);
     let keyed = eval(alloc, "fromPairs([[1, 2]])", &Context::new(alloc))?;
-    page.fact("a keyed map makes no context", is_no_context(alloc, keyed));
-    page.fact(
-        "an integer makes no context",
-        is_no_context(alloc, Value::Integer(1)),
-    );
+    page.fact("a keyed map makes no context", is_no_context(alloc, keyed)?);
+    let integer = is_no_context(alloc, Value::Integer(1))?;
+    page.fact("an integer makes no context", integer);
     page.fact(
         "a new context has no name",
         Context::new(alloc).get("b").is_none(),

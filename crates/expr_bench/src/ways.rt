@@ -1,7 +1,7 @@
 //! The ways from a text to its answer: `eval`, `execute` of code that is kept without its program, and `eval_expr` of the
 //! last node where a program has no lines.
 use crate::page::word_of;
-use expr::{Code, Context, KeptCode, Result, Value, compile, eval, eval_expr, execute};
+use expr::{Code, Context, Error, KeptCode, Result, Value, compile, eval, eval_expr, execute};
 use std::alloc::{AllocError, Global};
 
 /// The code of a text, which outlives its program.
@@ -25,7 +25,8 @@ fn by_tree(alloc: Global, text: &str, context: &Context) -> Result<Option<Value>
     Ok(Some(eval_expr(alloc, context, &program.expr)?))
 }
 
-/// Whether two ways answer the same, as it is printed, or refuse in the same way.
+/// Whether two ways answer the same, as it is printed, or refuse in the same way. Where one of them has no memory, nothing
+/// is said of that.
 fn is_same(
     alloc: Global,
     one: &Result<Value>,
@@ -36,7 +37,8 @@ fn is_same(
             let shown = one.to_string(alloc)?;
             Ok(shown.as_str() == other.to_string(alloc)?.as_str())
         }
-        (Err(one), Err(other)) => Ok(word_of(one) == word_of(other)),
+        (Err(one), Err(other)) if word_of(one) == word_of(other) => Ok(true),
+        (Err(Error::MemoryError), _) | (_, Err(Error::MemoryError)) => Err(AllocError),
         _ => Ok(false),
     }
 }
@@ -48,7 +50,7 @@ pub struct Answers {
     pub are_same: bool,
 }
 
-/// What a text answers among some names, by each way.
+/// What a text answers among some names, by each way; want of memory if one of them has none that another doesn't miss.
 pub fn answer_by_all(
     alloc: Global,
     text: &str,
