@@ -2,7 +2,8 @@
 //
 // The program is run once for each row of the file REFUSED_ROWS whose number leaves the rest REFUSED_LANE of REFUSED_LANES.
 // A row is its line on standard input, or, where the program was called with words, as many words as it was called with,
-// cut at the row's tabs, with its escapes `\\`, `\n`, `\r`, `\t` undone; a row that has another number of them is passed over.
+// cut at the row's tabs, with its escapes `\\`, `\n`, `\r`, `\t` undone; a row that has another number of them is passed over,
+// and so is each that begins with a tab.
 // At each growth of memory (malloc, calloc, realloc) the run forks: the child is refused this growth and no other, and goes
 // on to its end; then the run goes on with the growth granted. Each end is a line on the descriptor 3: the row's number, the
 // growth's (0: none was refused), the status or the signal, and what stands on standard output and on standard error.
@@ -122,7 +123,7 @@ __attribute__((constructor)) static void run_rows(int count, char **words) {
         char *end = memchr(text, '\n', (size_t)(rows + size - text));
         if (!end) give_up("a row without an end");
         next = end + 1;
-        if (row++ % lanes != lane) continue;
+        if (row++ % lanes != lane || *text == '\t') continue;
         for (int i = 0; i < 3; i++) {
             if (ftruncate(i, 0)) give_up("ftruncate");
             lseek(i, 0, SEEK_SET);
