@@ -1,8 +1,9 @@
 // Goes below a program by LD_PRELOAD and refuses it memory: bin/refused says what for.
 //
-// The program is run once for each row of the file REFUSED_ROWS whose number leaves the rest REFUSED_LANE of REFUSED_LANES.
-// A row is its line on standard input, or, where the program was called with words, as many words as it was called with,
-// cut at the row's tabs, with its escapes `\\`, `\n`, `\r`, `\t` undone; a row that has another number of them is passed over.
+// The program is run once for each row of the file REFUSED_ROWS that doesn't begin with a tab, and of these for every
+// REFUSED_LANES-th, from the one behind the first REFUSED_LANE on. A row is its line on standard input, or, where the program
+// was called with words, as many words as it was called with, cut at the row's tabs, with its escapes `\\`, `\n`, `\r`, `\t`
+// undone; then a row that has another number of them is passed over.
 // At each growth of memory (malloc, calloc, realloc) the run forks: the child is refused this growth and no other, and goes
 // on to its end; then the run goes on with the growth granted. Each end is a line on the descriptor 3: the row's number, the
 // growth's (0: none was refused), the status or the signal, and what stands on standard output and on standard error.
@@ -23,7 +24,7 @@ enum { LONGEST = 1 << 16, SECONDS = 20 };
 
 static long row, growth;
 static int is_armed;
-static char line[4 * LONGEST], said[LONGEST];
+static char line[5 * LONGEST], said[LONGEST];
 
 static void give_up(const char *what) {
     dprintf(3, "stopped: %s: %s\n", what, strerror(errno));
@@ -109,7 +110,7 @@ static int are_words(char *text, int count, char **words) {
 __attribute__((constructor)) static void run_rows(int count, char **words) {
     const char *name = getenv("REFUSED_ROWS");
     if (!name) return;
-    long lane = atol(getenv("REFUSED_LANE")), lanes = atol(getenv("REFUSED_LANES"));
+    long lane = atol(getenv("REFUSED_LANE")), lanes = atol(getenv("REFUSED_LANES")), counted = 0;
     int file = open(name, O_RDONLY | O_CLOEXEC);
     off_t size = lseek(file, 0, SEEK_END);
     char *rows = mmap(NULL, (size_t)size + 1, PROT_READ | PROT_WRITE, MAP_PRIVATE, file, 0);
@@ -122,7 +123,8 @@ __attribute__((constructor)) static void run_rows(int count, char **words) {
         char *end = memchr(text, '\n', (size_t)(rows + size - text));
         if (!end) give_up("a row without an end");
         next = end + 1;
-        if (row++ % lanes != lane) continue;
+        row++;
+        if (*text == '\t' || counted++ % lanes != lane) continue;
         for (int i = 0; i < 3; i++) {
             if (ftruncate(i, 0)) give_up("ftruncate");
             lseek(i, 0, SEEK_SET);
