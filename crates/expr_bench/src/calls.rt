@@ -1,9 +1,9 @@
 //! Each public call that takes memory, by its name and with memory to spare; `bin/called` holds this table to the sources.
 use crate::page::Page;
 use expr::{
-    Code, Context, ContextProvider, DateTimeValue, Environment, ExprCall, Items, Key, KeyedMap,
-    Node, Parser, Pattern, PostfixOperator, Program, Result, Text, TimezoneValue, Value, ValueMap,
-    compile, compile_within, eval, eval_expr, eval_func, eval_operator, eval_postfix_operator,
+    Code, Context, ContextProvider, DateTimeValue, Environment, Error, ExprCall, Items, Key,
+    KeyedMap, Node, Parser, Pattern, PostfixOperator, Program, Result, Text, TimezoneValue,
+    Unbuilt, Value, ValueMap, compile, compile_within, eval, eval_expr, eval_func, eval_operator, eval_postfix_operator,
     eval_unary_operator, execute, run, spot_of, value,
 };
 use jiff::Timestamp;
@@ -152,7 +152,11 @@ fn put_patterns(alloc: Global, wrong: &mut Page) -> Result<()> {
     let is_match = pattern.is_match(alloc, "foo")?;
     let is_other = pattern.is_match(alloc, "oof")?;
     wrong.fact("Pattern::is_match", is_match && !is_other);
-    wrong.fact("Pattern::kept", Pattern::kept(alloc, "^f")?.is_some());
+    match Pattern::kept(alloc, "^f") {
+        Ok(kept) => wrong.fact("Pattern::kept", kept.is_some()),
+        Err(Unbuilt::Memory) => return Err(Error::MemoryError),
+        Err(Unbuilt::TooBig) => wrong.fact("Pattern::kept", false),
+    }
     let spot = spot_of(alloc, "a\nb c", 4)?;
     let is_there = spot.line == 2 && spot.column == 3 && spot.shown.as_str() == "b c\n  ^";
     wrong.fact("spot_of", is_there);
