@@ -3,8 +3,8 @@ use crate::page::Page;
 use expr::{
     Code, Context, ContextProvider, DateTimeValue, Environment, Error, ExprCall, Items, Key,
     KeyedMap, Node, Parser, Pattern, PostfixOperator, Program, Result, Text, TimezoneValue,
-    Unbuilt, Value, ValueMap, compile, compile_within, eval, eval_expr, eval_func, eval_operator, eval_postfix_operator,
-    eval_unary_operator, execute, run, spot_of, value,
+    Unbuilt, Value, ValueMap, compile, compile_within, eval, eval_expr, eval_func, eval_operator,
+    eval_postfix_operator, eval_unary_operator, execute, run, spot_of, value,
 };
 use jiff::Timestamp;
 use jiff::tz::{Offset, TimeZone};
