@@ -19,5 +19,5 @@ pub use laws::{outside_is_not_within, part_stands_between_front_and_back, unequa
 pub use matching::match_pattern;
 pub use messages::{refused, unexpected};
 pub use operators::{apply, as_condition, as_truth, judge, prefix};
-pub use positions::{index, range, slice, slice_bound, slice_lent};
+pub use positions::{index, range, range_between, slice, slice_bound, slice_lent};
 pub use sides::{Sides, sides_asked};

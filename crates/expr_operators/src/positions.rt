@@ -3,6 +3,7 @@ ghost use Rattle.std.specs.Prelude.{◌≡◌, ◌≤◌, Ok, IfOk, IfErr, strin
 ghost use Rattle.std.specs.Option.{option_copied};
 ghost use Rattle.expr_value.specs.Answers.{Is};
 ghost use Rattle.expr_operators.specs.Positions.{bound_at, bound_checked, indexed, integers_between, item_from, or_nil, part, ranged, repaired, sliced, start_at, stop_at};
+ghost use Rattle.expr_value.specs.declared.value.Value as value;
 
 use crate::messages::{not_indexed, refuse, unexpected};
 use bstr::ByteSlice;
@@ -15,12 +16,18 @@ pub fn range(alloc: Global, first: &Value, last: &Value) -> Result<Value>
     ensures { Is result (ranged first.now last.now) }
 {
     match (first, last) {
-        (Value::Integer(first), Value::Integer(last)) => {
-            let integers = count_up(alloc, *first, *last)?;
-            Ok(Value::Array(Items::from_vec(integers)))
-        }
+        (Value::Integer(first), Value::Integer(last)) => { range_between(alloc, *first, *last) }
         _ => refuse(alloc, &"..", first, last),
     }
+}
+
+/// The same of two integers.
+#[inline(never)]
+pub fn range_between(alloc: Global, first: i64, last: i64) -> Result<Value>
+    ensures { Is result (ranged (value.Integer first) (value.Integer last)) }
+{
+    let integers = count_up(alloc, first, last)?;
+    Ok(Value::Array(Items::from_vec(integers)))
 }
 
 fn count_up(alloc: Global, first: i64, last: i64) -> Result<Vec<Value>>
