@@ -11,7 +11,8 @@ use expr_value::Value;
 /// Two values of one printed text are one, where both are built of nil, booleans, integers above the least, texts,
 /// arrays, and maps whose keys are words, each once.
 pub fn equal_texts_mean_equal_values()
-    ensures { (v w : Value) → IsTrue (is_readable v) → IsTrue (is_readable w) → text_of v ≡ text_of w → v ≡ w }
+    ensures { (v w : Value) → IsTrue (is_readable v) → IsTrue (is_readable w) → text_of v ≡ text_of w
+        → v ≡ w }
 {}
 
 /// Ten texts have one program each with the same texts in brackets: of pipes, prefixes, powers and conditionals.

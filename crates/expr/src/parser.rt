@@ -53,11 +53,14 @@ impl Parser {
     /// `MemoryError` alone.
     pub fn add_function(&mut self, name: &str, function: Function) -> Result<()>
         requires { Function.IsAlwaysCallable function }
-        ensures added { OnOk result ((key : List ℕ) → option_map (λ r. r.function) (registered (environment_of self.new) key)
-            ≡ (if bytes_eq name.now key then Some function else option_map (λ r. r.function) (registered (environment_of self.old) key))) }
+        ensures added { OnOk result ((key : List ℕ)
+            → option_map (λ r. r.function) (registered (environment_of self.new) key)
+            ≡ (if bytes_eq name.now key then Some function else option_map
+            (λ r. r.function) (registered (environment_of self.old) key))) }
         ensures err { OnErr result ((key : List ℕ) →
             registered (environment_of self.new) key ≡ registered (environment_of self.old) key) }
-        ensures zones { (key : List ℕ) → zone_at (environment_of self.new) key ≡ zone_at (environment_of self.old) key }
+        ensures zones { (key : List ℕ)
+            → zone_at (environment_of self.new) key ≡ zone_at (environment_of self.old) key }
         ensures moment { moment_at (environment_of self.new) ≡ moment_at (environment_of self.old) }
         ensures refusal { IfErr result (λ e. e ≡ Error.MemoryError) }
     {
@@ -73,7 +76,8 @@ impl Parser {
         ensures answer { IsCompiled code.now result }
         ensures only { (t : TreeProgram) → IsTreeOf code.now t → IsAnswerFor t result }
         ensures place { IsPlaced code.now result }
-        ensures boundary { (place : ℕ) → result ≡ Err (Error.PestError place) → IsCharBoundary code.now place }
+        ensures boundary { (place : ℕ) → result ≡ Err (Error.PestError place)
+            → IsCharBoundary code.now place }
     {
         expr_syntax::compile(alloc, code)
     }
@@ -84,8 +88,10 @@ impl Parser {
     ///
     /// What [`Environment::run`] refuses.
     pub fn run(&self, alloc: Global, program: &Program, ctx: &dyn ContextProvider) -> Result<Value>
-        ensures answer { Gives result (AllowsBlock (host_of (environment_of self.now)) (context ctx.now) (program_written program.now)) }
-        ensures independent { Gives result (λ a. (other : Context) (names : List (List ℕ)) → AreNamesOf names (program_written program.now)
+        ensures answer { Gives result (AllowsBlock (host_of (environment_of self.now)) (context ctx.now)
+            (program_written program.now)) }
+        ensures independent { Gives result
+            (λ a. (other : Context) (names : List (List ℕ)) → AreNamesOf names (program_written program.now)
             → AgreeAt names (program_written program.now) (context ctx.now) other
             → AllowsBlock (host_of (environment_of self.now)) other (program_written program.now) a) }
     {
@@ -98,12 +104,14 @@ impl Parser {
     ///
     /// What [`Environment::eval`] refuses.
     pub fn eval(&self, alloc: Global, code: &str, ctx: &dyn ContextProvider) -> Result<Value>
-        ensures answer { Gives result (MayAnswer code.now (host_of (environment_of self.now)) (context ctx.now)) }
+        ensures answer { Gives result (MayAnswer code.now (host_of (environment_of self.now))
+            (context ctx.now)) }
         ensures independent { Gives result (λ a. (other : Context)
             → ((b : Block) → IsProgramOf code.now b → AgreeFor (context ctx.now) other b)
             → MayAnswer code.now (host_of (environment_of self.now)) other a) }
         ensures place { HasNoTree code.now → IsPlaced code.now result }
-        ensures boundary { HasNoTree code.now → (place : ℕ) → result ≡ Err (Error.PestError place) → IsCharBoundary code.now place }
+        ensures boundary { HasNoTree code.now → (place : ℕ) → result ≡ Err (Error.PestError place)
+            → IsCharBoundary code.now place }
         ensures reads_back { (v : Value) → IsTrue (is_readable v) → code.now ≡ text_of v → Is result (Ok v) }
     {
         self.environment.eval(alloc, code, ctx)
@@ -115,7 +123,8 @@ impl Parser {
     ///
     /// What [`Environment::eval_expr`] refuses.
     pub fn eval_expr(&self, alloc: Global, ctx: &dyn ContextProvider, node: &Node) -> Result<Value>
-        ensures answer { Gives result (Allows (host_of (environment_of self.now)) (context ctx.now) (written node.now)) }
+        ensures answer { Gives result (Allows (host_of (environment_of self.now)) (context ctx.now)
+            (written node.now)) }
         ensures plain { (v : Value) → IsTrue (is_plain (written node.now))
             → Allows (host_of (environment_of self.now)) (context ctx.now) (written node.now) (Ok v)
             → result ≡ Ok v }

@@ -44,7 +44,8 @@ pub fn spot_of(alloc: Global, text: &str, place: usize) -> Result<Spot>
 
 /// A line of two parts, and below it a caret under the beginning of the second.
 fn marked(alloc: Global, left: &str, right: &str) -> Result<String>
-    ensures ok { IfOk result (λ s. string_bytes s ≡ left.now ++ right.now ++ 10 ∷ [] ++ repeat (length (chars left.now)) (32 ∷ []) ++ 94 ∷ []) }
+    ensures ok { IfOk result (λ s. string_bytes s
+        ≡ left.now ++ right.now ++ 10 ∷ [] ++ repeat (length (chars left.now)) (32 ∷ []) ++ 94 ∷ []) }
     ensures err { IfErr result (λ e. e ≡ Error.MemoryError) }
 {
     let mut shown = String::from_str(alloc, left)?;

@@ -29,7 +29,8 @@ pub fn eval(alloc: Global, code: &str, ctx: &dyn ContextProvider) -> Result<Valu
         → MayAnswer code.now no_host other a) }
     // A text without a tree is refused at its first fault, where the text may be cut.
     ensures place { HasNoTree code.now → IsPlaced code.now result }
-    ensures boundary { HasNoTree code.now → (place : ℕ) → result ≡ Err (Error.PestError place) → IsCharBoundary code.now place }
+    ensures boundary { HasNoTree code.now → (place : ℕ) → result ≡ Err (Error.PestError place)
+        → IsCharBoundary code.now place }
     // What a value prints as evaluates to that value, in every context: nil, booleans, integers above the least, texts,
     // arrays, and maps whose keys are words, nested at will.
     ensures reads_back { (v : Value) → IsTrue (is_readable v) → code.now ≡ text_of v → Is result (Ok v) }

@@ -14,7 +14,8 @@ pub(crate) fn parts_after(
     separator: &str,
     limit: i64,
 ) -> Result<Vec<Value>>
-    ensures ok { IfOk result (λ found. found.items ≡ map Value.String (parts_after text.now separator.now limit)) }
+    ensures ok { IfOk result (λ found. found.items
+        ≡ map Value.String (parts_after text.now separator.now limit)) }
     ensures err { IfErr result (λ e. e ≡ Error.MemoryError) }
 {
     if limit == 0 {
@@ -29,7 +30,8 @@ pub(crate) fn parts_after(
 
 // The first parts, so many, and then the rest.
 fn first_after(alloc: Global, text: &str, separator: &str, count: usize) -> Result<Vec<Value>>
-    ensures ok { IfOk result (λ found. found.items ≡ map Value.String (parts_after text.now separator.now (pos (suc count)))) }
+    ensures ok { IfOk result (λ found. found.items
+        ≡ map Value.String (parts_after text.now separator.now (pos (suc count)))) }
     ensures err { IfErr result (λ e. e ≡ Error.MemoryError) }
 {
     let found = pieces(alloc, text, separator, count)?;
@@ -43,7 +45,8 @@ fn first_after(alloc: Global, text: &str, separator: &str, count: usize) -> Resu
 
 // Each piece but the last with the separator after it, and the last unless it is empty.
 fn after_each(alloc: Global, found: Vec<&str>, separator: &str) -> Result<Vec<Value>>
-    ensures ok { IfOk result (λ parts. parts.items ≡ map Value.String (after_each separator.now (map (λ p. p.now) found.entry.items))) }
+    ensures ok { IfOk result (λ parts. parts.items
+        ≡ map Value.String (after_each separator.now (map (λ p. p.now) found.entry.items))) }
     ensures err { IfErr result (λ e. e ≡ Error.MemoryError) }
 {
     let mut front = found;
@@ -60,7 +63,8 @@ fn after_each(alloc: Global, found: Vec<&str>, separator: &str) -> Result<Vec<Va
 
 // Each piece but the last with the separator after it, and the last as it is.
 fn closed(alloc: Global, found: Vec<&str>, separator: &str) -> Result<Vec<Value>>
-    ensures ok { IfOk result (λ parts. parts.items ≡ map Value.String (closed separator.now (map (λ p. p.now) found.entry.items))) }
+    ensures ok { IfOk result (λ parts. parts.items
+        ≡ map Value.String (closed separator.now (map (λ p. p.now) found.entry.items))) }
     ensures err { IfErr result (λ e. e ≡ Error.MemoryError) }
 {
     let mut front = found;

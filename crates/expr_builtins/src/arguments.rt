@@ -84,7 +84,8 @@ pub(crate) fn text_and_integer<'a>(arguments: &'a [Held<'_>]) -> Option<(&'a str
 pub(crate) fn three_texts_and_limit<'a>(
     arguments: &'a [Held<'_>],
 ) -> Option<(&'a str, &'a str, &'a str, i64)>
-    ensures { option_map (λ p. ((p.0.now, p.1.now), (p.2.now, p.3))) result ≡ three_texts_and_limit arguments.now }
+    ensures { option_map (λ p. ((p.0.now, p.1.now), (p.2.now, p.3))) result
+        ≡ three_texts_and_limit arguments.now }
 {
     let [first, second, third, rest @ ..] = arguments else {
         return None;

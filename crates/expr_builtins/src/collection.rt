@@ -212,7 +212,8 @@ pub(crate) fn join(alloc: Global, arguments: &[Held<'_>]) -> Result<Value>
 
 // The texts that some values are, if each is one.
 fn texts(alloc: Global, items: &[Value]) -> Result<Option<Vec<&str>>>
-    ensures ok { IfOk result (λ found. option_map (λ v. map (λ t. t.now) v.items) found ≡ all_of string_of items.now) }
+    ensures ok { IfOk result (λ found. option_map
+        (λ v. map (λ t. t.now) v.items) found ≡ all_of string_of items.now) }
     ensures err { IfErr result (λ e. e ≡ Error.MemoryError) }
 {
     let mut parts = Vec::with_capacity(alloc, items.len())?;
@@ -351,7 +352,8 @@ pub(crate) fn concat(alloc: Global, arguments: Vec<Held<'_>>) -> Result<Value>
 
 // Grows once, by what there is in all the arrays.
 fn appended(front: Vec<Value>, arrays: Vec<Held<'_>>) -> Result<Option<Vec<Value>>>
-    ensures ok { IfOk result (λ found. option_map (λ v. v.items) found ≡ option_map (λ rows. front.items ++ in_a_row rows) (all_of items_of arrays.entry.items)) }
+    ensures ok { IfOk result (λ found. option_map (λ v. v.items) found ≡ option_map
+        (λ rows. front.items ++ in_a_row rows) (all_of items_of arrays.entry.items)) }
     ensures err { IfErr result (λ e. e ≡ Error.MemoryError) }
 {
     let items = arrays.iter().filter_map(|array| array.get().as_array());

@@ -21,12 +21,14 @@ pub fn places_are_the_matches()
 
 /// The parts of a text at a separator, joined by it, are the text again.
 pub fn parts_joined_are_the_text()
-    ensures { (t s : List ℕ) (n : ℕ) → (joined t (parts s t (negsuc n)) ≡ s) × (joined t (parts s t (pos (suc n))) ≡ s) }
+    ensures { (t s : List ℕ) (n : ℕ)
+        → (joined t (parts s t (negsuc n)) ≡ s) × (joined t (parts s t (pos (suc n))) ≡ s) }
 {}
 
 /// The parts of a text after each match of a separator, joined by nothing, are the text again.
 pub fn parts_after_joined_are_the_text()
-    ensures { (t s : List ℕ) (n : ℕ) → (joined [] (parts_after s t (negsuc n)) ≡ s) × (joined [] (parts_after s t (pos (suc n))) ≡ s) }
+    ensures { (t s : List ℕ) (n : ℕ)
+        → (joined [] (parts_after s t (negsuc n)) ≡ s) × (joined [] (parts_after s t (pos (suc n))) ≡ s) }
 {}
 
 /// An array gives what its items give, one after the other, and any other value gives itself.
@@ -38,5 +40,6 @@ pub fn arrays_are_opened()
 /// The map of the pairs of a keyed map is that map.
 pub fn pairs_of_a_map_make_it_again()
     ensures { (m : List (key × value)) → IsDistinct key_eq (keys_of m)
-        → After (λ answer. answer ≡ to_pairs (by_keys m ∷ [])) (λ pairs answer. answer ≡ from_pairs (pairs ∷ [])) (Ok (by_keys m)) }
+        → After (λ answer. answer ≡ to_pairs (by_keys m ∷ []))
+        (λ pairs answer. answer ≡ from_pairs (pairs ∷ [])) (Ok (by_keys m)) }
 {}

@@ -60,7 +60,8 @@ pub(crate) fn least(alloc: Global, arguments: Vec<Held<'_>>) -> Result<Value>
 
 // The integers that some values are with each array opened, at every depth, if nothing else is there.
 fn opened_integers(alloc: Global, values: Vec<Held<'_>>) -> Result<Option<Vec<i64>>>
-    ensures ok { IfOk result (λ found. option_map (λ v. v.items) found ≡ all_of integer_of (all_opened values.entry.items)) }
+    ensures ok { IfOk result (λ found. option_map
+        (λ v. v.items) found ≡ all_of integer_of (all_opened values.entry.items)) }
     ensures err { IfErr result (λ e. e ≡ Error.MemoryError) }
 {
     let opened = all_opened(alloc, values)?;

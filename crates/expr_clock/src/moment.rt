@@ -14,7 +14,8 @@ use std::fmt::{Formatter, Write};
 
 /// Prints what a clock shows, and how far the clock is ahead of UTC: `2024-03-02T12:00:00.500+02:00`.
 pub fn show_moment<W: Write>(shown: DateTime, ahead: Offset, f: &mut Formatter<W>) -> fmt::Result
-    ensures { WritesOnOk W.write_str_gives f.old result (moment_text (civil_nanos shown) ahead.seconds) f.new }
+    ensures { WritesOnOk W.write_str_gives f.old result
+        (moment_text (civil_nanos shown) ahead.seconds) f.new }
 {
     show_moment_line(shown.date(), shown.time(), ahead, f)
 }

@@ -16,7 +16,8 @@ use expr_value::{Error, Value};
 
 /// In every host and context, the runs of a program's code allow exactly what the program allows.
 pub fn runs_as_programs<H: Functions>()
-    ensures { (host : H) (ctx : Context) (b : Block) (blocks : List (List Op)) → IsCode b blocks → RunsAs (H.host host) ctx b blocks }
+    ensures { (host : H) (ctx : Context) (b : Block) (blocks : List (List Op)) → IsCode b blocks
+        → RunsAs (H.host host) ctx b blocks }
 {}
 
 /// A program's code finds what it needs at each of its instructions.
@@ -37,11 +38,13 @@ pub fn stale_slots_are_refused()
 /// Code that finds all that it needs may still be wrong: an inner line in the slot of an outer one. In every host and
 /// context it runs otherwise than its program.
 pub fn shadowed_lines_are_refused<H: Functions>()
-    ensures { (host : H) (ctx : Context) → IsSafeCode shadowing × (RunsAs (H.host host) ctx shadowed shadowing → ⊥) }
+    ensures { (host : H) (ctx : Context)
+        → IsSafeCode shadowing × (RunsAs (H.host host) ctx shadowed shadowing → ⊥) }
 {}
 
 /// What is given of a program's code, the program allows.
 pub fn execution_answers_programs<H: Functions>()
     ensures { (host : H) (ctx : Context) (b : Block) (blocks : List (List Op)) (r : Result Value Error)
-        → IsCode b blocks → Gives r (CodeAnswers (H.host host) ctx blocks) → Gives r (AllowsBlock (H.host host) ctx b) }
+        → IsCode b blocks → Gives r (CodeAnswers (H.host host) ctx blocks)
+        → Gives r (AllowsBlock (H.host host) ctx b) }
 {}

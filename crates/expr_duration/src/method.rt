@@ -28,7 +28,8 @@ pub enum DurationMethod {
 impl DurationMethod {
     /// The method of a name.
     pub fn named(name: &str) -> Option<DurationMethod>
-        ensures { MatchOption result ((m : DurationMethod) → name_of m ≢ name.now) (λ m. name_of m ≡ name.now) }
+        ensures { MatchOption result ((m : DurationMethod) → name_of m ≢ name.now)
+            (λ m. name_of m ≡ name.now) }
     {
         match name {
             "Abs" => Some(DurationMethod::Abs),

@@ -11,13 +11,15 @@ const GREATEST_SIZE: u64 = 1 << 63;
 /// The length of time that a text spells, in nanoseconds, if it spells one within 64 bits: `0`, or a sign that may be left
 /// out and one or more decimal numbers, each with its unit, as in `1h30m`, `-1.5ms`.
 pub fn spelled(text: &str) -> Option<i64>
-    ensures { MatchOption result ((n : ℤ) → FitsSigned w64 n → ¬ (Spells text.now n)) (λ n. Spells text.now n) }
+    ensures { MatchOption result ((n : ℤ) → FitsSigned w64 n → ¬ (Spells text.now n))
+        (λ n. Spells text.now n) }
 {
     read(text.as_bytes())
 }
 
 fn read(text: &[u8]) -> Option<i64>
-    ensures { MatchOption result ((n : ℤ) → FitsSigned w64 n → ¬ (Spells text.now n)) (λ n. Spells text.now n) }
+    ensures { MatchOption result ((n : ℤ) → FitsSigned w64 n → ¬ (Spells text.now n))
+        (λ n. Spells text.now n) }
 {
     if text == b"0".as_slice() {
         return Some(0);
@@ -69,8 +71,10 @@ fn parts(text: &[u8]) -> Option<u64>
 
 // The size of the part at the front of a text, and what stands behind it.
 fn part(text: &[u8]) -> Option<(u64, &[u8])>
-    ensures { MatchOption result ((p : Part) (rest : List ℕ) → Begins text.now p rest → greatest_size < part_size p)
-        (λ found. (p : Part) × Begins text.now p found.1.now × (found.0 ≡ part_size p) × (found.0 ≤ greatest_size)) }
+    ensures { MatchOption result ((p : Part) (rest : List ℕ) → Begins text.now p rest
+        → greatest_size < part_size p)
+        (λ found. (p : Part) × Begins text.now p found.1.now × (found.0 ≡ part_size p)
+        × (found.0 ≤ greatest_size)) }
 {
     let (whole, behind) = digits(text);
     let (fraction, behind) = fraction(behind);
@@ -147,7 +151,8 @@ fn unit(text: &[u8]) -> Option<(u64, &[u8])>
 
 // What stands behind a name at the front of a text.
 fn after<'a>(name: &str, text: &'a [u8]) -> Option<&'a [u8]>
-    ensures { MatchOption result ((rest : List ℕ) → text.now ≢ name.now ++ rest) (λ rest. text.now ≡ name.now ++ rest.now) }
+    ensures { MatchOption result ((rest : List ℕ) → text.now ≢ name.now ++ rest)
+        (λ rest. text.now ≡ name.now ++ rest.now) }
 {
     text.strip_prefix(name.as_bytes())
 }

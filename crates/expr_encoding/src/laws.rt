@@ -6,5 +6,6 @@ ghost use Rattle.expr_encoding.specs.Base64.{FromBase64, in_base64};
 
 /// A text that is written as Base64 and read again is the text that it was.
 pub fn base64_is_read_back()
-    ensures { (s : List ℕ) (answer : Answer) → IsUtf8 s → After (λ written. written ≡ in_base64 (text s)) FromBase64 answer → answer ≡ Ok (text s) }
+    ensures { (s : List ℕ) (answer : Answer) → IsUtf8 s
+        → After (λ written. written ≡ in_base64 (text s)) FromBase64 answer → answer ≡ Ok (text s) }
 {}

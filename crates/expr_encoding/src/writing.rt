@@ -75,7 +75,8 @@ fn items_data(alloc: Global, values: &[Value]) -> Result<Vec<Json>>
 
 #[cycle(writing)]
 fn members_data(alloc: Global, pairs: &ValueMap) -> Result<Map<String, Json>>
-    ensures ok { IfOk result (λ ms. members_all (map pair_data pairs.now) no_members ≡ Some (members_view ms.entries)) }
+    ensures ok { IfOk result (λ ms. members_all (map pair_data pairs.now) no_members
+        ≡ Some (members_view ms.entries)) }
     ensures err { IfErr result (λ e. Refuses e (members_all (map pair_data pairs.now) no_members)) }
 {
     let names = pairs.keys();

@@ -25,7 +25,8 @@ pub fn tokens_of(alloc: Global, layout: &str) -> Result<Vec<Token>>
 
 // The token at the head of a text, which may stand right behind a second, and what stands behind it.
 fn next_token(second: bool, text: &str) -> Option<(Token, &str)>
-    ensures { MatchOption result (text.now ≡ []) (λ found. Heads second text.now found.0 found.1.now × (length found.1.now < length text.now)) }
+    ensures { MatchOption result (text.now ≡ [])
+        (λ found. Heads second text.now found.0 found.1.now × (length found.1.now < length text.now)) }
 {
     match token_at(second, text) {
         Some(found) => Some(found),
@@ -57,7 +58,8 @@ fn either<'a>(
 
 // One character, which stands for itself.
 fn character(text: &str) -> Option<(Token, &str)>
-    ensures { MatchOption result (text.now ≡ []) (λ found. (c : ℕ) × (found.0 ≡ Token.Literal c) × (text.now ≡ encode_utf8 c ++ found.1.now)) }
+    ensures { MatchOption result (text.now ≡ [])
+        (λ found. (c : ℕ) × (found.0 ≡ Token.Literal c) × (text.now ≡ encode_utf8 c ++ found.1.now)) }
 {
     let mut characters = text.chars();
     let c = characters.next()?;

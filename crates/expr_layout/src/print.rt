@@ -174,7 +174,8 @@ fn show_offset_of<W: Write>(
     moment: &DateTimeValue,
     f: &mut Formatter<W>,
 ) -> fmt::Result
-    ensures { WritesOnOk W.write_str_gives f.old result (signed_offset spelling (offset_of moment.now)) f.new }
+    ensures { WritesOnOk W.write_str_gives f.old result
+        (signed_offset spelling (offset_of moment.now)) f.new }
 {
     let seconds = moment.offset().seconds();
     f.write_str(if seconds < 0 { "-" } else { "+" })?;

@@ -243,7 +243,8 @@ fn after_pad(pad: Pad, text: &[u8]) -> &[u8]
 }
 
 fn long_month_at(text: &[u8]) -> Option<(u32, &[u8])>
-    ensures { seen_number result ≡ either (name_at 12 Names.LongMonths 1 text.now) (name_at 12 Names.Months 1 text.now) }
+    ensures { seen_number result ≡ either (name_at 12 Names.LongMonths 1 text.now)
+        (name_at 12 Names.Months 1 text.now) }
 {
     match name_at(12, Names::LongMonths, 1, text) {
         Some(taken) => Some(taken),
@@ -252,7 +253,8 @@ fn long_month_at(text: &[u8]) -> Option<(u32, &[u8])>
 }
 
 fn long_weekday_at(text: &[u8]) -> Option<(u32, &[u8])>
-    ensures { seen_number result ≡ either (name_at 7 Names.LongWeekdays 0 text.now) (name_at 7 Names.Weekdays 0 text.now) }
+    ensures { seen_number result ≡ either (name_at 7 Names.LongWeekdays 0 text.now)
+        (name_at 7 Names.Weekdays 0 text.now) }
 {
     match name_at(7, Names::LongWeekdays, 0, text) {
         Some(taken) => Some(taken),
@@ -369,7 +371,8 @@ fn minutes_at<'a>(separator: &str, text: &'a [u8]) -> Option<(u32, &'a [u8])>
 // Hours, minutes and seconds in seconds.
 fn seconds_at<'a>(separator: &str, text: &'a [u8]) -> Option<(u32, &'a [u8])>
     ensures value { seen_number result
-        ≡ option_and_then (further separator.now 1) (option_and_then (further separator.now 60) (hours_at text.now)) }
+        ≡ option_and_then (further separator.now 1)
+        (option_and_then (further separator.now 60) (hours_at text.now)) }
     ensures small { IfSome result (λ taken. taken.0 < 400000) }
 {
     match minutes_at(separator, text) {
@@ -435,7 +438,8 @@ fn zulu_or_offset(spelling: Spelling, text: &[u8]) -> Option<(Finding, &[u8])>
 
 // The same where `z` stands for `Z` too, and with hours and minutes.
 fn stamp_offset(text: &[u8]) -> Option<(Finding, &[u8])>
-    ensures { seen_finding result ≡ either (small_zulu_at text.now) (either (zulu_at text.now) (offset_at Spelling.ColonMinutes text.now)) }
+    ensures { seen_finding result ≡ either (small_zulu_at text.now)
+        (either (zulu_at text.now) (offset_at Spelling.ColonMinutes text.now)) }
 {
     match after_name(b"z", text) {
         Some(rest) => Some((Finding::Offset(0), rest)),

@@ -78,7 +78,8 @@ impl<'p> Lowering<'p> {
     #[inline(always)]
     fn next(&mut self) -> Result<Option<&'p Node>, AllocError>
         ensures { IfOk result (λ next. MatchOption next
-            ((state_of self.new ≡ state_of self.old) × (works_of self.new.works.next self.new.works.rest.items ≡ []))
+            ((state_of self.new ≡ state_of self.old)
+            × (works_of self.new.works.next self.new.works.rest.items ≡ []))
             (λ n. Leads 0 (state_of self.old) (with_task (term_task (written n.now)) (state_of self.new)))) }
     {
         match self.works.pop() {
@@ -106,7 +107,8 @@ impl<'p> Lowering<'p> {
     /// A node and all that waits.
     #[inline(always)]
     fn rest(&mut self, node: &'p Node) -> Result<(), AllocError>
-        ensures written { OnOk result (Leads 1 (with_task (term_task (written node.now)) (state_of self.old)) (state_of self.new)) }
+        ensures written { OnOk result (Leads 1 (with_task (term_task (written node.now)) (state_of self.old))
+            (state_of self.new)) }
         ensures done { OnOk result (works_of self.new.works.next self.new.works.rest.items ≡ []) }
     {
         let mut next = Some(node);
@@ -120,7 +122,8 @@ impl<'p> Lowering<'p> {
     #[inline(never)]
     fn write(&mut self, program: &'p Program, earlier: usize) -> Result<(), AllocError>
         requires { works_of self.old.works.next self.old.works.rest.items ≡ [] }
-        ensures block { OnOk result (Writes (block_begun earlier (state_of self.old)) (program_written program.now)
+        ensures block { OnOk result (Writes (block_begun earlier (state_of self.old))
+            (program_written program.now)
             (state_of self.new) (lent_ops self.new.block.items)) }
         ensures done { OnOk result (works_of self.new.works.next self.new.works.rest.items ≡ []) }
     {
@@ -134,7 +137,8 @@ impl<'p> Lowering<'p> {
     #[inline(always)]
     fn block(&mut self, program: &'p Program, earlier: usize) -> Result<LentBlock<'p>, AllocError>
         requires { works_of self.old.works.next self.old.works.rest.items ≡ [] }
-        ensures block { IfOk result (λ block. Writes (block_begun earlier (state_of self.old)) (program_written program.now)
+        ensures block { IfOk result (λ block. Writes (block_begun earlier (state_of self.old))
+            (program_written program.now)
             (state_of self.new) (lent_ops block.items)) }
         ensures done { OnOk result (works_of self.new.works.next self.new.works.rest.items ≡ []) }
     {
@@ -151,7 +155,8 @@ impl<'p> Lowering<'p> {
         requires works { works_of self.old.works.next self.old.works.rest.items ≡ [] }
         requires scope { self.old.scopes.scope ≡ 0 }
         requires promised { vec_len self.old.promised ≡ 0 }
-        ensures { IfOk result (λ blocks. IsCode (program_written program.now) (lent_blocks blocks.0 blocks.1)) }
+        ensures { IfOk result (λ blocks. IsCode (program_written program.now)
+            (lent_blocks blocks.0 blocks.1)) }
     {
         let first = self.block(program, 0)?;
         let mut later = Vec::with_capacity(self.alloc, self.promised.len())?;

@@ -25,7 +25,8 @@ impl<L: Holder<Value>, N: Holder<String>, P: Holder<Pattern>> Code<L, N, P> {
     ///
     /// `MemoryError`, if a growth is refused.
     pub fn keep(&self, alloc: Global) -> Result<KeptCode>
-        ensures blocks { IfOk result (λ c. blocks_of own_value own_text c ≡ blocks_of L.held (λ n. string_bytes (N.held n)) self.now) }
+        ensures blocks { IfOk result (λ c. blocks_of own_value own_text c ≡ blocks_of L.held
+            (λ n. string_bytes (N.held n)) self.now) }
         ensures refused { IfErr result (λ e. fault_of e ≡ memory) }
     {
         let first = kept_block(alloc, &self.first)?;
@@ -41,7 +42,8 @@ fn kept_block<L: Holder<Value>, N: Holder<String>, P: Holder<Pattern>>(
     alloc: Global,
     block: &Block<L, N, P>,
 ) -> std::result::Result<Vec<OwnInstruction>, AllocError>
-    ensures { IfOk result (λ b. map (op_of own_value own_text) b.items ≡ map (op_of L.held (λ n. string_bytes (N.held n))) block.now.items) }
+    ensures { IfOk result (λ b. map (op_of own_value own_text) b.items
+        ≡ map (op_of L.held (λ n. string_bytes (N.held n))) block.now.items) }
 {
     let mut kept = Vec::with_capacity(alloc, block.len())?;
     for instruction in block {
@@ -54,7 +56,8 @@ fn kept_instruction<L: Holder<Value>, N: Holder<String>, P: Holder<Pattern>>(
     alloc: Global,
     instruction: &Instruction<L, N, P>,
 ) -> std::result::Result<OwnInstruction, AllocError>
-    ensures { IfOk result (λ i. op_of own_value own_text i ≡ op_of L.held (λ n. string_bytes (N.held n)) instruction.now) }
+    ensures { IfOk result (λ i. op_of own_value own_text i ≡ op_of L.held
+        (λ n. string_bytes (N.held n)) instruction.now) }
 {
     match instruction {
         Instruction::Push(value) => Ok(Instruction::Push(kept_value(alloc, value)?)),
@@ -116,7 +119,8 @@ fn kept_keys<N: Holder<String>>(
     alloc: Global,
     keys: &Vec<N>,
 ) -> std::result::Result<Box<Vec<Box<String>>>, AllocError>
-    ensures { IfOk result (λ b. map own_text b.value.items ≡ map (λ n. string_bytes (N.held n)) keys.now.items) }
+    ensures { IfOk result (λ b. map own_text b.value.items ≡ map
+        (λ n. string_bytes (N.held n)) keys.now.items) }
 {
     let mut kept = Vec::with_capacity(alloc, keys.len())?;
     for key in keys {

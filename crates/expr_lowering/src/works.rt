@@ -54,7 +54,8 @@ impl<'p> Works<'p> {
     /// One more, which is the next.
     #[inline(always)]
     pub(crate) fn push(&mut self, work: Work<'p>) -> Result<(), AllocError>
-        ensures { OnOk result (works_of self.new.next self.new.rest.items ≡ work.entry ∷ works_of self.old.next self.old.rest.items) }
+        ensures { OnOk result (works_of self.new.next self.new.rest.items
+            ≡ work.entry ∷ works_of self.old.next self.old.rest.items) }
     {
         if let Some(earlier) = self.next {
             if self.rest.len() == self.rest.capacity() {
@@ -70,8 +71,10 @@ impl<'p> Works<'p> {
     #[inline(always)]
     pub(crate) fn pop(&mut self) -> Option<Work<'p>>
         ensures { MatchOption result
-            ((works_of self.old.next self.old.rest.items ≡ []) × (works_of self.new.next self.new.rest.items ≡ []))
-            (λ work. works_of self.old.next self.old.rest.items ≡ work ∷ works_of self.new.next self.new.rest.items) }
+            ((works_of self.old.next self.old.rest.items ≡ [])
+            × (works_of self.new.next self.new.rest.items ≡ []))
+            (λ work. works_of self.old.next self.old.rest.items
+            ≡ work ∷ works_of self.new.next self.new.rest.items) }
     {
         let work = self.next;
         self.next = self.rest.pop();

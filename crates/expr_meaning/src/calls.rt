@@ -36,7 +36,8 @@ pub fn begin<'s, H: Functions>(
     given: bool,
 ) -> Result<Begun<'s>>
     ensures begun { IfOk result (λ b. Begins (H.host host.now) ident.now args.entry given b) }
-    ensures refused { IfErr result (λ e. fault_of e ≢ memory → Refuses (H.host host.now) ident.now args.entry given (fault_of e)) }
+    ensures refused { IfErr result
+        (λ e. fault_of e ≢ memory → Refuses (H.host host.now) ident.now args.entry given (fault_of e)) }
 {
     if host.has(ident) {
         let answer = call_added(alloc, host, ident, args)?;
@@ -54,7 +55,8 @@ fn begin_builtin<'s, H: Functions>(
     given: bool,
 ) -> Result<Begun<'s>>
     ensures begun { IfOk result (λ b. BeginsBuiltin (H.host host.now) ident.now args.entry given b) }
-    ensures refused { IfErr result (λ e. fault_of e ≢ memory → RefusesBuiltin (H.host host.now) ident.now args.entry given (fault_of e)) }
+    ensures refused { IfErr result (λ e. fault_of e ≢ memory → RefusesBuiltin
+        (H.host host.now) ident.now args.entry given (fault_of e)) }
 {
     if ident == "sort" {
         return Ok(Begun::Answered(sort(alloc, args)?));
@@ -109,7 +111,8 @@ fn call_added<H: Functions>(
     ident: &str,
     args: Items<Held<'_>>,
 ) -> Result<Value>
-    ensures { (H.host host.now).is_added ident.now ≡ true → Gives result ((H.host host.now).calls ident.now args.entry) }
+    ensures { (H.host host.now).is_added ident.now ≡ true
+        → Gives result ((H.host host.now).calls ident.now args.entry) }
 {
     let ident = String::from_str(alloc, ident)?;
     let args = values_of(alloc, args)?;

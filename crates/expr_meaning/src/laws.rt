@@ -13,7 +13,9 @@ use expr_value::Value;
 /// side isn't asked.
 pub fn left_side_decides<H: Functions>()
     ensures and { (host : H) (ctx : Context) (right : Term) (answer : Answer)
-        → Allows (H.host host) ctx (operation And (literal (Value.Bool false)) right) answer ↔ answer ≡ Ok (Value.Bool false) }
+        → Allows (H.host host) ctx (operation And (literal (Value.Bool false)) right) answer ↔ answer
+        ≡ Ok (Value.Bool false) }
     ensures or { (host : H) (ctx : Context) (right : Term) (answer : Answer)
-        → Allows (H.host host) ctx (operation Or (literal (Value.Bool true)) right) answer ↔ answer ≡ Ok (Value.Bool true) }
+        → Allows (H.host host) ctx (operation Or (literal (Value.Bool true)) right) answer ↔ answer
+        ≡ Ok (Value.Bool true) }
 {}

@@ -12,7 +12,8 @@ use jiff::civil::Date;
 /// as many days on as the date was after its own first, and then the days.
 pub fn date_after(date: Date, years: i64, months: i64, days: i64) -> Option<Date>
     ensures { MatchOption result (¬ (IsReached (plain_day date) years months days))
-        (λ d. (epoch_day d ≡ day_reached (plain_day date) years months days) × IsReached (plain_day date) years months days) }
+        (λ d. (epoch_day d ≡ day_reached (plain_day date) years months days)
+        × IsReached (plain_day date) years months days) }
 {
     let months = month_after(date, years, months);
     let days = days_on(date, days);
@@ -24,7 +25,8 @@ pub fn date_after(date: Date, years: i64, months: i64, days: i64) -> Option<Date
 
 /// The first day of a month, by its months from January of the year 0.
 fn first_of(months: i128) -> Option<Date>
-    ensures { MatchOption result (¬ (IsYear (year_at months))) (λ d. (epoch_day d ≡ first_day months) × IsYear (year_at months)) }
+    ensures { MatchOption result (¬ (IsYear (year_at months)))
+        (λ d. (epoch_day d ≡ first_day months) × IsYear (year_at months)) }
 {
     let year = months.div_euclid(12);
     if year < -9999 || year > 9999 {

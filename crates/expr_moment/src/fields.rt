@@ -39,7 +39,8 @@ pub enum DateTimeField {
 impl DateTimeField {
     /// The field of a name.
     pub fn named(name: &str) -> Option<DateTimeField>
-        ensures { MatchOption result ((f : DateTimeField) → field_name f ≢ name.now) (λ f. field_name f ≡ name.now) }
+        ensures { MatchOption result ((f : DateTimeField) → field_name f ≢ name.now)
+            (λ f. field_name f ≡ name.now) }
     {
         match name {
             "Year" => Some(DateTimeField::Year),

@@ -13,7 +13,8 @@ use std::alloc::{AllocError, Global};
 /// The sum of two integers or two durations, two texts as one, or a moment moved by a duration.
 pub fn add(alloc: Global, left: &Value, right: &Value) -> Result<Value>
     ensures answer { Is result (added left.now right.now) }
-    ensures plain { IsTrue (is_plain_value left.now) → IsTrue (is_plain_value right.now) → Surely result (added left.now right.now) }
+    ensures plain { IsTrue (is_plain_value left.now) → IsTrue (is_plain_value right.now)
+        → Surely result (added left.now right.now) }
 {
     match (left, right) {
         (Value::Integer(a), Value::Integer(b)) => Ok(Value::Integer(a.wrapping_add(*b))),
@@ -31,7 +32,8 @@ pub fn add(alloc: Global, left: &Value, right: &Value) -> Result<Value>
 /// The difference of two integers, two durations or two moments, or a moment moved back by a duration.
 pub fn subtract(alloc: Global, left: &Value, right: &Value) -> Result<Value>
     ensures answer { Is result (subtracted left.now right.now) }
-    ensures plain { IsTrue (is_plain_value left.now) → IsTrue (is_plain_value right.now) → Surely result (subtracted left.now right.now) }
+    ensures plain { IsTrue (is_plain_value left.now) → IsTrue (is_plain_value right.now)
+        → Surely result (subtracted left.now right.now) }
 {
     match (left, right) {
         (Value::Integer(a), Value::Integer(b)) => Ok(Value::Integer(a.wrapping_sub(*b))),
@@ -45,7 +47,8 @@ pub fn subtract(alloc: Global, left: &Value, right: &Value) -> Result<Value>
 /// The product of two integers, or of a duration and an integer either way round.
 pub fn multiply(alloc: Global, left: &Value, right: &Value) -> Result<Value>
     ensures answer { Is result (multiplied left.now right.now) }
-    ensures plain { IsTrue (is_plain_value left.now) → IsTrue (is_plain_value right.now) → Surely result (multiplied left.now right.now) }
+    ensures plain { IsTrue (is_plain_value left.now) → IsTrue (is_plain_value right.now)
+        → Surely result (multiplied left.now right.now) }
 {
     match (left, right) {
         (Value::Integer(a), Value::Integer(b)) => Ok(Value::Integer(a.wrapping_mul(*b))),
@@ -59,7 +62,8 @@ pub fn multiply(alloc: Global, left: &Value, right: &Value) -> Result<Value>
 /// What is left of an integer after whole times another, with the sign of the left one.
 pub fn modulo(alloc: Global, left: &Value, right: &Value) -> Result<Value>
     ensures answer { Is result (remainder left.now right.now) }
-    ensures plain { IsTrue (is_plain_value left.now) → IsTrue (is_plain_value right.now) → Surely result (remainder left.now right.now) }
+    ensures plain { IsTrue (is_plain_value left.now) → IsTrue (is_plain_value right.now)
+        → Surely result (remainder left.now right.now) }
 {
     match (left, right) {
         (Value::Integer(a), Value::Integer(b)) => {

@@ -18,7 +18,8 @@ use std::alloc::Global;
 #[tactic(auto, unfolding(crate::specs::Operators::applied))]
 pub fn apply(alloc: Global, operator: Operator, left: &Value, right: &Value) -> Result<Value>
     ensures answer { Is result (applied operator left.now right.now) }
-    ensures plain { IsTrue (is_plain_operator operator) → IsTrue (is_plain_value left.now) → IsTrue (is_plain_value right.now)
+    ensures plain { IsTrue (is_plain_operator operator) → IsTrue (is_plain_value left.now)
+        → IsTrue (is_plain_value right.now)
         → Surely result (applied operator left.now right.now) }
 {
     match operator {

@@ -59,7 +59,8 @@ impl Parser {
 
     // Reads one token.
     fn step(&mut self, place: Place, mut token: Token) -> Result<Place, Fault>
-        ensures { Stands (machine.step_in (stack self.old.frames.items) place token) self.new.frames.items result }
+        ensures { Stands (machine.step_in
+            (stack self.old.frames.items) place token) self.new.frames.items result }
     {
         match place {
             Place::BracedKey(key) => self.after_key(key, &mut token),
@@ -69,7 +70,8 @@ impl Parser {
 
     // Reads one token, but after a key that may begin a predicate.
     fn step_on(&mut self, place: Place, token: &mut Token) -> Result<Place, Fault>
-        ensures { Stands (machine.step_on (stack self.old.frames.items) place token.old) self.new.frames.items result }
+        ensures { Stands (machine.step_on
+            (stack self.old.frames.items) place token.old) self.new.frames.items result }
     {
         match place {
             Place::Want => self.want(read::taken(token)),
@@ -107,7 +109,8 @@ impl Parser {
     }
 
     fn end(&mut self, last: Operand) -> Result<ProgramPart, Fault>
-        ensures { Gives (machine.whole_of (machine.settle 0 (stack self.old.frames.items) (machine.make last))) result }
+        ensures { Gives (machine.whole_of
+            (machine.settle 0 (stack self.old.frames.items) (machine.make last))) result }
     {
         let last = self.settled(0, last)?;
         self.end_whole(last)

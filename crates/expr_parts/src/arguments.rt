@@ -169,7 +169,11 @@ fn call_with(
     height: usize,
 ) -> Part
     requires { has_free_hash ≡ any_free_hash (terms_of (map written args.items)) }
-    ensures { result ≡ record { term = call (string_bytes ident) (terms_of (map written args.items)) (predicate (program_written program.value)); height = height } }
+    ensures { result ≡ record {
+      term = call (string_bytes ident) (terms_of (map written args.items))
+          (predicate (program_written program.value));
+      height = height;
+    } }
 {
     Part {
         node: Node::Func {

@@ -47,7 +47,8 @@ impl Model for Entries {
 
     ghost view = { λ e. record { pairs = map line_written e.pairs.items; height = e.height } };
 
-    ghost invariant = { λ e. (e.has_expression ≡ maps.has_expression (map line_written e.pairs.items)) × (e.has_free_hash ≡ lines_have_free_hash (map line_written e.pairs.items)) };
+    ghost invariant = { λ e. (e.has_expression ≡ maps.has_expression (map line_written e.pairs.items))
+        × (e.has_free_hash ≡ lines_have_free_hash (map line_written e.pairs.items)) };
 }
 
 impl Entries {

@@ -348,7 +348,11 @@ impl Part {
         height: usize,
     ) -> Result<Part, AllocError>
         requires { in_operator ≡ postfix_has_free_hash (postfix_written operator) }
-        ensures { IfOk result (λ p. p ≡ record { term = postfix (postfix_written operator) self.term; height = height }) }
+        ensures { IfOk result (λ p. p ≡ record {
+          term = postfix
+              (postfix_written operator) self.term;
+          height = height;
+        }) }
     {
         let has_free_hash = self.has_free_hash || in_operator;
         let node = Box::new(alloc, self.into_node())?;

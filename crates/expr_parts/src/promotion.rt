@@ -32,7 +32,8 @@ impl Marks {
     // Marks one more, which follows so many.
     pub(crate) fn add(&mut self, count: usize, is_free: bool)
         requires { self.old.free + 1 < 2 ^ 64 }
-        ensures { (ts : List Term) (t : Term) → self.old ≡ marks_of ts → count ≡ length ts → is_free ≡ has_free_hash t → self.new ≡ marks_of (ts ++ t ∷ []) }
+        ensures { (ts : List Term) (t : Term) → self.old ≡ marks_of ts → count ≡ length ts
+            → is_free ≡ has_free_hash t → self.new ≡ marks_of (ts ++ t ∷ []) }
     {
         *self = Marks {
             free: self.free + usize::from(is_free),

@@ -32,7 +32,8 @@ impl Groups {
 
     /// One more item, with those of its key.
     fn with(self, alloc: Global, key: Key, item: Value) -> Result<Groups>
-        ensures ok { IfOk result (λ g. (ps : List (AKey × AValue)) → IsGrouping self ps → IsGrouping g (ps ++ (key, item) ∷ [])) }
+        ensures ok { IfOk result (λ g. (ps : List (AKey × AValue)) → IsGrouping self ps
+            → IsGrouping g (ps ++ (key, item) ∷ [])) }
         ensures err { IfErr result (λ e. e ≡ Error.MemoryError) }
     {
         let Groups { mut keys, items } = self;
@@ -58,7 +59,8 @@ impl Groups {
 
 /// Lists of items, with one more, if it is to be.
 fn with_list(alloc: Global, mut lists: Vec<Vec<Value>>, more: bool) -> Result<Vec<Vec<Value>>>
-    ensures lists { IfOk result (λ l. item_lists l.items ≡ item_lists lists.items ++ (if more then [] ∷ [] else [])) }
+    ensures lists { IfOk result (λ l. item_lists l.items
+        ≡ item_lists lists.items ++ (if more then [] ∷ [] else [])) }
     ensures len { IfOk result (λ l. vec_len l ≡ vec_len lists + (if more then 1 else 0)) }
     ensures err { IfErr result (λ e. e ≡ Error.MemoryError) }
 {
@@ -72,7 +74,8 @@ fn with_list(alloc: Global, mut lists: Vec<Vec<Value>>, more: bool) -> Result<Ve
 fn with_item(mut lists: Vec<Vec<Value>>, index: usize, item: Value) -> Result<Vec<Vec<Value>>>
     requires { index < vec_len lists }
     ensures len { IfOk result (λ l. vec_len l ≡ vec_len lists) }
-    ensures lists { IfOk result (λ l. item_lists l.items ≡ set (item_lists lists.items) index (get_or (item_lists lists.items) index [] ++ item ∷ [])) }
+    ensures lists { IfOk result (λ l. item_lists l.items
+        ≡ set (item_lists lists.items) index (get_or (item_lists lists.items) index [] ++ item ∷ [])) }
     ensures err { IfErr result (λ e. e ≡ Error.MemoryError) }
 {
     lists[index].push(item)?;

@@ -11,7 +11,8 @@ ghost use Rattle.expr_predicates.specs.Tasks.{Reply, Task, any_holds, none_holds
 
 /// Two stable orders of one list by the same keys, both upward or both downward, are one.
 pub fn a_list_has_one_stable_order()
-    ensures { (down : Bool) (ps qs rs : List (key × value)) → IsSorting down ps qs → IsSorting down ps rs → qs ≡ rs }
+    ensures { (down : Bool) (ps qs rs : List (key × value)) → IsSorting down ps qs → IsSorting down ps rs
+        → qs ≡ rs }
 {}
 
 /// What a predicate may answer, whatever that is: laws over it hold of each relation between questions and answers.

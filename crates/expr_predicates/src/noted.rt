@@ -113,7 +113,8 @@ impl Noted {
         ensures noted { IfOk result (λ _. (t : Task) (rs : List Reply) (item : value) → Notes self.old t rs
             → asked ≡ first_place t + length rs
             → Notes self.new t (rs ++ (item, answer.now) ∷ []) × (refused t answer.now ≡ false)) }
-        ensures refused { IfErr result (λ e. fault_of e ≢ memory → (t : Task) (rs : List Reply) → Notes self.old t rs
+        ensures refused { IfErr result
+            (λ e. fault_of e ≢ memory → (t : Task) (rs : List Reply) → Notes self.old t rs
             → (refused t answer.now ≡ true) × (fault_of e ≡ evaluation)) }
     {
         if self.note(asked, answer) {

@@ -62,7 +62,8 @@ fn value_under(alloc: Global, code: &str, names: &Context) -> Result<Value>
 fn bind(alloc: Global, word: &str, context: &mut Context) -> Result<()>
     ensures bound { OnOk result ((v : Value) × MayGive [] (code_of word.now) (Ok v)
         × context.new ≡ put (name_of word.now) v context.old) }
-    ensures refused { IfErr result (λ e. fault_of e ≢ memory → MayGive [] (code_of word.now) (Err (fault_of e))) }
+    ensures refused { IfErr result
+        (λ e. fault_of e ≢ memory → MayGive [] (code_of word.now) (Err (fault_of e))) }
 {
     let (name, code) = parts(word);
     let value = value_under(alloc, code, &Context::new(alloc))?;
@@ -121,7 +122,8 @@ fn refuse<E: Write>(err: &mut E, error: &Error) -> u8
 /// Prints a value on a line of its own, and answers 0, or 1 if that fails.
 fn print<O: Write>(out: &mut O, value: &Value) -> u8
     ensures status { result ≤ 1 }
-    ensures printed { result ≡ 0 → Appends (O.contents out.old) (O.contents out.new) (text_of value.now ++ 10 ∷ []) }
+    ensures printed { result ≡ 0 → Appends (O.contents out.old) (O.contents out.new)
+        (text_of value.now ++ 10 ∷ []) }
 {
     if writeln!(out, "{value}").is_ok() && out.flush().is_ok() {
         0

@@ -75,7 +75,8 @@ pub fn apply_held<'s>(
     right: &Held<'_>,
 ) -> Result<Held<'s>>
     ensures answer { Is result (applied operator left.now right.now) }
-    ensures plain { IsTrue (is_plain_operator operator) → IsTrue (is_plain_value left.now) → IsTrue (is_plain_value right.now)
+    ensures plain { IsTrue (is_plain_operator operator) → IsTrue (is_plain_value left.now)
+        → IsTrue (is_plain_value right.now)
         → Surely result (applied operator left.now right.now) }
 {
     let value = apply(alloc, operator, left.get(), right.get())?;

@@ -131,7 +131,8 @@ fn unreadable(
 
 /// The first token with which no program goes on, if these tokens have one.
 fn first_fault(alloc: Global, tokens: Vec<Token>) -> Result<Option<usize>>
-    ensures stuck { IfOk result (λ found. MatchOption found (SomeBegins tokens.items) (StopsAt tokens.items)) }
+    ensures stuck { IfOk result (λ found. MatchOption found (SomeBegins tokens.items)
+        (StopsAt tokens.items)) }
     ensures refusal { IfErr result (λ e. e ≡ Error.MemoryError) }
 {
     match parse(alloc, tokens) {

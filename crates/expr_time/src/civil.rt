@@ -129,7 +129,8 @@ fn has_parts(found: &Found, date: Date) -> bool
 }
 
 fn is_year(known: Option<u32>, year: i16) -> bool
-    ensures { MatchBool result ((y : ℕ) × (known ≡ Some y) × (year ≡ pos y)) (¬ ((y : ℕ) × (known ≡ Some y) × (year ≡ pos y))) }
+    ensures { MatchBool result ((y : ℕ) × (known ≡ Some y) × (year ≡ pos y))
+        (¬ ((y : ℕ) × (known ≡ Some y) × (year ≡ pos y))) }
 {
     match known {
         Some(number) => number as i64 == year as i64,

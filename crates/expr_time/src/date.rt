@@ -53,7 +53,8 @@ fn of_three<Z: Zones>(
     second: &Value,
     third: &Value,
 ) -> Result<Value>
-    ensures { Gives result (DatesThree (Z.zones zones.now) (timezone_of first.now) first.now second.now third.now) }
+    ensures { Gives result (DatesThree (Z.zones zones.now)
+        (timezone_of first.now) first.now second.now third.now) }
 {
     if let Some(zone) = timezone_in(first) {
         return of_layout(alloc, zone, second, third);

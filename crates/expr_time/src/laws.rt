@@ -16,8 +16,10 @@ pub fn stamps_go_by_a_layout()
 /// same instant, with that layout and without one: where the year isn't below zero, and the offset is whole minutes of less
 /// than a day. The law asks what the moment's clock shows.
 pub fn printed_moments_are_read(moment: &DateTimeValue)
-    ensures by_layout { (zone : TimezoneValue) (text : List ℕ) (answer : Answer) → ReadsBack moment.now zone text answer }
-    ensures alone { (zone : TimezoneValue) (text : List ℕ) (answer : Answer) → ReadsAlone moment.now zone text answer }
+    ensures by_layout { (zone : TimezoneValue) (text : List ℕ) (answer : Answer)
+        → ReadsBack moment.now zone text answer }
+    ensures alone { (zone : TimezoneValue) (text : List ℕ) (answer : Answer)
+        → ReadsAlone moment.now zone text answer }
 {
     moment.civil();
 }

@@ -53,7 +53,8 @@ pub enum DateTimeMethod {
 impl DateTimeMethod {
     /// The method of a name.
     pub fn named(name: &str) -> Option<DateTimeMethod>
-        ensures { MatchOption result ((m : DateTimeMethod) → moment_method m ≢ name.now) (λ m. moment_method m ≡ name.now) }
+        ensures { MatchOption result ((m : DateTimeMethod) → moment_method m ≢ name.now)
+            (λ m. moment_method m ≡ name.now) }
     {
         if let Some(field) = DateTimeField::named(name) {
             return Some(DateTimeMethod::Field(field));
@@ -116,7 +117,8 @@ pub enum NameMethod {
 impl NameMethod {
     /// The method of a name.
     pub fn named(name: &str) -> Option<NameMethod>
-        ensures { MatchOption result ((m : NameMethod) → name_method m ≢ name.now) (λ m. name_method m ≡ name.now) }
+        ensures { MatchOption result ((m : NameMethod) → name_method m ≢ name.now)
+            (λ m. name_method m ≡ name.now) }
     {
         match name {
             "String" => Some(NameMethod::String),
@@ -189,7 +191,8 @@ pub(crate) fn in_utc(alloc: Global, moment: &DateTimeValue, arguments: &[Held<'_
 }
 
 fn moved_into(alloc: Global, moment: &DateTimeValue, arguments: &[Held<'_>]) -> Result<Value>
-    ensures { Is result (answer_for (one_zone arguments.now) (λ zone. Ok (Value.DateTime (placed moment.now (Zone zone))))) }
+    ensures { Is result (answer_for (one_zone arguments.now)
+        (λ zone. Ok (Value.DateTime (placed moment.now (Zone zone))))) }
 {
     let Some(zone) = one_zone(arguments) else {
         return Err(refusal(alloc, "In takes a timezone"));
@@ -275,7 +278,8 @@ fn truncate(alloc: Global, moment: &DateTimeValue, arguments: &[Held<'_>]) -> Re
 }
 
 fn after(alloc: Global, moment: &DateTimeValue, arguments: &[Held<'_>]) -> Result<Value>
-    ensures { Is result (answer_for (one_moment arguments.now) (λ u. Ok (Value.Bool (int_lt (instant u) (instant moment.now))))) }
+    ensures { Is result (answer_for (one_moment arguments.now)
+        (λ u. Ok (Value.Bool (int_lt (instant u) (instant moment.now))))) }
 {
     let Some(other) = one_moment(arguments) else {
         return Err(refusal(alloc, "After takes a moment"));
@@ -285,7 +289,8 @@ fn after(alloc: Global, moment: &DateTimeValue, arguments: &[Held<'_>]) -> Resul
 }
 
 fn before(alloc: Global, moment: &DateTimeValue, arguments: &[Held<'_>]) -> Result<Value>
-    ensures { Is result (answer_for (one_moment arguments.now) (λ u. Ok (Value.Bool (int_lt (instant moment.now) (instant u))))) }
+    ensures { Is result (answer_for (one_moment arguments.now)
+        (λ u. Ok (Value.Bool (int_lt (instant moment.now) (instant u))))) }
 {
     let Some(other) = one_moment(arguments) else {
         return Err(refusal(alloc, "Before takes a moment"));
@@ -295,7 +300,8 @@ fn before(alloc: Global, moment: &DateTimeValue, arguments: &[Held<'_>]) -> Resu
 }
 
 fn equal(alloc: Global, moment: &DateTimeValue, arguments: &[Held<'_>]) -> Result<Value>
-    ensures { Is result (answer_for (one_moment arguments.now) (λ u. Ok (Value.Bool (int_eq (instant moment.now) (instant u))))) }
+    ensures { Is result (answer_for (one_moment arguments.now)
+        (λ u. Ok (Value.Bool (int_eq (instant moment.now) (instant u))))) }
 {
     let Some(other) = one_moment(arguments) else {
         return Err(refusal(alloc, "Equal takes a moment"));
@@ -305,7 +311,8 @@ fn equal(alloc: Global, moment: &DateTimeValue, arguments: &[Held<'_>]) -> Resul
 }
 
 fn compare(alloc: Global, moment: &DateTimeValue, arguments: &[Held<'_>]) -> Result<Value>
-    ensures { Is result (answer_for (one_moment arguments.now) (λ u. Ok (Value.Integer (compared moment.now u)))) }
+    ensures { Is result (answer_for (one_moment arguments.now)
+        (λ u. Ok (Value.Integer (compared moment.now u)))) }
 {
     let Some(other) = one_moment(arguments) else {
         return Err(refusal(alloc, "Compare takes a moment"));

@@ -51,7 +51,8 @@ pub(crate) fn text_len(quote: u8, bytes: &[u8]) -> Option<usize>
 
 /// What a backslash and a byte give, where that is one character.
 fn pair_text(byte: u8) -> Option<&'static str>
-    ensures value { MatchOption result (pair_value byte ≡ 92 ∷ byte ∷ []) (λ text. text.now ≡ pair_value byte) }
+    ensures value { MatchOption result (pair_value byte ≡ 92 ∷ byte ∷ [])
+        (λ text. text.now ≡ pair_value byte) }
     ensures ascii { IsSome result → byte < 128 }
 {
     match byte {
@@ -67,9 +68,11 @@ fn pair_text(byte: u8) -> Option<&'static str>
 /// The place of the first escape that gives one character, and that character.
 fn next_escape(bytes: &[u8]) -> Option<(usize, &'static str)>
     ensures value { MatchOption result (unescaped bytes.now ≡ bytes.now)
-        (λ found. unescaped bytes.now ≡ take found.0 bytes.now ++ (found.1.now ++ unescaped (drop (found.0 + 2) bytes.now))) }
+        (λ found. unescaped bytes.now ≡ take found.0 bytes.now
+        ++ (found.1.now ++ unescaped (drop (found.0 + 2) bytes.now))) }
     ensures within { IfSome result (λ found. found.0 + 1 < length bytes.now) }
-    ensures ascii { IfSome result (λ found. (slice_index bytes.now found.0 < 128) × (slice_index bytes.now (found.0 + 1) < 128)) }
+    ensures ascii { IfSome result (λ found. (slice_index bytes.now found.0 < 128)
+        × (slice_index bytes.now (found.0 + 1) < 128)) }
 {
     let mut place = 0;
     while place + 1 < bytes.len() {

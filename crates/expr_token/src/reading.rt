@@ -167,10 +167,12 @@ fn first_room(len: usize) -> usize {
 /// Reads a text: its tokens, or those before the first place where nothing can be read.
 pub fn read(alloc: Global, text: &str) -> Result<Reading, AllocError>
     ensures reads { IfOk result (λ r. r.fault ≡ None → ReadsAt text.now r.tokens.items r.starts.items) }
-    ensures unique { IfOk result (λ r. r.fault ≡ None → (tokens : List Token) → Reads text.now tokens → tokens ≡ r.tokens.items) }
+    ensures unique { IfOk result (λ r. r.fault ≡ None → (tokens : List Token) → Reads text.now tokens
+        → tokens ≡ r.tokens.items) }
     ensures refused { IfOk result (λ r. IsSome r.fault → (tokens : List Token) → Reads text.now tokens → ⊥) }
     ensures place { IfOk result (λ r. IfSome r.fault (λ place. place ≤ length text.now)) }
-    ensures before { IfOk result (λ r. IfSome r.fault (λ place. Begins text.now place r.tokens.items r.starts.items)) }
+    ensures before { IfOk result (λ r. IfSome r.fault
+        (λ place. Begins text.now place r.tokens.items r.starts.items)) }
     ensures stuck { IfOk result (λ r. IfSome r.fault (λ place. NoPiece (drop place text.now))) }
     ensures paired { IfOk result (λ r. length r.starts.items ≡ length r.tokens.items) }
     ensures within { IfOk result (λ r. All (λ start. start < length text.now) r.starts.items) }

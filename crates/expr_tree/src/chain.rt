@@ -9,8 +9,10 @@ use crate::node::{Node, PostfixOperator, Program};
 
 // As `linked`, of an array with these items. Of items the last is taken for the first part.
 pub(crate) fn linked_items(mut items: Vec<Node>, chain: Node) -> Result<(Node, Node), Node>
-    ensures parts { IfOk result (λ r. weight (written r.0) + weight (written r.1) ≤ 1 + terms_weight (terms_of (map written items.items)) + weight (written chain)) }
-    ensures first { IfOk result (λ r. weight (written r.0) ≤ terms_weight (terms_of (map written items.items))) }
+    ensures parts { IfOk result (λ r. weight (written r.0) + weight (written r.1)
+        ≤ 1 + terms_weight (terms_of (map written items.items)) + weight (written chain)) }
+    ensures first { IfOk result (λ r. weight (written r.0)
+        ≤ terms_weight (terms_of (map written items.items))) }
     ensures chain { IfErr result (λ n. n ≡ chain) }
 {
     match items.pop() {
@@ -43,8 +45,10 @@ pub(crate) fn linked_pairs(
     mut pairs: Vec<(String, Node)>,
     chain: Node,
 ) -> Result<(Node, Node), Node>
-    ensures parts { IfOk result (λ r. weight (written r.0) + weight (written r.1) ≤ 1 + lines_weight (map line_written pairs.items) + weight (written chain)) }
-    ensures first { IfOk result (λ r. weight (written r.0) < 1 + lines_weight (map line_written pairs.items)) }
+    ensures parts { IfOk result (λ r. weight (written r.0) + weight (written r.1)
+        ≤ 1 + lines_weight (map line_written pairs.items) + weight (written chain)) }
+    ensures first { IfOk result (λ r. weight (written r.0)
+        < 1 + lines_weight (map line_written pairs.items)) }
     ensures chain { IfErr result (λ n. n ≡ chain) }
 {
     match pairs.pop() {
@@ -73,7 +77,8 @@ pub(crate) fn shortened_pairs(mut pairs: Vec<(String, Node)>) -> Option<Node>
 }
 
 pub(crate) fn hung_items(mut items: Vec<Node>, chain: Node) -> Node
-    ensures { weight (written result) ≤ terms_weight (terms_of (map written items.items)) + weight (written chain) }
+    ensures { weight (written result)
+        ≤ terms_weight (terms_of (map written items.items)) + weight (written chain) }
 {
     let mut chain = chain;
     while let Some(item) = items.pop() {

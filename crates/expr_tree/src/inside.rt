@@ -53,8 +53,10 @@ pub(crate) fn look_inside<'a>(node: &'a Node) -> Inside<'a>
 
 // Inside an operand with what stands behind it.
 fn look_behind<'a>(operand: &'a Node, operator: &'a PostfixOperator) -> Inside<'a>
-    ensures name { name_inside result ≡ own_name (postfix (postfix_written operator.now) (written operand.now)) }
-    ensures children { children_inside result ≡ children (postfix (postfix_written operator.now) (written operand.now)) }
+    ensures name { name_inside result
+        ≡ own_name (postfix (postfix_written operator.now) (written operand.now)) }
+    ensures children { children_inside result
+        ≡ children (postfix (postfix_written operator.now) (written operand.now)) }
 {
     match operator {
         PostfixOperator::Index { idx, optional: _ } => Inside::Nodes(

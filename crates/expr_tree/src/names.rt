@@ -98,7 +98,8 @@ impl Names {
 
     fn into_vec(self) -> std::result::Result<Vec<String>, AllocError>
         ensures names { IfOk result (λ ns. map string_bytes ns.items ≡ self) }
-        ensures ascending { IfOk result (λ ns. IsStrictlySortedBy (slice_cmp nat_cmp) (map string_bytes ns.items)) }
+        ensures ascending { IfOk result
+            (λ ns. IsStrictlySortedBy (slice_cmp nat_cmp) (map string_bytes ns.items)) }
     {
         let Names { alloc, set } = self;
         set.into_iter().collect(alloc)
@@ -112,7 +113,8 @@ fn gather<'a>(
     waiting: &mut Vec<&'a Node>,
 ) -> std::result::Result<(), AllocError>
     ensures names { OnOk result (names.new ≡ with_names names.old (own_name (written node.now))) }
-    ensures waiting { OnOk result (lent_terms waiting.new.items ≡ lent_terms waiting.old.items ++ children (written node.now)) }
+    ensures waiting { OnOk result (lent_terms waiting.new.items
+        ≡ lent_terms waiting.old.items ++ children (written node.now)) }
 {
     match look_inside(node) {
         Inside::Name(name) => names.add(name),
@@ -142,7 +144,8 @@ fn wait_for<'a>(
     node: Option<&'a Node>,
     waiting: &mut Vec<&'a Node>,
 ) -> std::result::Result<(), AllocError>
-    ensures { OnOk result (lent_terms waiting.new.items ≡ lent_terms waiting.old.items ++ maybe_child node.entry) }
+    ensures { OnOk result (lent_terms waiting.new.items
+        ≡ lent_terms waiting.old.items ++ maybe_child node.entry) }
 {
     match node {
         None => Ok(()),
@@ -157,7 +160,8 @@ fn wait_for_all<'a>(
     nodes: &'a [Node],
     waiting: &mut Vec<&'a Node>,
 ) -> std::result::Result<(), AllocError>
-    ensures { OnOk result (lent_terms waiting.new.items ≡ lent_terms waiting.old.items ++ map written nodes.now) }
+    ensures { OnOk result (lent_terms waiting.new.items
+        ≡ lent_terms waiting.old.items ++ map written nodes.now) }
 {
     for node in nodes {
         waiting.push(node)?;
@@ -169,7 +173,8 @@ fn wait_for_program<'a>(
     program: &'a Program,
     waiting: &mut Vec<&'a Node>,
 ) -> std::result::Result<(), AllocError>
-    ensures { OnOk result (lent_terms waiting.new.items ≡ lent_terms waiting.old.items ++ program_children program.now) }
+    ensures { OnOk result (lent_terms waiting.new.items
+        ≡ lent_terms waiting.old.items ++ program_children program.now) }
 {
     wait_for_values(&program.lines, waiting)?;
     waiting.push(&program.expr)?;
@@ -180,7 +185,8 @@ fn wait_for_values<'a>(
     named: &'a [(String, Node)],
     waiting: &mut Vec<&'a Node>,
 ) -> std::result::Result<(), AllocError>
-    ensures { OnOk result (lent_terms waiting.new.items ≡ lent_terms waiting.old.items ++ map (λ l. written l.1) named.now) }
+    ensures { OnOk result (lent_terms waiting.new.items ≡ lent_terms waiting.old.items ++ map
+        (λ l. written l.1) named.now) }
 {
     for (_name, value) in named {
         waiting.push(value)?;

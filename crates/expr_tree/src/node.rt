@@ -125,7 +125,8 @@ impl Node {
 
     // The first part, and the node with a chain in its place. A node without parts is let go, and the chain comes back.
     fn linked(self, chain: Node) -> Result<(Node, Node), Node>
-        ensures parts { IfOk result (λ r. weight (written r.0) + weight (written r.1) ≤ weight (written self) + weight (written chain)) }
+        ensures parts { IfOk result (λ r. weight (written r.0) + weight (written r.1)
+            ≤ weight (written self) + weight (written chain)) }
         ensures first { IfOk result (λ r. weight (written r.0) < weight (written self)) }
         ensures chain { IfErr result (λ n. n ≡ chain) }
     {

@@ -73,7 +73,8 @@ impl DateTimeValue {
 
     fn shifted(self, nanoseconds: i128) -> Option<DateTimeValue>
         ensures range { IsSome result ↔ IsTimestampNanos (instant self +ℤ nanoseconds) }
-        ensures value { IfSome result (λ t. (instant t ≡ instant self +ℤ nanoseconds) × (place_of t ≡ place_of self)) }
+        ensures value { IfSome result (λ t. (instant t ≡ instant self +ℤ nanoseconds)
+            × (place_of t ≡ place_of self)) }
     {
         match self.timestamp.to_plain().checked_add_nanos(nanoseconds) {
             Ok(sum) => Some(DateTimeValue {

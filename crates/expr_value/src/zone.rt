@@ -61,7 +61,8 @@ impl TimezoneValue {
         ensures name { IfOk result (λ z. zone_name z ≡ name.now) }
         ensures rules { IfOk result (λ z. rules_of z ≡ plain_rules rules.entry) }
         ensures refusal { IfErr result (λ e. fault_of e ≢ memory → fault_of e ≡ evaluation) }
-        ensures kept { is_table (plain_rules rules.entry) ≡ false → IfErr result (λ e. e ≡ Error.MemoryError) }
+        ensures kept { is_table (plain_rules rules.entry) ≡ false
+            → IfErr result (λ e. e ≡ Error.MemoryError) }
     {
         let Some(rules) = KeptRules::of(rules.to_plain()) else {
             return Err(refusal(alloc, "a zone is a fixed offset or a rule"));

@@ -40,7 +40,8 @@ impl Parser {
     }
 
     fn braced_sign(&mut self, sign: Sign) -> Result<Place, Fault>
-        ensures { Stands (machine.braced (stack self.old.frames.items) (token.Sign sign)) self.new.frames.items result }
+        ensures { Stands (machine.braced (stack self.old.frames.items)
+            (token.Sign sign)) self.new.frames.items result }
     {
         match sign {
             Sign::BraceClose => {
@@ -53,7 +54,8 @@ impl Parser {
 
     // The first token of a predicate.
     fn body(&mut self, first: Token) -> Result<Place, Fault>
-        ensures { Stands (machine.want first (frame.Body section.Predicate no_lines ∷ stack self.old.frames.items)) self.new.frames.items result }
+        ensures { Stands (machine.want first
+            (frame.Body section.Predicate no_lines ∷ stack self.old.frames.items)) self.new.frames.items result }
     {
         self.push(Frame::Body(Section::Predicate, Lines::new(self.alloc)))?;
         self.want(first)
@@ -61,7 +63,8 @@ impl Parser {
 
     // A key after an opening brace, which begins a map literal where a colon follows, else a predicate.
     pub(super) fn after_key(&mut self, key: Token, next: &mut Token) -> Result<Place, Fault>
-        ensures { Stands (machine.step_in (stack self.old.frames.items) (place.BracedKey key) next.old) self.new.frames.items result }
+        ensures { Stands (machine.step_in (stack self.old.frames.items)
+            (place.BracedKey key) next.old) self.new.frames.items result }
     {
         match next {
             Token::Sign(Sign::Colon) => self.first_key(key),
@@ -78,7 +81,8 @@ impl Parser {
 
     // A map literal after its first key and the colon.
     fn first_key(&mut self, key: Token) -> Result<Place, Fault>
-        ensures { Stands (machine.value_after_key (stack self.old.frames.items) (machine.key_text_at key)) self.new.frames.items result }
+        ensures { Stands (machine.value_after_key (stack self.old.frames.items)
+            (machine.key_text_at key)) self.new.frames.items result }
     {
         let key = read::key(self.alloc, key)?;
         self.enter(Frame::Entry(Entries::new(self.alloc), key))
@@ -86,7 +90,8 @@ impl Parser {
 
     // A predicate after its first token.
     fn after_first(&mut self, first: Token, next: &mut Token) -> Result<Place, Fault>
-        ensures { Stands (machine.steps_on (machine.want first (frame.Body section.Predicate no_lines ∷ stack self.old.frames.items)) next.old) self.new.frames.items result }
+        ensures { Stands (machine.steps_on (machine.want first
+            (frame.Body section.Predicate no_lines ∷ stack self.old.frames.items)) next.old) self.new.frames.items result }
     {
         let place = self.body(first)?;
         self.step_on(place, next)

@@ -13,7 +13,8 @@ use expr_value::Boxed;
 impl Parser {
     // A program between braces is whole.
     pub(super) fn end_section(&self, section: Section, body: ProgramPart) -> Result<Place, Fault>
-        ensures { Stands (machine.after_section section body (stack self.now.frames.items)) self.now.frames.items result }
+        ensures { Stands (machine.after_section section body
+            (stack self.now.frames.items)) self.now.frames.items result }
     {
         match section {
             Section::Top => Err(Fault::Syntax),
@@ -38,7 +39,8 @@ impl Parser {
         then: Boxed<ProgramPart>,
         token: &Token,
     ) -> Result<Place, Fault>
-        ensures { Stands (machine.else_after (stack self.now.frames.items) branches condition then token.now) self.now.frames.items result }
+        ensures { Stands (machine.else_after
+            (stack self.now.frames.items) branches condition then token.now) self.now.frames.items result }
     {
         match token {
             Token::Reserved(Reserved::Else) => Ok(Place::Alternate(branches, condition, then)),
@@ -54,7 +56,8 @@ impl Parser {
         then: Boxed<ProgramPart>,
         token: &Token,
     ) -> Result<Place, Fault>
-        ensures { Stands (machine.alternative (stack self.old.frames.items) branches condition then token.now) self.new.frames.items result }
+        ensures { Stands (machine.alternative
+            (stack self.old.frames.items) branches condition then token.now) self.new.frames.items result }
     {
         match token {
             Token::Sign(Sign::BraceOpen) => {

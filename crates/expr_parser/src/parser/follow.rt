@@ -16,7 +16,8 @@ use expr_value::Boxed;
 impl Parser {
     // A token after an operand.
     pub(super) fn follow(&mut self, left: Operand, token: &Token) -> Result<Place, Fault>
-        ensures { Stands (machine.follow (role_of token.now) token.now (stack self.old.frames.items) left) self.new.frames.items result }
+        ensures { Stands (machine.follow (role_of token.now) token.now
+            (stack self.old.frames.items) left) self.new.frames.items result }
     {
         match Role::of(token) {
             Role::Applying => self.apply(left),
@@ -26,7 +27,9 @@ impl Parser {
 
     // A token after an operand that doesn't begin its arguments.
     fn go_on(&mut self, role: Role, left: Operand, token: &Token) -> Result<Place, Fault>
-        ensures { Stands (machine.after_settled role token.now (machine.settle (role_level role) (stack self.old.frames.items) (machine.make left))) self.new.frames.items result }
+        ensures { Stands (machine.after_settled role token.now
+            (machine.settle (role_level role) (stack self.old.frames.items)
+            (machine.make left))) self.new.frames.items result }
     {
         let left = self.settled(role.level(), left)?;
         self.after_operand(role, left, token)
@@ -34,7 +37,8 @@ impl Parser {
 
     // A token after a part that it does not go inside.
     fn after_operand(&mut self, role: Role, left: Part, token: &Token) -> Result<Place, Fault>
-        ensures { Stands (machine.after_operand role token.now (stack self.old.frames.items) left) self.new.frames.items result }
+        ensures { Stands (machine.after_operand role token.now
+            (stack self.old.frames.items) left) self.new.frames.items result }
     {
         match role {
             Role::Applying => Err(Fault::Syntax),
@@ -66,7 +70,8 @@ impl Parser {
 
     // The second word of `not in`.
     pub(super) fn not_in(&mut self, left: Part, token: &Token) -> Result<Place, Fault>
-        ensures { Stands (machine.in_after_not (stack self.old.frames.items) left token.now) self.new.frames.items result }
+        ensures { Stands (machine.in_after_not
+            (stack self.old.frames.items) left token.now) self.new.frames.items result }
     {
         match token {
             Token::Reserved(Reserved::In) => {
@@ -78,7 +83,8 @@ impl Parser {
 
     // A token that is no operator, after an operand.
     fn close(&mut self, last: Part, token: &Token) -> Result<Place, Fault>
-        ensures { Stands (machine.close token.now (stack self.old.frames.items) last) self.new.frames.items result }
+        ensures { Stands (machine.close token.now
+            (stack self.old.frames.items) last) self.new.frames.items result }
     {
         match self.pop() {
             Some(frame) => self.close_frame(frame, last, token),
@@ -87,7 +93,8 @@ impl Parser {
     }
 
     fn close_frame(&mut self, frame: Frame, last: Part, token: &Token) -> Result<Place, Fault>
-        ensures { Stands (machine.close token.now (frame ∷ stack self.old.frames.items) last) self.new.frames.items result }
+        ensures { Stands (machine.close token.now
+            (frame ∷ stack self.old.frames.items) last) self.new.frames.items result }
     {
         match frame {
             Frame::Inside => {

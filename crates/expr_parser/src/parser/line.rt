@@ -22,7 +22,8 @@ impl Parser {
 
     // The name of a line.
     pub(super) fn line_name(&self, token: Token) -> Result<Place, Fault>
-        ensures { Stands (machine.word_after_let (stack self.now.frames.items) token) self.now.frames.items result }
+        ensures { Stands (machine.word_after_let
+            (stack self.now.frames.items) token) self.now.frames.items result }
     {
         match token {
             Token::Word(name) => Ok(Place::Named(name)),
@@ -32,7 +33,8 @@ impl Parser {
 
     // The sign after the name of a line.
     pub(super) fn line_value(&mut self, name: Text, token: &Token) -> Result<Place, Fault>
-        ensures { Stands (machine.equals_after (stack self.old.frames.items) name token.now) self.new.frames.items result }
+        ensures { Stands (machine.equals_after
+            (stack self.old.frames.items) name token.now) self.new.frames.items result }
     {
         match token {
             Token::Sign(Sign::Equal) => self.enter(Frame::Value(name)),
@@ -42,7 +44,8 @@ impl Parser {
 
     // A line is whole.
     pub(super) fn bind(&mut self, name: Text, value: Part) -> Result<Place, Fault>
-        ensures { Stands (machine.bind (stack self.old.frames.items) name value) self.new.frames.items result }
+        ensures { Stands (machine.bind
+            (stack self.old.frames.items) name value) self.new.frames.items result }
     {
         let Some((section, mut lines)) = self.pop_body() else {
             return Err(Fault::Syntax);

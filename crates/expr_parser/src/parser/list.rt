@@ -20,7 +20,8 @@ impl Parser {
         last: Part,
         token: &Token,
     ) -> Result<Place, Fault>
-        ensures { Stands (machine.listed token.now holder (given_more items last) (stack self.old.frames.items)) self.new.frames.items result }
+        ensures { Stands (machine.listed token.now holder (given_more items last)
+            (stack self.old.frames.items)) self.new.frames.items result }
     {
         items.push(last)?;
         match token {
@@ -36,7 +37,8 @@ impl Parser {
         items: Arguments,
         token: &Token,
     ) -> Result<Place, Fault>
-        ensures { Stands (machine.list_end holder token.now items (stack self.now.frames.items)) self.now.frames.items result }
+        ensures { Stands (machine.list_end holder token.now items
+            (stack self.now.frames.items)) self.now.frames.items result }
     {
         match holder {
             Holder::Array => {
@@ -65,7 +67,8 @@ impl Parser {
         last: Part,
         token: &Token,
     ) -> Result<Place, Fault>
-        ensures { Stands (machine.argument_end token.now caller (given_more arguments last) (stack self.old.frames.items)) self.new.frames.items result }
+        ensures { Stands (machine.argument_end token.now caller (given_more arguments last)
+            (stack self.old.frames.items)) self.new.frames.items result }
     {
         arguments.push(last)?;
         self.called(caller, arguments, token)
@@ -78,7 +81,8 @@ impl Parser {
         arguments: Arguments,
         token: &Token,
     ) -> Result<Place, Fault>
-        ensures { Stands (machine.argument_end token.now caller arguments (stack self.old.frames.items)) self.new.frames.items result }
+        ensures { Stands (machine.argument_end token.now caller arguments
+            (stack self.old.frames.items)) self.new.frames.items result }
     {
         match token {
             Token::Sign(Sign::Comma) => self.enter(Frame::Call(caller, arguments)),
@@ -93,7 +97,8 @@ impl Parser {
         arguments: Arguments,
         token: &Token,
     ) -> Result<Place, Fault>
-        ensures { Stands (machine.call_end caller token.now arguments (stack self.now.frames.items)) self.now.frames.items result }
+        ensures { Stands (machine.call_end caller token.now arguments
+            (stack self.now.frames.items)) self.now.frames.items result }
     {
         let Token::Sign(Sign::ParenClose) = token else {
             return Err(Fault::Syntax);
@@ -104,7 +109,8 @@ impl Parser {
 
     // Arguments after a predicate.
     pub(super) fn argued(&mut self, program: ProgramPart, token: &Token) -> Result<Place, Fault>
-        ensures { Stands (machine.argued token.now (stack self.old.frames.items) program) self.new.frames.items result }
+        ensures { Stands (machine.argued token.now
+            (stack self.old.frames.items) program) self.new.frames.items result }
     {
         let Some((caller, arguments)) = self.pop_call() else {
             return Err(Fault::Syntax);

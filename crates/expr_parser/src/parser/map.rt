@@ -16,7 +16,8 @@ use expr_value::Text;
 impl Parser {
     // A key of a map literal, or its end.
     pub(super) fn map_key(&self, entries: Entries, token: Token) -> Result<Place, Fault>
-        ensures { Stands (machine.key_in (stack self.now.frames.items) entries (machine.key_text_at token) token) self.now.frames.items result }
+        ensures { Stands (machine.key_in (stack self.now.frames.items) entries
+            (machine.key_text_at token) token) self.now.frames.items result }
     {
         if let Token::Sign(Sign::BraceClose) = token {
             let map = entries.map()?;
@@ -33,7 +34,8 @@ impl Parser {
         key: Text,
         token: &Token,
     ) -> Result<Place, Fault>
-        ensures { Stands (machine.step_on (stack self.old.frames.items) (place.Colons entries key) token.now) self.new.frames.items result }
+        ensures { Stands (machine.step_on (stack self.old.frames.items)
+            (place.Colons entries key) token.now) self.new.frames.items result }
     {
         match token {
             Token::Sign(Sign::Colon) => self.enter(Frame::Entry(entries, key)),
@@ -49,7 +51,8 @@ impl Parser {
         value: Part,
         token: &Token,
     ) -> Result<Place, Fault>
-        ensures { Stands (machine.close token.now (frame.Entry entries key ∷ stack self.now.frames.items) value) self.now.frames.items result }
+        ensures { Stands (machine.close token.now
+            (frame.Entry entries key ∷ stack self.now.frames.items) value) self.now.frames.items result }
     {
         entries.push(key, value)?;
         match token {

@@ -39,7 +39,8 @@ impl Parser {
 
     // A token that begins no operand, where one is wanted.
     fn without_operand(&mut self, token: &Token) -> Result<Place, Fault>
-        ensures { Stands (machine.without_operand token.now (stack self.old.frames.items)) self.new.frames.items result }
+        ensures { Stands (machine.without_operand token.now
+            (stack self.old.frames.items)) self.new.frames.items result }
     {
         match self.pop() {
             Some(frame) => self.without_operand_in(frame, token),
@@ -48,7 +49,8 @@ impl Parser {
     }
 
     fn without_operand_in(&mut self, frame: Frame, token: &Token) -> Result<Place, Fault>
-        ensures { Stands (machine.without_operand token.now (frame ∷ stack self.old.frames.items)) self.new.frames.items result }
+        ensures { Stands (machine.without_operand token.now
+            (frame ∷ stack self.old.frames.items)) self.new.frames.items result }
     {
         match frame {
             Frame::List(holder, items) => self.end_list(holder, items, token),
@@ -66,7 +68,8 @@ impl Parser {
 
     // The word of a field, after its dot.
     pub(super) fn field(&self, token: Token) -> Result<Place, Fault>
-        ensures { Stands (machine.word_of_field (stack self.now.frames.items) (machine.text_at token)) self.now.frames.items result }
+        ensures { Stands (machine.word_of_field (stack self.now.frames.items)
+            (machine.text_at token)) self.now.frames.items result }
     {
         let name = read::word(self.alloc, token)?;
         let field = Part::field(self.alloc, name)?;

@@ -17,7 +17,8 @@ use expr_value::{Boxed, Text};
 impl Parser {
     // The word after a dot.
     pub(super) fn member(&self, left: Part, token: Token) -> Result<Place, Fault>
-        ensures { Stands (machine.word_after_dot (stack self.now.frames.items) left (machine.text_at token)) self.now.frames.items result }
+        ensures { Stands (machine.word_after_dot (stack self.now.frames.items) left
+            (machine.text_at token)) self.now.frames.items result }
     {
         let name = read::word(self.alloc, token)?;
         Ok(Place::Have(Operand::Member(left, name)))
@@ -25,7 +26,8 @@ impl Parser {
 
     // What follows `?.`: a word, or the bracket of an index.
     pub(super) fn optional(&mut self, left: Part, token: Token) -> Result<Place, Fault>
-        ensures { Stands (machine.step_on (stack self.old.frames.items) (place.Questioned left) token) self.new.frames.items result }
+        ensures { Stands (machine.step_on (stack self.old.frames.items)
+            (place.Questioned left) token) self.new.frames.items result }
     {
         if let Token::Sign(Sign::SquareOpen) = token {
             return self.enter(Frame::Index(left, true));
@@ -43,7 +45,8 @@ impl Parser {
         index: Part,
         token: &Token,
     ) -> Result<Place, Fault>
-        ensures { Stands (machine.close token.now (frame.Index left optional ∷ stack self.old.frames.items) index) self.new.frames.items result }
+        ensures { Stands (machine.close token.now
+            (frame.Index left optional ∷ stack self.old.frames.items) index) self.new.frames.items result }
     {
         match token {
             Token::Sign(Sign::SquareClose) => {
@@ -66,7 +69,8 @@ impl Parser {
         to: Option<Part>,
         token: &Token,
     ) -> Result<Place, Fault>
-        ensures { Stands (machine.at_square token.now (machine.whole (stack self.now.frames.items) (sliced left from to)) machine.Fail) self.now.frames.items result }
+        ensures { Stands (machine.at_square token.now (machine.whole (stack self.now.frames.items)
+            (sliced left from to)) machine.Fail) self.now.frames.items result }
     {
         let Token::Sign(Sign::SquareClose) = token else {
             return Err(Fault::Syntax);
@@ -77,7 +81,8 @@ impl Parser {
 
     // The function after a bar.
     pub(super) fn function(&self, left: Part, token: Token) -> Result<Place, Fault>
-        ensures { Stands (machine.word_after_bar (stack self.now.frames.items) left token) self.now.frames.items result }
+        ensures { Stands (machine.word_after_bar
+            (stack self.now.frames.items) left token) self.now.frames.items result }
     {
         match token {
             Token::Word(name) => Ok(Place::Piped(left, name)),
@@ -92,7 +97,8 @@ impl Parser {
         name: Text,
         token: &Token,
     ) -> Result<Place, Fault>
-        ensures { Stands (machine.open_after_word (stack self.old.frames.items) left name token.now) self.new.frames.items result }
+        ensures { Stands (machine.open_after_word
+            (stack self.old.frames.items) left name token.now) self.new.frames.items result }
     {
         match token {
             Token::Sign(Sign::ParenOpen) => {

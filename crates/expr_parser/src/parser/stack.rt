@@ -12,7 +12,8 @@ use std::alloc::AllocError;
 impl Parser {
     // The left part of an operator of this level.
     pub(super) fn settled(&mut self, level: u8, left: Operand) -> Result<Part, AllocError>
-        ensures { IfOk result (λ p. machine.settle level (stack self.old.frames.items) (machine.make left) ≡ record { stack = stack self.new.frames.items; left = p }) }
+        ensures { IfOk result (λ p. machine.settle level (stack self.old.frames.items) (machine.make left)
+            ≡ record { stack = stack self.new.frames.items; left = p }) }
     {
         let left = left.part(self.alloc)?;
         self.settle(level, left)
@@ -20,7 +21,8 @@ impl Parser {
 
     // Closes the frames that an operator of this level does not go inside.
     fn settle(&mut self, level: u8, left: Part) -> Result<Part, AllocError>
-        ensures { IfOk result (λ p. machine.settle level (stack self.old.frames.items) left ≡ record { stack = stack self.new.frames.items; left = p }) }
+        ensures { IfOk result (λ p. machine.settle level (stack self.old.frames.items) left
+            ≡ record { stack = stack self.new.frames.items; left = p }) }
     {
         let mut left = left;
         while let Some(open) = self.pop_above(level) {
@@ -54,7 +56,8 @@ impl Parser {
 
     // An operand comes next, inside the frame.
     pub(super) fn enter(&mut self, frame: Frame) -> Result<Place, Fault>
-        ensures { Stands (machine.wanting (frame ∷ stack self.old.frames.items)) self.new.frames.items result }
+        ensures { Stands (machine.wanting
+            (frame ∷ stack self.old.frames.items)) self.new.frames.items result }
     {
         self.push(frame)?;
         Ok(Place::Want)
@@ -68,8 +71,10 @@ impl Parser {
     }
 
     pub(super) fn pop(&mut self) -> Option<Frame>
-        ensures top { MatchOption result (stack self.old.frames.items ≡ []) (λ f. stack self.old.frames.items ≡ f ∷ stack self.new.frames.items) }
-        ensures len { MatchOption result (vec_len self.new.frames ≡ 0) (λ _. vec_len self.new.frames < vec_len self.old.frames) }
+        ensures top { MatchOption result (stack self.old.frames.items ≡ [])
+            (λ f. stack self.old.frames.items ≡ f ∷ stack self.new.frames.items) }
+        ensures len { MatchOption result (vec_len self.new.frames ≡ 0)
+            (λ _. vec_len self.new.frames < vec_len self.old.frames) }
     {
         self.frames.pop()
     }
