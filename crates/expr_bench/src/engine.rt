@@ -1,6 +1,6 @@
 //! The rule engine of docs/HOSTS.md.
-use crate::page::Page;
-use expr::Result;
+use expr_bench_values::page::Page;
+use expr_value::Result;
 use rules::{is_large, report};
 use std::alloc::Global;
 

@@ -1,7 +1,7 @@
-//! The ways from a text to its answer: `eval`, `execute` of code that is kept without its program, and `eval_expr` of the
-//! last node where a program has no lines.
-use crate::page::word_of;
-use expr::{Code, Context, Error, KeptCode, Result, Value, compile, eval, eval_expr, execute};
+//! The ways from a text to its answer beside `eval`: `execute` of code that is kept without its program, and `eval_expr` of
+//! the last node where a program has no lines.
+use expr::{Code, Context, Error, KeptCode, Result, Value, compile, eval_expr, execute};
+use expr_bench_values::page::word_of;
 use std::alloc::{AllocError, Global};
 
 /// The code of a text, which outlives its program.
@@ -43,28 +43,19 @@ fn is_same(
     }
 }
 
-/// What a text answers by one way, and whether all ways to it say the same.
-#[derive(Drop)]
-pub struct Answers {
-    pub first: Result<Value>,
-    pub are_same: bool,
-}
-
-/// What a text answers among some names, by each way; want of memory if one of them has none that another doesn't miss.
-pub fn answer_by_all(
+/// Whether a text answers by the other ways what it answered first, among some names; want of memory if one of them has
+/// none that another doesn't miss.
+pub fn agrees(
     alloc: Global,
+    first: &Result<Value>,
     text: &str,
     context: &Context,
-) -> std::result::Result<Answers, AllocError> {
-    let first = eval(alloc, text, context);
-    let code_agrees = is_same(alloc, &first, &by_code(alloc, text, context))?;
+) -> std::result::Result<bool, AllocError> {
+    let code_agrees = is_same(alloc, first, &by_code(alloc, text, context))?;
     let tree_agrees = match by_tree(alloc, text, context) {
         Ok(None) => true,
-        Ok(Some(value)) => is_same(alloc, &first, &Ok(value))?,
-        Err(error) => is_same(alloc, &first, &Err(error))?,
+        Ok(Some(value)) => is_same(alloc, first, &Ok(value))?,
+        Err(error) => is_same(alloc, first, &Err(error))?,
     };
-    Ok(Answers {
-        first,
-        are_same: code_agrees && tree_agrees,
-    })
+    Ok(code_agrees && tree_agrees)
 }

@@ -1,7 +1,6 @@
 //! What collections, texts and contexts give to who walks, asks, copies and prints them.
 use crate::page::Page;
-use expr::{Context, Items, Key, KeyedMap, Result, Text, Value, ValueMap, value};
-use expr_value::Boxed;
+use expr_value::{Boxed, Context, Items, Key, KeyedMap, Result, Text, Value, ValueMap, value};
 use std::alloc::Global;
 
 /// Puts the items of a list, its copy, and the facts of it that don't hold.
@@ -101,11 +100,8 @@ fn put_key(alloc: Global, map: &KeyedMap, key: &Key, page: &mut Page) -> Result<
     Ok(())
 }
 
-/// Puts a text, and the facts of texts, of the bytes of one and of what is held that don't hold.
-fn put_texts(alloc: Global, page: &mut Page) -> Result<()> {
-    let text = Text::copy(alloc, "a\"b")?;
-    page.put_made(format!(in alloc; "{text};{text:?}\n"));
-    page.fact("a text has a length", text.len() == 3 && !text.is_empty());
+/// Puts the facts of the bytes of a text that don't hold.
+fn put_bytes(alloc: Global, text: &Text, page: &mut Page) -> Result<()> {
     let bytes = Items::from_vec(text.as_str().as_bytes().to_vec(alloc)?);
     page.fact(
         "a text lends bytes",
@@ -116,13 +112,27 @@ fn put_texts(alloc: Global, page: &mut Page) -> Result<()> {
         "bytes are their copy",
         copies.as_slice() == bytes.as_slice(),
     );
-    let held = Boxed::new(alloc, text)?;
+    Ok(())
+}
+
+/// Puts the facts of a text that is held that don't hold.
+fn put_box(alloc: Global, page: &mut Page) -> Result<()> {
+    let held = Boxed::new(alloc, Text::copy(alloc, "a\"b")?)?;
     page.fact("a box lends", held.get().as_str() == "a\"b");
     page.fact(
         "a box gives back",
         held.into_inner().into_string().as_str() == "a\"b",
     );
     Ok(())
+}
+
+/// Puts a text, and the facts of texts that don't hold.
+fn put_texts(alloc: Global, page: &mut Page) -> Result<()> {
+    let text = Text::copy(alloc, "a\"b")?;
+    page.put_made(format!(in alloc; "{text};{text:?}\n"));
+    page.fact("a text has a length", text.len() == 3 && !text.is_empty());
+    put_bytes(alloc, &text, page)?;
+    put_box(alloc, page)
 }
 
 /// Puts the names of a context, its copy, and the facts of it that don't hold.

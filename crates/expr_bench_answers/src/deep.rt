@@ -1,6 +1,6 @@
 //! Programs that nest deeper than a recursion on them could go with 8 MB of stack.
-use crate::page::Page;
 use expr::{Context, compile, eval};
+use expr_bench_values::page::Page;
 use std::alloc::Global;
 
 /// What stands so many times before the middle, the middle, what stands as often behind it, and the answer.

@@ -1,7 +1,6 @@
-//! Printed values are read back.
-use crate::page::Page;
-use expr::{Context, Result, Value, eval};
+//! Values of seeds.
 use expr_value::assembly::{IntoName, array, map, no_items, no_pairs, placed, pushed};
+use expr_value::{Result, Value};
 use std::alloc::Global;
 
 /// Numbers that follow from a seed.
@@ -117,7 +116,7 @@ fn pairs(alloc: Global, dice: &mut Dice, inside: Result<Value>) -> Result<Value>
 }
 
 /// A value of a seed: a leaf in up to four lists and maps.
-fn made(alloc: Global, seed: u64) -> Result<Value> {
+pub fn made(alloc: Global, seed: u64) -> Result<Value> {
     let mut dice = Dice { state: seed };
     let mut value = leaf(alloc, &mut dice);
     for _ in 0..dice.next() % 5 {
@@ -128,14 +127,4 @@ fn made(alloc: Global, seed: u64) -> Result<Value> {
         };
     }
     value
-}
-
-/// Puts the printed values that aren't read back.
-pub fn put_reading_back(alloc: Global, wrong: &mut Page) -> Result<()> {
-    let names = Context::new(alloc);
-    for seed in 0..5_000_u64 {
-        let text = made(alloc, seed)?.to_string(alloc)?;
-        wrong.answer(&text, eval(alloc, &text, &names), &text);
-    }
-    Ok(())
 }

@@ -1,5 +1,5 @@
 //! The table of the runs of the program `expr`.
-use crate::page::Page;
+use expr_bench_values::page::Page;
 use expr_serve::serve::serve;
 use std::alloc::{AllocError, Global};
 use std::io;

@@ -1,37 +1,9 @@
-//! Values that no text makes, and each public call on values once with memory to spare.
-use crate::page::Page;
-use expr::{Context, ContextProvider, Error, Result, Value, eval, value};
+//! What values answer that no text makes, and what values and contexts lend.
+use expr::{Context, ContextProvider, Result, Value, eval, value};
+use expr_bench_values::lent::{has_name, is_no_context, put_lent};
+use expr_bench_values::made::{made, named};
+use expr_bench_values::page::Page;
 use std::alloc::Global;
-
-/// Names and integers, a name of them twice.
-const NUMBERED: &[(&str, i64)] = &[("b", 1), ("a", 2), ("b", 3)];
-
-fn named(alloc: Global) -> Result<Vec<(String, Value)>> {
-    let mut pairs = Vec::new(alloc);
-    for (name, number) in NUMBERED {
-        pairs.push((String::from_str(alloc, name)?, Value::from(*number)))?;
-    }
-    Ok(pairs)
-}
-
-/// Values that no text makes, by name.
-fn made(alloc: Global) -> Result<Context> {
-    let named = Value::from_pairs(alloc, named(alloc)?)?;
-    let bytes = vec![in alloc; 1_u8, 2]?;
-    let names = value!(in alloc; {
-        "default": Value::default(),
-        "largest": usize::MAX,
-        "span": Value::Duration(-5),
-        "last": Value::Month(12),
-        "none": Value::Month(13),
-        "no_day": Value::Weekday(7),
-        "owned": String::from_str(alloc, "x")?,
-        "bytes": bytes,
-        "named": named,
-        "nested": {"b": [1, "x"], "a": {"c": nil}},
-    });
-    Context::try_from(alloc, names?)
-}
 
 /// Texts and their answers.
 const ANSWERS: &[(&str, &str)] = &[
@@ -70,22 +42,6 @@ fn put_answers(alloc: Global, wrong: &mut Page) -> Result<()> {
     put_list(alloc, &names, wrong)
 }
 
-/// Whether a value makes no context.
-fn is_no_context(alloc: Global, value: Value) -> Result<bool> {
-    match Context::try_from(alloc, value) {
-        Ok(_) => Ok(false),
-        Err(Error::ExprError(_)) => Ok(true),
-        Err(other) => Err(other),
-    }
-}
-
-/// Whether both maps of a provider of any kind are the same, and it has a name.
-fn has_name<P: ContextProvider>(alloc: Global, provider: &P, name: &str) -> Result<bool> {
-    let map = Value::from(provider.to_context(alloc)?.into_map());
-    let shown = Value::from(provider.environment(alloc)?.into_map());
-    Ok(map == shown && provider.get(name).is_some())
-}
-
 /// Puts a context of a map, with one name again.
 fn put_context(alloc: Global, page: &mut Page) -> Result<()> {
     let mut context = Context::try_from(alloc, value!(in alloc; {"b": 1, "a": 2})?)?;
@@ -105,29 +61,16 @@ fn put_contexts(alloc: Global, page: &mut Page) -> Result<()> {
     Ok(())
 }
 
-/// Puts what a value lends to each of the calls that ask for one kind.
-fn put_lent(alloc: Global, value: &Value, page: &mut Page) {
-    page.put_made(format!(in alloc;
-        "\n{:?} {:?} {:?} {} {} {} {}",
-        value.as_integer(),
-        value.as_bool(),
-        value.as_duration(),
-        value.as_string().is_some(),
-        value.as_array().is_some(),
-        value.as_bytes().is_some(),
-        value.is_nil(),
-    ));
-}
-
-/// Puts two contexts, what an integer, a boolean, a duration and nil lend, and what is wrong of values.
-pub fn put_values(alloc: Global, page: &mut Page) -> Result<()> {
-    put_answers(alloc, page)?;
-    put_context(alloc, page)?;
-    put_contexts(alloc, page)?;
+/// Puts what an integer, a boolean, a duration and nil lend.
+fn put_kinds(alloc: Global, page: &mut Page) {
     put_lent(alloc, &Value::from(7_i32), page);
     put_lent(alloc, &Value::from(true), page);
     put_lent(alloc, &Value::Duration(7), page);
     put_lent(alloc, &Value::Nil, page);
+}
+
+/// Puts the facts of values that make no context, and of a context of no name, that don't hold.
+fn put_refused(alloc: Global, page: &mut Page) -> Result<()> {
     let keyed = eval(alloc, "fromPairs([[1, 2]])", &Context::new(alloc))?;
     page.fact("a keyed map makes no context", is_no_context(alloc, keyed)?);
     let integer = is_no_context(alloc, Value::Integer(1))?;
@@ -136,6 +79,16 @@ pub fn put_values(alloc: Global, page: &mut Page) -> Result<()> {
         "a new context has no name",
         Context::new(alloc).get("b").is_none(),
     );
+    Ok(())
+}
+
+/// Puts two contexts, what values of four kinds lend, and what is wrong of values.
+pub fn put_values(alloc: Global, page: &mut Page) -> Result<()> {
+    put_answers(alloc, page)?;
+    put_context(alloc, page)?;
+    put_contexts(alloc, page)?;
+    put_kinds(alloc, page);
+    put_refused(alloc, page)?;
     page.put("\n");
     Ok(())
 }

@@ -1,7 +1,6 @@
 //! What `value!` and `bail!` make.
 use crate::page::Page;
-use expr::{Error, Result, Value, bail, value};
-use expr_value::refusal;
+use expr_value::{Error, Result, Value, bail, refusal, value};
 use std::alloc::Global;
 
 /// A list of literals of each form.

@@ -1,5 +1,5 @@
 //! A text that is written piece by piece.
-use expr::{Error, Value};
+use expr_value::{Error, Value};
 use std::alloc::{AllocError, Global};
 
 /// The word for want of memory.
@@ -52,7 +52,7 @@ impl Page {
     }
 
     /// Puts the printed text of an answer at the end, or the word for its refusal. Want of memory is a piece that is missed.
-    pub fn put_answer(&mut self, answer: expr::Result<Value>) {
+    pub fn put_answer(&mut self, answer: expr_value::Result<Value>) {
         match answer {
             Ok(value) => self.put_made(value.to_string(self.allocator())),
             Err(Error::MemoryError) => self.miss(),
@@ -100,7 +100,7 @@ impl Page {
     }
 
     /// Puts the row of a text at the end that answers something else than it should, as [`Page::row`] does.
-    pub fn answer(&mut self, text: &str, answer: expr::Result<Value>, expected: &str) {
+    pub fn answer(&mut self, text: &str, answer: expr_value::Result<Value>, expected: &str) {
         let mut given = Page::new(self.allocator());
         given.put_answer(answer);
         self.row(text, given.text(), expected);

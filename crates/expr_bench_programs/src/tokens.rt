@@ -1,5 +1,5 @@
 //! Readings of texts.
-use crate::page::Page;
+use expr_bench_values::page::Page;
 use expr_token::{Token, read};
 use std::alloc::Global;
 

@@ -1,6 +1,6 @@
 //! What a host's objects answer where an addition to them is refused: what they answered before.
-use crate::page::Page;
 use expr::{Context, Environment, ExprCall, Result, Value};
+use expr_bench_values::page::Page;
 use jiff::tz::{Offset, TimeZone};
 use std::alloc::{AllocError, Global};
 

@@ -1,6 +1,6 @@
 //! Damaged texts: a text cut at every byte, and with each byte in turn replaced by each of some telling ones.
-use crate::page::Page;
 use expr::{Context, Error, Result, Value, eval};
+use expr_bench_values::page::Page;
 use std::alloc::{AllocError, Global};
 
 /// The bytes that are put in place of others: quotes, signs, brackets, the end of a line and of a text in C, and two that

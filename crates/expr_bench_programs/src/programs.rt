@@ -1,7 +1,10 @@
 //! Programs of texts, their refusals and their names.
-use crate::page::{Page, word_of};
 use crate::shown::show_program;
-use expr::{Context, Error, Program, Result, compile, compile_within, run};
+use expr_bench_values::page::{Page, word_of};
+use expr_machine::run;
+use expr_syntax::{compile, compile_within};
+use expr_tree::node::Program;
+use expr_value::{Context, Error, Result};
 use std::alloc::Global;
 
 /// A program with each of its brackets, or its refusal.

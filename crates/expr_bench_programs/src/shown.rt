@@ -1,6 +1,7 @@
 //! Programs as texts with each of their brackets.
-use crate::page::Page;
-use expr::{Node, PostfixOperator, Program, UnaryOperator};
+use expr_bench_values::page::Page;
+use expr_tree::node::{Node, PostfixOperator, Program};
+use expr_tree::operator::UnaryOperator;
 
 #[cycle(shown)]
 pub fn show_program(program: &Program, page: &mut Page) {

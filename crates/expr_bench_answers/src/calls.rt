@@ -1,0 +1,137 @@
+//! Each public call on texts, environments and parsers that takes memory, by its name and with memory to spare.
+use expr::{
+    Code, Context, Environment, ExprCall, Node, Parser, Result, Value, compile, eval, run, spot_of,
+};
+use expr_bench_values::page::Page;
+use jiff::Timestamp;
+use jiff::tz::TimeZone;
+use std::alloc::Global;
+
+/// Puts what is wrong of the texts that an environment with a function `ten` and a zone evaluates.
+fn put_hosted_texts(alloc: Global, host: &Environment, context: &Context, wrong: &mut Page) {
+    let zoned = r#"timezone("Z").String()"#;
+    let answer = host.eval(alloc, zoned, context);
+    wrong.answer("Environment::add_timezone", answer, "\"Z\"");
+    let answer = host.eval(alloc, "ten() * a", context);
+    wrong.answer("Environment::add_function", answer, "20");
+    let answer = host.eval(alloc, "ten()", context);
+    wrong.answer("Environment::eval", answer, "10");
+    let answer = host.eval_func(alloc, context, "ten", Vec::new(alloc), None);
+    wrong.answer("Environment::eval_func", answer, "10");
+}
+
+/// Puts what is wrong of the programs that such an environment runs.
+fn put_hosted(
+    alloc: Global,
+    host: &Environment,
+    context: &Context,
+    wrong: &mut Page,
+) -> Result<()> {
+    let program = compile(alloc, "ten() * a")?;
+    let answer = host.run(alloc, &program, context);
+    wrong.answer("Environment::run", answer, "20");
+    let answer = host.eval_expr(alloc, context, &program.expr);
+    wrong.answer("Environment::eval_expr", answer, "20");
+    let code = Code::lower(alloc, &program)?;
+    let answer = host.execute(alloc, &code, context);
+    wrong.answer("Environment::execute", answer, "20");
+    Ok(())
+}
+
+/// Puts what is wrong of an environment's call for one node.
+fn put_hosted_node(alloc: Global, host: &Environment, node: &Node, wrong: &mut Page) {
+    let context = Context::new(alloc);
+    match node {
+        Node::Operation {
+            operator,
+            left,
+            right,
+            ..
+        } => {
+            let answer = host.eval_operator(alloc, &context, operator, left, right, None);
+            wrong.answer("Environment::eval_operator", answer, "20");
+        }
+        Node::Unary { operator, node } => {
+            let answer = host.eval_unary_operator(alloc, &context, operator, node);
+            wrong.answer("Environment::eval_unary_operator", answer, "-10");
+        }
+        Node::Postfix { operator, node } => {
+            let answer = host.eval_postfix_operator(alloc, &context, operator, node);
+            wrong.answer("Environment::eval_postfix_operator", answer, "7");
+        }
+        _ => wrong.put("another node\n"),
+    }
+}
+
+/// Texts of an operator, a prefix and a postfix where `ten` is a function.
+const HOSTED_NODES: &[&str] = &["ten() * 2", "-ten()", "[7][ten() - 10]"];
+
+fn put_hosted_nodes(alloc: Global, host: &Environment, wrong: &mut Page) -> Result<()> {
+    for code in HOSTED_NODES {
+        let program = compile(alloc, code)?;
+        put_hosted_node(alloc, host, &program.expr, wrong);
+    }
+    Ok(())
+}
+
+/// Puts what is wrong of an environment with a function `ten` and a zone.
+fn put_added(alloc: Global, host: &Environment, context: &Context, wrong: &mut Page) -> Result<()> {
+    wrong.answer("now", host.eval(alloc, "now().Unix()", context), "0");
+    put_hosted_texts(alloc, host, context, wrong);
+    put_hosted(alloc, host, context, wrong)?;
+    put_hosted_nodes(alloc, host, wrong)
+}
+
+fn put_environment(alloc: Global, context: &Context, wrong: &mut Page) -> Result<()> {
+    let mut host = Environment::new(alloc);
+    let answer = host.eval(alloc, "1", context);
+    wrong.answer("Environment::new", answer, "1");
+    host.add_function(
+        "ten",
+        Box::new(alloc, |_call: ExprCall| Ok(Value::Integer(10)))?,
+    )?;
+    host.add_timezone("Z", TimeZone::UTC)?;
+    host.set_now(Timestamp::UNIX_EPOCH);
+    put_added(alloc, &host, context, wrong)
+}
+
+/// Puts what is wrong of a parser with a function `ten`.
+fn put_parsed(alloc: Global, host: &Parser, context: &Context, wrong: &mut Page) -> Result<()> {
+    let answer = host.eval(alloc, "ten()", context);
+    wrong.answer("Parser::add_function", answer, "10");
+    wrong.answer("Parser::eval", host.eval(alloc, "a", context), "2");
+    let program = host.compile(alloc, "ten() * a")?;
+    let answer = host.run(alloc, &program, context);
+    wrong.answer("Parser::run", answer, "20");
+    let answer = run(alloc, &program, context);
+    wrong.answer("Parser::compile", answer, "!evaluation");
+    let answer = host.eval_expr(alloc, context, &program.expr);
+    wrong.answer("Parser::eval_expr", answer, "20");
+    Ok(())
+}
+
+fn put_parser(alloc: Global, context: &Context, wrong: &mut Page) -> Result<()> {
+    let mut host = Parser::new(alloc);
+    let answer = host.eval(alloc, "1", context);
+    wrong.answer("Parser::new", answer, "1");
+    host.add_function(
+        "ten",
+        Box::new(alloc, |_call: ExprCall| Ok(Value::Integer(10)))?,
+    )?;
+    put_parsed(alloc, &host, context, wrong)
+}
+
+fn put_texts(alloc: Global, context: &Context, wrong: &mut Page) -> Result<()> {
+    wrong.answer("eval", eval(alloc, "a * 10", context), "20");
+    let spot = spot_of(alloc, "a\nb c", 4)?;
+    let is_there = spot.line == 2 && spot.column == 3 && spot.shown.as_str() == "b c\n  ^";
+    wrong.fact("spot_of", is_there);
+    Ok(())
+}
+
+/// Puts the calls that answer otherwise than they should, where `a` is 2.
+pub fn put_calls(alloc: Global, context: &Context, wrong: &mut Page) -> Result<()> {
+    put_texts(alloc, context, wrong)?;
+    put_environment(alloc, context, wrong)?;
+    put_parser(alloc, context, wrong)
+}

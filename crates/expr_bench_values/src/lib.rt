@@ -1,0 +1,11 @@
+//! What is tested of values alone, and what the tests write on: a program `expr_bench` runs them.
+#![tactic(auto)]
+
+pub mod calls;
+pub mod collections;
+pub mod lent;
+pub mod lines;
+pub mod macros;
+pub mod made;
+pub mod page;
+pub mod seeds;
