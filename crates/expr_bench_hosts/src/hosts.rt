@@ -108,20 +108,16 @@ fn put_answers(alloc: Global, host: &Environment, wrong: &mut Page) {
     }
 }
 
-/// Adds the functions that sum and those that count their arguments.
-fn add_named(alloc: Global, host: &mut Environment) -> Result<()> {
+/// Puts what is wrong of an environment with functions of its own.
+fn put_environment(alloc: Global, wrong: &mut Page) -> Result<()> {
+    let calls = Cell::new(0_i64);
+    let mut host = Environment::new(alloc);
     for name in SUMS {
         host.add_function(name, Box::new(alloc, |call: ExprCall| sum(call))?)?;
     }
     for name in NUMBERS {
         host.add_function(name, Box::new(alloc, |call: ExprCall| number(call))?)?;
     }
-    Ok(())
-}
-
-/// Adds a function that refuses, and one that counts its calls.
-fn add_others(alloc: Global, host: &mut Environment) -> Result<()> {
-    let calls = Cell::new(0_i64);
     host.add_function(
         "p",
         Box::new(alloc, |call: ExprCall| Err(Error::ParseError(call.ident)))?,
@@ -132,14 +128,7 @@ fn add_others(alloc: Global, host: &mut Environment) -> Result<()> {
             calls.set(calls.get().wrapping_add(1));
             Ok(Value::Integer(calls.get()))
         })?,
-    )
-}
-
-/// Puts what is wrong of an environment with functions of its own.
-fn put_environment(alloc: Global, wrong: &mut Page) -> Result<()> {
-    let mut host = Environment::new(alloc);
-    add_named(alloc, &mut host)?;
-    add_others(alloc, &mut host)?;
+    )?;
     put_answers(alloc, &host, wrong);
     Ok(())
 }
@@ -191,32 +180,21 @@ fn nil_of(added: Result<()>) -> Result<Value> {
     Ok(Value::Nil)
 }
 
-/// Adds a zone of a rule and one of an offset.
-fn add_zones(host: &mut Environment) -> Result<()> {
+/// Puts what is wrong of an environment with zones of a rule and of an offset, whose moment is the instant 0.
+fn put_zones(alloc: Global, wrong: &mut Page) -> Result<()> {
+    let mut host = Environment::new(alloc);
     if let Ok(rules) = TimeZone::posix("EST5EDT,M3.2.0,M11.1.0") {
         host.add_timezone("E", rules)?;
     }
     if let Ok(ahead) = Offset::from_seconds(3600) {
         host.add_timezone("X/Plus1", TimeZone::fixed(ahead))?;
     }
-    Ok(())
-}
-
-/// Puts what is wrong of adding a name that is taken, and one that is free.
-fn put_taken(host: &mut Environment, wrong: &mut Page) {
+    host.set_now(Timestamp::UNIX_EPOCH);
+    put_zoned(alloc, &host, wrong);
     let taken = host.add_timezone("UTC", TimeZone::UTC);
     wrong.answer("UTC is taken", nil_of(taken), "!evaluation");
     let free = host.add_timezone("utc", TimeZone::UTC);
     wrong.answer("utc is free", nil_of(free), "nil");
-}
-
-/// Puts what is wrong of an environment with zones of a rule and of an offset, whose moment is the instant 0.
-fn put_zones(alloc: Global, wrong: &mut Page) -> Result<()> {
-    let mut host = Environment::new(alloc);
-    add_zones(&mut host)?;
-    host.set_now(Timestamp::UNIX_EPOCH);
-    put_zoned(alloc, &host, wrong);
-    put_taken(&mut host, wrong);
     Ok(())
 }
 
