@@ -12,12 +12,14 @@ pub use Rattle.expr_evaluation.specs.Handed
 pub use Rattle.expr_evaluation.specs.Plain
 pub use Rattle.expr_evaluation.specs.Several
 pub use Rattle.expr_operators.specs.Operators
+pub use Rattle.expr_parts.specs.Kept
 pub use Rattle.expr_predicates.specs.Calls as Predicated
 pub use Rattle.expr_predicates.specs.Runs
 pub use Rattle.expr_predicates.specs.Sorting
 pub use Rattle.expr_predicates.specs.Tasks
 pub use Rattle.expr_steps.specs.Methods
 pub use Rattle.expr_token.specs.Printed
+pub use Rattle.expr_tree.specs.Beside
 pub use Rattle.expr_tree.specs.Context
 pub use Rattle.expr_tree.specs.Names
 pub use Rattle.expr_tree.specs.Term

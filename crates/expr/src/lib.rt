@@ -38,7 +38,7 @@ pub use expr_syntax::laws::{one_tree_of_text, printed_text_has_program};
 pub use expr_syntax::{compile, compile_within};
 pub use expr_time::{printed_moments_are_read, stamps_go_by_a_layout};
 pub use expr_token::{lexer_gives_the_reading, one_reading, printed_text_reads};
-pub use expr_tree::node::{Node, Pattern, PostfixOperator, Program, Unbuilt};
+pub use expr_tree::node::{CompiledRegex, Node, Pattern, PostfixOperator, Program, Unbuilt};
 pub use expr_tree::operator::{Operator, UnaryOperator};
 pub use expr_value::laws::{
     equality_is_an_equivalence, keys_are_compared_by_kind, keys_are_ordered, keys_are_scalars,

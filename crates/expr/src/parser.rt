@@ -1,5 +1,5 @@
 //! The older way in: a parser that holds an environment.
-ghost use Rattle.std.specs.Prelude.{◌≡◌, ℕ, List, None, Err, Ok, Some, IfErr, IsTrue, OnErr, OnOk, bytes_eq, if◌then◌else◌, option_map};
+ghost use Rattle.std.specs.Prelude.{◌≡◌, ℕ, List, None, Err, Ok, Some, IfErr, IfOk, IsTrue, OnErr, OnOk, bytes_eq, if◌then◌else◌, option_map};
 ghost use Rattle.expr.specs.Hosted.{host_of, moment_at, registered, zone_at};
 ghost use Rattle.expr.specs.Parsers.{environment_of};
 ghost use Rattle.expr.specs.Texts.{MayAnswer};
@@ -9,8 +9,10 @@ ghost use Rattle.expr_meaning.specs.Allows.{Allows, AllowsBlock};
 ghost use Rattle.expr_steps.specs.Context.{Context};
 ghost use Rattle.expr_meaning.specs.Independence.{AgreeAt};
 ghost use Rattle.expr_evaluation.specs.Plain.{is_plain};
+ghost use Rattle.expr_parts.specs.Kept.{KeepPatterns};
 ghost use Rattle.expr_syntax.specs.Texts.{HasNoTree, IsAnswerFor, IsCompiled, IsPlaced, IsProgramOf, IsTreeOf};
 ghost use Rattle.expr_token.specs.Printed.{is_readable};
+ghost use Rattle.expr_tree.specs.Beside.{program_operations};
 ghost use Rattle.expr_tree.specs.Context.{AgreeFor};
 ghost use Rattle.expr_tree.specs.Names.{AreNamesOf};
 ghost use Rattle.expr_tree.specs.Term.{Block};
@@ -78,6 +80,7 @@ impl Parser {
         ensures place { IsPlaced code.now result }
         ensures boundary { (place : ℕ) → result ≡ Err (Error.PestError place)
             → IsCharBoundary code.now place }
+        ensures patterns { IfOk result (λ program. KeepPatterns (program_operations program)) }
     {
         expr_syntax::compile(alloc, code)
     }

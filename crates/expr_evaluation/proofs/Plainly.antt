@@ -9,7 +9,7 @@ use Rattle.expr_tree.specs.declared.operator.Operator.{Operator}
 use Rattle.expr_tree.specs.Written.{written, line_written, postfix_written, program_written, predicate_written, terms_of}
 use Rattle.expr_tree.specs.declared.node.Node as node
 use Rattle.expr_tree.specs.declared.node.Node.{Node, the_lemmas as node_lemmas}
-use Rattle.expr_pattern.specs.declared.pattern.Pattern.{Pattern as Kept}
+use Rattle.expr_tree.specs.declared.node.CompiledRegex.{CompiledRegex}
 use Rattle.std.specs.declared.boxed.Box.{Box}
 use Rattle.expr_value.specs.declared.value.Value as value
 use Rattle.expr_value.specs.declared.value.Value.{Value, out-Value}
@@ -32,7 +32,7 @@ use Rattle.expr_operators.specs.Plain.{is_plain_operator, is_plain_value}
 pub written-pairs : (ps : Vec (String Global × Node) Global) → written (node.Map ps) ≡ mapping (pairs_written ps.items)
 written-pairs ps = search (rules, node_lemmas)
 
-pub written-Operation : (op : Operator) (l r : Box Node Global) (k : Option (Box Kept Global)) → written (node.Operation op l r k) ≡ operation op (written l.value) (written r.value)
+pub written-Operation : (op : Operator) (l r : Box Node Global) (k : CompiledRegex) → written (node.Operation op l r k) ≡ operation op (written l.value) (written r.value)
 written-Operation op l r k = search (rules, node_lemmas)
 
 pub left-true : (a b : Bool) → IsTrue (a && b) → IsTrue a

@@ -1,3 +1,4 @@
+pub mod Kept
 pub mod Literals
 pub mod Parts
 pub mod Places

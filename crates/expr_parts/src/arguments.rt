@@ -1,7 +1,9 @@
 //! Arguments of a call or items of an array, one after another, and the call or array of them.
 ghost use Rattle.std.specs.Prelude.{◌≡◌, IfOk, OnOk, OnErr, map, string_bytes};
 ghost use Rattle.expr_tree.specs.Term.{call, predicate};
+ghost use Rattle.expr_tree.specs.Beside.{program_operations};
 ghost use Rattle.expr_tree.specs.Written.{written, program_written, terms_of};
+ghost use Rattle.expr_parts.specs.Kept.{KeepPatterns, NodesKeepPatterns};
 ghost use Rattle.expr_parts.specs.Parts.{none_given, given_more, given_program, array_of, called};
 ghost use Rattle.expr_parts.specs.Promotion.{any_free_hash};
 
@@ -34,7 +36,9 @@ impl Drop for Arguments {
 
 impl Model for Arguments {
     ghost use Rattle.std.specs.Prelude.{◌≡◌, map};
+    ghost use Rattle.expr_tree.specs.Beside.{predicate_operations};
     ghost use Rattle.expr_tree.specs.Written.{predicate_written, written};
+    ghost use Rattle.expr_parts.specs.Kept.{KeepPatterns, NodesKeepPatterns};
     ghost use Rattle.expr_parts.specs.Parts.{Given, given_code};
     ghost use Rattle.expr_parts.specs.Places.{marks_of};
 
@@ -44,7 +48,7 @@ impl Model for Arguments {
 
     ghost view = { λ a. record { terms = map written a.nodes.items; program = predicate_written a.program; height = a.height } };
 
-    ghost invariant = { λ a. a.marks ≡ marks_of (map written a.nodes.items) };
+    ghost invariant = { λ a. (a.marks ≡ marks_of (map written a.nodes.items)) × NodesKeepPatterns a.nodes.items × KeepPatterns (predicate_operations a.program) };
 }
 
 impl Arguments {
@@ -101,7 +105,8 @@ impl Arguments {
     }
 
     pub(crate) fn into_nodes(self) -> Vec<Node>
-        ensures { map written result.items ≡ self.terms }
+        ensures terms { map written result.items ≡ self.terms }
+        ensures patterns { NodesKeepPatterns result.items }
     {
         let Arguments {
             nodes,
@@ -168,7 +173,9 @@ fn call_with(
     program: Box<Program>,
     height: usize,
 ) -> Part
-    requires { has_free_hash ≡ any_free_hash (terms_of (map written args.items)) }
+    requires hash { has_free_hash ≡ any_free_hash (terms_of (map written args.items)) }
+    requires arguments { NodesKeepPatterns args.items }
+    requires program { KeepPatterns (program_operations program.value) }
     ensures { result ≡ record {
       term = call (string_bytes ident) (terms_of (map written args.items))
           (predicate (program_written program.value));

@@ -37,6 +37,7 @@ impl Drop for Entries {
 impl Model for Entries {
     ghost use Rattle.std.specs.Prelude.{◌≡◌, map};
     ghost use Rattle.expr_tree.specs.Written.{line_written};
+    ghost use Rattle.expr_parts.specs.Kept.{LinesKeepPatterns};
     ghost use Rattle.expr_parts.specs.Maps as maps;
     ghost use Rattle.expr_parts.specs.Parts.{MeasuredPairs, pairs_code};
     ghost use Rattle.expr_parts.specs.Promotion.{lines_have_free_hash};
@@ -48,7 +49,8 @@ impl Model for Entries {
     ghost view = { λ e. record { pairs = map line_written e.pairs.items; height = e.height } };
 
     ghost invariant = { λ e. (e.has_expression ≡ maps.has_expression (map line_written e.pairs.items))
-        × (e.has_free_hash ≡ lines_have_free_hash (map line_written e.pairs.items)) };
+        × (e.has_free_hash ≡ lines_have_free_hash (map line_written e.pairs.items))
+        × LinesKeepPatterns e.pairs.items };
 }
 
 impl Entries {

@@ -1,15 +1,17 @@
 //! Nodes made from parts. Beside each stands whether a hash name is free in it, so that promotion walks no tree, and the height of the tree that it was read from.
-ghost use Rattle.std.specs.Prelude.{◌≡◌, suc, IfOk, IfSome, string_bytes};
+ghost use Rattle.std.specs.Prelude.{◌≡◌, suc, IfOk, string_bytes};
+ghost use Rattle.std.specs.Option.{option_map};
+ghost use Rattle.expr_tree.specs.Beside.{bound_operations, operations, postfix_operations, right_of, seen};
 ghost use Rattle.expr_tree.specs.Term.{name, literal, postfix};
 ghost use Rattle.expr_tree.specs.Written.{written, postfix_written, bound_written};
-ghost use Rattle.expr_parts.specs.Kept.{IsKept};
+ghost use Rattle.expr_parts.specs.Kept.{IsKept, IsKeptOf, KeepPatterns};
 ghost use Rattle.expr_parts.specs.Promotion.{bound_has_free_hash, postfix_has_free_hash};
 ghost use Rattle.expr_parts.specs.Parts.{bound_with, leaf, bracketed, prefixed, ranged, operated, coalesced, chosen, indexed, member_of, field_of, sliced, piped, ternary_of, method_of};
 ghost use Rattle.expr_parts.specs.Parts as parts;
 
 use crate::arguments::Arguments;
 use crate::program::ProgramPart;
-use expr_tree::node::{Node, Pattern, PostfixOperator, Unbuilt};
+use expr_tree::node::{CompiledRegex, Node, Pattern, PostfixOperator, Unbuilt};
 use expr_tree::operator::{Operator, UnaryOperator};
 use expr_value::{Text, Value};
 use std::alloc::{AllocError, Global};
@@ -41,12 +43,14 @@ impl Model for Part {
     ghost coded = { measured_code };
 
     ghost use Rattle.std.specs.Prelude.{◌≡◌};
+    ghost use Rattle.expr_tree.specs.Beside.{operations};
     ghost use Rattle.expr_tree.specs.Written.{written};
+    ghost use Rattle.expr_parts.specs.Kept.{KeepPatterns};
     ghost use Rattle.expr_parts.specs.Promotion.{has_free_hash as hash_stands_free};
 
     ghost view = { λ p. record { term = written p.node; height = p.height } };
 
-    ghost invariant = { λ p. p.has_free_hash ≡ hash_stands_free (written p.node) };
+    ghost invariant = { λ p. (p.has_free_hash ≡ hash_stands_free (written p.node)) × KeepPatterns (operations p.node) };
 }
 
 // The height of a tree by that of the highest inside it. One that doesn't fit is refused, though no memory holds the tokens of so high a tree.
@@ -152,7 +156,8 @@ impl Part {
 
     /// The node, alone.
     pub fn into_node(self) -> Node
-        ensures { written result ≡ self.term }
+        ensures term { written result ≡ self.term }
+        ensures patterns { KeepPatterns (operations result) }
     {
         let Part {
             node,
@@ -347,7 +352,8 @@ impl Part {
         in_operator: bool,
         height: usize,
     ) -> Result<Part, AllocError>
-        requires { in_operator ≡ postfix_has_free_hash (postfix_written operator) }
+        requires hash { in_operator ≡ postfix_has_free_hash (postfix_written operator) }
+        requires patterns { KeepPatterns (postfix_operations operator) }
         ensures { IfOk result (λ p. p ≡ record {
           term = postfix
               (postfix_written operator) self.term;
@@ -383,27 +389,49 @@ fn bound_height(bound: &Option<Part>) -> usize
     }
 }
 
-// The pattern of a text that is the literal on the right of `matches`, if it builds.
+// The text of a node that is the literal of one.
+fn literal_text(node: &Node) -> Option<&str>
+    ensures { option_map (λ t. t.now) result ≡ (seen node.now).text }
+{
+    match node {
+        Node::Value(value) => value.as_string(),
+        _ => None,
+    }
+}
+
+// What is kept of the pattern on the right of an operator.
 fn kept_pattern(
     alloc: Global,
     operator: Operator,
     right: &Node,
-) -> Result<Option<Box<Pattern>>, AllocError>
-    ensures { IfOk result (λ kept. IfSome kept (λ p. IsKept operator (written right.now) p.value)) }
+) -> Result<CompiledRegex, AllocError>
+    ensures { IfOk result (IsKept (right_of operator (seen right.now).text)) }
 {
-    let (Operator::Matches, Node::Value(Value::String(text))) = (operator, right) else {
-        return Ok(None);
-    };
-    match Pattern::kept(alloc, text.as_str()) {
-        Ok(Some(pattern)) => Ok(Some(Box::new(alloc, pattern)?)),
-        Ok(None) | Err(Unbuilt::TooBig) => Ok(None),
+    match operator {
+        Operator::Matches => match literal_text(right) {
+            None => Ok(CompiledRegex::None),
+            Some(text) => pattern_of(alloc, text),
+        },
+        _ => Ok(CompiledRegex::None),
+    }
+}
+
+// The pattern of a text, or why there is none.
+fn pattern_of(alloc: Global, text: &str) -> Result<CompiledRegex, AllocError>
+    ensures { IfOk result (IsKeptOf text.now) }
+{
+    match Pattern::kept(alloc, text) {
+        Ok(Some(pattern)) => Ok(CompiledRegex::Built(Box::new(alloc, pattern)?)),
+        Ok(None) => Ok(CompiledRegex::None),
+        Err(Unbuilt::TooBig) => Ok(CompiledRegex::TooBig),
         Err(Unbuilt::Memory) => Err(AllocError),
     }
 }
 
 // A bound of a slice, in its own memory.
 fn boxed(alloc: Global, bound: Option<Part>) -> Result<Option<Box<Node>>, AllocError>
-    ensures { IfOk result (λ n. bound_written n ≡ bound_with bound) }
+    ensures bound { IfOk result (λ n. bound_written n ≡ bound_with bound) }
+    ensures patterns { IfOk result (λ n. KeepPatterns (bound_operations n)) }
 {
     match bound {
         None => Ok(None),

@@ -1,6 +1,8 @@
 //! Programs made from their lines, one after another, and from what they answer.
 ghost use Rattle.std.specs.Prelude.{◌≡◌, OnOk, OnErr, string_bytes};
+ghost use Rattle.expr_tree.specs.Beside.{program_operations};
 ghost use Rattle.expr_tree.specs.Written.{program_written};
+ghost use Rattle.expr_parts.specs.Kept.{KeepPatterns};
 ghost use Rattle.expr_parts.specs.Parts.{no_lines, line_more, answering};
 
 use crate::part::Part;
@@ -34,18 +36,21 @@ impl Model for ProgramPart {
     ghost coded = { measured_block_code };
 
     ghost use Rattle.std.specs.Prelude.{◌≡◌};
+    ghost use Rattle.expr_tree.specs.Beside.{program_operations};
     ghost use Rattle.expr_tree.specs.Written.{program_written};
+    ghost use Rattle.expr_parts.specs.Kept.{KeepPatterns};
     ghost use Rattle.expr_parts.specs.Promotion.{block_has_free_hash};
 
     ghost view = { λ p. record { block = program_written p.program; height = p.height } };
 
-    ghost invariant = { λ p. p.has_free_hash ≡ block_has_free_hash (program_written p.program) };
+    ghost invariant = { λ p. (p.has_free_hash ≡ block_has_free_hash (program_written p.program)) × KeepPatterns (program_operations p.program) };
 }
 
 impl ProgramPart {
     /// The program, alone.
     pub fn into_program(self) -> Program
-        ensures { program_written result ≡ self.block }
+        ensures block { program_written result ≡ self.block }
+        ensures patterns { KeepPatterns (program_operations result) }
     {
         let ProgramPart {
             program,
@@ -90,11 +95,12 @@ impl Model for Lines {
 
     ghost use Rattle.std.specs.Prelude.{◌≡◌, map};
     ghost use Rattle.expr_tree.specs.Written.{line_written};
+    ghost use Rattle.expr_parts.specs.Kept.{LinesKeepPatterns};
     ghost use Rattle.expr_parts.specs.Promotion.{lines_have_free_hash};
 
     ghost view = { λ l. record { lines = map line_written l.lines.items; height = l.height } };
 
-    ghost invariant = { λ l. l.has_free_hash ≡ lines_have_free_hash (map line_written l.lines.items) };
+    ghost invariant = { λ l. (l.has_free_hash ≡ lines_have_free_hash (map line_written l.lines.items)) × LinesKeepPatterns l.lines.items };
 }
 
 impl Lines {

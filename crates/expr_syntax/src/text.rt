@@ -2,9 +2,11 @@
 ghost use Rattle.std.specs.Prelude.{◌≡◌, ◌≤◌, ℕ, List, Err, length, drop, slice_get, unwrap_or, IfOk, IfErr, MatchOption};
 ghost use Rattle.expr_grammar.specs.Grammar.{TreeProgram};
 ghost use Rattle.expr_grammar.specs.Prefixes.{SomeBegins, StopsAt};
+ghost use Rattle.expr_parts.specs.Kept.{KeepPatterns};
 ghost use Rattle.expr_syntax.specs.Texts.{IsAnswerFor, IsAnswerWithin, IsCompiled, IsCompiledWithin, IsParseRefusal, IsPlaced, IsRead, IsReadFor, IsTreeOf};
 ghost use Rattle.expr_token.specs.Reading.{Begins, NoPiece, Reads, ReadsAt};
 ghost use Rattle.expr_token.specs.declared.token.Token.{Token};
+ghost use Rattle.expr_tree.specs.Beside.{program_operations};
 ghost use Rattle.std.specs.List.{All};
 ghost use Rattle.std.specs.Str.{IsCharBoundary};
 ghost use Rattle.expr_value.specs.declared.error.Error.{Error};
@@ -34,6 +36,8 @@ pub fn compile(alloc: Global, code: &str) -> Result<Program>
     ensures place { IsPlaced code.now result }
     // The text may be cut at that place: a character begins there, or the text ends.
     ensures boundary { (place : ℕ) → result ≡ Err (Error.PestError place) → IsCharBoundary code.now place }
+    // Each literal on the right of `matches` has its pattern kept beside it, if it is one that isn't too big.
+    ensures patterns { IfOk result (λ program. KeepPatterns (program_operations program)) }
 {
     let program = read_program(alloc, code)?;
     Ok(program.into_program())
@@ -55,6 +59,8 @@ pub fn compile_within(alloc: Global, code: &str, height: usize) -> Result<Progra
     ensures place { IsPlaced code.now result }
     // The text may be cut at that place: a character begins there, or the text ends.
     ensures boundary { (place : ℕ) → result ≡ Err (Error.PestError place) → IsCharBoundary code.now place }
+    // Each literal on the right of `matches` has its pattern kept beside it, if it is one that isn't too big.
+    ensures patterns { IfOk result (λ program. KeepPatterns (program_operations program)) }
 {
     let program = read_program(alloc, code)?;
     if program.height() > height {

@@ -1,9 +1,11 @@
 pub mod Agreement
+pub mod Beside
 pub mod Children
 pub mod Gathered
 pub mod Programs
 pub mod Rising
 pub mod Shapes
+pub mod Texts
 pub mod Uses
 pub mod Waiting
 pub mod Weights

@@ -5,7 +5,7 @@ use Rattle.expr_tree.specs.Term.{name, literal, list, mapping, range, call, unar
 use Rattle.expr_tree.specs.Written.{written, postfix_written, bound_written, predicate_written, program_written, line_written, mapping_of, terms_of}
 use Rattle.expr_tree.specs.declared.node.Node.{Node, the_lemmas}
 use Rattle.expr_tree.specs.declared.node.Node.TheVariants as node
-use Rattle.expr_pattern.specs.declared.pattern.Pattern.{Pattern}
+use Rattle.expr_tree.specs.declared.node.CompiledRegex.{CompiledRegex}
 use Rattle.expr_tree.specs.declared.node.PostfixOperator.{PostfixOperator}
 use Rattle.expr_tree.specs.declared.node.PostfixOperator.TheVariants as behind
 use Rattle.expr_tree.specs.declared.node.Program.{Program}
@@ -37,7 +37,7 @@ written-Range a b = search (rules, the_lemmas)
 pub written-Unary : (o : UnaryOperator) (n : Box Node Global) → written (node.Unary o n) ≡ unary o (written n.value)
 written-Unary o n = search (rules, the_lemmas)
 
-pub written-Operation : (o : Operator) (l r : Box Node Global) (kept : Option (Box Pattern Global)) → written (node.Operation o l r kept) ≡ operation o (written l.value) (written r.value)
+pub written-Operation : (o : Operator) (l r : Box Node Global) (kept : CompiledRegex) → written (node.Operation o l r kept) ≡ operation o (written l.value) (written r.value)
 written-Operation o l r kept = search (rules, the_lemmas)
 
 pub written-Postfix : (p : PostfixOperator) (n : Box Node Global) → written (node.Postfix p n) ≡ postfix (postfix_written p) (written n.value)

@@ -5,7 +5,7 @@ use Rattle.expr_tree.specs.Weight.{weight, terms_weight, predicate_weight, postf
 use Rattle.expr_tree.specs.Written.{written, postfix_written, predicate_written, program_written, line_written, terms_of}
 use Rattle.expr_tree.specs.declared.node.Node.{Node}
 use Rattle.expr_tree.specs.declared.node.Node.TheVariants as node
-use Rattle.expr_pattern.specs.declared.pattern.Pattern.{Pattern}
+use Rattle.expr_tree.specs.declared.node.CompiledRegex.{CompiledRegex}
 use Rattle.expr_tree.specs.declared.node.PostfixOperator.{PostfixOperator}
 use Rattle.expr_tree.specs.declared.node.Program.{Program}
 use Rattle.expr_tree.specs.declared.operator.Operator.{Operator}
@@ -56,7 +56,7 @@ weight-Range a b = ap weight (written-Range a b)
 pub weight-Func : (s : String Global) (ns : Vec Node Global) (p : Option (Box Program Global)) → weight (written (node.Func s ns p)) ≡ 1 + (items_weight ns.items + predicate_weight (predicate_written p))
 weight-Func s ns p = ap weight (written-Func s ns p)
 
-pub weight-Operation : (o : Operator) (l r : Box Node Global) (kept : Option (Box Pattern Global)) → weight (written (node.Operation o l r kept)) ≡ 1 + (weight (written l.value) + weight (written r.value))
+pub weight-Operation : (o : Operator) (l r : Box Node Global) (kept : CompiledRegex) → weight (written (node.Operation o l r kept)) ≡ 1 + (weight (written l.value) + weight (written r.value))
 weight-Operation o l r kept = ap weight (written-Operation o l r kept)
 
 pub weight-Postfix : (p : PostfixOperator) (n : Box Node Global) → weight (written (node.Postfix p n)) ≡ 1 + (weight (written n.value) + postfix_weight (postfix_written p))

@@ -1,3 +1,4 @@
+pub mod Beside
 pub mod Children
 pub mod Codes
 pub mod Context

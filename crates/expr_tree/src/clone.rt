@@ -1,14 +1,17 @@
 //! Copies of trees. No copy keeps a pattern.
 ghost use Rattle.std.specs.Prelude.{◌≡◌, IfOk, map};
+ghost use Rattle.std.specs.List.{All};
+ghost use Rattle.expr_tree.specs.Beside.{KeepNone, NodeKeepsNone, bound_operations, postfix_operations, predicate_operations, program_operations};
 ghost use Rattle.expr_tree.specs.Written.{bound_written, line_written, postfix_written, predicate_written, program_written, written};
 
-use crate::node::{Node, PostfixOperator, Program};
+use crate::node::{CompiledRegex, Node, PostfixOperator, Program};
 use std::alloc::AllocError;
 
 impl Clone for Node {
+    ghost use Rattle.expr_tree.specs.Beside.{NodeKeepsNone};
     ghost use Rattle.expr_tree.specs.Written.{written};
 
-    ghost is_clone = { λ n m. written m ≡ written n };
+    ghost is_clone = { λ n m. (written m ≡ written n) × NodeKeepsNone m };
 
     fn clone(&self) -> Result<Node, AllocError> {
         copy(self)
@@ -16,9 +19,10 @@ impl Clone for Node {
 }
 
 impl Clone for PostfixOperator {
+    ghost use Rattle.expr_tree.specs.Beside.{KeepNone, postfix_operations};
     ghost use Rattle.expr_tree.specs.Written.{postfix_written};
 
-    ghost is_clone = { λ p q. postfix_written q ≡ postfix_written p };
+    ghost is_clone = { λ p q. (postfix_written q ≡ postfix_written p) × KeepNone (postfix_operations q) };
 
     fn clone(&self) -> Result<PostfixOperator, AllocError> {
         copy_postfix(self)
@@ -26,9 +30,10 @@ impl Clone for PostfixOperator {
 }
 
 impl Clone for Program {
+    ghost use Rattle.expr_tree.specs.Beside.{KeepNone, program_operations};
     ghost use Rattle.expr_tree.specs.Written.{program_written};
 
-    ghost is_clone = { λ p q. program_written q ≡ program_written p };
+    ghost is_clone = { λ p q. (program_written q ≡ program_written p) × KeepNone (program_operations q) };
 
     fn clone(&self) -> Result<Program, AllocError> {
         copy_program(self)
@@ -37,7 +42,8 @@ impl Clone for Program {
 
 #[cycle(copy)]
 fn copy(node: &Node) -> Result<Node, AllocError>
-    ensures { IfOk result (λ n. written n ≡ written node.now) }
+    ensures tree { IfOk result (λ n. written n ≡ written node.now) }
+    ensures patterns { IfOk result NodeKeepsNone }
 {
     match node {
         Node::Ident(name) => Ok(Node::Ident(name.clone()?)),
@@ -82,7 +88,7 @@ fn copy(node: &Node) -> Result<Node, AllocError>
                 operator: *operator,
                 left,
                 right,
-                compiled_regex: None,
+                compiled_regex: CompiledRegex::None,
             })
         }
         Node::Postfix { operator, node } => {
@@ -109,7 +115,8 @@ fn copy(node: &Node) -> Result<Node, AllocError>
 
 #[cycle(copy)]
 fn copy_postfix(operator: &PostfixOperator) -> Result<PostfixOperator, AllocError>
-    ensures { IfOk result (λ p. postfix_written p ≡ postfix_written operator.now) }
+    ensures tree { IfOk result (λ p. postfix_written p ≡ postfix_written operator.now) }
+    ensures patterns { IfOk result (λ p. KeepNone (postfix_operations p)) }
 {
     match operator {
         PostfixOperator::Index { idx, optional } => {
@@ -141,7 +148,8 @@ fn copy_postfix(operator: &PostfixOperator) -> Result<PostfixOperator, AllocErro
 
 #[cycle(copy)]
 fn copy_boxed(node: &Box<Node>) -> Result<Box<Node>, AllocError>
-    ensures { IfOk result (λ b. written b.value ≡ written node.now.value) }
+    ensures tree { IfOk result (λ b. written b.value ≡ written node.now.value) }
+    ensures patterns { IfOk result (λ b. NodeKeepsNone b.value) }
 {
     let alloc = *Box::allocator(node);
     let node = copy(node.as_ref())?;
@@ -150,7 +158,8 @@ fn copy_boxed(node: &Box<Node>) -> Result<Box<Node>, AllocError>
 
 #[cycle(copy)]
 fn copy_bound(bound: &Option<Box<Node>>) -> Result<Option<Box<Node>>, AllocError>
-    ensures { IfOk result (λ b. bound_written b ≡ bound_written bound.now) }
+    ensures tree { IfOk result (λ b. bound_written b ≡ bound_written bound.now) }
+    ensures patterns { IfOk result (λ b. KeepNone (bound_operations b)) }
 {
     match bound {
         None => Ok(None),
@@ -164,7 +173,8 @@ fn copy_bound(bound: &Option<Box<Node>>) -> Result<Option<Box<Node>>, AllocError
 
 #[cycle(copy)]
 fn copy_block(program: &Box<Program>) -> Result<Box<Program>, AllocError>
-    ensures { IfOk result (λ b. program_written b.value ≡ program_written program.now.value) }
+    ensures tree { IfOk result (λ b. program_written b.value ≡ program_written program.now.value) }
+    ensures patterns { IfOk result (λ b. KeepNone (program_operations b.value)) }
 {
     let alloc = *Box::allocator(program);
     let program = copy_program(program.as_ref())?;
@@ -173,7 +183,8 @@ fn copy_block(program: &Box<Program>) -> Result<Box<Program>, AllocError>
 
 #[cycle(copy)]
 fn copy_predicate(predicate: &Option<Box<Program>>) -> Result<Option<Box<Program>>, AllocError>
-    ensures { IfOk result (λ p. predicate_written p ≡ predicate_written predicate.now) }
+    ensures tree { IfOk result (λ p. predicate_written p ≡ predicate_written predicate.now) }
+    ensures patterns { IfOk result (λ p. KeepNone (predicate_operations p)) }
 {
     match predicate {
         None => Ok(None),
@@ -187,7 +198,8 @@ fn copy_predicate(predicate: &Option<Box<Program>>) -> Result<Option<Box<Program
 
 #[cycle(copy)]
 fn copy_nodes(nodes: &Vec<Node>) -> Result<Vec<Node>, AllocError>
-    ensures { IfOk result (λ v. map written v.items ≡ map written nodes.now.items) }
+    ensures tree { IfOk result (λ v. map written v.items ≡ map written nodes.now.items) }
+    ensures patterns { IfOk result (λ v. All NodeKeepsNone v.items) }
 {
     let mut copies = Vec::with_capacity(*nodes.allocator(), nodes.len())?;
     for node in nodes {
@@ -198,7 +210,8 @@ fn copy_nodes(nodes: &Vec<Node>) -> Result<Vec<Node>, AllocError>
 
 #[cycle(copy)]
 fn copy_program(program: &Program) -> Result<Program, AllocError>
-    ensures { IfOk result (λ p. program_written p ≡ program_written program.now) }
+    ensures tree { IfOk result (λ p. program_written p ≡ program_written program.now) }
+    ensures patterns { IfOk result (λ p. KeepNone (program_operations p)) }
 {
     let lines = copy_lines(&program.lines)?;
     let expr = copy(&program.expr)?;
@@ -207,7 +220,8 @@ fn copy_program(program: &Program) -> Result<Program, AllocError>
 
 #[cycle(copy)]
 fn copy_lines(lines: &Vec<(String, Node)>) -> Result<Vec<(String, Node)>, AllocError>
-    ensures { IfOk result (λ v. map line_written v.items ≡ map line_written lines.now.items) }
+    ensures tree { IfOk result (λ v. map line_written v.items ≡ map line_written lines.now.items) }
+    ensures patterns { IfOk result (λ v. All (λ l. NodeKeepsNone l.1) v.items) }
 {
     let mut copies = Vec::with_capacity(*lines.allocator(), lines.len())?;
     for (name, value) in lines {

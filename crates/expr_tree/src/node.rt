@@ -1,5 +1,7 @@
 //! The nodes of a program.
 ghost use Rattle.std.specs.Prelude.{◌+◌, ◌<◌, ◌≤◌, ◌≡◌, IfOk, IfErr, IfSome};
+ghost use Rattle.std.specs.Option.{option_copied};
+ghost use Rattle.expr_tree.specs.Beside.{built_text};
 ghost use Rattle.expr_tree.specs.Weight.{weight};
 ghost use Rattle.expr_tree.specs.Written.{written};
 
@@ -36,12 +38,12 @@ pub enum Node {
         operator: UnaryOperator,
         node: Box<Node>,
     },
-    /// An operator between its operands. The pattern is one that was built beforehand, of the text on the right of `matches`; one of any other text is passed over.
+    /// An operator between its operands. A pattern that was built beforehand is of the text on the right of `matches`; one of any other text is passed over.
     Operation {
         operator: Operator,
         left: Box<Node>,
         right: Box<Node>,
-        compiled_regex: Option<Box<Pattern>>,
+        compiled_regex: CompiledRegex,
     },
     /// What stands behind its operand.
     Postfix {
@@ -186,6 +188,29 @@ impl Node {
                     },
                 ))
             }
+        }
+    }
+}
+
+/// What an operation keeps of the pattern on its right. A copy keeps nothing.
+#[derive(Drop)]
+pub enum CompiledRegex {
+    /// Nothing. Where the operation was read of a text, its operator isn't `matches`, or no text literal stands on the right, or the one there is no pattern, or nests too deep.
+    None,
+    /// The pattern.
+    Built(Box<Pattern>),
+    /// Nothing but that the text literal is a pattern, and its compiled form passes the limit of `regex`.
+    TooBig,
+}
+
+impl CompiledRegex {
+    /// The pattern, if it was built.
+    pub fn built(&self) -> Option<&Pattern>
+        ensures { option_copied result ≡ built_text self.now }
+    {
+        match self {
+            CompiledRegex::Built(pattern) => Some(pattern.as_ref()),
+            CompiledRegex::None | CompiledRegex::TooBig => None,
         }
     }
 }

@@ -1,29 +1,48 @@
-use Rattle.std.proofs.Common.{◌≡◌, suc, ◌<◌, Some, None, length, map, sym, ap, ◌∙◌, arith, rules, string_bytes}
+use Rattle.std.proofs.Common.{◌≡◌, suc, ◌<◌, Some, None, length, map, sym, ap, ◌∙◌, subst, arith, rules, Global, String, string_bytes}
 use Rattle.std.proofs.lemmas.List.{get_or-map, length-map}
+use Rattle.std.proofs.lemmas.List.Elements.{All-get_or, All-nil, All-same}
+use Rattle.expr_tree.specs.Beside.{line_operations, operations, predicate_operations}
 use Rattle.expr_tree.specs.Term.{call, list, no_terms, predicate, block_with}
 use Rattle.expr_tree.specs.Written.{predicate_written, program_written, written, line_written, terms_of}
+use Rattle.expr_tree.specs.declared.node.Node.{Node}
+use Rattle.expr_tree.proofs.Beside.{all-Func, all-program}
 use Rattle.expr_tree.proofs.Programs.{written-program}
 use Rattle.expr_tree.proofs.Shapes.{written-Func}
+use Rattle.expr_parts.specs.Kept.{IsKeptBeside, KeepPatterns}
 use Rattle.expr_parts.specs.Parts.{Given}
 use Rattle.expr_parts.specs.Promotion.{any_free_hash, call_of, has_free_hash}
+use Rattle.expr_parts.proofs.Kept.{all_remove, keeps-none, keeps_node, keeps_program}
 use Rattle.expr_parts.proofs.Parts.{map-remove, same_measured}
 use Rattle.expr_parts.proofs.Places.{any_marked, call_found, found_free, free_within, rest_marked}
 use Rattle.expr_parts.proofs.arguments.Arguments.call.Goals as goal
 
+-- that the patterns of a node are kept, and of a line's value
+abbrev keeps : Node → Type 0
+keeps n = KeepPatterns (operations n)
+
+abbrev line_keeps : String Global × Node → Type 0
+line_keeps l = KeepPatterns (line_operations l)
+
 pub call_with-requires : goal.call_with-requires
-call_with-requires c = any_marked c.self.inside.marks (map written c.self.inside.nodes.items) c.self.invariant
+call_with-requires c = record {
+  hash = any_marked c.self.inside.marks (map written c.self.inside.nodes.items) c.self.invariant.0;
+  arguments = c.self.invariant.1;
+  program = subst (λ o. KeepPatterns (predicate_operations o)) c.in-Some.is c.self.invariant.2;
+}
 
 pub invariant_of-result : goal.invariant_of-result
-invariant_of-result c =
-    any_marked c.self.inside.marks (map written c.self.inside.nodes.items) c.self.invariant
-    ∙ sym (ap has_free_hash (written-Func c.args.ident c.self.inside.nodes None))
+invariant_of-result c = (
+  any_marked c.self.inside.marks (map written c.self.inside.nodes.items) c.self.invariant.0
+      ∙ sym (ap has_free_hash (written-Func c.args.ident c.self.inside.nodes None)),
+  all-Func IsKeptBeside c.args.ident c.self.inside.nodes None c.self.invariant.1 keeps-none,
+)
 
 pub remove-expr-requires : goal.remove-expr-requires
 remove-expr-requires c =
     let ns = c.self.inside.nodes in
     let ts = map written ns.items in
     let count = c.len.ensures ∙ ns.ok.0 ∙ sym (length-map ns.items written) in
-    let free = found_free c.as_str.result.now ts c.self.inside.marks c.len.result c.promoted_place.result c.in-Some-promoted_place.place c.self.invariant count c.promoted_place.ensures c.in-Some-promoted_place.is in
+    let free = found_free c.as_str.result.now ts c.self.inside.marks c.len.result c.promoted_place.result c.in-Some-promoted_place.place c.self.invariant.0 count c.promoted_place.ensures c.in-Some-promoted_place.is in
     omega (arith, free_within ts c.in-Some-promoted_place.place free, length-map ns.items written, ns.ok.0)
 
 pub call_with-requires-in-Some-promoted_place : goal.call_with-requires-in-Some-promoted_place
@@ -32,9 +51,16 @@ call_with-requires-in-Some-promoted_place c =
     let ts = map written ns.items in
     let place = c.in-Some-promoted_place.place in
     let count = c.len.ensures ∙ ns.ok.0 ∙ sym (length-map ns.items written) in
-    let free = found_free c.as_str.result.now ts c.self.inside.marks c.len.result c.promoted_place.result place c.self.invariant count c.promoted_place.ensures c.in-Some-promoted_place.is in
-    rest_marked c.self.inside.marks ts place c.self.invariant free
-    ∙ ap (λ l. any_free_hash (terms_of l)) (sym (ap (map written) c.remove-expr.ensures.items ∙ map-remove written ns.items place))
+    let free = found_free c.as_str.result.now ts c.self.inside.marks c.len.result c.promoted_place.result place c.self.invariant.0 count c.promoted_place.ensures c.in-Some-promoted_place.is in
+    let below : place < length ns.items = omega (arith, free_within ts place free, length-map ns.items written) in
+    record {
+      hash = rest_marked c.self.inside.marks ts place c.self.invariant.0 free
+          ∙ ap (λ l. any_free_hash (terms_of l)) (sym (ap (map written) c.remove-expr.ensures.items ∙ map-remove written ns.items place));
+      arguments = All-same keeps _ _ c.remove-expr.ensures.items (all_remove keeps ns.items place c.self.invariant.1);
+      program = keeps_program c.in_ok-program-in-Some-promoted_place.ensures.ok
+          (all-program IsKeptBeside c.new-lines.result c.remove-expr.result (All-same line_keeps _ _ c.new-lines.ensures.items (All-nil line_keeps))
+          (keeps_node c.remove-expr.ensures.value (All-get_or keeps ns.items place c.remove-expr.result below c.self.invariant.1)));
+    }
 
 pub returns-in-None : goal.returns-in-None
 returns-in-None c =
@@ -45,7 +71,7 @@ returns-in-None c =
     let none : c.self.inside.program ≡ None = search rules in
     same_measured
     (written-Func c.args.ident ns None
-    ∙ call_found key ts c.self.inside.marks c.len.result c.promoted_place.result None c.self.invariant count (rw c.as_str.ensures.value at c.promoted_place.ensures) c.in-None.is
+    ∙ call_found key ts c.self.inside.marks c.len.result c.promoted_place.result None c.self.invariant.0 count (rw c.as_str.ensures.value at c.promoted_place.ensures) c.in-None.is
     ∙ ap (λ o. call_of key ts (predicate_written o)) (sym none)
     ∙ ap (λ (g : Given). call_of key g.terms g.program) c.self.view_is)
     (c.in_ok-height.ensures ∙ ap (λ (g : Given). suc g.height) c.self.view_is)
@@ -59,7 +85,7 @@ returns-in_ok-program-in-Some-promoted_place c =
     let expr = c.remove-expr.result in
     let count = c.len.ensures ∙ ns.ok.0 ∙ sym (length-map ns.items written) in
     let found = rw c.as_str.ensures.value at c.promoted_place.ensures in
-    let free = found_free key ts c.self.inside.marks c.len.result c.promoted_place.result place c.self.invariant count found c.in-Some-promoted_place.is in
+    let free = found_free key ts c.self.inside.marks c.len.result c.promoted_place.result place c.self.invariant.0 count found c.in-Some-promoted_place.is in
     let below : place < length ns.items = omega (arith, free_within ts place free, length-map ns.items written) in
     let none : c.self.inside.program ≡ None = search rules in
     let rest = ap (map written) c.remove-expr.ensures.items ∙ map-remove written ns.items place in
@@ -69,7 +95,7 @@ returns-in_ok-program-in-Some-promoted_place c =
     c.call_with-in-Some-promoted_place.ensures
     ∙ same_measured
     ((λ i. call key (terms_of (rest i)) (predicate (step i)))
-    ∙ call_found key ts c.self.inside.marks c.len.result c.promoted_place.result (Some place) c.self.invariant count found c.in-Some-promoted_place.is
+    ∙ call_found key ts c.self.inside.marks c.len.result c.promoted_place.result (Some place) c.self.invariant.0 count found c.in-Some-promoted_place.is
     ∙ ap (λ o. call_of key ts (predicate_written o)) (sym none)
     ∙ ap (λ (g : Given). call_of key g.terms g.program) c.self.view_is)
     (c.in_ok-height.ensures ∙ ap (λ (g : Given). suc g.height) c.self.view_is)

@@ -7,5 +7,5 @@ use Rattle.expr_parts.proofs.arguments.Arguments.has_free_hash.Goals as goal
 
 pub returns : goal.returns
 returns c =
-    any_marked c.self.inside.marks (map written c.self.inside.nodes.items) c.self.invariant
+    any_marked c.self.inside.marks (map written c.self.inside.nodes.items) c.self.invariant.0
     ∙ ap (λ (g : Given). any_free_hash (terms_of g.terms)) c.self.view_is

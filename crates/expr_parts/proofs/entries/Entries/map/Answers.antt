@@ -3,7 +3,9 @@ use Rattle.expr_value.specs.Names.{put_all}
 use Rattle.expr_value.specs.declared.value.Value.TheVariants as value
 use Rattle.expr_tree.specs.Term.{literal, mapping, pairs_of}
 use Rattle.expr_tree.specs.Written.{line_written}
+use Rattle.expr_tree.proofs.Beside.{all-Map}
 use Rattle.expr_tree.proofs.Shapes.{written-Map}
+use Rattle.expr_parts.specs.Kept.{IsKeptBeside}
 use Rattle.expr_parts.specs.Maps.{literals, map_term}
 use Rattle.expr_parts.specs.Parts.{MeasuredPairs}
 use Rattle.expr_parts.specs.Promotion.{has_free_hash}
@@ -12,8 +14,10 @@ use Rattle.expr_parts.proofs.entries.Entries.map.Goals as goal
 
 pub invariant_of-result : goal.invariant_of-result
 invariant_of-result c =
-    let ps = c.self.inside.pairs in
-    c.self.invariant.1 ∙ sym (ap has_free_hash (written-Map ps) ∙ pairs_free (map line_written ps.items))
+    let ps = c.self.inside.pairs in (
+      c.self.invariant.1 ∙ sym (ap has_free_hash (written-Map ps) ∙ pairs_free (map line_written ps.items)),
+      all-Map IsKeptBeside ps c.self.invariant.2,
+    )
 
 pub returns-then-has_expression : goal.returns-then-has_expression
 returns-then-has_expression c =

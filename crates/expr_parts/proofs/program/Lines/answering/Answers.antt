@@ -2,7 +2,9 @@ use Rattle.std.proofs.Common.{◌≡◌, ◌||◌, max, map, sym, ap, ◌∙◌}
 use Rattle.expr_tree.specs.Term.{block_with}
 use Rattle.expr_parts.specs.Promotion.{has_free_hash, block_has_free_hash, lines_have_free_hash}
 use Rattle.expr_tree.specs.Written.{written, line_written}
+use Rattle.expr_tree.proofs.Beside.{all-program}
 use Rattle.expr_tree.proofs.Programs.{written-program}
+use Rattle.expr_parts.specs.Kept.{IsKeptBeside}
 use Rattle.expr_parts.specs.Parts.{Measured}
 use Rattle.expr_parts.proofs.Parts.{block_free, same_block}
 use Rattle.expr_parts.proofs.program.Lines.answering.Goals as goal
@@ -16,11 +18,13 @@ invariant_of-result c =
       | else-has_free_hash w ↦ w.has_free_hash-is ∙ ap (λ b. b || c.last.inside.has_free_hash) (sym w.if-has_free_hash.false)
     ] in
     let free : (c.self.inside.has_free_hash || c.last.inside.has_free_hash) ≡ (lines_have_free_hash (map line_written c.self.inside.lines.items) || has_free_hash (written c.last.inside.node)) =
-    λ i. c.self.invariant i || c.last.invariant i in
-    let same : written c.last.inside.node ≡ written c.into_node.result = ap (λ (m : Measured). m.term) c.last.view_is ∙ sym c.into_node.ensures in
-    flag ∙ free ∙ ap (λ t. lines_have_free_hash (map line_written c.self.inside.lines.items) || has_free_hash t) same
-    ∙ sym (ap block_has_free_hash (written-program c.self.inside.lines c.into_node.result) ∙ block_free (map line_written c.self.inside.lines.items) (written c.into_node.result))
+    λ i. c.self.invariant.0 i || c.last.invariant.0 i in
+    let same : written c.last.inside.node ≡ written c.into_node.result = ap (λ (m : Measured). m.term) c.last.view_is ∙ sym c.into_node.ensures.term in (
+      flag ∙ free ∙ ap (λ t. lines_have_free_hash (map line_written c.self.inside.lines.items) || has_free_hash t) same
+          ∙ sym (ap block_has_free_hash (written-program c.self.inside.lines c.into_node.result) ∙ block_free (map line_written c.self.inside.lines.items) (written c.into_node.result)),
+      all-program IsKeptBeside c.self.inside.lines c.into_node.result c.self.invariant.1 c.into_node.ensures.patterns,
+    )
 
 pub returns : goal.returns
-returns c = same_block (written-program c.self.inside.lines c.into_node.result ∙ (λ i. block_with (c.self.view_is i).lines (c.into_node.ensures i)))
+returns c = same_block (written-program c.self.inside.lines c.into_node.result ∙ (λ i. block_with (c.self.view_is i).lines (c.into_node.ensures.term i)))
     (c.max-height.ensures ∙ (λ i. max (c.self.view_is i).height (c.height.ensures i)))
