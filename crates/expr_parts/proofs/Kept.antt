@@ -1,9 +1,9 @@
 -- What is kept beside the operations of parts that stand in memory.
-use Rattle.std.proofs.Common.{◌≡◌, ℕ, zero, suc, List, [], ◌∷◌, Option, Some, None, Box, Global, String, refl, ap}
+use Rattle.std.proofs.Common.{◌≡◌, ℕ, zero, suc, List, [], ◌∷◌, Global, String, ap}
 use Rattle.std.specs.List.{All, remove}
 use Rattle.std.proofs.lemmas.List.Elements.{All-cons, All-head, All-nil, All-same, All-tail}
 use Rattle.expr_value.specs.declared.value.Value.{Value}
-use Rattle.expr_tree.specs.Beside.{Beside, operations, program_operations, predicate_operations}
+use Rattle.expr_tree.specs.Beside.{operations, program_operations}
 use Rattle.expr_tree.specs.declared.node.Node.{Node}
 use Rattle.expr_tree.specs.declared.node.Node.TheVariants as node
 use Rattle.expr_tree.specs.declared.node.Program.{Program}

@@ -46,9 +46,15 @@ impl Model for Arguments {
 
     ghost coded = { given_code };
 
-    ghost view = { λ a. record { terms = map written a.nodes.items; program = predicate_written a.program; height = a.height } };
+    ghost view = { λ a. record {
+        terms = map written a.nodes.items;
+        program = predicate_written a.program;
+        height = a.height;
+      } };
 
-    ghost invariant = { λ a. (a.marks ≡ marks_of (map written a.nodes.items)) × NodesKeepPatterns a.nodes.items × KeepPatterns (predicate_operations a.program) };
+    ghost invariant = { λ a. (a.marks ≡ marks_of (map written a.nodes.items))
+        × NodesKeepPatterns a.nodes.items
+        × KeepPatterns (predicate_operations a.program) };
 }
 
 impl Arguments {

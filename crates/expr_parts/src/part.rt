@@ -50,7 +50,8 @@ impl Model for Part {
 
     ghost view = { λ p. record { term = written p.node; height = p.height } };
 
-    ghost invariant = { λ p. (p.has_free_hash ≡ hash_stands_free (written p.node)) × KeepPatterns (operations p.node) };
+    ghost invariant = { λ p. (p.has_free_hash ≡ hash_stands_free (written p.node))
+        × KeepPatterns (operations p.node) };
 }
 
 // The height of a tree by that of the highest inside it. One that doesn't fit is refused, though no memory holds the tokens of so high a tree.

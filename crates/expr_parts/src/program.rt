@@ -43,7 +43,8 @@ impl Model for ProgramPart {
 
     ghost view = { λ p. record { block = program_written p.program; height = p.height } };
 
-    ghost invariant = { λ p. (p.has_free_hash ≡ block_has_free_hash (program_written p.program)) × KeepPatterns (program_operations p.program) };
+    ghost invariant = { λ p. (p.has_free_hash ≡ block_has_free_hash (program_written p.program))
+        × KeepPatterns (program_operations p.program) };
 }
 
 impl ProgramPart {
@@ -100,7 +101,8 @@ impl Model for Lines {
 
     ghost view = { λ l. record { lines = map line_written l.lines.items; height = l.height } };
 
-    ghost invariant = { λ l. (l.has_free_hash ≡ lines_have_free_hash (map line_written l.lines.items)) × LinesKeepPatterns l.lines.items };
+    ghost invariant = { λ l. (l.has_free_hash ≡ lines_have_free_hash (map line_written l.lines.items))
+        × LinesKeepPatterns l.lines.items };
 }
 
 impl Lines {

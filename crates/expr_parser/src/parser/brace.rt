@@ -55,7 +55,8 @@ impl Parser {
     // The first token of a predicate.
     fn body(&mut self, first: Token) -> Result<Place, Fault>
         ensures { Stands (machine.want first
-            (frame.Body section.Predicate no_lines ∷ stack self.old.frames.items)) self.new.frames.items result }
+            (frame.Body section.Predicate no_lines ∷ stack self.old.frames.items))
+            self.new.frames.items result }
     {
         self.push(Frame::Body(Section::Predicate, Lines::new(self.alloc)))?;
         self.want(first)
@@ -91,7 +92,8 @@ impl Parser {
     // A predicate after its first token.
     fn after_first(&mut self, first: Token, next: &mut Token) -> Result<Place, Fault>
         ensures { Stands (machine.steps_on (machine.want first
-            (frame.Body section.Predicate no_lines ∷ stack self.old.frames.items)) next.old) self.new.frames.items result }
+            (frame.Body section.Predicate no_lines ∷ stack self.old.frames.items)) next.old)
+            self.new.frames.items result }
     {
         let place = self.body(first)?;
         self.step_on(place, next)
