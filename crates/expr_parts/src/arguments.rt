@@ -47,10 +47,10 @@ impl Model for Arguments {
     ghost coded = { given_code };
 
     ghost view = { λ a. record {
-        terms = map written a.nodes.items;
-        program = predicate_written a.program;
-        height = a.height;
-      } };
+      terms = map written a.nodes.items;
+      program = predicate_written a.program;
+      height = a.height;
+    } };
 
     ghost invariant = { λ a. (a.marks ≡ marks_of (map written a.nodes.items))
         × NodesKeepPatterns a.nodes.items
