@@ -17,7 +17,7 @@ pub fn from_json(alloc: Global, text: &str) -> Result<Value>
     ensures { Is result (given (json_value text.now)) }
 {
     match Json::from_str(alloc, text) {
-        Ok(json) => value_of(alloc, &json),
+        Ok(json) => value_of(alloc, json),
         Err(error) => {
             if error.is_memory() {
                 Err(Error::MemoryError)
@@ -29,25 +29,25 @@ pub fn from_json(alloc: Global, text: &str) -> Result<Value>
 }
 
 #[cycle(reading)]
-fn value_of(alloc: Global, json: &Json) -> Result<Value>
-    ensures { Is result (given (value_of (view json.now))) }
+fn value_of(alloc: Global, json: Json) -> Result<Value>
+    ensures { Is result (given (value_of (view json))) }
 {
     match json {
         Json::Null => Ok(Value::Nil),
-        Json::Bool(b) => Ok(Value::Bool(*b)),
+        Json::Bool(b) => Ok(Value::Bool(b)),
         Json::Number(number) => match number.as_i64() {
             Some(n) => Ok(Value::Integer(n)),
             None => Err(refusal(alloc, "a number of JSON that is no integer of 64 bits")),
         },
-        Json::String(text) => Value::text(alloc, text.as_str()),
+        Json::String(text) => Ok(Value::String(Text::from_string(text))),
         Json::Array(items) => Ok(Value::Array(values_of(alloc, items)?)),
         Json::Object(members) => Ok(Value::Map(pairs_of(alloc, members)?)),
     }
 }
 
 #[cycle(reading)]
-fn values_of(alloc: Global, items: &Vec<Json>) -> Result<Items<Value>>
-    ensures { Is result (given (values_of (items_view items.now.items))) }
+fn values_of(alloc: Global, items: Vec<Json>) -> Result<Items<Value>>
+    ensures { Is result (given (values_of (items_view items.items))) }
 {
     let mut values = Vec::with_capacity(alloc, items.len())?;
     for item in items {
@@ -57,13 +57,12 @@ fn values_of(alloc: Global, items: &Vec<Json>) -> Result<Items<Value>>
 }
 
 #[cycle(reading)]
-fn pairs_of(alloc: Global, members: &Map<String, Json>) -> Result<ValueMap>
-    ensures { Is result (given (pairs_of (members_view members.now.entries))) }
+fn pairs_of(alloc: Global, members: Map<String, Json>) -> Result<ValueMap>
+    ensures { Is result (given (pairs_of (members_view members.entries))) }
 {
-    let mut pairs = ValueMap::new(alloc);
-    for (key, member) in members.iter() {
-        let name = Text::copy(alloc, key.as_str())?;
-        pairs.insert(name, value_of(alloc, member)?)?;
+    let mut pairs = ValueMap::with_capacity(alloc, members.len())?;
+    for (key, member) in members {
+        pairs.insert(Text::from_string(key), value_of(alloc, member)?)?;
     }
     Ok(pairs)
 }
