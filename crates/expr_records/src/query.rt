@@ -91,7 +91,15 @@ impl<'h> Query<'h> {
             members,
             names: self.names,
         };
+        self.answer_of(alloc, &record)
+    }
+
+    /// What the expression answers of a record and the names that stand before its members.
+    fn answer_of(&self, alloc: Global, record: &Record) -> Result<Value>
+        ensures { (text : List ℕ) → IsCodeOf text (code_of self.now.code)
+            → Gives result (may_answer (host_of self.now.environment.now) record.now.names.now text record.now.members) }
+    {
         execution_answers_programs::<Environment>();
-        self.environment.execute(alloc, &self.code, &record)
+        self.environment.execute(alloc, &self.code, record)
     }
 }

@@ -9,7 +9,7 @@ use Rattle.expr_records.specs.declared.outcome.Outcome.TheVariants.{Refused}
 use Rattle.expr_records.proofs.judging.QueryJudge.judge.Goals as goal
 
 pub returns-in-Ok : goal.returns-in-Ok
-returns-in-Ok c =
+returns-in-Ok g c =
     let query = c.args.self.now in
     let full : is_blank c.args.line.now ≡ false = ap (list_all is_space) (sym c.text_of-text.ensures) ∙ (sym c.is_blank.ensures ∙ c.if-is_blank.false) in
     λ text is.
@@ -18,7 +18,7 @@ returns-in-Ok c =
     subst (λ b. ComesBy b query.purpose (may_answer (host_of query.environment.now) query.names.now text) (text_of c.args.line.now) c.record_outcome.result) (sym full) (inl (c.in-Ok.members, held, come))
 
 pub returns-in-Err : goal.returns-in-Err
-returns-in-Err c =
+returns-in-Err g c =
     let query = c.args.self.now in
     let full : is_blank c.args.line.now ≡ false = ap (list_all is_space) (sym c.text_of-text.ensures) ∙ (sym c.is_blank.ensures ∙ c.if-is_blank.false) in
     λ text is.

@@ -4,8 +4,8 @@ use Rattle.expr_tree.specs.Written.{program_written}
 use Rattle.expr_records.proofs.query.Query.compile.Goals as goal
 
 pub returns-clause-code : goal.returns-clause-code
-returns-clause-code c = (
+returns-clause-code g c = (
   program_written c.in_ok-program.program,
   c.in_ok-program.ensures.answer,
-  subst (IsCode (program_written c.in_ok-program.program)) (sym c.in_ok-keep.ensures.blocks) c.in_ok-lower.ensures.code,
+  subst (IsCode (program_written c.in_ok-program.program)) (sym c.in_ok-code.ensures.blocks) c.in_ok-lower.ensures.code,
 )
