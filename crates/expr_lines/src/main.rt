@@ -106,7 +106,7 @@ fn names_of<E: Write>(
 fn work<W: Write, E: Write>(
     rt: &HostRuntime,
     options: &Options,
-    sieve: &mut Sieve<Query, W, E>,
+    sieve: &mut Sieve<Query<Environment>, W, E>,
 ) -> u8 {
     let mut is_read = true;
     let mut names = options.files.as_slice();
@@ -135,7 +135,7 @@ fn work<W: Write, E: Write>(
 }
 
 /// Writes what stands at the end of all.
-fn finish<W: Write, E: Write>(purpose: Purpose, sieve: &mut Sieve<Query, W, E>) -> io::Result<()> {
+fn finish<W: Write, E: Write>(purpose: Purpose, sieve: &mut Sieve<Query<Environment>, W, E>) -> io::Result<()> {
     if let Purpose::Count(_) = purpose {
         writeln!(sieve.out, "{}", sieve.tally.kept)?;
     }
@@ -145,7 +145,7 @@ fn finish<W: Write, E: Write>(purpose: Purpose, sieve: &mut Sieve<Query, W, E>) 
 /// The status where nothing more can be written. That nobody reads it isn't said.
 fn status_unwritten<W: Write, E: Write>(
     options: &Options,
-    sieve: &mut Sieve<Query, W, E>,
+    sieve: &mut Sieve<Query<Environment>, W, E>,
     error: &io::Error,
 ) -> u8 {
     if error.kind() == ErrorKind::BrokenPipe {
@@ -160,7 +160,7 @@ fn sift_named<W: Write, E: Write>(
     rt: &HostRuntime,
     options: &Options,
     name: &str,
-    sieve: &mut Sieve<Query, W, E>,
+    sieve: &mut Sieve<Query<Environment>, W, E>,
 ) -> Ended {
     let alloc = rt.alloc();
     if name == "-" {
@@ -192,7 +192,7 @@ fn sift_stream<R: Read + Drop, W: Write, E: Write>(
     alloc: Global,
     name: &str,
     stream: R,
-    sieve: &mut Sieve<Query, W, E>,
+    sieve: &mut Sieve<Query<Environment>, W, E>,
 ) -> Ended {
     match BufReader::with_capacity(alloc, BUFFER, stream) {
         Ok(mut reader) => sieve.sift(alloc, name, &mut reader),

@@ -28,10 +28,6 @@ IsCodeOf text code = (b : Block) × IsProgramWithin text 500 b × IsCode b code
 abbrev pub may_answer : Host → Pairs → List ℕ → Pairs → Answer → Type 0
 may_answer host names text members answer = MayAnswerWithin 500 text host (lent names members) answer
 
--- what a text may answer among some names
-abbrev pub may_answer_among : Host → Pairs → List ℕ → Answer → Type 0
-may_answer_among host names text answer = MayAnswerWithin 500 text host (record { value_of = λ name. find name names; map = names }) answer
-
 -- what the code of a name may answer, among no names
 abbrev pub may_name : Host → List ℕ → Answer → Type 0
-may_name host code answer = may_answer_among host [] code answer
+may_name host code answer = MayAnswerWithin 500 code host (record { value_of = λ name. find name []; map = [] }) answer

@@ -1,6 +1,5 @@
 //! What a line comes to by an expression.
 ghost use Rattle.std.specs.Prelude.{◌≡◌, ℕ, List};
-ghost use Rattle.expr.specs.Hosted.{host_of};
 ghost use Rattle.expr_records.specs.Asked.{IsCodeOf, code_of, may_answer};
 ghost use Rattle.expr_records.specs.Judged.{ComesOfRecord, IsOutcomeOf, is_sought, same};
 
@@ -10,6 +9,7 @@ use crate::record::{is_blank, record_of, text_of};
 use crate::sieve::Judge;
 use expr::{Context, Value};
 use expr_encoding::to_json;
+use expr_meaning::Functions;
 use std::alloc::Global;
 
 /// Whether a truth is the one that is sought.
@@ -52,9 +52,9 @@ fn outcome_of(alloc: Global, purpose: Purpose, answer: &Value) -> Outcome
 }
 
 /// What a record comes to.
-fn record_outcome(alloc: Global, query: &Query, members: Context) -> Outcome
+fn record_outcome<H: Functions>(alloc: Global, query: &Query<H>, members: Context) -> Outcome
     ensures { (text : List ℕ) → IsCodeOf text (code_of query.now.code) → ComesOfRecord query.now.purpose
-        (may_answer (host_of query.now.environment.now) query.now.names.now text members) result }
+        (may_answer (H.host query.now.host.now) query.now.names.now text members) result }
 {
     match query.answer(alloc, members) {
         Ok(answer) => outcome_of(alloc, query.purpose, &answer),
@@ -62,14 +62,13 @@ fn record_outcome(alloc: Global, query: &Query, members: Context) -> Outcome
     }
 }
 
-impl<'h> Judge for Query<'h> {
+impl<'h, H: Functions> Judge for Query<'h, H> {
     ghost use Rattle.std.specs.Prelude.{List, ℕ};
-    ghost use Rattle.expr.specs.Hosted.{host_of};
     ghost use Rattle.expr_records.specs.Asked.{IsCodeOf, code_of, may_answer};
     ghost use Rattle.expr_records.specs.Judged.{MayCome};
 
     ghost judged = { λ q line outcome. (text : List ℕ) → IsCodeOf text (code_of q.code)
-        → MayCome q.purpose (may_answer (host_of q.environment.now) q.names.now text) line outcome };
+        → MayCome q.purpose (may_answer (H.host q.host.now) q.names.now text) line outcome };
 
     /// A mark at the line's front is passed over, and a line of spaces, tabs and carriage returns alone has no record.
     fn judge(&self, alloc: Global, line: &[u8]) -> Outcome {
