@@ -1,9 +1,9 @@
 -- Lines, and the looks at a stream that take them.
-use Rattle.std.proofs.Common.{◌≡◌, ◌≢◌, ℕ, zero, suc, ◌+◌, ◌<◌, ◌≤◌, Bool, true, false, cond, List, [], ◌∷◌, ◌++◌, None, Some, length, take, refl, sym, ap, subst, ◌∙◌, arith, append_assoc, append-nil, ne_eqb, eq-eqb, eqb-true, slice_index, length-append}
+use Rattle.std.proofs.Common.{◌≡◌, ℕ, zero, suc, ◌+◌, ◌<◌, Bool, true, false, cond, List, [], ◌∷◌, ◌++◌, None, Some, length, take, refl, sym, ap, subst, ◌∙◌, arith, append_assoc, append-nil, ne_eqb, eq-eqb, eqb-true, slice_index, length-append}
 use Rattle.std.proofs.lemmas.List.{take_more}
 use Rattle.std.specs.Prelude.{Option}
 use Rattle.std.specs.Io.KnownBytes.{Consumes, IsAtEnd}
-use Rattle.memchr.specs.Find.{NoneBefore, Nowhere, Passes, is_byte}
+use Rattle.memchr.specs.Find.{Passes, is_byte}
 use Rattle.expr_records.specs.Held.{Holds}
 use Rattle.expr_records.specs.Lines.{lines_of, onto_first, TakesLine}
 use Rattle.expr_records.specs.Taken.{HasNoFeed, IsNextLine, Takes}

@@ -1,5 +1,5 @@
 -- The lines of a stream of bytes, and what of a line is a text of JSON.
-use Rattle.std.specs.Prelude.{◌≡◌, ℕ, Bool, ◌||◌, ◌==◌, List, [], ◌∷◌, length, drop, take, bytes_eq, if◌then◌else◌, Option, None, Some}
+use Rattle.std.specs.Prelude.{◌≡◌, ℕ, Bool, ◌||◌, ◌==◌, List, [], ◌∷◌, drop, take, bytes_eq, if◌then◌else◌, Option, None, Some}
 use Rattle.std.specs.List.{list_all}
 
 -- a byte goes onto the first of some lines
