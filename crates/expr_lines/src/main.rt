@@ -135,7 +135,10 @@ fn work<W: Write, E: Write>(
 }
 
 /// Writes what stands at the end of all.
-fn finish<W: Write, E: Write>(purpose: Purpose, sieve: &mut Sieve<Query<Environment>, W, E>) -> io::Result<()> {
+fn finish<W: Write, E: Write>(
+    purpose: Purpose,
+    sieve: &mut Sieve<Query<Environment>, W, E>,
+) -> io::Result<()> {
     if let Purpose::Count(_) = purpose {
         writeln!(sieve.out, "{}", sieve.tally.kept)?;
     }

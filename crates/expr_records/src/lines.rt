@@ -21,7 +21,8 @@ enum Taken {
 
 /// Takes the bytes that stand ready, up to the first line feed and with it.
 fn take_ready<R: BufRead>(reader: &mut R, held: &mut Held) -> io::Result<Taken>
-    ensures taken { IfOk result (λ taken. Takes taken (R.remaining reader.old) (R.remaining reader.new) held.old held.new) }
+    ensures taken { IfOk result
+        (λ taken. Takes taken (R.remaining reader.old) (R.remaining reader.new) held.old held.new) }
     ensures bound { held.new.bound ≡ held.old.bound }
 {
     let ready = match reader.fill_buf() {
@@ -56,7 +57,8 @@ fn take_ready<R: BufRead>(reader: &mut R, held: &mut Held) -> io::Result<Taken>
 ///
 /// What the reader fails with; an interrupted read is tried again.
 pub fn next_line<R: BufRead>(reader: &mut R, held: &mut Held) -> io::Result<bool>
-    ensures next { IfOk result (λ more. IsNextLine more (R.remaining reader.old) (R.remaining reader.new) held.new) }
+    ensures next { IfOk result
+        (λ more. IsNextLine more (R.remaining reader.old) (R.remaining reader.new) held.new) }
     ensures bound { held.new.bound ≡ held.old.bound }
 {
     held.clear();

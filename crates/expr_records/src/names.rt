@@ -39,7 +39,8 @@ pub fn bind<H: Functions>(
 ) -> Result<()>
     ensures bound { OnOk result ((v : Value) × may_name (H.host host.now) code.now (Ok v)
         × names.new ≡ put name.now v names.old) }
-    ensures refused { IfErr result (λ e. fault_of e ≢ memory → may_name (H.host host.now) code.now (Err (fault_of e))) }
+    ensures refused { IfErr result
+        (λ e. fault_of e ≢ memory → may_name (H.host host.now) code.now (Err (fault_of e))) }
     ensures err { OnErr result (names.new ≡ names.old) }
 {
     let value = value_of(alloc, host, code)?;

@@ -63,8 +63,10 @@ impl<'h, H: Functions> Query<'h, H> {
         text: &str,
     ) -> Result<Query<'h, H>>
         ensures code { IfOk result (λ q. IsCodeOf text.now (code_of q.code)) }
-        ensures asked { IfOk result (λ q. (q.names.now ≡ names.now) × (q.purpose ≡ purpose) × (q.host.now ≡ host.now)) }
-        ensures refused { IfErr result (λ e. fault_of e ≢ memory → IsRefusedWithin 500 text.now (Err (fault_of e))) }
+        ensures asked { IfOk result
+            (λ q. (q.names.now ≡ names.now) × (q.purpose ≡ purpose) × (q.host.now ≡ host.now)) }
+        ensures refused { IfErr result
+            (λ e. fault_of e ≢ memory → IsRefusedWithin 500 text.now (Err (fault_of e))) }
         ensures place { IsPlaced text.now result }
     {
         let program = compile_within(alloc, text, HEIGHT)?;

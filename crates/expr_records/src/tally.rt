@@ -44,7 +44,8 @@ impl Tally {
     /// The status of a run that read and wrote all that it was to: 3 where a record was refused, 1 where none was kept
     /// though one was sought, else 0.
     pub fn status(&self, seeks: bool) -> u8
-        ensures { result ≡ (if nat_lt 0 self.now.refused then 3 else (if (self.now.kept == 0) && seeks then 1 else 0)) }
+        ensures { result ≡ (if nat_lt 0 self.now.refused then 3 else
+            (if (self.now.kept == 0) && seeks then 1 else 0)) }
     {
         if self.refused > 0 {
             3
