@@ -95,7 +95,8 @@ impl<J: Judge, W: Write, E: Write> Sieve<J, W, E> {
     /// Brings the line that is held to its outcome, and answers whether the work goes on.
     fn settle(&mut self, alloc: Global, name: &str, number: u64) -> io::Result<bool>
         ensures settled { IfOk result (λ goes_on. Settles (J.judged self.old.judge) self.old.held
-            self.old.stops (W.contents self.old.out) (W.contents self.new.out) self.old.tally self.new.tally goes_on) }
+            self.old.stops (W.contents self.old.out) (W.contents self.new.out)
+            self.old.tally self.new.tally goes_on) }
         ensures judge { self.new.judge ≡ self.old.judge }
         ensures bound { self.new.held.bound ≡ self.old.held.bound }
         ensures stops { self.new.stops ≡ self.old.stops }
@@ -114,7 +115,8 @@ impl<J: Judge, W: Write, E: Write> Sieve<J, W, E> {
     /// the line's number, from 1; a failure to tell changes nothing.
     pub fn sift<R: BufRead>(&mut self, alloc: Global, name: &str, reader: &mut R) -> Ended
         ensures sifted { Sifts (J.judged self.old.judge) self.old.held.bound self.old.stops
-            (R.remaining reader.old) (W.contents self.old.out) (W.contents self.new.out) self.old.tally self.new.tally result }
+            (R.remaining reader.old) (W.contents self.old.out) (W.contents self.new.out)
+            self.old.tally self.new.tally result }
         ensures judge { self.new.judge ≡ self.old.judge }
         ensures bound { self.new.held.bound ≡ self.old.held.bound }
         ensures stops { self.new.stops ≡ self.old.stops }
