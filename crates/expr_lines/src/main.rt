@@ -1,0 +1,204 @@
+//! The program `expr_lines`: keeps, counts or rewrites records, one JSON object a line, by an expression.
+#![tactic(auto)]
+
+mod options;
+mod progress;
+mod told;
+
+use expr::{Context, Environment};
+use expr_records::{Ended, Held, Purpose, Query, Sieve, Tally, bind};
+use jiff::Timestamp;
+use options::Options;
+use progress::{Meter, Watched};
+use std::alloc::{AllocError, Global};
+use std::io::{self, BufReader, BufWriter, ErrorKind, IsTerminal, Read, Stderr, Write};
+use std::process::ExitCode;
+use std::{env, fs};
+use told::{tell_bad_name, tell_refused_text, tell_unusable};
+
+/// Wrong words, or a text that doesn't compile.
+const USAGE: u8 = 2;
+
+/// Something can't be read or written.
+const FAILED: u8 = 4;
+
+/// How many bytes are read or written at once.
+const BUFFER: usize = 1 << 16;
+
+fn main(rt: HostRuntime) -> ExitCode {
+    let words: Result<Vec<String>, AllocError> = match env::args(&rt) {
+        Ok(args) => args.collect(rt.alloc()),
+        Err(error) if error.kind() == ErrorKind::InvalidData => {
+            let _ = writeln!(rt.stderr(), "expr_lines: a word is not UTF-8");
+            return ExitCode::from(USAGE);
+        }
+        Err(_) => Err(AllocError),
+    };
+    let Ok(words) = words else {
+        return ExitCode::from(FAILED);
+    };
+    match Options::read(rt.alloc(), words.as_slice()) {
+        Ok(options) => ExitCode::from(run(&rt, &options)),
+        Err(error) => {
+            let said = error.print(&rt);
+            let status = if error.use_stderr() { USAGE } else { 0 };
+            ExitCode::from(if said.is_err() { FAILED } else { status })
+        }
+    }
+}
+
+/// Does what the options ask for, and answers the status.
+fn run(rt: &HostRuntime, options: &Options) -> u8 {
+    let alloc = rt.alloc();
+    let mut err = rt.stderr();
+    let mut environment = Environment::new(alloc);
+    if let Ok(now) = Timestamp::now(rt) {
+        environment.set_now(now);
+    }
+    let Some(names) = names_of(alloc, &environment, options.names.as_slice(), &mut err) else {
+        return USAGE;
+    };
+    let text = options.expression;
+    let query = match Query::compile(alloc, &environment, &names, options.purpose, text) {
+        Ok(query) => query,
+        Err(error) => {
+            tell_refused_text(alloc, &mut err, text, &error);
+            return USAGE;
+        }
+    };
+    let Ok(out) = BufWriter::with_capacity(alloc, BUFFER, rt.stdout()) else {
+        return FAILED;
+    };
+    let mut sieve = Sieve {
+        judge: query,
+        stops: options.stops,
+        held: Held::new(alloc, options.bound),
+        out,
+        err,
+        tally: Tally::new(),
+    };
+    work(rt, options, &mut sieve)
+}
+
+/// The values of the words `NAME=CODE` under their names, or None where one is refused, which is said.
+fn names_of<E: Write>(
+    alloc: Global,
+    environment: &Environment,
+    words: &[&str],
+    err: &mut E,
+) -> Option<Context> {
+    let mut names = Context::new(alloc);
+    for word in words {
+        let (name, code) = word.split_once('=').unwrap_or(("", *word));
+        if name.is_empty() {
+            tell_bad_name(err, *word);
+            return None;
+        }
+        if let Err(error) = bind(alloc, environment, name, code, &mut names) {
+            tell_refused_text(alloc, err, code, &error);
+            return None;
+        }
+    }
+    Some(names)
+}
+
+/// Brings the files through a sieve, and answers the status.
+fn work<W: Write, E: Write>(
+    rt: &HostRuntime,
+    options: &Options,
+    sieve: &mut Sieve<Query<Environment>, W, E>,
+) -> u8 {
+    let mut is_read = true;
+    let mut names = options.files.as_slice();
+    if names.is_empty() {
+        names = &["-"];
+    }
+    for name in names {
+        match sift_named(rt, options, *name, sieve) {
+            Ended::Whole => {}
+            Ended::Stopped => break,
+            Ended::Unread(error) => {
+                tell_unusable(&mut sieve.err, *name, &error);
+                is_read = false;
+            }
+            Ended::Unwritten(error) => return status_unwritten(options, sieve, &error),
+        }
+    }
+    if let Err(error) = finish(options.purpose, sieve) {
+        return status_unwritten(options, sieve, &error);
+    }
+    if is_read {
+        sieve.tally.status(options.purpose.seeks())
+    } else {
+        FAILED
+    }
+}
+
+/// Writes what stands at the end of all.
+fn finish<W: Write, E: Write>(
+    purpose: Purpose,
+    sieve: &mut Sieve<Query<Environment>, W, E>,
+) -> io::Result<()> {
+    if let Purpose::Count(_) = purpose {
+        writeln!(sieve.out, "{}", sieve.tally.kept)?;
+    }
+    sieve.out.flush()
+}
+
+/// The status where nothing more can be written. That nobody reads it isn't said.
+fn status_unwritten<W: Write, E: Write>(
+    options: &Options,
+    sieve: &mut Sieve<Query<Environment>, W, E>,
+    error: &io::Error,
+) -> u8 {
+    if error.kind() == ErrorKind::BrokenPipe {
+        return sieve.tally.status(options.purpose.seeks());
+    }
+    tell_unusable(&mut sieve.err, "standard output", error);
+    FAILED
+}
+
+/// Brings a file through a sieve, of which `-` is standard input.
+fn sift_named<W: Write, E: Write>(
+    rt: &HostRuntime,
+    options: &Options,
+    name: &str,
+    sieve: &mut Sieve<Query<Environment>, W, E>,
+) -> Ended {
+    let alloc = rt.alloc();
+    if name == "-" {
+        let stream = Watched::new(rt.stdin(), rt, meter_of(rt, options, 0));
+        return sift_stream(alloc, name, stream, sieve);
+    }
+    match fs::open(rt, name) {
+        Ok(file) => {
+            let length = file.metadata().map_or(0, |data| data.len());
+            let stream = Watched::new(file, rt, meter_of(rt, options, length));
+            sift_stream(alloc, name, stream, sieve)
+        }
+        Err(error) => Ended::Unread(error),
+    }
+}
+
+/// A meter of a stream of some length, if one is asked for and standard error is a terminal.
+fn meter_of(rt: &HostRuntime, options: &Options, length: u64) -> Option<Meter<Stderr>> {
+    let err = rt.stderr();
+    if options.tells && err.is_terminal() {
+        Some(Meter::new(rt, length, err))
+    } else {
+        None
+    }
+}
+
+/// Brings a stream through a sieve.
+fn sift_stream<R: Read + Drop, W: Write, E: Write>(
+    alloc: Global,
+    name: &str,
+    stream: R,
+    sieve: &mut Sieve<Query<Environment>, W, E>,
+) -> Ended {
+    match BufReader::with_capacity(alloc, BUFFER, stream) {
+        Ok(mut reader) => sieve.sift(alloc, name, &mut reader),
+        Err(error) => Ended::Unread(error),
+    }
+}

@@ -1,0 +1,147 @@
+//! The program's words.
+use clap::{Arg, ArgAction, ArgMatches, Command, Error, value_parser};
+use expr_records::Purpose;
+use std::alloc::{AllocError, Global};
+
+/// What `--help` says before the options.
+const ABOUT: &str = "Keeps, counts or rewrites records, one JSON object a line, by an expression.";
+
+/// What `--help` says behind the options.
+const NOTES: &str = "\
+An expression sees a record's members as names, and the whole record as $env. Lines for which it is true are written as
+they are; lines without a record in them are passed over. A record that is refused (no JSON object, a number that isn't
+whole, a refusal of the expression, an answer that is neither true nor false) is told of on standard error, and the rest
+goes on. An expression that begins with - stands behind --.
+
+Status: 0 something was kept or all was rewritten, 1 nothing was kept, 2 wrong words or an expression that doesn't compile,
+3 records were refused, 4 something can't be read or written.";
+
+/// What the words ask for.
+#[derive(Drop)]
+pub struct Options<'a> {
+    pub expression: &'a str,
+    /// Names of files, of which `-` is standard input.
+    pub files: Vec<&'a str>,
+    /// Words `NAME=CODE`.
+    pub names: Vec<&'a str>,
+    pub purpose: Purpose,
+    /// Whether a refused record ends the work.
+    pub stops: bool,
+    /// The most bytes that a line may have.
+    pub bound: usize,
+    /// Whether to tell how far the work is.
+    pub tells: bool,
+}
+
+/// The options that say what is done with the records.
+fn with_purposes<'a>(alloc: Global, command: Command<'a>) -> Result<Command<'a>, AllocError> {
+    let map = Arg::new(alloc, "map")
+        .short('m')
+        .long("map")
+        .action(ArgAction::SetTrue)
+        .conflicts_with("count")?
+        .conflicts_with("invert")?
+        .help("Write the expression's answer about each record, as a line of JSON");
+    let count = Arg::new(alloc, "count")
+        .short('c')
+        .long("count")
+        .action(ArgAction::SetTrue)
+        .help("Write how many records there are for which the expression is true");
+    let invert = Arg::new(alloc, "invert")
+        .short('v')
+        .long("invert")
+        .action(ArgAction::SetTrue)
+        .help("Keep or count the records for which the expression is false");
+    command.arg(map)?.arg(count)?.arg(invert)
+}
+
+/// The options that say how the work goes.
+fn with_manners<'a>(alloc: Global, command: Command<'a>) -> Result<Command<'a>, AllocError> {
+    let name = Arg::new(alloc, "name")
+        .short('n')
+        .long("name")
+        .value_name("NAME=CODE")
+        .action(ArgAction::Append)
+        .help("Put the value of CODE, evaluated once, under NAME, before the records' members");
+    let fail_fast = Arg::new(alloc, "fail-fast")
+        .short('f')
+        .long("fail-fast")
+        .action(ArgAction::SetTrue)
+        .help("End at the first record that is refused");
+    let bound = Arg::new(alloc, "max-line")
+        .long("max-line")
+        .value_name("BYTES")
+        .value_parser(value_parser!(u32))
+        .default_value("64000000")
+        .help("Refuse records of longer lines");
+    let progress = Arg::new(alloc, "progress")
+        .short('p')
+        .long("progress")
+        .action(ArgAction::SetTrue)
+        .help("Tell how far the work is, where standard error is a terminal");
+    command.arg(name)?.arg(fail_fast)?.arg(bound)?.arg(progress)
+}
+
+/// The command line.
+fn command<'a>(alloc: Global) -> Result<Command<'a>, AllocError> {
+    let expression = Arg::new(alloc, "EXPRESSION")
+        .required(true)
+        .help("What is asked about each record");
+    let files = Arg::new(alloc, "FILE")
+        .num_args(0..)
+        .action(ArgAction::Append)
+        .help("Files of records; - or none is standard input");
+    let command = Command::new(alloc, "expr_lines")
+        .about(ABOUT)
+        .after_help(NOTES)
+        .arg(expression)?
+        .arg(files)?;
+    with_manners(alloc, with_purposes(alloc, command)?)
+}
+
+/// What is done with the records.
+fn purpose_of(matches: &ArgMatches) -> Purpose {
+    let truth = !matches.get_flag("invert");
+    if matches.get_flag("map") {
+        Purpose::Rewrite
+    } else if matches.get_flag("count") {
+        Purpose::Count(truth)
+    } else {
+        Purpose::Keep(truth)
+    }
+}
+
+/// The values of an option.
+fn values_of<'a>(
+    alloc: Global,
+    matches: &ArgMatches<'a>,
+    id: &str,
+) -> Result<Vec<&'a str>, AllocError> {
+    let mut values = Vec::new(alloc);
+    if let Some(given) = matches.get_strs(id) {
+        for value in given {
+            values.push(*value)?;
+        }
+    }
+    Ok(values)
+}
+
+impl<'a> Options<'a> {
+    /// What the words ask for, of which the first is the program's name.
+    ///
+    /// # Errors
+    ///
+    /// What to say, of wrong words or for help.
+    pub fn read(alloc: Global, words: &'a [String]) -> Result<Options<'a>, Error> {
+        let matches = command(alloc)?.try_get_matches_from(words)?;
+        Ok(Options {
+            expression: matches.get_str("EXPRESSION").unwrap_or(""),
+            files: values_of(alloc, &matches, "FILE")?,
+            names: values_of(alloc, &matches, "name")?,
+            purpose: purpose_of(&matches),
+            stops: matches.get_flag("fail-fast"),
+            bound: matches.get_one::<u32>("max-line").unwrap_or(64_000_000) as usize,
+            tells: matches.get_flag("progress"),
+        })
+    }
+}

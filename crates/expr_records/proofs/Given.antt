@@ -1,0 +1,32 @@
+-- What is known of a value that a call gave, or refused to give.
+use Rattle.std.proofs.Common.{◌≡◌, ◌≢◌, refl, sym, ap, subst, ◌∙◌, Result, Ok, Err}
+use Rattle.std.specs.Prelude.{Option, None, Some, IsSome, IfErr}
+use Rattle.std.specs.Result.{IsErrAnd}
+use Rattle.expr_encoding.specs.Optional.{given}
+use Rattle.expr_value.specs.Fault.{Fault, fault_of, memory}
+use Rattle.expr_value.specs.declared.error.Error.{Error}
+
+module _ {A : Type 0} where
+  abbrev taken : Result A Fault → Option A
+  taken (Ok v) = Some v
+  taken (Err e) = None
+
+  taken_of_given : (o : Option A) → taken (given o) ≡ o
+  taken_of_given (Some v) = refl
+  taken_of_given None = refl
+
+  pub given_ok : (o : Option A) (v : A) → given o ≡ Ok v → o ≡ Some v
+  given_ok o v e = sym (taken_of_given o) ∙ ap taken e
+
+  pub given_err : (o : Option A) (e : Fault) → given o ≡ Err e → o ≡ None
+  given_err o e p = sym (taken_of_given o) ∙ ap taken p
+
+  pub none_unless : (o : Option A) → (IsSome o → ⊥) → o ≡ None
+  none_unless (Some v) h = absurd (h refl)
+  none_unless None h = refl
+
+-- a refusal that a `?` passes on, of a call that is allowed to refuse so
+pub refused_passed : {A B : Type 0} (r : Result A Error) (e : Error) (R : Result B Fault → Type 0)
+    → IsErrAnd r (λ x. x ≡ e) → (fault_of e ≢ memory → R (Err (fault_of e))) → IfErr r (λ x. fault_of x ≢ memory → R (Err (fault_of x)))
+refused_passed (Ok v) e R is p = absurd is
+refused_passed (Err x) e R is p = subst (λ y. fault_of y ≢ memory → R (Err (fault_of y))) (sym is) p

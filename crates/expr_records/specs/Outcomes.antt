@@ -1,0 +1,36 @@
+-- What is written of lines, and how they count.
+use Rattle.std.specs.Prelude.{ℕ, ◌-◌, ◌^◌, min, Bool, true, false, List, [], ◌∷◌, ◌++◌, if◌then◌else◌}
+use Rattle.expr_records.specs.declared.outcome.Outcome.{Outcome}
+use Rattle.expr_records.specs.declared.outcome.Outcome.TheVariants.{Blank, Dropped, Kept, Counted, Rewritten, Refused}
+
+-- what is written of a line: the line as it is, or the JSON that it becomes, and a line feed
+abbrev pub written : List ℕ → Outcome → List ℕ
+written line Blank = []
+written line Dropped = []
+written line Kept = line ++ 10 ∷ []
+written line Counted = []
+written line (Rewritten text) = text ++ 10 ∷ []
+written line (Refused refusal) = []
+
+abbrev pub is_kept : Outcome → Bool
+is_kept Blank = false
+is_kept Dropped = false
+is_kept Kept = true
+is_kept Counted = true
+is_kept (Rewritten text) = true
+is_kept (Refused refusal) = false
+
+abbrev pub is_refused : Outcome → Bool
+is_refused Blank = false
+is_refused Dropped = false
+is_refused Kept = false
+is_refused Counted = false
+is_refused (Rewritten text) = false
+is_refused (Refused refusal) = true
+
+-- counts stop at the greatest number of 64 bits
+abbrev pub capped : ℕ → ℕ
+capped n = min n (2 ^ 64 - 1)
+
+abbrev pub one_if : Bool → ℕ
+one_if b = if b then 1 else 0

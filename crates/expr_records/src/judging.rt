@@ -1,0 +1,84 @@
+//! What a line comes to by an expression.
+ghost use Rattle.std.specs.Prelude.{◌≡◌, ℕ, List};
+ghost use Rattle.expr_records.specs.Asked.{IsCodeOf, code_of, may_answer};
+ghost use Rattle.expr_records.specs.Judged.{ComesOfRecord, IsOutcomeOf, is_sought, same};
+
+use crate::outcome::{Outcome, Refusal};
+use crate::query::{Purpose, Query};
+use crate::record::{is_blank, record_of, text_of};
+use crate::sieve::Judge;
+use expr::{Context, Value};
+use expr_encoding::to_json;
+use expr_meaning::Functions;
+use std::alloc::Global;
+
+/// Whether a truth is the one that is sought.
+fn same(wanted: bool, truth: bool) -> bool
+    ensures { result ≡ same wanted truth }
+{
+    if wanted { truth } else { !truth }
+}
+
+/// Whether an answer is the truth that is sought, if it is a truth at all.
+fn is_sought(wanted: bool, answer: &Value) -> Option<bool>
+    ensures { result ≡ is_sought wanted answer.now }
+{
+    match answer.as_bool() {
+        Some(truth) => Some(same(wanted, truth)),
+        None => None,
+    }
+}
+
+/// What a record comes to whose answer is this.
+fn outcome_of(alloc: Global, purpose: Purpose, answer: &Value) -> Outcome
+    ensures { IsOutcomeOf purpose answer.now result }
+{
+    match purpose {
+        Purpose::Keep(wanted) => match is_sought(wanted, answer) {
+            Some(true) => Outcome::Kept,
+            Some(false) => Outcome::Dropped,
+            None => Outcome::Refused(Refusal::NotBoolean),
+        },
+        Purpose::Count(wanted) => match is_sought(wanted, answer) {
+            Some(true) => Outcome::Counted,
+            Some(false) => Outcome::Dropped,
+            None => Outcome::Refused(Refusal::NotBoolean),
+        },
+        Purpose::Rewrite => match to_json(alloc, answer) {
+            Ok(text) => Outcome::Rewritten(text),
+            Err(error) => Outcome::Refused(Refusal::NotWritable(error)),
+        },
+    }
+}
+
+/// What a record comes to.
+fn record_outcome<H: Functions>(alloc: Global, query: &Query<H>, members: Context) -> Outcome
+    ensures { (text : List ℕ) → IsCodeOf text (code_of query.now.code) → ComesOfRecord query.now.purpose
+        (may_answer (H.host query.now.host.now) query.now.names.now text members) result }
+{
+    match query.answer(alloc, members) {
+        Ok(answer) => outcome_of(alloc, query.purpose, &answer),
+        Err(error) => Outcome::Refused(Refusal::Expression(error)),
+    }
+}
+
+impl<'h, H: Functions> Judge for Query<'h, H> {
+    ghost use Rattle.std.specs.Prelude.{List, ℕ};
+    ghost use Rattle.expr_records.specs.Asked.{IsCodeOf, code_of, may_answer};
+    ghost use Rattle.expr_records.specs.Judged.{MayCome};
+
+    ghost judged = { λ q line outcome. (text : List ℕ) → IsCodeOf text (code_of q.code)
+        → MayCome q.purpose (may_answer (H.host q.host.now) q.names.now text) line outcome };
+
+    /// A mark at the line's front is passed over, and a line of spaces, tabs and carriage returns alone has no record.
+    fn judge(&self, alloc: Global, line: &[u8]) -> Outcome {
+        let text = text_of(line);
+        if is_blank(text) {
+            return Outcome::Blank;
+        }
+        match record_of(alloc, text) {
+            Ok(members) => record_outcome(alloc, self, members),
+            Err(refusal) => Outcome::Refused(refusal),
+        }
+    }
+}
