@@ -48,6 +48,8 @@ const BY_PARTS: &[(&str, &str, &str)] = &[
     ("nil ?? 4", "(", "4"),
     ("nope()", "(", "!evaluation"),
     (r#"let b = "c"; [1, "a" + b]"#, "(", "[1, \"ac\"]"),
+    (r#""foo" matches "^f""#, "^f", "true"),
+    (r#"1 matches "^f""#, "^f", "!evaluation"),
     (r#""foo" matches "^" + "f""#, "^f", "true"),
     (r#""foo" matches "^" + "o""#, "^f", "false"),
     (r#""foo" matches "(" + "f""#, "^f", "!pattern"),

@@ -105,7 +105,11 @@ fn put_keyed_map(alloc: Global, wrong: &mut Page) -> Result<()> {
     let copy = Value::KeyedMap(map.clone()?);
     wrong.answer("KeyedMap::clone", Ok(copy), KEYED);
     let value = Value::KeyedMap(map);
-    wrong.fact("as_keyed_map", value.as_keyed_map().is_some());
+    let first = match value.as_keyed_map() {
+        Some(map) => map.get(&Value::text(alloc, "x")?),
+        None => None,
+    };
+    wrong.fact("as_keyed_map", matches!(first, Some(Value::Integer(1))));
     wrong.fact("as_map of a keyed map", value.as_map().is_none());
     wrong.answer("KeyedMap::from_pairs", Ok(value), KEYED);
     Ok(())
@@ -153,7 +157,11 @@ fn put_made_contexts(alloc: Global, wrong: &mut Page) -> Result<()> {
     let context = Context::from_pairs(alloc, named(alloc)?)?;
     wrong.answer("Context::from_pairs", Ok(shown(context)), NAMED);
     let value = value!(in alloc; {"a": 1})?;
-    wrong.fact("as_map", value.as_map().is_some());
+    let first = match value.as_map() {
+        Some(map) => map.get("a"),
+        None => None,
+    };
+    wrong.fact("as_map", matches!(first, Some(Value::Integer(1))));
     let context = Context::try_from(alloc, value)?;
     wrong.answer("Context::try_from", Ok(shown(context)), "{a: 1}");
     Ok(())
@@ -166,19 +174,23 @@ const INSTANT: &str = "1970-01-01T00:00:00+00:00";
 fn put_moment(alloc: Global, moment: &DateTimeValue, wrong: &mut Page) -> Result<()> {
     let copy = Value::datetime(alloc, moment.clone()?);
     wrong.answer("DateTimeValue::clone", copy, INSTANT);
-    let later = moment.clone()?.checked_add_signed(5);
-    if let Some(later) = later {
-        let apart = later.checked_difference(moment);
-        wrong.fact("checked_difference", apart == Some(5));
-    }
+    let apart = match moment.clone()?.checked_add_signed(5) {
+        Some(later) => later.checked_difference(moment),
+        None => None,
+    };
+    wrong.fact("checked_difference", apart == Some(5));
     Ok(())
 }
 
 fn put_moments(alloc: Global, wrong: &mut Page) -> Result<()> {
     let moment = DateTimeValue::fixed(Timestamp::UNIX_EPOCH, Offset::UTC);
     put_moment(alloc, &moment, wrong)?;
-    let value = Value::datetime(alloc, moment)?;
-    wrong.fact("as_datetime", value.as_datetime().is_some());
+    let value = Value::datetime(alloc, moment.clone()?)?;
+    let apart = match value.as_datetime() {
+        Some(found) => found.checked_difference(&moment),
+        None => None,
+    };
+    wrong.fact("as_datetime", apart == Some(0));
     wrong.answer("Value::datetime", Ok(value), INSTANT);
     Ok(())
 }
