@@ -8,6 +8,7 @@ ghost use Rattle.expr_grammar.specs.Grammar.{TreeProgram};
 ghost use Rattle.expr_meaning.specs.Allows.{Allows, AllowsBlock};
 ghost use Rattle.expr_steps.specs.Context.{Context};
 ghost use Rattle.expr_meaning.specs.Independence.{AgreeAt};
+ghost use Rattle.expr_evaluation.specs.Handed.{IsKeeping};
 ghost use Rattle.expr_evaluation.specs.Plain.{is_plain};
 ghost use Rattle.expr_parts.specs.Kept.{KeepPatterns};
 ghost use Rattle.expr_syntax.specs.Texts.{HasNoTree, IsAnswerFor, IsCompiled, IsPlaced, IsProgramOf, IsTreeOf};
@@ -18,6 +19,7 @@ ghost use Rattle.expr_tree.specs.Names.{AreNamesOf};
 ghost use Rattle.expr_tree.specs.Term.{Block};
 ghost use Rattle.expr_tree.specs.Written.{program_written, written};
 ghost use Rattle.expr_value.specs.Answers.{Gives, Is};
+ghost use Rattle.expr_value.specs.Fault.{fault_of, pattern as bad_pattern};
 ghost use Rattle.expr_value.specs.Values.{text_of};
 ghost use Rattle.expr_value.specs.declared.value.Value.{Value};
 
@@ -131,6 +133,9 @@ impl Parser {
         ensures plain { (v : Value) → IsTrue (is_plain (written node.now))
             → Allows (host_of (environment_of self.now)) (context ctx.now) (written node.now) (Ok v)
             → result ≡ Ok v }
+        ensures kept { (k : IsKeeping node.now) → IfErr result (λ e. fault_of e ≡ bad_pattern
+            → Allows (host_of (environment_of self.now)) (context ctx.now) (written k.left.value)
+            (Err bad_pattern)) }
     {
         self.environment.eval_expr(alloc, ctx, node)
     }

@@ -1,6 +1,13 @@
--- A pattern that is handed in beside an operator and its right side.
+-- A pattern that is handed in beside an operator and its right side, or kept beside an operation.
 use Rattle.std.specs.Prelude.{◌≡◌, ℕ, List, Option, Some}
+use Rattle.std.specs.declared.alloc.Global.{Global}
+use Rattle.std.specs.declared.boxed.Box.{Box}
+use Rattle.expr_tree.specs.Beside.{built_text}
 use Rattle.expr_tree.specs.Term.{Term, literal}
+use Rattle.expr_tree.specs.Written.{written}
+use Rattle.expr_tree.specs.declared.node.CompiledRegex.{CompiledRegex}
+use Rattle.expr_tree.specs.declared.node.Node as node
+use Rattle.expr_tree.specs.declared.node.Node.{Node}
 use Rattle.expr_tree.specs.declared.operator.Operator.{Operator}
 use Rattle.expr_tree.specs.declared.operator.Operator.TheVariants.{Matches}
 use Rattle.expr_value.specs.declared.value.Value as value
@@ -11,3 +18,12 @@ pub record IsHanded (operator : Operator) (right : Term) (handed : Option (List 
   pub matches : operator ≡ Matches
   pub literal_text : right ≡ literal (value.String text)
   pub of_text : handed ≡ Some text
+
+-- the node is an operation that keeps the pattern of its right side, as `matches` of a text literal does where that builds
+pub record IsKeeping (n : Node) : Type 0 where
+  pub operator : Operator
+  pub left : Box Node Global
+  pub right : Box Node Global
+  pub kept : CompiledRegex
+  pub operation : n ≡ node.Operation operator left right kept
+  pub handed : IsHanded operator (written right.value) (built_text kept)

@@ -1,8 +1,10 @@
 //! Laws of the evaluation, each on a function without a body.
-ghost use Rattle.std.specs.Prelude.{◌≡◌, ◌↔◌, Ok, false, true};
-ghost use Rattle.expr_meaning.specs.Allows.{Allows};
+ghost use Rattle.std.specs.Prelude.{◌≡◌, ◌↔◌, Bool, List, Ok, codes, false, not, true};
+ghost use Rattle.expr_meaning.specs.Allows.{Allows, AllowsAsked};
+ghost use Rattle.expr_predicates.specs.Allowed.{HasOneAnswer};
+ghost use Rattle.expr_predicates.specs.Tasks.{any_holds};
 ghost use Rattle.expr_steps.specs.Context.{Context};
-ghost use Rattle.expr_tree.specs.Term.{Term, literal, operation};
+ghost use Rattle.expr_tree.specs.Term.{Block, Term, call, literal, no_terms, operation, predicate, term};
 ghost use Rattle.expr_tree.specs.declared.operator.Operator.TheVariants.{And, Or};
 ghost use Rattle.expr_value.specs.Answers.{Answer};
 
@@ -18,4 +20,17 @@ pub fn left_side_decides<H: Functions>()
     ensures or { (host : H) (ctx : Context) (right : Term) (answer : Answer)
         → Allows (H.host host) ctx (operation Or (literal (Value.Bool true)) right) answer ↔ answer
         ≡ Ok (Value.Bool true) }
+{}
+
+/// Where a host adds neither name, `none` is the opposite of `any` of the same array with the same predicate, if that
+/// allows one answer about each item and both calls have a value.
+pub fn none_in_programs_is_the_opposite_of_any<H: Functions>()
+    ensures { (host : H) (ctx : Context) (array : Term) (block : Block)
+        (items : List Value) (any none : Value)
+        → (H.host host).is_added (codes "any") ≡ false → (H.host host).is_added (codes "none") ≡ false
+        → ((a : Answer) → Allows (H.host host) ctx array a → a ≡ Ok (Value.Array items))
+        → HasOneAnswer any_holds (AllowsAsked (H.host host) ctx (predicate block)) items
+        → Allows (H.host host) ctx (call (codes "any") (term array no_terms) (predicate block)) (Ok any)
+        → Allows (H.host host) ctx (call (codes "none") (term array no_terms) (predicate block)) (Ok none)
+        → (b : Bool) × (any ≡ Value.Bool b) × (none ≡ Value.Bool (not b)) }
 {}
