@@ -1,1 +1,0 @@
-cd /work/speed/crates/expr_machine && python3 /work/scratch/tools/check_mixed.py /work/speed expr_machine --jobs 1 --allow-holes --only machine::Machine::run_block --only machine::Machine::call_with --only machine::Machine::ask --only machine::Machine::ask_block --only machine::Machine::execute --only kept::KeptMachine::execute_among --only kept::KeptMachine::execute

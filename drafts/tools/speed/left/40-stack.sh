@@ -1,1 +1,0 @@
-cd /work/speed/crates/expr_stack && python3 /work/scratch/tools/check_mixed.py /work/speed expr_stack --jobs 1 --allow-holes --only acts::Stack::match_top --only acts::Stack::match_any --only acts::matched --only acts::operated

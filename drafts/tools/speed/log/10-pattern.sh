@@ -1,1 +1,0 @@
-cd /work/speed/crates/expr_pattern && rt check --jobs 1 --allow-holes
