@@ -1,6 +1,7 @@
 //! Each public call on texts, environments and parsers that takes memory, by its name and with memory to spare.
 use expr::{
-    Code, Context, Environment, ExprCall, Node, Parser, Result, Value, compile, eval, run, spot_of,
+    Code, Context, Environment, ExprCall, KeptMachine, Node, Parser, Result, Value, compile, eval,
+    run, spot_of,
 };
 use expr_bench_values::page::Page;
 use jiff::Timestamp;
@@ -35,6 +36,13 @@ fn put_hosted(
     let code = Code::lower(alloc, &program)?;
     let answer = host.execute(alloc, &code, context);
     wrong.answer("Environment::execute", answer, "20");
+    let mut machine = KeptMachine::new(alloc, &code);
+    let answer = machine.execute(host, context);
+    wrong.answer("KeptMachine::new", answer, "20");
+    let answer = machine.execute(host, context);
+    wrong.answer("KeptMachine::execute", answer, "20");
+    let answer = machine.execute_among(host, Context::new(alloc));
+    wrong.fact("KeptMachine::execute_among", answer.is_err());
     Ok(())
 }
 

@@ -17,6 +17,10 @@ fn put_pattern(alloc: Global, pattern: &Pattern, wrong: &mut Page) -> Result<()>
     let is_match = pattern.is_match(alloc, "foo")?;
     let is_other = pattern.is_match(alloc, "oof")?;
     wrong.fact("Pattern::is_match", is_match && !is_other);
+    let mut matcher = pattern.matcher(alloc)?;
+    let is_match = matcher.is_match("foo");
+    let is_other = matcher.is_match("oof");
+    wrong.fact("Pattern::matcher", is_match && !is_other);
     Ok(())
 }
 

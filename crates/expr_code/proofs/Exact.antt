@@ -23,7 +23,7 @@ use Rattle.expr_value.specs.declared.value.Value as value
 use Rattle.expr_value.specs.declared.value.Value.{Value, out-Value}
 use Rattle.expr_value.specs.declared.value.Value.TheOpen.{Value-F}
 use Rattle.expr_code.specs.Asked.{binds_named, bound_names, bound_values}
-use Rattle.expr_code.specs.Codes.{Names, Programs, count_terms, keys_of, AsksBoth, IsNoCall, IsCallOp, TermCode, name_code, literal_code, list_code, mapping_code, range_code, call_code, unary_code, operation_code, operation_with_code, and_code, or_code, postfix_code, choice_code, PostfixCode, index_code, index_at_code, slice_all_code, slice_from_code, slice_to_code, slice_between_code, coalesce_code, pipe_code, pipe_other_code, ternary_code, method_code, TermsCode, no_terms_code, term_code, PairsCode, pairs_end_code, pair_code, BlockCode, answers_code, line_code}
+use Rattle.expr_code.specs.Codes.{Names, Programs, count_terms, keys_of, literals, AsksBoth, IsNoCall, IsCallOp, TermCode, name_code, literal_code, list_code, literals_code, mapping_code, range_code, call_code, unary_code, operation_code, operation_with_code, operation_with_literals_code, and_code, or_code, postfix_code, choice_code, PostfixCode, index_code, index_at_code, slice_all_code, slice_from_code, slice_to_code, slice_between_code, coalesce_code, pipe_code, pipe_other_code, ternary_code, method_code, TermsCode, no_terms_code, term_code, PairsCode, pairs_end_code, pair_code, BlockCode, answers_code, line_code}
 use Rattle.expr_code.specs.Machine.{Op, push, store, act, asks, refuse, jump, jump_if_false, and_then, or_else, unless_nil, Act, operate, operate_with, prefix, collect, gather, span, pick, pick_at, cut, invoke, calls, check_bool, check_integer, takes, AllowsAct, OperatedAs, Operated, beside, bound_then, bound_at_top, kept_if, looked_with, pushed, Later, AsksBlock}
 use Rattle.expr_code.specs.Rest.{Next, Loaded, Rest, ByNilLayer}
 use Rattle.expr_code.specs.Slots.{name_op, slot_op, slot_of}
@@ -69,6 +69,23 @@ pairs_match host ctx (pair key t ps) ms (Ok v, q, (Ok ns, r, s)) =
     subst (Matches (pair key t ps)) (sym e) (record { many = ap suc m.many; again = ap (λ l. (key, v) ∷ l) m.again })
 pairs_match host ctx (pair key t ps) ms (Ok v, q, (Err f, r, s)) = cc
 pairs_match host ctx (pair key t ps) ms (Err f, q, s) = cc
+
+-- an array of literals may be the array of their values alone
+all_literals : (host : Host) (ctx : Context) (vs : List Value) (a : Result (List Value) Fault) → (a ≡ Ok vs) ↔ AllowsAll host ctx (literals vs) a
+all_literals host ctx [] a = itself
+all_literals host ctx (v ∷ vs) a =
+    let more = λ (w : Value) (ws : List Value) (b : Result (List Value) Fault). b ≡ Ok (w ∷ ws) in
+    back (via (After-single (Ok v) (λ w. After (AllowsAll host ctx (literals vs)) (more w)) a) (
+    via (After-first (AllowsAll host ctx (literals vs)) (λ b. b ≡ Ok vs) (more v) (λ b. back (all_literals host ctx vs b)) a) (After-single (Ok vs) (more v) a)
+    ))
+
+pub literals_allow : (host : Host) (ctx : Context) (vs : List Value) (a : Answer) → (a ≡ Ok (value.Array vs)) ↔ Allows host ctx (list (literals vs)) a
+literals_allow host ctx vs a =
+    back (
+    via (After-first (AllowsAll host ctx (literals vs)) (λ b. b ≡ Ok vs) (λ ws b. b ≡ Ok (value.Array ws)) (λ b. back (all_literals host ctx vs b)) a) (
+    After-single (Ok vs) (λ ws b. b ≡ Ok (value.Array ws)) a
+    )
+    )
 
 -- operators that ask both sides
 continued_both : (s : Sides) → AsksBoth s → (o : Operator) (x : Value) (right : Answer → Type 0) (a : Answer) → ContinuedAs s o x right a ↔ After right (λ y. OperatedAs s o x y) a
@@ -468,6 +485,18 @@ module _ (host : Host) (base : Context) (programs : Programs) (later : Later) (r
       exact_asks scope slots e key block b at n vs many
       )
 
+  -- an operator with a value on its right that the right side alone may be
+  exact_with : (o : Operator) → AsksBoth (sides_of o) → (v : Value) (c : List Op) (slots : List Value) (F G : Answer → Type 0) → ((b : Answer) → (b ≡ Ok v) ↔ G b)
+      → Exact host base later kept put c slots F → Exact host base later kept put (c ++ act (operate_with o v) ∷ []) slots (After F (λ w. Continued o w G))
+  exact_with o both v c slots F G h p =
+      exact_as host base later kept put (c ++ act (operate_with o v) ∷ []) slots (After F (λ w. Operated o w v)) (After F (λ w. Continued o w G)) (
+      λ a. After-next F (λ w. Operated o w v) (λ w. Continued o w G) (
+      λ w b known. back (via (continued_both (sides_of o) both o w G b) (
+      via (After-first G (λ x. x ≡ Ok v) (λ u. Operated o w u) (λ x. back (h x)) b) (After-single (Ok v) (λ u. Operated o w u) b)
+      ))
+      ) a
+      ) (exact_one host base later (operate_with o v) refl c slots F p)
+
   mutual
     pub exact : {scope : Names} {t : Term} {ops : List Op} → TermCode programs scope t ops → (slots : List Value) → length scope ≡ length slots
         → Exact host base later kept put ops slots (Allows host (overridden scope slots base) t)
@@ -477,6 +506,10 @@ module _ (host : Host) (base : Context) (programs : Programs) (later : Later) (r
         exact_then host base later kept pushed put c (act (collect (count_terms ts)) ∷ []) slots (AllowsAll host (overridden scope slots base) ts) (λ vs a. a ≡ Ok (value.Array vs)) (exact_all d slots e) (
         λ vs known. exact_act host base later (collect (count_terms ts)) vs (as_many host (overridden scope slots base) ts vs known) slots
         )
+    exact (literals_code scope vs) slots e =
+        exact_as host base later kept put (push (value.Array vs) ∷ []) slots (λ a. a ≡ Ok (value.Array vs)) (Allows host (overridden scope slots base) (list (literals vs))) (
+        literals_allow host (overridden scope slots base) vs
+        ) (exact_goes host base later kept put (push (value.Array vs) ∷ []) slots (Ok (value.Array vs)) (λ next stack extra a. itself))
     exact (mapping_code scope ps c d) slots e =
         exact_then host base later kept (λ ms. pushed (values ms)) put c (act (gather (keys_of ps)) ∷ []) slots (AllowsPairs host (overridden scope slots base) ps) (λ ms a. a ≡ Ok (value.Map (put_all [] ms))) (exact_pairs d slots e) (
         λ ms known. let m = pairs_match host (overridden scope slots base) ps ms known in
@@ -500,11 +533,11 @@ module _ (host : Host) (base : Context) (programs : Programs) (later : Later) (r
         λ a. After-next F (λ v. After G (λ w. Operated o v w)) (λ v. Continued o v G) (λ v b known. back (continued_both (sides_of o) both o v G b)) a
         ) (exact_two host base later (operate o) refl c d slots F G (exact x slots e) (exact y slots e))
     exact (operation_with_code scope o l v c both x) slots e =
-        let F = Allows host (overridden scope slots base) l in
-        let G = λ (b : Answer). b ≡ Ok v in
-        exact_as host base later kept put (c ++ act (operate_with o v) ∷ []) slots (After F (λ w. Operated o w v)) (After F (λ w. Continued o w G)) (
-        λ a. After-next F (λ w. Operated o w v) (λ w. Continued o w G) (λ w b known. back (via (continued_both (sides_of o) both o w G b) (After-single (Ok v) (λ u. Operated o w u) b))) a
-        ) (exact_one host base later (operate_with o v) refl c slots F (exact x slots e))
+        exact_with o both v c slots (Allows host (overridden scope slots base) l) (λ b. b ≡ Ok v) (λ b. itself) (exact x slots e)
+    exact (operation_with_literals_code scope o l vs c both x) slots e =
+        exact_with o both (value.Array vs) c slots (Allows host (overridden scope slots base) l) (Allows host (overridden scope slots base) (list (literals vs))) (
+        literals_allow host (overridden scope slots base) vs
+        ) (exact x slots e)
     exact (and_code scope o l r c d s x y) slots e =
         let F = Allows host (overridden scope slots base) l in
         let G = Allows host (overridden scope slots base) r in

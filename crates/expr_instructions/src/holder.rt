@@ -1,6 +1,8 @@
 //! What holds a part of code.
 ghost use Rattle.std.specs.Prelude.{◌≡◌};
 
+use expr_value::Value;
+
 /// What holds a literal, a name or a pattern: the code itself, in a box, or another, who lends it.
 pub trait Holder<T> {
     /// What is held.
@@ -26,5 +28,27 @@ impl<T> Holder<T> for Box<T> {
     #[inline(always)]
     fn get(&self) -> &T {
         &**self
+    }
+}
+
+/// A value that is the code's own, whoever owns its literals.
+pub struct Made {
+    pub value: Box<Value>,
+}
+
+// A function of its own, so that letting go of a block stays small.
+impl Drop for Made {
+    #[inline(never)]
+    fn drop(self) {
+        let Made { value: _ } = self;
+    }
+}
+
+impl Holder<Value> for Made {
+    ghost held = { λ m. m.value.value };
+
+    #[inline(always)]
+    fn get(&self) -> &Value {
+        &*self.value
     }
 }

@@ -4,5 +4,5 @@
 mod holder;
 mod instruction;
 
-pub use holder::Holder;
+pub use holder::{Holder, Made};
 pub use instruction::{Block, Instruction, PredicateCall};

@@ -61,6 +61,7 @@ fn kept_instruction<L: Holder<Value>, N: Holder<String>, P: Holder<Pattern>>(
 {
     match instruction {
         Instruction::Push(value) => Ok(Instruction::Push(kept_value(alloc, value)?)),
+        Instruction::PushMade(value) => Ok(Instruction::Push(kept_value(alloc, value)?)),
         Instruction::Load(slot) => Ok(Instruction::Load(*slot)),
         Instruction::Name(key) => Ok(Instruction::Name(kept_name(alloc, key)?)),
         Instruction::NameAt(key, slot) => Ok(Instruction::NameAt(kept_name(alloc, key)?, *slot)),
@@ -68,6 +69,9 @@ fn kept_instruction<L: Holder<Value>, N: Holder<String>, P: Holder<Pattern>>(
         Instruction::Store(slot) => Ok(Instruction::Store(*slot)),
         Instruction::Operate(operator) => Ok(Instruction::Operate(*operator)),
         Instruction::OperateWith(value, operator) => {
+            Ok(Instruction::OperateWith(kept_value(alloc, value)?, *operator))
+        }
+        Instruction::OperateWithMade(value, operator) => {
             Ok(Instruction::OperateWith(kept_value(alloc, value)?, *operator))
         }
         Instruction::Match(pattern) => Ok(Instruction::Match(kept_pattern(alloc, pattern)?)),

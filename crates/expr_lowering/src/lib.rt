@@ -6,6 +6,7 @@ mod code;
 mod forms;
 mod kept;
 mod lowering;
+mod made;
 mod scopes;
 mod works;
 

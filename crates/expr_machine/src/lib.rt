@@ -3,9 +3,11 @@
 
 mod acts;
 mod conditions;
+mod kept;
 mod machine;
 mod names;
 mod stores;
 mod turns;
 
+pub use kept::KeptMachine;
 pub use machine::{Machine, execute, run};

@@ -20,7 +20,7 @@ use expr_duration::DurationMethod;
 use expr_operators::{
     Held, apply, as_condition, as_truth, match_pattern, part_of, prefix, range, slice_bound,
 };
-use expr_pattern::Pattern;
+use expr_pattern::{Matchers, Pattern};
 use expr_time::{DateTimeMethod, NameMethod};
 use expr_tree::operator::{Operator, UnaryOperator};
 use expr_value::{ContextProvider, DateTimeValue, Items, Result, Text, Value, ValueMap};
@@ -95,7 +95,8 @@ pub fn match_held<'s>(
     ensures kept { (s : List ℕ) → source.now ≡ value.String s → option_copied kept.entry ≡ Some s
         → IfErr result (λ e. fault_of e ≢ bad_pattern) }
 {
-    let value = match_pattern(alloc, text.get(), source.get(), kept)?;
+    let mut matchers = Matchers::new(alloc);
+    let value = match_pattern(alloc, &mut matchers, text.get(), source.get(), kept)?;
     Ok(Held::own(value))
 }
 

@@ -85,3 +85,9 @@ pub returns-in_ok-kept_call-in-CallWith : goal.returns-in_ok-kept_call-in-CallWi
 returns-in_ok-kept_call-in-CallWith g c =
     (λ i. asks (c.in_ok-kept_call-in-CallWith.ensures.name i) (c.in_ok-kept_call-in-CallWith.ensures.count i) (c.in_ok-kept_call-in-CallWith.ensures.block i) (c.in_ok-kept_call-in-CallWith.ensures.slot i) (c.in_ok-kept_call-in-CallWith.ensures.binds i)) ∙ ap (λ v. asks (string_bytes (g.N.Holder.held v.name)) v.count v.block v.slot v.binds) c.deref-in-CallWith.ensures
     ∙ sym (ap (op_of g.L.Holder.held (λ n. string_bytes (g.N.Holder.held n))) c.in-CallWith.is)
+
+pub returns-in_ok-kept_value-in-PushMade : goal.returns-in_ok-kept_value-in-PushMade
+returns-in_ok-kept_value-in-PushMade g c = ap (push) c.in_ok-kept_value-in-PushMade.ensures ∙ sym (ap (op_of g.L.Holder.held (λ n. string_bytes (g.N.Holder.held n))) c.in-PushMade.is)
+
+pub returns-in_ok-kept_value-in-OperateWithMade : goal.returns-in_ok-kept_value-in-OperateWithMade
+returns-in_ok-kept_value-in-OperateWithMade g c = ap (λ v. act (operate_with c.in-OperateWithMade.operator v)) c.in_ok-kept_value-in-OperateWithMade.ensures ∙ sym (ap (op_of g.L.Holder.held (λ n. string_bytes (g.N.Holder.held n))) c.in-OperateWithMade.is)
