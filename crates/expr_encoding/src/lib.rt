@@ -2,13 +2,17 @@
 #![tactic(auto)]
 
 mod encoding;
+mod integer;
 mod laws;
+mod members;
 mod radix64;
 mod reading;
+mod tokens;
 mod writing;
 
 pub use encoding::Encoding;
 pub use laws::base64_is_read_back;
+pub use members::Members;
 pub use radix64::{from_base64, to_base64};
-pub use reading::from_json;
+pub use reading::{JsonReader, from_json};
 pub use writing::to_json;

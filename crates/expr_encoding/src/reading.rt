@@ -1,19 +1,68 @@
 //! JSON texts read as values.
 //!
-//! The recursion follows a text's nesting, which the reading bounds: `serde_json` reads at most 127 levels.
+//! A value is made of a text's tokens, if it can be, and else of the data that `serde_json` reads. The recursion follows
+//! a text's nesting, which the reading bounds: at most 127 levels are read.
+ghost use Rattle.std.specs.Prelude.{◌≡◌, option_map};
 ghost use Rattle.serde_json.specs.View.{view, items_view, members_view};
 ghost use Rattle.expr_value.specs.Answers.{Is};
 ghost use Rattle.expr_encoding.specs.Optional.{given};
 ghost use Rattle.expr_encoding.specs.Reading.{json_value, pairs_of, value_of, values_of};
+ghost use Rattle.expr_value.specs.Values.{map_of};
 
-use expr_value::{Error, Items, Result, Text, Value, ValueMap, refusal};
+use crate::members::Members;
+use crate::tokens::{members_in, value_in};
+use expr_value::{Context, Error, Items, Result, Text, Value, ValueMap, refusal};
+use json::Scratch;
 use serde_json::{Map, Value as Json};
 use std::alloc::Global;
+
+/// What reads JSON texts one after another. Its memory is used again for the next one.
+#[derive(Drop)]
+pub struct JsonReader {
+    scratch: Scratch,
+}
+
+impl JsonReader {
+    /// A reader that holds no memory yet.
+    pub fn new(alloc: Global) -> JsonReader {
+        JsonReader {
+            scratch: Scratch::new(alloc),
+        }
+    }
+
+    /// The value that a JSON text holds, as [`from_json`] reads it.
+    pub fn read(&mut self, alloc: Global, text: &str) -> Result<Value>
+        ensures { Is result (given (json_value text.now)) }
+    {
+        match value_in(alloc, text, &mut self.scratch) {
+            Some(value) => Ok(value),
+            None => read_data(alloc, text),
+        }
+    }
+
+    /// The members of the object that a JSON text holds, or None where its value is no map. What has no value is refused,
+    /// as by [`from_json`].
+    pub fn members<'t>(&'t mut self, alloc: Global, text: &'t str) -> Result<Option<Members<'t>>>
+        ensures { Is result (given (option_map map_of (json_value text.now))) }
+    {
+        match members_in(alloc, text, &mut self.scratch) {
+            Some(lent) => Ok(Some(Members::of_text(lent))),
+            None => data_members(alloc, text),
+        }
+    }
+}
 
 /// The value that a JSON text holds, as `serde_json` reads it: objects become maps, by rising names, and a repeated
 /// name has its last value. What is no JSON text, what nests deeper than 127 levels, and what holds a number that is no
 /// integer of 64 bits with a sign is refused; `1.0`, `1e2` and `-0` are none, since `serde_json` reads them as floats.
 pub fn from_json(alloc: Global, text: &str) -> Result<Value>
+    ensures { Is result (given (json_value text.now)) }
+{
+    JsonReader::new(alloc).read(alloc, text)
+}
+
+/// The value of the data that `serde_json` reads.
+fn read_data(alloc: Global, text: &str) -> Result<Value>
     ensures { Is result (given (json_value text.now)) }
 {
     match Json::from_str(alloc, text) {
@@ -25,6 +74,26 @@ pub fn from_json(alloc: Global, text: &str) -> Result<Value>
                 Err(refusal(alloc, "not a JSON text"))
             }
         }
+    }
+}
+
+/// The members of the data that `serde_json` reads, or None where its value is no map.
+fn data_members<'t>(alloc: Global, text: &str) -> Result<Option<Members<'t>>>
+    ensures { Is result (given (option_map map_of (json_value text.now))) }
+{
+    match read_data(alloc, text) {
+        Ok(value) => Ok(members_of(alloc, value)),
+        Err(error) => Err(error),
+    }
+}
+
+/// The members of a map, in a context of their own.
+fn members_of<'t>(alloc: Global, value: Value) -> Option<Members<'t>>
+    ensures { result ≡ map_of value }
+{
+    match Context::try_from(alloc, value) {
+        Ok(own) => Some(Members::of_context(own)),
+        Err(_) => None,
     }
 }
 

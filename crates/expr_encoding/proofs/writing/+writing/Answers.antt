@@ -7,7 +7,7 @@ use Rattle.serde_json.specs.View.{view, members_view}
 use Rattle.expr_value.specs.declared.value.Value.{Value}
 use Rattle.expr_pairs.proofs.Beside.{keyed_at}
 use Rattle.expr_encoding.specs.Writing.{data_of, members_all, pair_data}
-use Rattle.expr_encoding.proofs.Members.{left_at}
+use Rattle.expr_encoding.proofs.Rising.{left_at}
 use Rattle.expr_encoding.proofs.writing.+writing.Goals as goal
 
 -- the pair at an index goes first of those that are left
