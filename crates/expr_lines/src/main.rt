@@ -6,7 +6,7 @@ mod progress;
 mod told;
 
 use expr::{Context, Environment};
-use expr_records::{Ended, Held, Purpose, Query, Sieve, Tally, bind};
+use expr_records::{Ended, Held, JsonReader, Purpose, Query, Sieve, Tally, bind, code_of_text};
 use jiff::Timestamp;
 use options::Options;
 use progress::{Meter, Watched};
@@ -59,8 +59,8 @@ fn run(rt: &HostRuntime, options: &Options) -> u8 {
         return USAGE;
     };
     let text = options.expression;
-    let query = match Query::compile(alloc, &environment, &names, options.purpose, text) {
-        Ok(query) => query,
+    let code = match code_of_text(alloc, text) {
+        Ok(code) => code,
         Err(error) => {
             tell_refused_text(alloc, &mut err, text, &error);
             return USAGE;
@@ -70,9 +70,10 @@ fn run(rt: &HostRuntime, options: &Options) -> u8 {
         return FAILED;
     };
     let mut sieve = Sieve {
-        judge: query,
+        judge: Query::new(alloc, &environment, &names, options.purpose, &code),
         stops: options.stops,
         held: Held::new(alloc, options.bound),
+        reader: JsonReader::new(alloc),
         out,
         err,
         tally: Tally::new(),

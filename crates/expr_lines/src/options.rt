@@ -8,13 +8,14 @@ const ABOUT: &str = "Keeps, counts or rewrites records, one JSON object a line, 
 
 /// What `--help` says behind the options.
 const NOTES: &str = "\
-An expression sees a record's members as names, and the whole record as $env. Lines for which it is true are written as
-they are; lines without a record in them are passed over. A record that is refused (no JSON object, a number that isn't
-whole, a refusal of the expression, an answer that is neither true nor false) is told of on standard error, and the rest
-goes on. An expression that begins with - stands behind --.
+An expression sees a record's members as names, and the whole record as $env. Lines for which it
+is true are written as they are; lines without a record in them are passed over. A record that is
+refused (no JSON object, a number that isn't whole, a refusal of the expression, an answer that is
+neither true nor false) is told of on standard error, and the rest goes on. An expression that
+begins with - stands behind --.
 
-Status: 0 something was kept or all was rewritten, 1 nothing was kept, 2 wrong words or an expression that doesn't compile,
-3 records were refused, 4 something can't be read or written.";
+Status: 0 something was kept or all was rewritten, 1 nothing was kept, 2 wrong words or an
+expression that doesn't compile, 3 records were refused, 4 something can't be read or written.";
 
 /// What the words ask for.
 #[derive(Drop)]
@@ -62,7 +63,7 @@ fn with_manners<'a>(alloc: Global, command: Command<'a>) -> Result<Command<'a>, 
         .long("name")
         .value_name("NAME=CODE")
         .action(ArgAction::Append)
-        .help("Put the value of CODE, evaluated once, under NAME, before the records' members");
+        .help("Put the value of CODE under NAME, before the records' members");
     let fail_fast = Arg::new(alloc, "fail-fast")
         .short('f')
         .long("fail-fast")

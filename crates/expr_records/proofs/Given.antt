@@ -1,6 +1,7 @@
 -- What is known of a value that a call gave, or refused to give.
 use Rattle.std.proofs.Common.{◌≡◌, ◌≢◌, refl, sym, ap, subst, ◌∙◌, Result, Ok, Err}
-use Rattle.std.specs.Prelude.{Option, None, Some, IsSome, IfErr}
+use Rattle.std.specs.Prelude.{Option, None, Some, IfErr, option_and_then, option_map}
+use Rattle.std.proofs.lemmas.Option.{same_Some}
 use Rattle.std.specs.Result.{IsErrAnd}
 use Rattle.expr_encoding.specs.Optional.{given}
 use Rattle.expr_value.specs.Fault.{Fault, fault_of, memory}
@@ -21,9 +22,14 @@ module _ {A : Type 0} where
   pub given_err : (o : Option A) (e : Fault) → given o ≡ Err e → o ≡ None
   given_err o e p = sym (taken_of_given o) ∙ ap taken p
 
-  pub none_unless : (o : Option A) → (IsSome o → ⊥) → o ≡ None
-  none_unless (Some v) h = absurd (h refl)
-  none_unless None h = refl
+-- what comes of a value, where it is known whether there is one
+pub flat : {A B : Type 0} (f : A → Option B) (o : Option A) (b : Option B) → option_map f o ≡ Some b → option_and_then f o ≡ b
+flat f None b e = absurd (cc)
+flat f (Some a) b e = same_Some _ _ e
+
+pub none_before : {A B : Type 0} (f : A → Option B) (o : Option A) → option_map f o ≡ None → o ≡ None
+none_before f None e = refl
+none_before f (Some a) e = absurd (cc)
 
 -- a refusal that a `?` passes on, of a call that is allowed to refuse so
 pub refused_passed : {A B : Type 0} (r : Result A Error) (e : Error) (R : Result B Fault → Type 0)

@@ -7,8 +7,8 @@ use crate::outcome::{Outcome, Refusal};
 use crate::query::{Purpose, Query};
 use crate::record::{is_blank, record_of, text_of};
 use crate::sieve::Judge;
-use expr::{Context, Value};
-use expr_encoding::to_json;
+use expr::Value;
+use expr_encoding::{JsonReader, Members, to_json};
 use expr_meaning::Functions;
 use std::alloc::Global;
 
@@ -52,11 +52,17 @@ fn outcome_of(alloc: Global, purpose: Purpose, answer: &Value) -> Outcome
 }
 
 /// What a record comes to.
-fn record_outcome<H: Functions>(alloc: Global, query: &Query<H>, members: Context) -> Outcome
-    ensures { (text : List ℕ) → IsCodeOf text (code_of query.now.code) → ComesOfRecord query.now.purpose
-        (may_answer (H.host query.now.host.now) query.now.names.now text members) result }
+fn record_outcome<H: Functions>(
+    alloc: Global,
+    query: &mut Query<H>,
+    members: Members<'_>,
+) -> Outcome
+    ensures comes { (text : List ℕ) → IsCodeOf text (code_of query.old.machine.code.now)
+        → ComesOfRecord query.old.purpose
+        (may_answer (H.host query.old.host.now) query.old.names.now text members.entry) result }
+    ensures same { query.new ≡ query.old }
 {
-    match query.answer(alloc, members) {
+    match query.answer(members) {
         Ok(answer) => outcome_of(alloc, query.purpose, &answer),
         Err(error) => Outcome::Refused(Refusal::Expression(error)),
     }
@@ -67,16 +73,16 @@ impl<'h, H: Functions> Judge for Query<'h, H> {
     ghost use Rattle.expr_records.specs.Asked.{IsCodeOf, code_of, may_answer};
     ghost use Rattle.expr_records.specs.Judged.{MayCome};
 
-    ghost judged = { λ q line outcome. (text : List ℕ) → IsCodeOf text (code_of q.code)
+    ghost judged = { λ q line outcome. (text : List ℕ) → IsCodeOf text (code_of q.machine.code.now)
         → MayCome q.purpose (may_answer (H.host q.host.now) q.names.now text) line outcome };
 
     /// A mark at the line's front is passed over, and a line of spaces, tabs and carriage returns alone has no record.
-    fn judge(&self, alloc: Global, line: &[u8]) -> Outcome {
+    fn judge(&mut self, alloc: Global, reader: &mut JsonReader, line: &[u8]) -> Outcome {
         let text = text_of(line);
         if is_blank(text) {
             return Outcome::Blank;
         }
-        match record_of(alloc, text) {
+        match record_of(alloc, reader, text) {
             Ok(members) => record_outcome(alloc, self, members),
             Err(refusal) => Outcome::Refused(refusal),
         }

@@ -11,11 +11,12 @@ mod record;
 mod sieve;
 mod tally;
 
+pub use expr_encoding::JsonReader;
 pub use held::{Held, State};
 pub use lines::next_line;
 pub use names::bind;
 pub use outcome::{Outcome, Refusal};
-pub use query::{Purpose, Query};
+pub use query::{Purpose, Query, code_of_text};
 pub use record::{Record, record_of};
 pub use sieve::{Ended, Judge, Sieve};
 pub use tally::Tally;

@@ -7,8 +7,11 @@ ghost use Rattle.expr_value.specs.Answers.{Gives};
 ghost use Rattle.expr_value.specs.Fault.{fault_of, memory};
 
 use crate::record::Record;
-use expr::{Code, Context, KeptCode, Result, Value, compile_within, execution_answers_programs};
-use expr_machine::Machine;
+use expr::{
+    Code, Context, KeptCode, KeptMachine, Pattern, Result, Value, compile_within,
+    execution_answers_programs,
+};
+use expr_encoding::Members;
 use expr_meaning::Functions;
 use std::alloc::Global;
 
@@ -38,45 +41,53 @@ impl Purpose {
 /// The greatest height of an expression's tree: evaluation takes stack by depth.
 pub const HEIGHT: usize = 500;
 
-/// An expression, lowered once, and what it is asked in.
+/// The code of an expression's text.
+///
+/// # Errors
+///
+/// What [`compile_within`] refuses of a text whose tree may be no higher than 500.
+pub fn code_of_text(alloc: Global, text: &str) -> Result<KeptCode>
+    ensures code { IfOk result (λ code. IsCodeOf text.now (code_of code)) }
+    ensures refused { IfErr result
+        (λ e. fault_of e ≢ memory → IsRefusedWithin 500 text.now (Err (fault_of e))) }
+    ensures place { IsPlaced text.now result }
+{
+    let program = compile_within(alloc, text, HEIGHT)?;
+    let code = Code::lower(alloc, &program)?.keep(alloc)?;
+    Ok(code)
+}
+
+/// An expression's code, in one machine for all records, and what it is asked in.
 #[derive(Drop)]
 pub struct Query<'h, H> {
     /// What the host has added to the language.
     pub host: &'h H,
     /// The names that stand before those of each record.
     pub names: &'h Context,
-    pub code: KeptCode,
+    pub machine: KeptMachine<'h, Box<Value>, Box<String>, Box<Pattern>>,
     pub purpose: Purpose,
 }
 
 impl<'h, H: Functions> Query<'h, H> {
-    /// The query of an expression's text.
-    ///
-    /// # Errors
-    ///
-    /// What [`compile_within`] refuses of a text whose tree may be no higher than 500.
-    pub fn compile(
+    /// The query of an expression's code.
+    pub fn new(
         alloc: Global,
         host: &'h H,
         names: &'h Context,
         purpose: Purpose,
-        text: &str,
-    ) -> Result<Query<'h, H>>
-        ensures code { IfOk result (λ q. IsCodeOf text.now (code_of q.code)) }
-        ensures asked { IfOk result
-            (λ q. (q.names.now ≡ names.now) × (q.purpose ≡ purpose) × (q.host.now ≡ host.now)) }
-        ensures refused { IfErr result
-            (λ e. fault_of e ≢ memory → IsRefusedWithin 500 text.now (Err (fault_of e))) }
-        ensures place { IsPlaced text.now result }
+        code: &'h KeptCode,
+    ) -> Query<'h, H>
+        ensures code { result.machine.code.now ≡ code.now }
+        ensures names { result.names.now ≡ names.now }
+        ensures purpose { result.purpose ≡ purpose }
+        ensures host { result.host.now ≡ host.now }
     {
-        let program = compile_within(alloc, text, HEIGHT)?;
-        let code = Code::lower(alloc, &program)?.keep(alloc)?;
-        Ok(Query {
+        Query {
             host,
             names,
-            code,
+            machine: KeptMachine::new(alloc, code),
             purpose,
-        })
+        }
     }
 
     /// What the expression answers of a record.
@@ -84,19 +95,17 @@ impl<'h, H: Functions> Query<'h, H> {
     /// # Errors
     ///
     /// The first refusal in the order of evaluation: `ExprError`, or `MemoryError` where a growth is refused.
-    pub fn answer(&self, alloc: Global, members: Context) -> Result<Value>
-        ensures { (text : List ℕ) → IsCodeOf text (code_of self.now.code)
-            → Gives result (may_answer (H.host self.now.host.now) self.now.names.now text members) }
+    pub fn answer(&mut self, members: Members<'_>) -> Result<Value>
+        ensures answer { (text : List ℕ) → IsCodeOf text (code_of self.old.machine.code.now)
+            → Gives result (may_answer (H.host self.old.host.now) self.old.names.now text members.entry) }
+        ensures same { self.new ≡ self.old }
     {
-        let machine = Machine {
-            alloc,
-            host: self.host,
-            provider: Record {
-                members,
-                names: self.names,
-            },
+        let provider = Record {
+            members,
+            names: self.names,
         };
         execution_answers_programs::<H>();
-        machine.execute(&self.code)
+        let host = self.host;
+        self.machine.execute_among(host, provider)
     }
 }

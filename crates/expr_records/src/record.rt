@@ -1,13 +1,12 @@
 //! Records: JSON objects, whose members are lent as names.
-ghost use Rattle.std.specs.Prelude.{◌≡◌, IfOk, IfErr, None, Some};
+ghost use Rattle.std.specs.Prelude.{◌≡◌, IfOk, IfErr, Some};
 ghost use Rattle.std.specs.List.{list_all};
 ghost use Rattle.expr_records.specs.Lines.{is_space, text_of};
 ghost use Rattle.expr_records.specs.Records.{IsRecord, MayRefuseText, members_of};
-ghost use Rattle.expr_value.specs.Values.{map_of};
 
 use crate::outcome::Refusal;
 use expr::{Context, ContextProvider, Result, Value};
-use expr_encoding::from_json;
+use expr_encoding::{JsonReader, Members};
 use std::alloc::Global;
 
 /// The mark by which some systems say that a file is UTF-8.
@@ -15,12 +14,12 @@ const MARK: &[u8] = b"\xEF\xBB\xBF";
 
 /// The members of a record, and the names that stand before them. `$env` shows the record alone.
 #[derive(Drop)]
-pub struct Record<'n> {
-    pub members: Context,
+pub struct Record<'t, 'n> {
+    pub members: Members<'t>,
     pub names: &'n Context,
 }
 
-impl<'n> ContextProvider for Record<'n> {
+impl<'t, 'n> ContextProvider for Record<'t, 'n> {
     ghost use Rattle.expr_records.specs.Records.{lent};
 
     ghost context = { λ r. lent r.names.now r.members };
@@ -55,28 +54,18 @@ pub fn is_blank(text: &[u8]) -> bool
         .all(|byte| matches!(*byte, b' ' | b'\t' | b'\r'))
 }
 
-/// The members of a map.
-///
-/// # Errors
-///
-/// `NotObject` for any other value.
-fn members_in(alloc: Global, value: Value) -> std::result::Result<Context, Refusal>
-    ensures ok { IfOk result (λ members. map_of value ≡ Some members) }
-    ensures err { IfErr result (λ refusal. (refusal ≡ Refusal.NotObject) × (map_of value ≡ None)) }
-{
-    match Context::try_from(alloc, value) {
-        Ok(members) => Ok(members),
-        Err(_) => Err(Refusal::NotObject),
-    }
-}
-
 /// The members of the object that a text of JSON holds.
-fn object_of(alloc: Global, text: &str) -> std::result::Result<Context, Refusal>
+fn object_of<'t>(
+    alloc: Global,
+    reader: &'t mut JsonReader,
+    text: &'t str,
+) -> std::result::Result<Members<'t>, Refusal>
     ensures ok { IfOk result (λ members. members_of text.now ≡ Some members) }
     ensures err { IfErr result (λ refusal. MayRefuseText text.now refusal) }
 {
-    match from_json(alloc, text) {
-        Ok(value) => members_in(alloc, value),
+    match reader.members(alloc, text) {
+        Ok(Some(members)) => Ok(members),
+        Ok(None) => Err(Refusal::NotObject),
         Err(error) => Err(Refusal::NotJson(error)),
     }
 }
@@ -86,12 +75,16 @@ fn object_of(alloc: Global, text: &str) -> std::result::Result<Context, Refusal>
 /// # Errors
 ///
 /// Why the text is no record.
-pub fn record_of(alloc: Global, bytes: &[u8]) -> std::result::Result<Context, Refusal>
+pub fn record_of<'t>(
+    alloc: Global,
+    reader: &'t mut JsonReader,
+    bytes: &'t [u8],
+) -> std::result::Result<Members<'t>, Refusal>
     ensures ok { IfOk result (λ members. IsRecord bytes.now members) }
     ensures err { IfErr result (λ refusal. MayRefuseText bytes.now refusal) }
 {
     match std::str::from_utf8(bytes) {
-        Ok(text) => object_of(alloc, text),
+        Ok(text) => object_of(alloc, reader, text),
         Err(_) => Err(Refusal::NotText),
     }
 }

@@ -9,6 +9,7 @@ use crate::held::{Held, State};
 use crate::lines::next_line;
 use crate::outcome::{Outcome, Refusal};
 use crate::tally::Tally;
+use expr_encoding::JsonReader;
 use std::alloc::Global;
 use std::io::{self, BufRead, ErrorKind, Write};
 
@@ -20,9 +21,10 @@ pub trait Judge {
     /// What a line may come to.
     ghost judged: { Self → List ℕ → Result → Type 0 };
 
-    /// What a line, without its line feed, comes to.
-    fn judge(&self, alloc: Global, line: &[u8]) -> Outcome
-        ensures { judged self.now line.now result };
+    /// What a line, without its line feed, comes to. What reads JSON is lent, so that its memory is used again.
+    fn judge(&mut self, alloc: Global, reader: &mut JsonReader, line: &[u8]) -> Outcome
+        ensures judged { judged self.old line.now result }
+        ensures same { self.new ≡ self.old };
 }
 
 /// How the reading of a stream ended.
@@ -45,6 +47,7 @@ pub struct Sieve<J, W, E> {
     /// Whether a refused record ends a stream.
     pub stops: bool,
     pub held: Held,
+    pub reader: JsonReader,
     pub out: W,
     pub err: E,
     pub tally: Tally,
@@ -70,19 +73,21 @@ fn put<W: Write>(out: &mut W, line: &[u8], outcome: &Outcome) -> io::Result<()>
 /// What a line that was read comes to, and whether what is left of it could be written.
 fn brought<J: Judge, W: Write>(
     alloc: Global,
-    judge: &J,
+    judge: &mut J,
+    reader: &mut JsonReader,
     held: &Held,
     out: &mut W,
 ) -> (Outcome, io::Result<()>)
     ensures comes { (line : List ℕ) → Holds held.now line
-        → Comes held.now.bound (J.judged judge.now) line result.0 }
+        → Comes held.now.bound (J.judged judge.old) line result.0 }
     ensures output { OnOk result.1 ((line : List ℕ) → Holds held.now line
         → Appends (W.contents out.old) (W.contents out.new) (written line result.0)) }
+    ensures same { judge.new ≡ judge.old }
 {
     match held.state {
         State::Fits => {
             let line = held.bytes.as_slice();
-            let outcome = judge.judge(alloc, line);
+            let outcome = judge.judge(alloc, reader, line);
             let written = put(out, line, &outcome);
             (outcome, written)
         }
@@ -102,7 +107,13 @@ impl<J: Judge, W: Write, E: Write> Sieve<J, W, E> {
         ensures stops { self.new.stops ≡ self.old.stops }
         ensures tally { OnErr result (self.new.tally ≡ self.old.tally) }
     {
-        let (outcome, written) = brought(alloc, &self.judge, &self.held, &mut self.out);
+        let (outcome, written) = brought(
+            alloc,
+            &mut self.judge,
+            &mut self.reader,
+            &self.held,
+            &mut self.out,
+        );
         written?;
         self.tally.add(&outcome);
         if let Outcome::Refused(refusal) = &outcome {

@@ -7,17 +7,17 @@ use Rattle.expr_records.specs.Records.{IsRecord, MayRefuseText}
 use Rattle.expr_records.specs.declared.outcome.Outcome.TheVariants.{Refused}
 use Rattle.expr_records.proofs.judging.QueryJudge.judge.Goals as goal
 
-pub returns-in-Ok : goal.returns-in-Ok
-returns-in-Ok g c =
+pub returns-in-Ok-clause-judged : goal.returns-in-Ok-clause-judged
+returns-in-Ok-clause-judged g c =
     let query = c.args.self.now in
     let full : is_blank c.args.line.now ≡ false = ap (list_all is_space) (sym c.text_of-text.ensures) ∙ (sym c.is_blank.ensures ∙ c.if-is_blank.false) in
     λ text is.
-    let come = c.record_outcome.ensures text is in
+    let come = c.record_outcome.ensures.comes text is in
     let held = subst (λ t. IsRecord t c.in-Ok.members) c.text_of-text.ensures c.in-Ok.ensures.ok in
     subst (λ b. ComesBy b query.purpose (may_answer (g.H.Functions.host query.host.now) query.names.now text) (text_of c.args.line.now) c.record_outcome.result) (sym full) (inl (c.in-Ok.members, held, come))
 
-pub returns-in-Err : goal.returns-in-Err
-returns-in-Err g c =
+pub returns-in-Err-clause-judged : goal.returns-in-Err-clause-judged
+returns-in-Err-clause-judged g c =
     let query = c.args.self.now in
     let full : is_blank c.args.line.now ≡ false = ap (list_all is_space) (sym c.text_of-text.ensures) ∙ (sym c.is_blank.ensures ∙ c.if-is_blank.false) in
     λ text is.
