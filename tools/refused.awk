@@ -2,8 +2,9 @@
 # last line `sum ROWS RUNS OWN MEMORY FAULTS PLAIN`.
 #
 # form: what an answer looks like, `expr` (a value on standard output, or the word for a refusal on standard error with
-# status 1) or `bench` (a line on standard output). answers: the file of the rows' own answers, one a line up to the row
-# `topics`.
+# status 1), `bench` (a line on standard output) or `lines` (lines on standard output, a line on standard error for each record
+# that is refused). answers: the file of the rows' own answers, one a line up to the row `topics`; the rows of `lines` have
+# none there, and what stands for them is the run that has all its memory.
 BEGIN {
     while ((getline answer < answers) > 0) own[++lines] = answer
 }
@@ -27,6 +28,34 @@ function wanted(row,    text) {
     gsub(/\\/, "&&", text)
     return "0\t" text "\\n\t"
 }
+# whether the lines of one text are those of another but for at most one
+function misses_one(given, all,    parts, count, i, rest) {
+    if (given == all) return 1
+    count = split(all, parts, /\\n/) - 1
+    for (i = 1; i <= count; i++) {
+        rest = without(parts, count, i)
+        if (given == rest) return 1
+    }
+    return 0
+}
+function without(parts, count, left_out,    i, text) {
+    for (i = 1; i <= count; i++) if (i != left_out) text = text parts[i] "\\n"
+    return text
+}
+# One growth was refused to `expr_lines`: a record is told of as refused in place of what it came to, or nothing can be
+# compiled, read or written, and a count is of what was read; or all is as it was, where the text of a message alone was left
+# out.
+function is_lines_memory(how, whole,    given, all) {
+    split(how, given, "\t")
+    split(whole, all, "\t")
+    if (given[2] ~ /^[0-9]+\\n$/ && all[2] ~ /^[0-9]+\\n$/) {
+        if (given[1] == 4) return given[2] + 0 <= all[2] + 0
+        return given[1] == 3 && (given[2] + 0 == all[2] + 0 || given[2] + 1 == all[2] + 0)
+    }
+    if (given[1] == 4) return given[2] == "" || misses_one(given[2], all[2])
+    if (given[1] == 2) return given[2] == ""
+    return given[1] == 3 && given[3] ~ /memory/ && misses_one(given[2], all[2])
+}
 function is_memory(how) {
     if (form == "expr") return how == "1\t\tmemory\\n" || how == "1\t\t"
     return how == "0\t!memory\\n\t" || how == "1\t\tError: Kind(OutOfMemory)\\n"
@@ -38,10 +67,10 @@ function is_plain_memory(how) {
 }
 function judge(row, whole,    how) {
     own_runs++
-    if (row < topics ? whole != wanted(row) : whole !~ /^0\t/) { print "fault: " form ", row " row ", with all its memory: " whole; faults++ }
+    if (form == "lines" ? whole !~ /^[0-3]\t/ : row < topics ? whole != wanted(row) : whole !~ /^0\t/) { print "fault: " form ", row " row ", with all its memory: " whole; faults++ }
     for (how in many) {
         if (how == whole) own_runs += many[how]
-        else if (is_memory(how) || is_plain_memory(how)) memory += many[how]
+        else if (form == "lines" ? is_lines_memory(how, whole) : is_memory(how) || is_plain_memory(how)) memory += many[how]
         else { print "fault: " form ", row " row ": " how; faults += many[how] }
     }
 }
