@@ -1,13 +1,18 @@
 //! Items without those that equal an earlier one.
-ghost use Rattle.std.specs.Prelude.{◌≡◌, IfOk, IfErr, OnOk};
+ghost use Rattle.std.specs.Prelude.{◌≡◌, is_some, IfOk, IfErr, OnOk};
+ghost use Rattle.std.specs.Map.{keys_of};
 ghost use Rattle.expr_value.specs.Answers.{Gives};
-ghost use Rattle.expr_builtins.specs.Distinct.{uniq, distinct, with_new};
+ghost use Rattle.expr_value.specs.Values.{at_key, key_of};
+ghost use Rattle.expr_builtins.specs.Distinct.{uniq, distinct, keys_among, with_new};
 
 use crate::arguments::one_array;
 use crate::array::each_held;
 use expr_held::Held;
-use expr_value::{Error, Items, Result, Value, refusal};
+use expr_value::{Error, Items, Key, OrderedMap, Result, Value, refusal};
 use std::alloc::Global;
+
+/// Up to how many items are compared with each other, which costs less than a look-up of their keys.
+const FEW: usize = 32;
 
 /// The items of an array that equal no earlier one.
 pub(crate) fn uniq(alloc: Global, arguments: &mut [Held<'_>]) -> Result<Value>
@@ -20,8 +25,18 @@ pub(crate) fn uniq(alloc: Global, arguments: &mut [Held<'_>]) -> Result<Value>
     Ok(Value::Array(Items::from_vec(items)))
 }
 
-// Each item is compared with all that are kept before it.
 fn distinct(alloc: Global, items: Vec<Held<'_>>) -> Result<Vec<Value>>
+    ensures ok { IfOk result (λ kept. kept.items ≡ distinct items.entry.items) }
+    ensures err { IfErr result (λ e. e ≡ Error.MemoryError) }
+{
+    if items.len() <= FEW {
+        return distinct_few(alloc, items);
+    }
+    distinct_many(alloc, items)
+}
+
+// Each item is compared with all that are kept before it.
+fn distinct_few(alloc: Global, items: Vec<Held<'_>>) -> Result<Vec<Value>>
     ensures ok { IfOk result (λ kept. kept.items ≡ distinct items.entry.items) }
     ensures err { IfErr result (λ e. e ≡ Error.MemoryError) }
 {
@@ -32,6 +47,56 @@ fn distinct(alloc: Global, items: Vec<Held<'_>>) -> Result<Vec<Value>>
     Ok(kept)
 }
 
+// Each scalar is looked up among the keys of the scalars that are kept before it.
+fn distinct_many(alloc: Global, items: Vec<Held<'_>>) -> Result<Vec<Value>>
+    ensures ok { IfOk result (λ kept. kept.items ≡ distinct items.entry.items) }
+    ensures err { IfErr result (λ e. e ≡ Error.MemoryError) }
+{
+    let mut keys = OrderedMap::new(alloc);
+    let mut kept = Vec::new(alloc);
+    for item in items {
+        keep_by_key(&mut keys, &mut kept, item)?;
+    }
+    Ok(kept)
+}
+
+fn keep_by_key(keys: &mut OrderedMap<Key, ()>, kept: &mut Vec<Value>, item: Held<'_>) -> Result<()>
+    requires { keys_of keys.old ≡ keys_among kept.old.items }
+    ensures keys { OnOk result (keys_of keys.new ≡ keys_among kept.new.items) }
+    ensures kept { OnOk result (kept.new.items ≡ with_new kept.old.items item.entry) }
+    ensures err { IfErr result (λ e. e ≡ Error.MemoryError) }
+{
+    if has_key(keys, item.get()) {
+        return Ok(());
+    }
+    match key_copied(item.get())? {
+        Some(key) => {
+            keys.insert(key, ())?;
+            kept.push(item.into_value()?)?;
+            Ok(())
+        }
+        None => keep(kept, item),
+    }
+}
+
+fn has_key(keys: &OrderedMap<Key, ()>, value: &Value) -> bool
+    ensures { result ≡ is_some (at_key value.now keys.now) }
+{
+    keys.get(value).is_some()
+}
+
+// The key that a scalar is. An item of another kind is not copied.
+fn key_copied(value: &Value) -> Result<Option<Key>>
+    ensures ok { IfOk result (λ key. key ≡ key_of value.now) }
+    ensures err { IfErr result (λ e. e ≡ Error.MemoryError) }
+{
+    match value {
+        Value::Array(_) | Value::Bytes(_) | Value::Map(_) | Value::KeyedMap(_) => Ok(None),
+        scalar => Ok(scalar.clone()?.into_key()),
+    }
+}
+
+// The item is compared with all that are kept.
 fn keep(kept: &mut Vec<Value>, item: Held<'_>) -> Result<()>
     ensures ok { OnOk result (kept.new.items ≡ with_new kept.old.items item.entry) }
     ensures err { IfErr result (λ e. e ≡ Error.MemoryError) }

@@ -1,7 +1,7 @@
 use Rattle.std.proofs.Common.{ap, ◌∙◌, sym}
 use Rattle.expr_builtins.specs.Distinct.{with_new}
 use Rattle.expr_builtins.proofs.Unlike.{distinct-push}
-use Rattle.expr_builtins.proofs.distinct.distinct.Goals as goal
+use Rattle.expr_builtins.proofs.distinct.distinct_few.Goals as goal
 
 pub loop-item-preserved : goal.loop-item-preserved
 loop-item-preserved c =
