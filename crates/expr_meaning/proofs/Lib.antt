@@ -1,3 +1,7 @@
 pub mod Beginning
+pub mod Evaluated
+pub mod EvaluatedCalls
+pub mod EvaluatedTimes
+pub mod Faults
 pub mod Independent
 pub mod Literal

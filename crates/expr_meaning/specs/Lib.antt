@@ -3,6 +3,7 @@ pub mod Begun
 pub mod Calls
 pub mod Host
 pub mod Independence
+pub mod Refusals
 pub use Rattle.expr_operators.specs.Sides
 pub use Rattle.expr_operators.specs.Operators
 pub use Rattle.expr_operators.specs.Positions

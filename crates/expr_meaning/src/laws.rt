@@ -1,12 +1,14 @@
 //! Laws of the evaluation, each on a function without a body.
-ghost use Rattle.std.specs.Prelude.{◌≡◌, ◌↔◌, Bool, List, Ok, codes, false, not, true};
-ghost use Rattle.expr_meaning.specs.Allows.{Allows, AllowsAsked};
+ghost use Rattle.std.specs.Prelude.{◌≡◌, ◌≢◌, ◌↔◌, Bool, Err, List, Ok, codes, false, not, true};
+ghost use Rattle.expr_meaning.specs.Allows.{Allows, AllowsAsked, AllowsBlock};
+ghost use Rattle.expr_meaning.specs.Refusals.{NeverRefusesWith};
 ghost use Rattle.expr_predicates.specs.Allowed.{HasOneAnswer};
 ghost use Rattle.expr_predicates.specs.Tasks.{any_holds};
 ghost use Rattle.expr_steps.specs.Context.{Context};
 ghost use Rattle.expr_tree.specs.Term.{Block, Term, call, literal, no_terms, operation, predicate, term};
 ghost use Rattle.expr_tree.specs.declared.operator.Operator.TheVariants.{And, Or};
 ghost use Rattle.expr_value.specs.Answers.{Answer};
+ghost use Rattle.expr_value.specs.Fault.{Fault, evaluation, pattern as bad_pattern};
 
 use crate::environment::Functions;
 use expr_value::Value;
@@ -33,4 +35,12 @@ pub fn none_in_programs_is_the_opposite_of_any<H: Functions>()
         → Allows (H.host host) ctx (call (codes "any") (term array no_terms) (predicate block)) (Ok any)
         → Allows (H.host host) ctx (call (codes "none") (term array no_terms) (predicate block)) (Ok none)
         → (b : Bool) × (any ≡ Value.Bool b) × (none ≡ Value.Bool (not b)) }
+{}
+
+/// A program is refused because it can't be evaluated, or by a pattern that can't be built, and with nothing else but what
+/// a function that the host has added refuses with.
+pub fn programs_refuse_to_evaluate<H: Functions>()
+    ensures { (host : H) (ctx : Context) (program : Block) (fault : Fault)
+        → fault ≢ evaluation → fault ≢ bad_pattern → NeverRefusesWith (H.host host) fault
+        → ¬ (AllowsBlock (H.host host) ctx program (Err fault)) }
 {}

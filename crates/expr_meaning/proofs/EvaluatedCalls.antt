@@ -1,0 +1,193 @@
+-- Built-ins on values give a value or refuse to evaluate.
+use Rattle.std.proofs.Common.{◌≡◌, ℕ, ℤ, pos, negsuc, ◌==◌, ◌*◌, ◌^◌, nat_lt, Bool, cond, List, [], ◌∷◌, length, map, Option, Some, None, Result, Ok, Err, IfErr, refl, sym, subst, option_map}
+use Rattle.std.specs.Option.{option_and_then}
+use Rattle.expr_builtins.specs.Arguments.{asked, any_value, array_and_text, all_of, one_integer, one_of, one_or_two_texts, one_text, text_and_integer, three_texts_and_limit, two_integers, two_of, two_texts, two_texts_and_limit}
+use Rattle.expr_builtins.specs.Bits as bits
+use Rattle.expr_builtins.specs.Numbers as numbers
+use Rattle.expr_builtins.specs.Nested.{all_opened}
+use Rattle.expr_builtins.specs.Text as text
+use Rattle.expr_builtins.specs.Trimmed as trimmed
+use Rattle.expr_builtins.specs.Collections as collections
+use Rattle.expr_builtins.specs.Conversions as conversions
+use Rattle.expr_builtins.specs.Calls.{Called}
+use Rattle.expr_builtins.specs.declared.builtin.Builtin.{Builtin}
+use Rattle.expr_builtins.specs.declared.builtin.Builtin.TheVariants as is
+use Rattle.expr_encoding.specs.Base64.{FromBase64Layer, FromText, text_in_base64}
+use Rattle.expr_encoding.specs.Calls.{Called as EncodingCalled, Encodes, of_json_layer}
+use Rattle.expr_encoding.specs.Optional.{given as given_encoding}
+use Rattle.expr_encoding.specs.Reading.{json_value}
+use Rattle.expr_encoding.specs.Writing.{json_text}
+use Rattle.expr_encoding.specs.declared.encoding.Encoding.{Encoding}
+use Rattle.expr_encoding.specs.declared.encoding.Encoding.TheVariants as encoding
+use Rattle.expr_value.specs.Answers.{Answer}
+use Rattle.expr_value.specs.Fault.{evaluation}
+use Rattle.expr_value.specs.Values.{integer_of, items_of, joined, scalar_pairs, string_of}
+use Rattle.expr_value.specs.Keys.{key_put_all}
+use Rattle.expr_value.specs.declared.value.Value as value
+use Rattle.expr_value.specs.declared.value.Value.{Value, out-Value}
+use Rattle.expr_value.specs.declared.value.Value.TheOpen.{Value-F}
+use Rattle.expr_meaning.proofs.Evaluated.{Evaluates, either-evaluates, same-evaluates}
+
+-- what a call answers on arguments of its kinds
+asked-evaluates : {A : Type 0} (o : Option A) (answers : A → Answer) → ((x : A) → Evaluates (answers x)) → Evaluates (asked o answers)
+asked-evaluates None answers p = refl
+asked-evaluates (Some x) answers p = p x
+
+on : {A : Type 0} (o : Option A) (answers : A → Answer) (a : Answer) → a ≡ asked o answers → ((x : A) → Evaluates (answers x)) → Evaluates a
+on o answers a e p = same-evaluates a (asked o answers) e (asked-evaluates o answers p)
+
+-- bits and numbers
+counted-evaluates : (shifted : ℕ → ℤ) (n : ℤ) → Evaluates (bits.counted shifted n)
+counted-evaluates shifted (pos n) = tt
+counted-evaluates shifted (negsuc n) = refl
+
+chosen-evaluates : (choice : ℤ → ℤ → ℤ) (vs : List Value) → Evaluates (numbers.chosen_among choice vs)
+chosen-evaluates choice vs =
+    either-evaluates (length vs == 0) (Err evaluation) (asked (all_of integer_of (all_opened vs)) (λ ns. Ok (numbers.chosen choice ns))) refl
+    (asked-evaluates (all_of integer_of (all_opened vs)) (λ ns. Ok (numbers.chosen choice ns)) (λ ns. tt))
+
+-- texts
+repeated-evaluates : (s : List ℕ) (n : ℤ) → Evaluates (text.repeated s n)
+repeated-evaluates s (pos n) =
+    either-evaluates (nat_lt 1000000 n) (Err evaluation) (cond (nat_lt (n * length s) (2 ^ 64)) (Ok _) (Err evaluation)) refl
+    (either-evaluates (nat_lt (n * length s) (2 ^ 64)) (Ok _) (Err evaluation) tt refl)
+repeated-evaluates s (negsuc n) = refl
+
+cased-evaluates : (changed : ℕ → ℕ) (o : Option (List ℕ)) (a : Answer) → text.CasedOne changed o a → Evaluates a
+cased-evaluates changed None a p = same-evaluates a (Err evaluation) p refl
+cased-evaluates changed (Some s) a p = same-evaluates a (Ok (value.String p.0)) p.1 tt
+
+trimmed-evaluates : (one : Option (List ℕ)) (two : Option (List ℕ × List ℕ)) (a : Answer) → trimmed.TrimOne one two a → Evaluates a
+trimmed-evaluates (Some s) two a p = same-evaluates a (Ok (value.String p.0)) p.2 tt
+trimmed-evaluates None (Some q) a p = same-evaluates a (Ok (value.String p.0)) p.2 tt
+trimmed-evaluates None None a p = same-evaluates a (Err evaluation) p refl
+
+-- arrays and maps
+taken-evaluates : (xs : List Value) (n : ℤ) → Evaluates (collections.taken xs n)
+taken-evaluates xs (pos n) = tt
+taken-evaluates xs (negsuc n) = refl
+
+keys-evaluates : (v : Value-F Value) → Evaluates (collections.keys_layer v)
+keys-evaluates (Value-F.Map m) = tt
+keys-evaluates (Value-F.KeyedMap m) = tt
+keys-evaluates v = refl
+
+values-evaluates : (v : Value-F Value) → Evaluates (collections.values_layer v)
+values-evaluates (Value-F.Map m) = tt
+values-evaluates (Value-F.KeyedMap m) = tt
+values-evaluates v = refl
+
+to_pairs-evaluates : (v : Value-F Value) → Evaluates (collections.to_pairs_layer v)
+to_pairs-evaluates (Value-F.Map m) = tt
+to_pairs-evaluates (Value-F.KeyedMap m) = tt
+to_pairs-evaluates v = refl
+
+get-evaluates : (v : Value-F Value) (k : Value) (key : Value-F Value) → Evaluates (collections.get_layer v k key)
+get-evaluates (Value-F.Array xs) k (Value-F.Integer n) = tt
+get-evaluates (Value-F.Bytes bs) k (Value-F.Integer n) = tt
+get-evaluates (Value-F.Map m) k (Value-F.String name) = tt
+get-evaluates (Value-F.KeyedMap m) k key = tt
+get-evaluates v k key = refl
+
+concat-evaluates : (vs : List Value) → Evaluates (collections.concat vs)
+concat-evaluates vs =
+    either-evaluates (length vs == 0) (Err evaluation) (asked (option_map collections.in_a_row (all_of items_of vs)) (λ xs. Ok (value.Array xs))) refl
+    (asked-evaluates (option_map collections.in_a_row (all_of items_of vs)) (λ xs. Ok (value.Array xs)) (λ xs. tt))
+
+-- conversions
+read-evaluates : (s : List ℕ) (a : Answer) → conversions.Read s a → Evaluates a
+read-evaluates s (Ok v) p = tt
+read-evaluates s (Err f) p = p.1
+
+int_layer-evaluates : (v : Value-F Value) (a : Answer) → conversions.IntLayer v a → Evaluates a
+int_layer-evaluates (Value-F.Integer n) a p = same-evaluates a (Ok (value.Integer n)) p tt
+int_layer-evaluates (Value-F.String s) a p = read-evaluates s a p
+int_layer-evaluates v a p = same-evaluates a (Err evaluation) p refl
+
+int-evaluates : (o : Option Value) (a : Answer) → conversions.IntOne o a → Evaluates a
+int-evaluates None a p = same-evaluates a (Err evaluation) p refl
+int-evaluates (Some v) a p = int_layer-evaluates (out-Value v) a p
+
+pub Called-evaluates : (b : Builtin) (vs : List Value) (a : Answer) → Called b vs a → Evaluates a
+Called-evaluates is.Bitand vs a p = on (two_integers vs) _ a p (λ x. tt)
+Called-evaluates is.Bitor vs a p = on (two_integers vs) _ a p (λ x. tt)
+Called-evaluates is.Bitxor vs a p = on (two_integers vs) _ a p (λ x. tt)
+Called-evaluates is.Bitnand vs a p = on (two_integers vs) _ a p (λ x. tt)
+Called-evaluates is.Bitnot vs a p = on (one_integer vs) _ a p (λ x. tt)
+Called-evaluates is.Bitshl vs a p = on (two_integers vs) _ a p (λ x. counted-evaluates (bits.shifted_left x.0) x.1)
+Called-evaluates is.Bitshr vs a p = on (two_integers vs) _ a p (λ x. counted-evaluates (bits.shifted_right x.0) x.1)
+Called-evaluates is.Bitushr vs a p = on (two_integers vs) _ a p (λ x. counted-evaluates (bits.shifted_unsigned x.0) x.1)
+Called-evaluates is.Abs vs a p = on (one_integer vs) _ a p (λ x. tt)
+Called-evaluates is.Max vs a p = same-evaluates a _ p (chosen-evaluates _ vs)
+Called-evaluates is.Min vs a p = same-evaluates a _ p (chosen-evaluates _ vs)
+Called-evaluates is.Float vs a p = same-evaluates a (Err evaluation) p refl
+Called-evaluates is.Mean vs a p = same-evaluates a (Err evaluation) p refl
+Called-evaluates is.Median vs a p = same-evaluates a (Err evaluation) p refl
+Called-evaluates is.Ceil vs a p = same-evaluates a (Err evaluation) p refl
+Called-evaluates is.Floor vs a p = same-evaluates a (Err evaluation) p refl
+Called-evaluates is.Round vs a p = same-evaluates a (Err evaluation) p refl
+Called-evaluates is.HasPrefix vs a p = on (two_texts vs) _ a p (λ x. tt)
+Called-evaluates is.HasSuffix vs a p = on (two_texts vs) _ a p (λ x. tt)
+Called-evaluates is.Trim vs a p = trimmed-evaluates (one_text vs) (two_texts vs) a p
+Called-evaluates is.TrimPrefix vs a p = on (one_or_two_texts vs) _ a p (λ x. tt)
+Called-evaluates is.TrimSuffix vs a p = on (one_or_two_texts vs) _ a p (λ x. tt)
+Called-evaluates is.Upper vs a p = cased-evaluates _ (one_text vs) a p
+Called-evaluates is.Lower vs a p = cased-evaluates _ (one_text vs) a p
+Called-evaluates is.Split vs a p = on (two_texts_and_limit vs) _ a p (λ x. tt)
+Called-evaluates is.SplitAfter vs a p = on (two_texts_and_limit vs) _ a p (λ x. tt)
+Called-evaluates is.Replace vs a p = on (three_texts_and_limit vs) _ a p (λ x. tt)
+Called-evaluates is.Repeat vs a p = on (text_and_integer vs) _ a p (λ x. repeated-evaluates x.0 x.1)
+Called-evaluates is.Len vs a p = on (option_and_then collections.size_of (one_of any_value vs)) _ a p (λ x. tt)
+Called-evaluates is.First vs a p = on (one_of items_of vs) _ a p (λ x. tt)
+Called-evaluates is.Last vs a p = on (one_of items_of vs) _ a p (λ x. tt)
+Called-evaluates is.Take vs a p = on (two_of items_of integer_of vs) _ a p (λ x. taken-evaluates x.0 x.1)
+Called-evaluates is.Reverse vs a p = on (one_of items_of vs) _ a p (λ x. tt)
+Called-evaluates is.Uniq vs a p = on (one_of items_of vs) _ a p (λ x. tt)
+Called-evaluates is.Flatten vs a p = on (one_of items_of vs) _ a p (λ x. tt)
+Called-evaluates is.Concat vs a p = same-evaluates a (collections.concat vs) p (concat-evaluates vs)
+Called-evaluates is.Keys vs a p = on (one_of any_value vs) _ a p (λ v. keys-evaluates (out-Value v))
+Called-evaluates is.Values vs a p = on (one_of any_value vs) _ a p (λ v. values-evaluates (out-Value v))
+Called-evaluates is.ToPairs vs a p = on (one_of any_value vs) _ a p (λ v. to_pairs-evaluates (out-Value v))
+Called-evaluates is.Get vs a p = on (two_of any_value any_value vs) _ a p (λ x. get-evaluates (out-Value x.0) x.1 (out-Value x.1))
+Called-evaluates is.Join vs a p = on (array_and_text vs) _ a p (λ x. asked-evaluates (all_of string_of x.0) (λ ts. Ok (value.String (joined x.1 ts))) (λ ts. tt))
+Called-evaluates is.FromPairs vs a p =
+    on (option_and_then (all_of collections.pair_of) (one_of items_of vs)) _ a p (
+    λ ps. asked-evaluates (option_map (key_put_all []) (scalar_pairs ps)) (λ m. Ok (value.KeyedMap m)) (λ m. tt)
+    )
+Called-evaluates is.IndexOf vs a p = on (two_texts vs) _ a p (λ x. tt)
+Called-evaluates is.LastIndexOf vs a p = on (two_texts vs) _ a p (λ x. tt)
+Called-evaluates is.Int vs a p = int-evaluates (one_of any_value vs) a p
+Called-evaluates is.String vs a p = on (one_of any_value vs) _ a p (λ x. tt)
+Called-evaluates is.Type vs a p = on (one_of any_value vs) _ a p (λ x. tt)
+
+-- encodings
+given_encoding-evaluates : (o : Option Value) → Evaluates (given_encoding o)
+given_encoding-evaluates (Some v) = tt
+given_encoding-evaluates None = refl
+
+of_json-evaluates : (v : Value-F Value) → Evaluates (of_json_layer v)
+of_json-evaluates (Value-F.String s) = given_encoding-evaluates (json_value s)
+of_json-evaluates v = refl
+
+in_base64-evaluates : (v : Value-F Value) → Evaluates (text_in_base64 v)
+in_base64-evaluates (Value-F.String s) = tt
+in_base64-evaluates v = refl
+
+from_text-evaluates : (s : List ℕ) (a : Answer) → FromText s a → Evaluates a
+from_text-evaluates s (Ok v) p = tt
+from_text-evaluates s (Err f) p = p.0
+
+from_base64-evaluates : (v : Value-F Value) (a : Answer) → FromBase64Layer v a → Evaluates a
+from_base64-evaluates (Value-F.String s) a p = from_text-evaluates s a p
+from_base64-evaluates v a p = same-evaluates a (Err evaluation) p refl
+
+encodes-evaluates : (e : Encoding) (v : Value) (a : Answer) → Encodes e v a → Evaluates a
+encodes-evaluates encoding.FromJson v a p = same-evaluates a (of_json_layer (out-Value v)) p (of_json-evaluates (out-Value v))
+encodes-evaluates encoding.ToJson v a p = same-evaluates a (given_encoding (option_map value.String (json_text v))) p (given_encoding-evaluates (option_map value.String (json_text v)))
+encodes-evaluates encoding.ToBase64 v a p = same-evaluates a (text_in_base64 (out-Value v)) p (in_base64-evaluates (out-Value v))
+encodes-evaluates encoding.FromBase64 v a p = from_base64-evaluates (out-Value v) a p
+
+pub EncodingCalled-evaluates : (e : Encoding) (vs : List Value) (a : Answer) → EncodingCalled e vs a → Evaluates a
+EncodingCalled-evaluates e [] a p = same-evaluates a (Err evaluation) p refl
+EncodingCalled-evaluates e (v ∷ []) a p = encodes-evaluates e v a p
+EncodingCalled-evaluates e (v ∷ w ∷ more) a p = same-evaluates a (Err evaluation) p refl
