@@ -1,5 +1,5 @@
 -- Operators give a value or refuse to evaluate, and `matches` refuses a pattern too.
-use Rattle.std.proofs.Common.{◌≡◌, ℤ, pos, Bool, true, false, cond, List, ◌∷◌, Option, Some, None, Result, Ok, Err, IfErr, refl, sym, subst, int_eq, bytes_eq, codes, ℕ}
+use Rattle.std.proofs.Common.{◌≡◌, ℤ, pos, Bool, true, false, cond, List, Option, Some, None, Result, Ok, Err, IfErr, refl, sym, subst, int_eq, bytes_eq, codes, ℕ}
 use Rattle.expr_moment.specs.Fields.{between}
 use Rattle.expr_moment.specs.Places.{given}
 use Rattle.expr_operators.specs.Matching.{Matched, MatchedLayers, MatchesText}

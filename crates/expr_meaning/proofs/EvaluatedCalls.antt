@@ -1,5 +1,5 @@
 -- Built-ins on values give a value or refuse to evaluate.
-use Rattle.std.proofs.Common.{◌≡◌, ℕ, ℤ, pos, negsuc, ◌==◌, ◌*◌, ◌^◌, nat_lt, Bool, cond, List, [], ◌∷◌, length, map, Option, Some, None, Result, Ok, Err, IfErr, refl, sym, subst, option_map}
+use Rattle.std.proofs.Common.{◌≡◌, ℕ, ℤ, pos, negsuc, ◌==◌, ◌*◌, ◌^◌, nat_lt, cond, List, [], ◌∷◌, length, Option, Some, None, Ok, Err, refl, option_map}
 use Rattle.std.specs.Option.{option_and_then}
 use Rattle.expr_builtins.specs.Arguments.{asked, any_value, array_and_text, all_of, one_integer, one_of, one_or_two_texts, one_text, text_and_integer, three_texts_and_limit, two_integers, two_of, two_texts, two_texts_and_limit}
 use Rattle.expr_builtins.specs.Bits as bits

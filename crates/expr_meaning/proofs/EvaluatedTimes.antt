@@ -1,6 +1,6 @@
 -- Methods, and calls of times, give a value or refuse to evaluate.
-use Rattle.std.proofs.Common.{◌≡◌, ℕ, ℤ, List, [], ◌∷◌, Option, Some, None, Result, Ok, Err, IfErr, inl, inr, refl, sym, subst, option_map}
-use Rattle.expr_duration.specs.Methods.{alone, answered, by_step, one_duration, one_text, Read, OfText, Duration}
+use Rattle.std.proofs.Common.{◌≡◌, ℕ, ℤ, List, [], ◌∷◌, Option, Some, None, Ok, Err, inl, inr, refl}
+use Rattle.expr_duration.specs.Methods.{alone, answered, by_step, one_duration, one_text, Read, OfText}
 use Rattle.expr_duration.specs.declared.method.DurationMethod.{DurationMethod}
 use Rattle.expr_duration.specs.declared.method.DurationMethod.TheVariants as of_length
 use Rattle.expr_layout.specs.Layouts.{Formats}
@@ -10,7 +10,7 @@ use Rattle.expr_moment.specs.Fields.{between}
 use Rattle.expr_moment.specs.Places.{at_civil, given}
 use Rattle.expr_steps.specs.Methods.{AllowsDurationMethod, AllowsMethod, AllowsMethodLayer, AllowsMomentMethod, AllowsNameMethod}
 use Rattle.expr_time.specs.Calls.{Called}
-use Rattle.expr_time.specs.Civil.{AllowsDate, ByLayout, Dates, DatesLayout, DatesNamed, DatesText, DatesThree, DatesTwo, GivenIf, place_read, by_form}
+use Rattle.expr_time.specs.Civil.{AllowsDate, Dates, DatesLayout, DatesNamed, DatesText, DatesThree, DatesTwo, GivenIf, place_read, by_form}
 use Rattle.expr_time.specs.Moments.{AddsDates, AnsweredAt, answer_for, located, name_answer, one_moment, one_zone, three_integers, timezone_of}
 use Rattle.expr_time.specs.Zones.{now_answer, timezone_answer, zone_named}
 use Rattle.expr_time.specs.declared.calls.TimeCall.{TimeCall}

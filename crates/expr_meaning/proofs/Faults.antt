@@ -1,12 +1,11 @@
 -- What a program is refused with: that it can't be evaluated, a pattern, or what a function of the host refuses with.
 use Rattle.std.proofs.Common.{◌≡◌, ◌≢◌, ◌⊎◌, ℕ, ℤ, Bool, true, false, List, [], ◌∷◌, ◌++◌, map, Option, Some, None, Result, Ok, Err, IfErr, MatchBool, MatchOption, ◌||◌, bytes_eq, codes, cond, inl, inr, refl, sym, subst}
-use Rattle.expr_operators.specs.Matching.{Matched}
 use Rattle.expr_operators.specs.Operators.{applied, prefixed, truth}
 use Rattle.expr_operators.specs.Positions.{bound_checked, indexed, ranged, sliced}
 use Rattle.expr_operators.specs.Sides.{sides_of}
 use Rattle.expr_operators.specs.declared.sides.Sides.{Sides}
 use Rattle.expr_operators.specs.declared.sides.Sides.TheVariants.{Both, EndsAtFalse, EndsAtTrue, Pattern}
-use Rattle.expr_predicates.specs.Calls.{AllowsAsking, SortsItems, Start, array_and_more, array_then, asking_named, begun, direction_named, direction_of, just, reduced_from_first, runs_alone, sorted_in, started, started_on}
+use Rattle.expr_predicates.specs.Calls.{AllowsAsking, SortsItems, array_and_more, array_then, asking_named, begun, direction_named, direction_of, reduced_from_first, runs_alone, sorted_in, started, started_on}
 use Rattle.expr_predicates.specs.Runs.{Asks, AsksItself}
 use Rattle.expr_predicates.specs.Sorting.{IsSorting, Sorts, are_alike, beside_keys, twice}
 use Rattle.expr_predicates.specs.Tasks.{Task, Reply, Question, Outcome, about, outcome, refused, sorting, stopped}
@@ -28,7 +27,7 @@ use Rattle.expr_meaning.proofs.Evaluated.{Evaluates, Matched-faults, applied-eva
 use Rattle.expr_meaning.proofs.EvaluatedCalls.{Called-evaluates, EncodingCalled-evaluates}
 use Rattle.expr_meaning.proofs.EvaluatedTimes.{AllowsMethod-evaluates, TimeCalled-evaluates}
 use Rattle.expr_meaning.specs.Allows.{Allows, AllowsAll, AllowsAsked, AllowsBlock, AllowsBound, AllowsCall, AllowsPairs, AllowsPiped, AllowsPostfix, AndThenLayer, ChosenLayer, ContinuedAs, DefaultsLayer, OrElseLayer, is_given}
-use Rattle.expr_meaning.specs.Calls.{AllowsBuiltin, AllowsOnValues, ByName}
+use Rattle.expr_meaning.specs.Calls.{AllowsBuiltin, AllowsOnValues}
 use Rattle.expr_meaning.specs.Host.{Host}
 use Rattle.expr_meaning.specs.Refusals.{NeverRefusesWith}
 
