@@ -28,6 +28,7 @@ use Rattle.expr_code.specs.Machine.{Op, push, store, act, asks, refuse, jump, ju
 use Rattle.expr_code.specs.Rest.{Next, Loaded, Rest, ByNilLayer}
 use Rattle.expr_code.specs.Slots.{name_op, slot_op, slot_of}
 use Rattle.expr_code.specs.declared.binds.Binds.{Binds}
+use Rattle.expr_code.proofs.Alike.{IsAlike, stands_alike}
 use Rattle.expr_code.proofs.Asking.{HasTold, asked_as, call_keeps}
 use Rattle.expr_code.proofs.Slotted.{overridden, overridden-append, overridden-map, Means, in_slot, in_context, name_means}
 use Rattle.expr_code.proofs.Steps.{same, via, back, itself, After-iff, After-next, After-first, After-nested, After-single, rest_append, rest_passed, taken_all}
@@ -485,14 +486,14 @@ module _ (host : Host) (base : Context) (programs : Programs) (later : Later) (r
       exact_asks scope slots e key block b at n vs many
       )
 
-  -- an operator with a value on its right that the right side alone may be
-  exact_with : (o : Operator) → AsksBoth (sides_of o) → (v : Value) (c : List Op) (slots : List Value) (F G : Answer → Type 0) → ((b : Answer) → (b ≡ Ok v) ↔ G b)
+  -- an operator with a value on its right that the operator doesn't tell from the one that the right side alone may be
+  exact_with : (o : Operator) → AsksBoth (sides_of o) → (r v : Value) → IsAlike o r v → (c : List Op) (slots : List Value) (F G : Answer → Type 0) → ((b : Answer) → (b ≡ Ok r) ↔ G b)
       → Exact host base later kept put c slots F → Exact host base later kept put (c ++ act (operate_with o v) ∷ []) slots (After F (λ w. Continued o w G))
-  exact_with o both v c slots F G h p =
+  exact_with o both r v alike c slots F G h p =
       exact_as host base later kept put (c ++ act (operate_with o v) ∷ []) slots (After F (λ w. Operated o w v)) (After F (λ w. Continued o w G)) (
       λ a. After-next F (λ w. Operated o w v) (λ w. Continued o w G) (
       λ w b known. back (via (continued_both (sides_of o) both o w G b) (
-      via (After-first G (λ x. x ≡ Ok v) (λ u. Operated o w u) (λ x. back (h x)) b) (After-single (Ok v) (λ u. Operated o w u) b)
+      via (After-first G (λ x. x ≡ Ok r) (λ u. Operated o w u) (λ x. back (h x)) b) (via (After-single (Ok r) (λ u. Operated o w u) b) (alike w b))
       ))
       ) a
       ) (exact_one host base later (operate_with o v) refl c slots F p)
@@ -533,9 +534,9 @@ module _ (host : Host) (base : Context) (programs : Programs) (later : Later) (r
         λ a. After-next F (λ v. After G (λ w. Operated o v w)) (λ v. Continued o v G) (λ v b known. back (continued_both (sides_of o) both o v G b)) a
         ) (exact_two host base later (operate o) refl c d slots F G (exact x slots e) (exact y slots e))
     exact (operation_with_code scope o l v c both x) slots e =
-        exact_with o both v c slots (Allows host (overridden scope slots base) l) (λ b. b ≡ Ok v) (λ b. itself) (exact x slots e)
-    exact (operation_with_literals_code scope o l vs c both x) slots e =
-        exact_with o both (value.Array vs) c slots (Allows host (overridden scope slots base) l) (Allows host (overridden scope slots base) (list (literals vs))) (
+        exact_with o both v v (λ w b. itself) c slots (Allows host (overridden scope slots base) l) (λ b. b ≡ Ok v) (λ b. itself) (exact x slots e)
+    exact (operation_with_literals_code scope o l vs v c both stands x) slots e =
+        exact_with o both (value.Array vs) v (stands_alike o vs v stands) c slots (Allows host (overridden scope slots base) l) (Allows host (overridden scope slots base) (list (literals vs))) (
         literals_allow host (overridden scope slots base) vs
         ) (exact x slots e)
     exact (and_code scope o l r c d s x y) slots e =
