@@ -1,5 +1,5 @@
 -- A character sought among others that rise.
-use Rattle.std.proofs.Common.{subst, ◌≡◌, ◌<◌, ◌≤◌, ℕ, zero, suc, Bool, true, false, ◌||◌, List, [], ◌∷◌, length, refl, sym, ap, ◌∙◌, arith}
+use Rattle.std.proofs.Common.{◌≡◌, ◌<◌, ◌≤◌, ℕ, zero, suc, Bool, true, false, ◌||◌, List, [], ◌∷◌, length, refl, sym, ap, ◌∙◌, arith}
 use Rattle.std.specs.Prelude.{◌==◌, get_or}
 use Rattle.std.specs.Char.{char_set_contains}
 use Rattle.std.specs.List.{list_any}
@@ -9,7 +9,6 @@ use Rattle.std.specs.Result.{is_ok}
 use Rattle.std.specs.declared.result.Result.{Result}
 use Rattle.std.specs.declared.result.Result.TheVariants.{Ok, Err}
 use Rattle.std.proofs.lemmas.List.Sorted.{list_any-IsPermutation, searched}
-use Rattle.expr_builtins.specs.Trimmed.{IsTrimmed}
 
 is_any : (cs : List ℕ) (c : ℕ) → char_set_contains cs c ≡ list_any (λ d. d == c) cs
 is_any [] c = refl
@@ -53,7 +52,3 @@ sought cs c (Ok i) up h =
 sought cs c (Err i) up h =
     let at = searched cs c (Err i) h (λ i j. up i j 0) in
     sym (found_nowhere cs c (λ k within. by_side k i (λ low. below_differs (get_or cs k 0) c (at.1 k low)) (λ high. above_differs (get_or cs k 0) c (at.2 k high within))))
-
--- a text is trimmed of what answers alike
-pub trimmed_alike : (drops others : ℕ → Bool) (s r : List ℕ) → ((c : ℕ) → others c ≡ drops c) → IsTrimmed others s r → IsTrimmed drops s r
-trimmed_alike drops others s r alike h = subst (λ (k : ℕ → Bool). IsTrimmed k s r) (λ i c. alike c i) h

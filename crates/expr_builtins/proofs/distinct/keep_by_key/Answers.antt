@@ -1,8 +1,7 @@
-use Rattle.std.proofs.Common.{◌≡◌, Some, None, sym, ap, ◌∙◌, rules}
+use Rattle.std.proofs.Common.{◌≡◌, Some, None, sym, ◌∙◌, rules}
 use Rattle.expr_value.specs.Values.{at_key, key_of}
 use Rattle.std.specs.Option.{is_some}
 use Rattle.std.specs.Prelude.{false, true}
-use Rattle.expr_builtins.specs.Distinct.{keys_among, with_new}
 use Rattle.expr_builtins.proofs.Keyed.{known_by_key, keys_without, new_by_key, key_goes_last}
 use Rattle.expr_builtins.proofs.distinct.keep_by_key.Goals as goal
 
