@@ -1,17 +1,59 @@
 -- The place of a syntax fault, where a text is read and its program is run.
-use Rattle.std.proofs.Common.{◌≡◌, ℕ, List, Result, Ok, Err, sym, ◌∙◌, subst, ap}
+use Rattle.std.proofs.Common.{◌≡◌, ◌≢◌, ℕ, List, Result, Ok, Err, inl, inr, sym, ◌∙◌, subst, ap}
 use Rattle.std.specs.Result.{IsErrAnd}
 use Rattle.std.specs.Str.{IsCharBoundary}
 use Rattle.expr_syntax.specs.Texts.{HasNoTree, IsPlaced, IsProgramOf}
 use Rattle.expr_tree.specs.Term.{Block}
 use Rattle.expr_tree.specs.declared.node.Program.{Program}
+use Rattle.expr_steps.specs.Context.{Context}
+use Rattle.expr_value.specs.Answers.{Gives}
+use Rattle.expr_value.specs.Fault.{evaluation, memory, pattern, syntax}
 use Rattle.expr_value.specs.declared.error.Error.{Error}
 use Rattle.expr_value.specs.declared.error.Error.TheVariants.{PestError, ParseError, ExprError, RegexError, MemoryError}
 use Rattle.expr_value.specs.declared.value.Value.{Value}
+use Rattle.expr_meaning.proofs.Faults.{program_faults}
+use Rattle.expr_meaning.specs.Allows.{AllowsBlock}
+use Rattle.expr_meaning.specs.Host.{Host, no_host}
+use Rattle.expr_meaning.specs.Refusals.{NeverRefusesWith}
+use Rattle.expr.specs.Texts.{IsOwnFault}
 
 -- a text with a program has a tree
 pub has_tree : {A : Type 0} (text : List ℕ) (b : Block) → IsProgramOf text b → HasNoTree text → A
 has_tree text b p none = absurd (none p.tree p.is_tree)
+
+-- Where no function of the host answers a syntax fault, no program comes to one.
+module _ (host : Host) (never : NeverRefusesWith host syntax) (ctx : Context) (b : Block) where
+  no_syntax : (place : ℕ) → ¬ (Gives {A = Value} (Err (PestError place)) (AllowsBlock host ctx b))
+  no_syntax place p =
+      let no_evaluation : syntax ≢ evaluation = λ e. cc in
+      let no_pattern : syntax ≢ pattern = λ e. cc in
+      let no_memory : syntax ≢ memory = λ e. cc in
+      program_faults syntax no_evaluation no_pattern host never ctx b (p no_memory)
+
+  pub place_never : (text : List ℕ) (r : Result Value Error) → Gives r (AllowsBlock host ctx b) → IsPlaced text r
+  place_never text (Ok v) p = tt
+  place_never text (Err (PestError place)) p = absurd (no_syntax place p)
+  place_never text (Err (ParseError message)) p = tt
+  place_never text (Err (ExprError message)) p = tt
+  place_never text (Err (RegexError error)) p = tt
+  place_never text (Err MemoryError) p = tt
+
+  pub boundary_never : (text : List ℕ) (r : Result Value Error) → Gives r (AllowsBlock host ctx b) → (place : ℕ) → r ≡ Err (PestError place) → IsCharBoundary text place
+  boundary_never text r p place e = absurd (no_syntax place (subst (λ s. Gives s (AllowsBlock host ctx b)) e p))
+
+-- a host that adds nothing answers none
+pub nothing_refuses : NeverRefusesWith no_host syntax
+nothing_refuses key vs added p = p
+
+-- a program is run whose text has it, so that a syntax fault of the text's own is none of the program's
+module _ (text : List ℕ) (host : Host) (ctx : Context) (b : Block) (of : IsProgramOf text b) (r : Result Value Error) (gives : Gives r (AllowsBlock host ctx b)) where
+  pub place_of_run : IsOwnFault text host → IsPlaced text r
+  place_of_run (inl none) = has_tree text b of none
+  place_of_run (inr never) = place_never host never ctx b text r gives
+
+  pub boundary_of_run : IsOwnFault text host → (place : ℕ) → r ≡ Err (PestError place) → IsCharBoundary text place
+  boundary_of_run (inl none) place e = has_tree text b of none
+  boundary_of_run (inr never) place e = boundary_never host never ctx b text r gives place e
 
 -- a refusal in place of a program
 abbrev refused_with : Error → Result Program Error

@@ -8,6 +8,7 @@ pub use Rattle.expr_meaning.specs.Allows
 pub use Rattle.expr_meaning.specs.Calls
 pub use Rattle.expr_meaning.specs.Host
 pub use Rattle.expr_meaning.specs.Independence
+pub use Rattle.expr_meaning.specs.Refusals
 pub use Rattle.expr_evaluation.specs.Handed
 pub use Rattle.expr_evaluation.specs.Plain
 pub use Rattle.expr_evaluation.specs.Several

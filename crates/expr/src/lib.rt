@@ -26,7 +26,10 @@ pub use expr_grammar::laws::{brackets_fit, one_tree};
 pub use expr_layout::layouts_have_one_reading;
 pub use expr_lowering::{Block, Code, Holder, Instruction, KeptCode, PredicateCall};
 pub use expr_machine::{KeptMachine, execute, run};
-pub use expr_meaning::{ExprCall, left_side_decides, none_in_programs_is_the_opposite_of_any};
+pub use expr_meaning::{
+    ExprCall, left_side_decides, none_in_programs_is_the_opposite_of_any,
+    programs_refuse_to_evaluate,
+};
 pub use expr_operators::{
     outside_is_not_within, part_stands_between_front_and_back, unequal_is_not_equal,
 };

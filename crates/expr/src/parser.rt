@@ -2,7 +2,7 @@
 ghost use Rattle.std.specs.Prelude.{◌≡◌, ℕ, List, None, Err, Ok, Some, IfErr, IfOk, IsTrue, OnErr, OnOk, bytes_eq, if◌then◌else◌, option_map};
 ghost use Rattle.expr.specs.Hosted.{host_of, moment_at, registered, zone_at};
 ghost use Rattle.expr.specs.Parsers.{environment_of};
-ghost use Rattle.expr.specs.Texts.{MayAnswer};
+ghost use Rattle.expr.specs.Texts.{IsOwnFault, MayAnswer};
 ghost use Rattle.std.specs.Str.{IsCharBoundary};
 ghost use Rattle.expr_grammar.specs.Grammar.{TreeProgram};
 ghost use Rattle.expr_meaning.specs.Allows.{Allows, AllowsBlock};
@@ -11,7 +11,7 @@ ghost use Rattle.expr_meaning.specs.Independence.{AgreeAt};
 ghost use Rattle.expr_evaluation.specs.Handed.{IsKeeping};
 ghost use Rattle.expr_evaluation.specs.Plain.{is_plain};
 ghost use Rattle.expr_parts.specs.Kept.{KeepPatterns};
-ghost use Rattle.expr_syntax.specs.Texts.{HasNoTree, IsAnswerFor, IsCompiled, IsPlaced, IsProgramOf, IsTreeOf};
+ghost use Rattle.expr_syntax.specs.Texts.{IsAnswerFor, IsCompiled, IsPlaced, IsProgramOf, IsTreeOf};
 ghost use Rattle.expr_token.specs.Printed.{is_readable};
 ghost use Rattle.expr_tree.specs.Beside.{program_operations};
 ghost use Rattle.expr_tree.specs.Context.{AgreeFor};
@@ -114,9 +114,10 @@ impl Parser {
         ensures independent { Gives result (λ a. (other : Context)
             → ((b : Block) → IsProgramOf code.now b → AgreeFor (context ctx.now) other b)
             → MayAnswer code.now (host_of (environment_of self.now)) other a) }
-        ensures place { HasNoTree code.now → IsPlaced code.now result }
-        ensures boundary { HasNoTree code.now → (place : ℕ) → result ≡ Err (Error.PestError place)
-            → IsCharBoundary code.now place }
+        ensures place { IsOwnFault code.now (host_of (environment_of self.now))
+            → IsPlaced code.now result }
+        ensures boundary { IsOwnFault code.now (host_of (environment_of self.now))
+            → (place : ℕ) → result ≡ Err (Error.PestError place) → IsCharBoundary code.now place }
         ensures reads_back { (v : Value) → IsTrue (is_readable v) → code.now ≡ text_of v → Is result (Ok v) }
     {
         self.environment.eval(alloc, code, ctx)

@@ -3,7 +3,7 @@ ghost use Rattle.std.specs.Prelude.{◌≡◌, ℕ, IsTrue, Err, Ok};
 ghost use Rattle.expr.specs.Texts.{MayAnswer};
 ghost use Rattle.expr_steps.specs.Context.{Context};
 ghost use Rattle.expr_meaning.specs.Host.{no_host};
-ghost use Rattle.expr_syntax.specs.Texts.{HasNoTree, IsPlaced, IsProgramOf};
+ghost use Rattle.expr_syntax.specs.Texts.{IsPlaced, IsProgramOf};
 ghost use Rattle.std.specs.Str.{IsCharBoundary};
 ghost use Rattle.expr_token.specs.Printed.{is_readable};
 ghost use Rattle.expr_tree.specs.Context.{AgreeFor};
@@ -27,10 +27,9 @@ pub fn eval(alloc: Global, code: &str, ctx: &dyn ContextProvider) -> Result<Valu
     ensures independent { Gives result (λ a. (other : Context)
         → ((b : Block) → IsProgramOf code.now b → AgreeFor (context ctx.now) other b)
         → MayAnswer code.now no_host other a) }
-    // A text without a tree is refused at its first fault, where the text may be cut.
-    ensures place { HasNoTree code.now → IsPlaced code.now result }
-    ensures boundary { HasNoTree code.now → (place : ℕ) → result ≡ Err (Error.PestError place)
-        → IsCharBoundary code.now place }
+    // A syntax fault is at the text's first fault, where the text may be cut.
+    ensures place { IsPlaced code.now result }
+    ensures boundary { (place : ℕ) → result ≡ Err (Error.PestError place) → IsCharBoundary code.now place }
     // What a value prints as evaluates to that value, in every context: nil, booleans, integers above the least, texts,
     // arrays, and maps whose keys are words, nested at will.
     ensures reads_back { (v : Value) → IsTrue (is_readable v) → code.now ≡ text_of v → Is result (Ok v) }

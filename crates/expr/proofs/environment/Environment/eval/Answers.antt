@@ -10,7 +10,7 @@ use Rattle.expr.specs.Hosted.{host_of}
 use Rattle.expr.specs.Texts.{MayAnswer}
 use Rattle.expr_value.proofs.Answered.{Gives-under}
 use Rattle.expr_meaning.proofs.Independent.{AllowsBlock-keeps}
-use Rattle.expr.proofs.Faults.{boundary_passed, has_tree, place_passed}
+use Rattle.expr.proofs.Faults.{boundary_of_run, boundary_passed, place_of_run, place_passed}
 use Rattle.expr.proofs.ReadsBack.{back_from_run, back_refused}
 use Rattle.expr.proofs.environment.Environment.eval.Goals as goal
 
@@ -37,15 +37,21 @@ returns-clause-reads_back g c = λ v h same.
     back_from_run c.args.code.now v h same host base c.in_ok-program.program c.in_ok-program.ensures.only c.run.result c.run.ensures.answer
 
 pub returns-in_err-program-clause-place : goal.returns-in_err-program-clause-place
-returns-in_err-program-clause-place g c = λ none.
+returns-in_err-program-clause-place g c = λ own.
     place_passed c.args.code.now c.in_err-program.field-0.0 c.in_err-program.ensures.place c.from_residual.result c.from_residual.ensures.1
 
 pub returns-in_err-program-clause-boundary : goal.returns-in_err-program-clause-boundary
-returns-in_err-program-clause-boundary g c = λ none.
+returns-in_err-program-clause-boundary g c = λ own.
     boundary_passed c.args.code.now c.in_err-program.field-0.0 c.in_err-program.ensures.boundary c.from_residual.result c.from_residual.ensures.1
 
 pub returns-clause-place : goal.returns-clause-place
-returns-clause-place g c = has_tree c.args.code.now (program_written c.in_ok-program.program) c.in_ok-program.ensures.answer
+returns-clause-place g c =
+    let asked = goal.ContextProvider-dyn g c.args.ctx.now in
+    let base : Context = asked.context c.args.ctx.now.1 in
+    place_of_run c.args.code.now (host_of c.args.self.now) base (program_written c.in_ok-program.program) c.in_ok-program.ensures.answer c.run.result c.run.ensures.answer
 
 pub returns-clause-boundary : goal.returns-clause-boundary
-returns-clause-boundary g c = has_tree c.args.code.now (program_written c.in_ok-program.program) c.in_ok-program.ensures.answer
+returns-clause-boundary g c =
+    let asked = goal.ContextProvider-dyn g c.args.ctx.now in
+    let base : Context = asked.context c.args.ctx.now.1 in
+    boundary_of_run c.args.code.now (host_of c.args.self.now) base (program_written c.in_ok-program.program) c.in_ok-program.ensures.answer c.run.result c.run.ensures.answer
