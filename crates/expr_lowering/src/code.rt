@@ -25,7 +25,8 @@ impl<'p> Code<&'p Value, &'p String, &'p Pattern> {
     ghost use Rattle.expr_tree.specs.Written.{program_written};
     ghost use Rattle.expr_value.specs.Fault.{fault_of, memory};
 
-    /// The code of a program, which lends its literals, its names and the patterns that it keeps.
+    /// The code of a program, which lends its literals, its names and the patterns that it keeps. What serves the second run
+    /// on and costs more than one run is made as well.
     ///
     /// # Errors
     ///
@@ -38,7 +39,35 @@ impl<'p> Code<&'p Value, &'p String, &'p Pattern> {
             (blocks_of (λ v. v.now) (λ n. string_bytes n.now) c)) }
         ensures refused { IfErr result (λ e. fault_of e ≡ memory) }
     {
-        let mut lowering = Lowering::new(alloc);
+        Self::lower_for(alloc, program, true)
+    }
+
+    /// The code of a program, as [`Code::lower`] gives it, for one run.
+    ///
+    /// # Errors
+    ///
+    /// `MemoryError`, if a growth is refused.
+    pub fn lower_once(
+        alloc: Global,
+        program: &'p Program,
+    ) -> Result<Code<&'p Value, &'p String, &'p Pattern>>
+        ensures code { IfOk result (λ c. IsCode (program_written program.now)
+            (blocks_of (λ v. v.now) (λ n. string_bytes n.now) c)) }
+        ensures refused { IfErr result (λ e. fault_of e ≡ memory) }
+    {
+        Self::lower_for(alloc, program, false)
+    }
+
+    fn lower_for(
+        alloc: Global,
+        program: &'p Program,
+        is_run_again: bool,
+    ) -> Result<Code<&'p Value, &'p String, &'p Pattern>>
+        ensures code { IfOk result (λ c. IsCode (program_written program.now)
+            (blocks_of (λ v. v.now) (λ n. string_bytes n.now) c)) }
+        ensures refused { IfErr result (λ e. fault_of e ≡ memory) }
+    {
+        let mut lowering = Lowering::new(alloc, is_run_again);
         let (first, later) = lowering.blocks(program)?;
         Ok(Code { first, later })
     }
