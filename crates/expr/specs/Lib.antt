@@ -4,6 +4,7 @@ pub mod Parsers
 pub mod Spots
 pub mod Texts
 pub use Rattle.expr_builtins.specs.Calls as Builtins
+pub use Rattle.expr_lowering.specs.Kept as Matched
 pub use Rattle.expr_meaning.specs.Allows
 pub use Rattle.expr_meaning.specs.Calls
 pub use Rattle.expr_meaning.specs.Host

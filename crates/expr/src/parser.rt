@@ -1,5 +1,5 @@
 //! The older way in: a parser that holds an environment.
-ghost use Rattle.std.specs.Prelude.{◌≡◌, ℕ, List, None, Err, Ok, Some, IfErr, IfOk, IsTrue, OnErr, OnOk, bytes_eq, if◌then◌else◌, option_map};
+ghost use Rattle.std.specs.Prelude.{◌≡◌, ◌≢◌, ℕ, List, None, Err, Ok, Some, IfErr, IfOk, IsTrue, OnErr, OnOk, bytes_eq, if◌then◌else◌, option_map};
 ghost use Rattle.expr.specs.Hosted.{host_of, moment_at, registered, zone_at};
 ghost use Rattle.expr.specs.Parsers.{environment_of};
 ghost use Rattle.expr.specs.Texts.{IsOwnFault, MayAnswer};
@@ -7,7 +7,9 @@ ghost use Rattle.std.specs.Str.{IsCharBoundary};
 ghost use Rattle.expr_grammar.specs.Grammar.{TreeProgram};
 ghost use Rattle.expr_meaning.specs.Allows.{Allows, AllowsBlock};
 ghost use Rattle.expr_steps.specs.Context.{Context};
+ghost use Rattle.expr_lowering.specs.Kept.{ProgramKeeps};
 ghost use Rattle.expr_meaning.specs.Independence.{AgreeAt};
+ghost use Rattle.expr_meaning.specs.Refusals.{NeverRefusesWith};
 ghost use Rattle.expr_evaluation.specs.Handed.{IsKeeping};
 ghost use Rattle.expr_evaluation.specs.Plain.{is_plain};
 ghost use Rattle.expr_parts.specs.Kept.{KeepPatterns};
@@ -99,6 +101,8 @@ impl Parser {
             (λ a. (other : Context) (names : List (List ℕ)) → AreNamesOf names (program_written program.now)
             → AgreeAt names (program_written program.now) (context ctx.now) other
             → AllowsBlock (host_of (environment_of self.now)) other (program_written program.now) a) }
+        ensures pattern { NeverRefusesWith (host_of (environment_of self.now)) bad_pattern
+            → ProgramKeeps program.now → IfErr result (λ e. fault_of e ≢ bad_pattern) }
     {
         self.environment.run(alloc, program, ctx)
     }

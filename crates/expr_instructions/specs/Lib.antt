@@ -1,2 +1,3 @@
 pub mod InMemory
+pub mod Patterns
 pub mod Shapes

@@ -6,3 +6,5 @@ pub mod Making
 pub mod Promising
 pub mod Scoping
 pub mod Standing
+pub mod Matches
+pub mod Patterns

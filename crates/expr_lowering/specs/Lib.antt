@@ -1,9 +1,12 @@
 pub mod Blocks
 pub mod Going
+pub mod Keeping
+pub mod Kept
 pub mod Lent
 pub mod Scoping
 pub mod Owned
 pub mod States
 pub mod Tasks
 pub use Rattle.expr_instructions.specs.InMemory
+pub use Rattle.expr_instructions.specs.Patterns
 pub use Rattle.expr_instructions.specs.Shapes

@@ -2,8 +2,11 @@
 ghost use Rattle.std.specs.Prelude.{◌≡◌, ◌≤◌, [], length, map, vec_len, IfOk, OnOk, MatchOption};
 ghost use Rattle.expr_code.specs.Codes.{IsCode};
 ghost use Rattle.expr_tree.specs.Written.{program_written, written};
+ghost use Rattle.expr_instructions.specs.Patterns.{KeepPatterns};
 ghost use Rattle.expr_lowering.specs.Going.{Leads, Writes, block_begun, turned, with_task};
-ghost use Rattle.expr_lowering.specs.Lent.{task_of, works_of};
+ghost use Rattle.expr_lowering.specs.Keeping.{BlockLentKeeps, Keeps, NextKeeps, WorkKeeps};
+ghost use Rattle.expr_lowering.specs.Kept.{NodeKeeps, ProgramKeeps};
+ghost use Rattle.expr_lowering.specs.Lent.{lent_built, lent_value, task_of, works_of};
 ghost use Rattle.expr_lowering.specs.States.{lent_blocks, lent_ops, state_of};
 ghost use Rattle.expr_lowering.specs.Tasks.{term_task};
 
@@ -18,8 +21,10 @@ impl<'p> Lowering<'p> {
     /// A part that waited: what stands behind it, and its node, which is written next.
     #[inline(never)]
     fn work(&mut self, work: Work<'p>) -> Result<&'p Node, AllocError>
-        ensures { IfOk result (λ next. Leads 0 (with_task (task_of work.entry) (state_of self.old))
+        ensures leads { IfOk result (λ next. Leads 0 (with_task (task_of work.entry) (state_of self.old))
             (with_task (term_task (written next.now)) (state_of self.new))) }
+        ensures kept { WorkKeeps work.entry → Keeps self.old
+            → IfOk result (λ n. NodeKeeps n.now × Keeps self.new) }
     {
         match work {
             Work::Node(node) => Ok(node),
@@ -66,7 +71,8 @@ impl<'p> Lowering<'p> {
 
     /// The jump over the second of two ways, which is written; the test between the condition and the first waits.
     fn turn(&mut self, condition: &'p Node, mark: usize) -> Result<(), AllocError>
-        ensures { OnOk result (state_of self.new ≡ turned (written condition.now) mark (state_of self.old)) }
+        ensures state { OnOk result (state_of self.new ≡ turned (written condition.now) mark (state_of self.old)) }
+        ensures kept { NodeKeeps condition.now → Keeps self.old → OnOk result (Keeps self.new) }
     {
         let here = self.here();
         let passed = self.passed(mark);
@@ -77,10 +83,11 @@ impl<'p> Lowering<'p> {
     /// The node of the next part that waits, if there is one; what stands behind it is written.
     #[inline(always)]
     fn next(&mut self) -> Result<Option<&'p Node>, AllocError>
-        ensures { IfOk result (λ next. MatchOption next
+        ensures leads { IfOk result (λ next. MatchOption next
             ((state_of self.new ≡ state_of self.old)
             × (works_of self.new.works.next self.new.works.rest.items ≡ []))
             (λ n. Leads 0 (state_of self.old) (with_task (term_task (written n.now)) (state_of self.new)))) }
+        ensures kept { Keeps self.old → IfOk result (λ next. NextKeeps next × Keeps self.new) }
     {
         match self.works.pop() {
             None => Ok(None),
@@ -92,11 +99,13 @@ impl<'p> Lowering<'p> {
     /// A node, and what is written next.
     #[inline(always)]
     fn step(&mut self, node: &'p Node) -> Result<Option<&'p Node>, AllocError>
-        ensures { IfOk result (λ next. MatchOption next
+        ensures leads { IfOk result (λ next. MatchOption next
             ((works_of self.new.works.next self.new.works.rest.items ≡ [])
             × Leads 1 (with_task (term_task (written node.now)) (state_of self.old)) (state_of self.new))
             (λ n. Leads 1 (with_task (term_task (written node.now)) (state_of self.old))
             (with_task (term_task (written n.now)) (state_of self.new)))) }
+        ensures kept { NodeKeeps node.now → Keeps self.old
+            → IfOk result (λ next. NextKeeps next × Keeps self.new) }
     {
         match self.form(node)? {
             Some(part) => Ok(Some(part)),
@@ -110,6 +119,7 @@ impl<'p> Lowering<'p> {
         ensures written { OnOk result (Leads 1 (with_task (term_task (written node.now)) (state_of self.old))
             (state_of self.new)) }
         ensures done { OnOk result (works_of self.new.works.next self.new.works.rest.items ≡ []) }
+        ensures kept { NodeKeeps node.now → Keeps self.old → OnOk result (Keeps self.new) }
     {
         let mut next = Some(node);
         while let Some(node) = next {
@@ -126,6 +136,7 @@ impl<'p> Lowering<'p> {
             (program_written program.now)
             (state_of self.new) (lent_ops self.new.block.items)) }
         ensures done { OnOk result (works_of self.new.works.next self.new.works.rest.items ≡ []) }
+        ensures kept { ProgramKeeps program.now → Keeps self.old → OnOk result (Keeps self.new) }
     {
         self.earlier = earlier;
         self.block = Vec::with_capacity(self.alloc, 16)?;
@@ -141,6 +152,8 @@ impl<'p> Lowering<'p> {
             (program_written program.now)
             (state_of self.new) (lent_ops block.items)) }
         ensures done { OnOk result (works_of self.new.works.next self.new.works.rest.items ≡ []) }
+        ensures kept { ProgramKeeps program.now → Keeps self.old
+            → IfOk result (λ block. BlockLentKeeps block.items × Keeps self.new) }
     {
         self.write(program, earlier)?;
         Ok(mem::replace(&mut self.block, Vec::new(self.alloc)))
@@ -155,8 +168,11 @@ impl<'p> Lowering<'p> {
         requires works { works_of self.old.works.next self.old.works.rest.items ≡ [] }
         requires scope { self.old.scopes.scope ≡ 0 }
         requires promised { vec_len self.old.promised ≡ 0 }
-        ensures { IfOk result (λ blocks. IsCode (program_written program.now)
+        requires kept { Keeps self.old }
+        ensures code { IfOk result (λ blocks. IsCode (program_written program.now)
             (lent_blocks blocks.0 blocks.1)) }
+        ensures kept { ProgramKeeps program.now
+            → IfOk result (λ blocks. KeepPatterns lent_value lent_built blocks.0 blocks.1) }
     {
         let first = self.block(program, 0)?;
         let mut later = Vec::with_capacity(self.alloc, self.promised.len())?;

@@ -21,7 +21,8 @@ pub struct Code<L, N, P> {
 impl<'p> Code<&'p Value, &'p String, &'p Pattern> {
     ghost use Rattle.std.specs.Prelude.{◌≡◌, IfOk, IfErr, string_bytes};
     ghost use Rattle.expr_code.specs.Codes.{IsCode};
-    ghost use Rattle.expr_lowering.specs.Blocks.{blocks_of};
+    ghost use Rattle.expr_lowering.specs.Blocks.{CodeKeeps, blocks_of};
+    ghost use Rattle.expr_lowering.specs.Kept.{ProgramKeeps};
     ghost use Rattle.expr_tree.specs.Written.{program_written};
     ghost use Rattle.expr_value.specs.Fault.{fault_of, memory};
 
@@ -37,6 +38,8 @@ impl<'p> Code<&'p Value, &'p String, &'p Pattern> {
     ) -> Result<Code<&'p Value, &'p String, &'p Pattern>>
         ensures code { IfOk result (λ c. IsCode (program_written program.now)
             (blocks_of (λ v. v.now) (λ n. string_bytes n.now) c)) }
+        ensures kept { ProgramKeeps program.now
+            → IfOk result (λ c. CodeKeeps (λ v. v.now) (λ p. p.now) c) }
         ensures refused { IfErr result (λ e. fault_of e ≡ memory) }
     {
         Self::lower_for(alloc, program, true)
@@ -53,6 +56,8 @@ impl<'p> Code<&'p Value, &'p String, &'p Pattern> {
     ) -> Result<Code<&'p Value, &'p String, &'p Pattern>>
         ensures code { IfOk result (λ c. IsCode (program_written program.now)
             (blocks_of (λ v. v.now) (λ n. string_bytes n.now) c)) }
+        ensures kept { ProgramKeeps program.now
+            → IfOk result (λ c. CodeKeeps (λ v. v.now) (λ p. p.now) c) }
         ensures refused { IfErr result (λ e. fault_of e ≡ memory) }
     {
         Self::lower_for(alloc, program, false)
@@ -65,6 +70,8 @@ impl<'p> Code<&'p Value, &'p String, &'p Pattern> {
     ) -> Result<Code<&'p Value, &'p String, &'p Pattern>>
         ensures code { IfOk result (λ c. IsCode (program_written program.now)
             (blocks_of (λ v. v.now) (λ n. string_bytes n.now) c)) }
+        ensures kept { ProgramKeeps program.now
+            → IfOk result (λ c. CodeKeeps (λ v. v.now) (λ p. p.now) c) }
         ensures refused { IfErr result (λ e. fault_of e ≡ memory) }
     {
         let mut lowering = Lowering::new(alloc, is_run_again);

@@ -74,7 +74,11 @@ fn kept_instruction<L: Holder<Value>, N: Holder<String>, P: Holder<Pattern>>(
         Instruction::OperateWithMade(value, operator) => {
             Ok(Instruction::OperateWith(kept_value(alloc, value)?, *operator))
         }
-        Instruction::Match(pattern) => Ok(Instruction::Match(kept_pattern(alloc, pattern)?)),
+        Instruction::Match => Ok(Instruction::Match),
+        Instruction::MatchWith(value, pattern) => {
+            let pattern = kept_pattern(alloc, pattern)?;
+            Ok(Instruction::MatchWith(kept_value(alloc, value)?, pattern))
+        }
         Instruction::Prefix(operator) => Ok(Instruction::Prefix(*operator)),
         Instruction::Array(count) => Ok(Instruction::Array(*count)),
         Instruction::Map(keys) => Ok(Instruction::Map(kept_keys(alloc, keys)?)),

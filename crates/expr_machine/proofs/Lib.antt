@@ -8,6 +8,7 @@ pub mod Deciding
 pub mod Ended
 pub mod Leading
 pub mod Others
+pub mod Patterns
 pub mod Rares
 pub mod Reversed
 pub mod Running

@@ -1,6 +1,7 @@
 use Rattle.std.proofs.Common.{map, string_bytes, sym, ap, ◌∙◌}
 use Rattle.expr_code.specs.Machine.{push, look, look_with, act, asks, operate_with, gather, pick_at, invoke, calls}
 use Rattle.expr_instructions.specs.InMemory.{op_of}
+use Rattle.expr_tree.specs.declared.operator.Operator.TheVariants.{Matches}
 use Rattle.expr_lowering.proofs.kept.kept_instruction.Goals as goal
 
 pub returns-in-Load : goal.returns-in-Load
@@ -66,8 +67,11 @@ returns-in_ok-kept_name-in-NameAt g c = ap (λ k. look_with k c.in-NameAt.slot) 
 pub returns-in_ok-kept_value-in-OperateWith : goal.returns-in_ok-kept_value-in-OperateWith
 returns-in_ok-kept_value-in-OperateWith g c = ap (λ v. act (operate_with c.in-OperateWith.operator v)) c.in_ok-kept_value-in-OperateWith.ensures ∙ sym (ap (op_of g.L.Holder.held (λ n. string_bytes (g.N.Holder.held n))) c.in-OperateWith.is)
 
-pub returns-in_ok-kept_pattern-in-Match : goal.returns-in_ok-kept_pattern-in-Match
-returns-in_ok-kept_pattern-in-Match g c = sym (ap (op_of g.L.Holder.held (λ n. string_bytes (g.N.Holder.held n))) c.in-Match.is)
+pub returns-in-Match : goal.returns-in-Match
+returns-in-Match g c = sym (ap (op_of g.L.Holder.held (λ n. string_bytes (g.N.Holder.held n))) c.in-Match.is)
+
+pub returns-in_ok-kept_value-in-MatchWith : goal.returns-in_ok-kept_value-in-MatchWith
+returns-in_ok-kept_value-in-MatchWith g c = ap (λ v. act (operate_with Matches v)) c.in_ok-kept_value-in-MatchWith.ensures ∙ sym (ap (op_of g.L.Holder.held (λ n. string_bytes (g.N.Holder.held n))) c.in-MatchWith.is)
 
 pub returns-in_ok-kept_keys-in-Map : goal.returns-in_ok-kept_keys-in-Map
 returns-in_ok-kept_keys-in-Map g c = ap (λ ks. act (gather ks)) (c.in_ok-kept_keys-in-Map.ensures ∙ ap (λ v. map (λ n. string_bytes (g.N.Holder.held n)) v.items) c.deref.ensures) ∙ sym (ap (op_of g.L.Holder.held (λ n. string_bytes (g.N.Holder.held n))) c.in-Map.is)

@@ -9,4 +9,4 @@ pub invariant_of-result : goal.invariant_of-result
 invariant_of-result c =
     let first = c.in_ok-first.first in
     let later = c.in_ok-first.later in
-    record { safe = shape_is_safe lent_value lent_text first later (safe_code (program_written c.args.program.now) (lent_blocks first later) c.in_ok-first.ensures) }
+    record { safe = shape_is_safe lent_value lent_text first later (safe_code (program_written c.args.program.now) (lent_blocks first later) c.in_ok-first.ensures.code) }

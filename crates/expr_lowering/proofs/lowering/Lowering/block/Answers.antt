@@ -1,8 +1,10 @@
-use Rattle.std.proofs.Common.{Vec, Global, sym, subst}
+use Rattle.std.proofs.Common.{Vec, Global, sym, subst, ap, ◌∙◌}
 use Rattle.expr_tree.specs.Written.{program_written}
 use Rattle.expr_lowering.specs.Going.{Writes, block_begun}
 use Rattle.expr_lowering.specs.States.{LentInstruction, lent_ops, state_of}
 use Rattle.expr_lowering.proofs.Promising.{writes_on}
+use Rattle.expr_lowering.proofs.Patterns.{none_written}
+use Rattle.expr_lowering.specs.Keeping.{BlockLentKeeps}
 use Rattle.expr_lowering.proofs.lowering.Lowering.block.Goals as goal
 
 pub returns-clause-block : goal.returns-clause-block
@@ -13,3 +15,8 @@ returns-clause-block c =
     subst (λ (v : Vec LentInstruction Global). Writes old b (record (state_of c.write.new.self) { ops = left }) (lent_ops v.items)) (sym c.replace.ensures.value) (
     writes_on old (state_of c.write.new.self) b (lent_ops c.write.new.self.block.items) left c.in_ok-write.ensures.block
     )
+
+pub returns-clause-kept : goal.returns-clause-kept
+returns-clause-kept c = λ p old.
+    let q = c.in_ok-write.ensures.kept p old in
+    (subst (λ (v : Vec LentInstruction Global). BlockLentKeeps v.items) (sym c.replace.ensures.value) q.written, none_written _ _ _ q _ (ap (λ (v : Vec LentInstruction Global). v.items) c.replace.ensures.after ∙ c.new.ensures.items))

@@ -7,11 +7,14 @@ use Rattle.expr_lowering.specs.Tasks.{jump_task}
 use Rattle.expr_lowering.proofs.Standing.{on_ok}
 use Rattle.expr_lowering.proofs.lowering.Lowering.turn.Goals as goal
 
-pub returns : goal.returns
-returns c =
+pub returns-clause-state : goal.returns-clause-state
+returns-clause-state c =
     let t = written c.args.condition.now in
     let s = state_of c.args.self.now in
     on_ok c.put_off.result (
     λ e. e ∙ ap (λ m. with_task (jump_task jump_if_false t m) (state_of c.emit.new.self)) c.here-here.ensures
-    ∙ ap (with_task (jump_task jump_if_false t (length s.ops))) (c.in_ok-emit.ensures ∙ ap (λ n. with_op (jump n) s) c.passed-passed.ensures)
-    ) c.put_off.ensures
+    ∙ ap (with_task (jump_task jump_if_false t (length s.ops))) (c.in_ok-emit.ensures.state ∙ ap (λ n. with_op (jump n) s) c.passed-passed.ensures)
+    ) c.put_off.ensures.state
+
+pub returns-clause-kept : goal.returns-clause-kept
+returns-clause-kept c = λ n old. c.put_off.ensures.kept n (c.in_ok-emit.ensures.kept tt old)
