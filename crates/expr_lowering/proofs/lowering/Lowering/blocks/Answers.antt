@@ -30,7 +30,7 @@ enter-requires c =
     let b = program_written c.args.program.now in
     let s = state_of c.loop-self.self in
     let n = length c.loop-self.later.items in
-    let at = promise_at c.loop-self.self.promised.items c.len-in-loop-self-3.result n c.index-promised.result.now (omega (arith, c.len-in-loop-self-3.ensures, c.loop-self.later.ok.0)) (omega (arith, c.loop-self.self.promised.ok.0)) c.index-promised.ensures.leads in
+    let at = promise_at c.loop-self.self.promised.items c.len-in-loop-self-3.result n c.index-promised.result.now (omega (arith, c.len-in-loop-self-3.ensures, c.loop-self.later.ok.0)) (omega (arith, c.loop-self.self.promised.ok.0)) c.index-promised.ensures in
     let w = next_waits b s n (lent_blocks c.in_ok-first.first c.loop-self.later) c.loop-self.invariant.progress (promise_of c.index-promised.result.now) at in
     omega (arith, scope_within (entries_of c.loop-self.self.scopes.names.items) c.index-promised.result.now.scope w.q.0 w.scoped, length-map c.loop-self.self.scopes.names.items entry_of, c.loop-self.self.scopes.names.ok.0)
 
@@ -39,7 +39,7 @@ loop-self-preserved c =
     let b = program_written c.args.program.now in
     let s = state_of c.loop-self.self in
     let n = length c.loop-self.later.items in
-    let at = promise_at c.loop-self.self.promised.items c.len-in-loop-self-3.result n c.index-promised.result.now (omega (arith, c.len-in-loop-self-3.ensures, c.loop-self.later.ok.0)) (omega (arith, c.loop-self.self.promised.ok.0)) c.index-promised.ensures.leads in
+    let at = promise_at c.loop-self.self.promised.items c.len-in-loop-self-3.result n c.index-promised.result.now (omega (arith, c.len-in-loop-self-3.ensures, c.loop-self.later.ok.0)) (omega (arith, c.loop-self.self.promised.ok.0)) c.index-promised.ensures in
     record {
       progress = next_progress b s (lent_ops c.in_ok-first.first.items) c.loop-self.later.items _ c.in_ok-block.block (promise_of c.index-promised.result.now) _ _ c.len-in-loop-self-4.result (omega (arith, c.len-in-loop-self-4.ensures, c.loop-self.later.ok.0)) c.loop-self.invariant.progress at (
           λ i. record (state_of c.loop-self.self) { entries = entries_of (c.enter.ensures.names i).items; scope = c.enter.ensures.scope i }
@@ -56,7 +56,7 @@ loop-self-smaller c =
     let b = program_written c.args.program.now in
     let s = state_of c.loop-self.self in
     let n = length c.loop-self.later.items in
-    let at = promise_at c.loop-self.self.promised.items c.len-in-loop-self-3.result n c.index-promised.result.now (omega (arith, c.len-in-loop-self-3.ensures, c.loop-self.later.ok.0)) (omega (arith, c.loop-self.self.promised.ok.0)) c.index-promised.ensures.leads in
+    let at = promise_at c.loop-self.self.promised.items c.len-in-loop-self-3.result n c.index-promised.result.now (omega (arith, c.len-in-loop-self-3.ensures, c.loop-self.later.ok.0)) (omega (arith, c.loop-self.self.promised.ok.0)) c.index-promised.ensures in
     next_lighter b s (lent_ops c.in_ok-first.first.items) c.loop-self.later.items _ c.in_ok-block.block (promise_of c.index-promised.result.now) _ _ c.len-in-loop-self-4.result (omega (arith, c.len-in-loop-self-4.ensures, c.loop-self.later.ok.0)) c.loop-self.invariant.progress at (
     λ i. record (state_of c.loop-self.self) { entries = entries_of (c.enter.ensures.names i).items; scope = c.enter.ensures.scope i }
     ) c.in_ok-block.ensures.block c.in_ok-push.ensures.items

@@ -20,3 +20,14 @@ pub returns-in-Some-Node-clause-kept : goal.returns-in-Some-Node-clause-kept
 returns-in-Some-Node-clause-kept c = λ old.
     let t = one_taken _ _ _ old c.in-Some-Node.field-0 _ c.in-Some-Node.ensures in
     (of_work _ _ c.in-Some-Node.field-0-is t.0, t.1)
+
+pub returns-in_ok-work-in-Some : goal.returns-in_ok-work-in-Some
+returns-in_ok-work-in-Some c =
+    let new = record (state_of c.args.self.now) { tasks = map task_of (works_of c.pop.new.self.next c.pop.new.self.rest.items) } in
+    let is = ap (λ ws. record (state_of c.args.self.now) { tasks = map task_of ws }) c.in-Some.ensures in
+    record {
+      leads = subst (λ x. Leads 0 x (with_task (term_task (written c.in_ok-work-in-Some.field-0.now)) (state_of c.work.new.self))) (sym is) c.in_ok-work-in-Some.ensures.leads;
+      kept = λ old.
+          let t = one_taken _ _ _ old c.in-Some.work _ c.in-Some.ensures in
+          c.in_ok-work-in-Some.ensures.kept t.0 t.1;
+    }

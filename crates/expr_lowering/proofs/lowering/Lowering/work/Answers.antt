@@ -7,7 +7,7 @@ use Rattle.expr_lowering.specs.Scoping.{Grows}
 use Rattle.expr_lowering.specs.States.{state_of}
 use Rattle.expr_lowering.specs.Tasks.{block_task, term_task}
 use Rattle.expr_lowering.specs.declared.works.Work.{Work}
-use Rattle.expr_lowering.proofs.Formed.{leads_left, leads_jump, leads_first, leads_ternary_first}
+use Rattle.expr_lowering.proofs.Formed.{leads_left, leads_jump, leads_first, leads_ternary_first, leads_bound}
 use Rattle.expr_lowering.proofs.Standing.{goes_to, program_goes}
 use Rattle.expr_lowering.proofs.Matches.{parts_program}
 use Rattle.expr_lowering.proofs.Patterns.{of_work}
@@ -98,3 +98,9 @@ pub returns-in_ok-turn-in-Ternary-clause-kept : goal.returns-in_ok-turn-in-Terna
 returns-in_ok-turn-in-Ternary-clause-kept c = λ w old.
     let q = of_work _ _ c.in-Ternary.is w in
     (q.1, c.in_ok-turn-in-Ternary.ensures.kept q.0 old)
+
+pub returns-in_ok-emit-in-Bound-clause-leads : goal.returns-in_ok-emit-in-Bound-clause-leads
+returns-in_ok-emit-in-Bound-clause-leads c =
+    let s = state_of c.args.self.now in
+    let t = written c.in-Bound.node.now in
+    goes_to 0 _ _ _ (term_task t) c.in_ok-emit-in-Bound.ensures.state (from_work 0 c.args.work _ s _ c.in-Bound.is (leads_bound s t))
