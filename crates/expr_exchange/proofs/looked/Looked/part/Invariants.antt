@@ -4,4 +4,4 @@ use Rattle.expr_exchange.proofs.looked.Looked.part.Given as goal
 
 -- what the rest of the way leads to from the part, the whole way does from the whole
 abbrev pub invariant-loop-place : goal.invariant-loop-place
-invariant-loop-place l = part_at l.part (drop l.place-index l.place-items) ≡ part_at l.self.now.whole l.place-items
+invariant-loop-place l = part_at l.part (drop l.place-index l.place-items) ≡ part_at l.self.whole l.place-items
