@@ -4,8 +4,9 @@ ghost use Rattle.expr_engine.specs.Codes.{code_of};
 ghost use Rattle.expr_tree.specs.Written.{program_written};
 
 use crate::lent::LentNames;
-use expr::{Code, KeptCode, Program, Result, Value, compile_within, execution_answers_programs};
-use expr_machine::Machine;
+use expr::{
+    Code, KeptCode, KeptMachine, Program, Result, Value, compile_within, execution_answers_programs,
+};
 use expr_meaning::Functions;
 use std::alloc::Global;
 
@@ -57,14 +58,9 @@ impl Rule {
     /// The first refusal in the order of evaluation: `ExprError`, `RegexError`, or `MemoryError` where a growth is refused.
     pub fn run<H: Functions>(&self, alloc: Global, host: &H, names: LentNames<'_>) -> Result<Value>
         ensures { Gives result (AllowsBlock (H.host host.now)
-            (context_of (pairs_of (option_copied names.names))) (program_written self.now.program)) }
+            (context_of (pairs_of (option_copied names.entry.names))) (program_written self.now.program)) }
     {
-        let machine = Machine {
-            alloc,
-            host,
-            provider: names,
-        };
         execution_answers_programs::<H>();
-        machine.execute(&self.code)
+        KeptMachine::new(alloc, &self.code).execute_among(host, names)
     }
 }
