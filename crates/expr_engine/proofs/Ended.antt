@@ -1,5 +1,5 @@
 -- How a run ends, by the number of its ending.
-use Rattle.std.proofs.Common.{◌≢◌, ℕ, Result, Ok, Err, inl, inr, rules}
+use Rattle.std.proofs.Common.{◌≡◌, ◌≢◌, ℕ, Option, None, Some, MatchOption, Result, Ok, Err, inl, inr, rules}
 use Rattle.expr_engine.specs.Engines.{Asked, MayAnswer}
 use Rattle.expr_engine.specs.Served.{Answers, Ends, Runs, Says}
 use Rattle.expr_exchange.specs.Refusals.{ends_by}
@@ -23,3 +23,8 @@ answers_by q (Err (Language error)) value number r (inl e) = record { status = e
 answers_by q (Err (Language error)) value number r (inr e) = record { status = ends.Memory; is = e; says = tt }
 answers_by q (Err Unknown) value number r e = absurd r
 answers_by q (Err Misuse) value number r e = absurd r
+
+-- the same where a handle may find nothing
+pub served_by : {A : Type 0} (o : Option Asked) (done : Result A Refused) (value : Value) (number : ℕ) → MatchOption o (done ≡ Err Unknown) (λ q. Runs q done value) → (done ≡ Err Unknown → number ≡ 6) → Ends done number → MatchOption o (number ≡ 6) (λ q. Answers q number value)
+served_by None done value number m unknown e = unknown m
+served_by (Some q) done value number m unknown e = answers_by q done value number m e

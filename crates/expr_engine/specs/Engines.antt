@@ -1,5 +1,5 @@
 -- What an engine keeps under handles, and what a run finds there.
-use Rattle.std.specs.Prelude.{◌≡◌, ◌≢◌, ℕ, ◌==◌, List, [], Option, None, Some, Err, IfSome, if◌then◌else◌, is_some, option_map}
+use Rattle.std.specs.Prelude.{◌≡◌, ◌≢◌, ℕ, ◌==◌, List, [], Option, None, Some, Err, IfSome, if◌then◌else◌, option_map}
 use Rattle.std.specs.Option.{option_and_then}
 use Rattle.expr.specs.Texts.{IsRefusedWithin}
 use Rattle.expr_engine.specs.Runs.{Pairs, context_of, host_by, zone_at}
@@ -53,7 +53,6 @@ RefusesText height text Misuse = ⊥
 
 -- Every handle finds an environment with the zones and the moment that it found.
 pub record SameAdditions (old new : Kept Additions) : Type 0 where
-  pub known : (h : Handle) → is_some (found new h) ≡ is_some (found old h)
   pub zones : (h : Handle) (name : List ℕ) → option_map (λ a. zone_at a name) (found new h)
       ≡ option_map (λ a. zone_at a name) (found old h)
   pub moments : (h : Handle) → option_map (λ a. a.moment) (found new h) ≡ option_map (λ a. a.moment) (found old h)

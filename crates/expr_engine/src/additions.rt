@@ -66,6 +66,21 @@ impl Additions {
         }
     }
 
+    /// Adds a zone by a rule, if there is one, or by the seconds that its clock is ahead of UTC.
+    ///
+    /// # Errors
+    ///
+    /// What [`Additions::add_rule`] and [`Additions::add_fixed`] refuse.
+    pub fn add_zone(&mut self, name: &str, seconds: i64, rule: Option<&str>) -> Result<()>
+        ensures err { OnErr result ((key : List ℕ) → zone_at self.new key ≡ zone_at self.old key) }
+        ensures moment { self.new.moment ≡ self.old.moment }
+    {
+        match rule {
+            Some(rule) => self.add_rule(name, rule),
+            None => self.add_fixed(name, seconds),
+        }
+    }
+
     fn add(&mut self, name: &str, rules: TimeZone<'static>) -> Result<()>
         ensures err { OnErr result ((key : List ℕ) → zone_at self.new key ≡ zone_at self.old key) }
         ensures moment { self.new.moment ≡ self.old.moment }

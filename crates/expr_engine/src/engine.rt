@@ -169,10 +169,7 @@ impl Engine {
         if !self.environments.swap(environment, &mut host) {
             return Err(Refused::Unknown);
         }
-        let done = match rule {
-            Some(rule) => host.add_rule(name, rule),
-            None => host.add_fixed(name, seconds),
-        };
+        let done = host.add_zone(name, seconds, rule);
         let _kept = self.environments.swap(environment, &mut host);
         Ok(done?)
     }

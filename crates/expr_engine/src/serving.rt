@@ -28,7 +28,6 @@ pub enum Shows {
 
 /// Does what a call asks for. Whatever stands in the call, it returns. What is refused leaves all that is kept as it was,
 /// and lets go of what was built.
-#[tactic(auto, using(crate::proofs::Ended::answers_by))]
 pub fn serve(engine: &mut Engine, call: &mut Call<'_>)
     // A run answers what the program's meaning allows in the environment and the context of the handles, or one of them
     // finds nothing.
