@@ -1,5 +1,5 @@
 -- What an engine keeps under handles, and what a run finds there.
-use Rattle.std.specs.Prelude.{◌≡◌, ◌≢◌, ℕ, ◌==◌, List, [], Option, None, Some, Err, IfSome, if◌then◌else◌, option_map}
+use Rattle.std.specs.Prelude.{◌≡◌, ◌≢◌, ℕ, ◌==◌, List, [], Option, None, Some, Err, if◌then◌else◌, option_map}
 use Rattle.std.specs.Option.{option_and_then}
 use Rattle.expr.specs.Texts.{IsRefusedWithin}
 use Rattle.expr_engine.specs.Runs.{Pairs, context_of, host_by, zone_at}

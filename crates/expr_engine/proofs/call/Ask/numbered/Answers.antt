@@ -1,6 +1,6 @@
-use Rattle.std.proofs.Common.{◌≡◌, ℕ, ◌≤◌, arith, sym}
+use Rattle.std.proofs.Common.{◌≤◌, arith, sym}
 use Rattle.std.proofs.lemmas.Option.{slice_get_past}
-use Rattle.expr_engine.specs.Asks.{all_asks, ask_of}
+use Rattle.expr_engine.specs.Asks.{all_asks}
 use Rattle.expr_engine.proofs.call.Ask.numbered.Goals as goal
 
 pub returns-in_default : goal.returns-in_default
