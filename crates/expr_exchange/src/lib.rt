@@ -9,6 +9,6 @@ mod scalar;
 
 pub use built::Built;
 pub use kind::Kind;
-pub use looked::{Told, Looked, bytes_of, described, key_of};
+pub use looked::{Looked, Told, bytes_of, described, key_of};
 pub use refused::{Refused, Status};
 pub use scalar::{moment_of, scalar_of};
