@@ -2,7 +2,7 @@
 use Rattle.std.specs.Prelude.{◌≡◌, ◌≢◌, ℕ, ◌==◌, List, [], Option, None, Some, Err, if◌then◌else◌, option_map}
 use Rattle.std.specs.Option.{option_and_then}
 use Rattle.expr.specs.Texts.{IsRefusedWithin}
-use Rattle.expr_engine.specs.Runs.{Pairs, context_of, host_by, zone_at}
+use Rattle.expr_engine.specs.Runs.{MayGive, Pairs, context_of, host_by, zone_at}
 use Rattle.expr_engine.specs.declared.additions.Additions.{Additions}
 use Rattle.expr_engine.specs.declared.engine.Engine.{Engine}
 use Rattle.expr_engine.specs.declared.rule.Rule.{Rule}
@@ -11,7 +11,6 @@ use Rattle.expr_exchange.specs.declared.refused.Refused.TheVariants.{Language, U
 use Rattle.expr_kept.specs.Kept.{SameThings, found}
 use Rattle.expr_kept.specs.declared.Handle.{Handle}
 use Rattle.expr_kept.specs.declared.Kept.{Kept}
-use Rattle.expr_meaning.specs.Allows.{AllowsBlock}
 use Rattle.expr_tree.specs.Written.{program_written}
 use Rattle.expr_value.specs.Answers.{Answer}
 use Rattle.expr_value.specs.Fault.{fault_of, memory}
@@ -43,7 +42,7 @@ asked engine program environment context =
 
 -- what the program's meaning allows in that environment and that context
 abbrev pub MayAnswer : Asked → Answer → Type 0
-MayAnswer q answer = AllowsBlock (host_by q.added) (context_of q.names) (program_written q.rule.program) answer
+MayAnswer q answer = MayGive (host_by q.added) (context_of q.names) (program_written q.rule.program) answer
 
 -- A text is refused that deserves it, or memory is.
 abbrev pub RefusesText : ℕ → List ℕ → Refused → Type 0

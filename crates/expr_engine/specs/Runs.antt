@@ -2,7 +2,10 @@
 use Rattle.std.specs.Prelude.{ℕ, List, [], Option, None, Some, false}
 use Rattle.std.specs.HashMap.{get_by_text}
 use Rattle.expr_engine.specs.declared.additions.Additions.{Additions}
+use Rattle.expr_meaning.specs.Allows.{AllowsBlock}
 use Rattle.expr_meaning.specs.Host.{Host, no_host}
+use Rattle.expr_tree.specs.Term.{Block}
+use Rattle.expr_value.specs.Answers.{Answer}
 use Rattle.expr_value.specs.Context.{Context}
 use Rattle.expr_value.specs.Names.{find}
 use Rattle.expr_value.specs.declared.value.Value.{Value}
@@ -37,3 +40,7 @@ added_by added = record {
 abbrev pub host_by : Option Additions → Host
 host_by None = no_host
 host_by (Some added) = added_by added
+
+-- what a program's meaning allows, whichever way it comes to that
+abbrev pub MayGive : Host → Context → Block → Answer → Type 0
+MayGive host ctx b answer = ∥ AllowsBlock host ctx b answer ∥₁

@@ -15,15 +15,14 @@ use std::alloc::Global;
 pub struct Rule {
     pub program: Program,
     pub code: KeptCode,
-    pub ghost lowered: { IsCode (program_written program) (code_of code) },
+    pub ghost lowered: { ∥ IsCode (program_written program) (code_of code) ∥₁ },
 }
 
 impl Rule {
     ghost use Rattle.std.specs.Prelude.{◌≡◌, ◌≢◌, Err, IfOk, IfErr};
     ghost use Rattle.std.specs.Option.{option_copied};
     ghost use Rattle.expr.specs.Texts.{IsRefusedWithin};
-    ghost use Rattle.expr_engine.specs.Runs.{context_of, pairs_of};
-    ghost use Rattle.expr_meaning.specs.Allows.{AllowsBlock};
+    ghost use Rattle.expr_engine.specs.Runs.{MayGive, context_of, pairs_of};
     ghost use Rattle.expr_syntax.specs.Texts.{IsPlaced, IsProgramWithin};
     ghost use Rattle.expr_tree.specs.Written.{program_written};
     ghost use Rattle.expr_value.specs.Answers.{Gives};
@@ -57,7 +56,7 @@ impl Rule {
     ///
     /// The first refusal in the order of evaluation: `ExprError`, `RegexError`, or `MemoryError` where a growth is refused.
     pub fn run<H: Functions>(&self, alloc: Global, host: &H, names: LentNames<'_>) -> Result<Value>
-        ensures { Gives result (AllowsBlock (H.host host.now)
+        ensures { Gives result (MayGive (H.host host.now)
             (context_of (pairs_of (option_copied names.entry.names))) (program_written self.now.program)) }
     {
         execution_answers_programs::<H>();
