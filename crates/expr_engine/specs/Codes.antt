@@ -1,5 +1,5 @@
 -- The blocks of a code that is kept.
-use Rattle.std.specs.Prelude.{ℕ, List, String}
+use Rattle.std.specs.Prelude.{List, String}
 use Rattle.std.specs.declared.alloc.Global.{Global}
 use Rattle.std.specs.declared.boxed.Box.{Box}
 use Rattle.expr_code.specs.Machine.{Op}
