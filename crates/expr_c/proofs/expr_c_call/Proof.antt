@@ -1,28 +1,28 @@
 -- `expr_c_call` lends what lies at the pointer for the call of `do_call`, and has it back. A walk of the code by hand.
-use Rattle.std.proofs.Common.{◌≡◌, ℕ, List, [], ◌∷◌, ◌++◌, refl, ap, MutBor}
+use Rattle.std.proofs.Common.{ℕ, [], ◌∷◌, ◌++◌, refl, ap, MutBor}
 use Rattle.std.proofs.raw_atomic.Walks.{proved}
 use base.Fraction.{full_share}
-use base.Logic.{id⊢, SProp}
-use base.Fml.{Fml, Lft, ftrue, fsep, flft, flent, fres, fbor}
+use base.Logic.{id⊢}
+use base.Fml.{Fml, ftrue, fsep, flft, flent}
 use mir.Syntax.{named}
-use mir.Val.{Val, vunit, vptr}
+use mir.Val.{vunit, vptr}
 use prog.Wp.{WpFn}
 use contract.Lifetimes.{Lfts}
 use contract.Running.{tables}
 use types.Logic.{sem}
-use types.Kit.{‵, raw, ◌⊛◌, some, later, prop, ◌$◌, ◌∵◌, !, qed, done, move, keep, drop, use1, use2, use3, split, join, fsplit, fjoin, feq_i, feq_l, pick, await, regoal, suffices, show, frame, group}
+use types.Kit.{‵, raw, ◌⊛◌, some, later, prop, ◌$◌, ◌∵◌, !, qed, done, move, drop, use1, use2, use3, split, join, fsplit, fjoin, feq_i, feq_l, pick, await, regoal, suffices, show, frame, group}
 use types.Run.{enter, of_opd, addr, stop, no_more, and_then, returns, unit_lit}
 use types.ByLocal.{alloc_all, pass_all, free_all, look_at, get, through, sets, lands_as}
 use types.Tokens.{lft_new, lft_end}
 use types.SemTy.{Body}
 use denote.Builtin.{unit}
 use denote.Exit.{yes}
-use denote.Lend.{lends_ref, ref_back, LentRef}
-use denote.Memory.{mem, part_at}
-use denote.RattleType.{RattleType, owns}
+use denote.Lend.{lends_ref, ref_back}
+use denote.Memory.{mem}
+use denote.RattleType.{RattleType}
 use denote.RawPtr.{Ptr, RawPtr, block_ptr, lies_at, in_a_block, rawptr_vals, rawptr_Tells}
 use denote.Ref.{MutRef, mut_vals, mut_Tells}
-use denote.Signature.{plain, named_lft, types_at}
+use denote.Signature.{plain, named_lft}
 use denote.Steps.{nothing, only}
 use denote.Triple.Call.{calls_at}
 use denote.Triple.Clauses.{Lasts, lasts}

@@ -1,20 +1,19 @@
 -- `expr_c_open` writes what `fresh` gives into the room at the pointer. A walk of the code by hand.
-use Rattle.std.proofs.Common.{◌≡◌, ℕ, List, [], ◌∷◌, ◌++◌, refl, ap}
+use Rattle.std.proofs.Common.{List, [], ◌∷◌, ◌++◌, refl}
 use Rattle.std.proofs.raw_atomic.Walks.{proved}
 use base.Fraction.{full_share}
-use base.Logic.{id⊢, SProp}
-use base.Fml.{Fml, ftrue, fsep}
-use mir.Val.{Val, vunit, vptr}
+use base.Logic.{id⊢}
+use base.Fml.{ftrue, fsep}
+use mir.Val.{Val, vunit}
 use prog.Wp.{WpFn}
 use contract.Running.{tables}
 use types.Logic.{sem}
-use types.Kit.{‵, raw, ◌⊛◌, some, later, prop, ◌$◌, ◌∵◌, !, qed, done, move, keep, drop, use1, use2, split, join, fsplit, fjoin, fpack, feq_i, pick, await, regoal, suffices, show, frame, group}
+use types.Kit.{‵, raw, ◌⊛◌, some, later, prop, ◌$◌, ◌∵◌, !, qed, done, move, drop, use1, use2, split, join, fjoin, fpack, feq_i, pick, await, regoal, suffices, show, frame, group}
 use types.Run.{enter, of_opd, stop, no_more, and_then, returns, unit_lit, assigns, init}
 use types.ByLocal.{alloc_all, pass_all, free_all, look_at, get, through, sets, lands_as}
 use denote.Exit.{yes}
 use denote.Laws.{Is, shows}
 use denote.Memory.{cell_at, lone, part_of}
-use denote.RattleType.{RattleType}
 use denote.RawPtr.{Ptr, RawPtr, block_ptr, lies_at, room_at, in_a_block, rawptr_vals, rawptr_Tells}
 use denote.Signature.{plain}
 use denote.Steps.{nothing, peeks}
