@@ -1,0 +1,63 @@
+-- What an engine keeps under handles, and what a run finds there.
+use Rattle.std.specs.Prelude.{◌≡◌, ◌≢◌, ℕ, ◌==◌, List, [], Option, None, Some, Err, if◌then◌else◌, option_map}
+use Rattle.std.specs.Option.{option_and_then}
+use Rattle.expr.specs.Texts.{IsRefusedWithin}
+use Rattle.expr_engine.specs.Runs.{MayGive, Pairs, context_of, host_by, zone_at}
+use Rattle.expr_engine.specs.declared.additions.Additions.{Additions}
+use Rattle.expr_engine.specs.declared.engine.Engine.{Engine}
+use Rattle.expr_engine.specs.declared.rule.Rule.{Rule}
+use Rattle.expr_exchange.specs.declared.refused.Refused.{Refused}
+use Rattle.expr_exchange.specs.declared.refused.Refused.TheVariants.{Language, Unknown, Misuse}
+use Rattle.expr_kept.specs.Kept.{SameThings, found}
+use Rattle.expr_kept.specs.declared.Handle.{Handle}
+use Rattle.expr_kept.specs.declared.Kept.{Kept}
+use Rattle.expr_tree.specs.Written.{program_written}
+use Rattle.expr_value.specs.Answers.{Answer}
+use Rattle.expr_value.specs.Fault.{fault_of, memory}
+
+-- the number that stands for no context and no environment
+abbrev pub none : ℕ
+none = 18446744073709551615
+
+-- the names of a context, none where there is no context; nothing for a handle that finds nothing
+abbrev pub names_at : Engine → Handle → Option Pairs
+names_at engine context = if context.number == none then Some [] else found engine.contexts context
+
+-- what an environment adds, nothing where there is no environment
+abbrev pub additions_at : Engine → Handle → Option (Option Additions)
+additions_at engine environment =
+    if environment.number == none then Some None else option_map Some (found engine.environments environment)
+
+-- what a run finds under three handles
+pub record Asked : Type 0 where
+  pub rule : Rule
+  pub added : Option Additions
+  pub names : Pairs
+
+abbrev pub asked : Engine → Handle → Handle → Handle → Option Asked
+asked engine program environment context =
+    option_and_then (λ rule. option_and_then (λ added. option_map
+    (λ names. record { rule = rule; added = added; names = names })
+    (names_at engine context)) (additions_at engine environment)) (found engine.rules program)
+
+-- what the program's meaning allows in that environment and that context
+abbrev pub MayAnswer : Asked → Answer → Type 0
+MayAnswer q answer = MayGive (host_by q.added) (context_of q.names) (program_written q.rule.program) answer
+
+-- A text is refused that deserves it, or memory is.
+abbrev pub RefusesText : ℕ → List ℕ → Refused → Type 0
+RefusesText height text (Language error) = fault_of error ≢ memory → IsRefusedWithin height text (Err (fault_of error))
+RefusesText height text Unknown = ⊥
+RefusesText height text Misuse = ⊥
+
+-- Every handle finds an environment with the zones and the moment that it found.
+pub record SameAdditions (old new : Kept Additions) : Type 0 where
+  pub zones : (h : Handle) (name : List ℕ) → option_map (λ a. zone_at a name) (found new h)
+      ≡ option_map (λ a. zone_at a name) (found old h)
+  pub moments : (h : Handle) → option_map (λ a. a.moment) (found new h) ≡ option_map (λ a. a.moment) (found old h)
+
+-- Every handle finds what it found.
+pub record SameKept (old new : Engine) : Type 0 where
+  pub rules : SameThings old.rules new.rules
+  pub contexts : SameThings old.contexts new.contexts
+  pub environments : SameAdditions old.environments new.environments

@@ -1,0 +1,5 @@
+pub mod Asks
+pub mod Codes
+pub mod Engines
+pub mod Runs
+pub mod Served

@@ -1,0 +1,46 @@
+-- What a run is asked in: the names of a context, and what an environment adds.
+use Rattle.std.specs.Prelude.{ℕ, List, [], Option, None, Some, false}
+use Rattle.std.specs.HashMap.{get_by_text}
+use Rattle.expr_engine.specs.declared.additions.Additions.{Additions}
+use Rattle.expr_meaning.specs.Allows.{AllowsBlock}
+use Rattle.expr_meaning.specs.Host.{Host, no_host}
+use Rattle.expr_tree.specs.Term.{Block}
+use Rattle.expr_value.specs.Answers.{Answer}
+use Rattle.expr_value.specs.Context.{Context}
+use Rattle.expr_value.specs.Names.{find}
+use Rattle.expr_value.specs.declared.value.Value.{Value}
+use Rattle.expr_value.specs.declared.zone.TimezoneValue.{TimezoneValue}
+
+abbrev pub Pairs : Type 0
+Pairs = List (List ℕ × Value)
+
+-- what names stand for that have these values
+abbrev pub context_of : Pairs → Context
+context_of pairs = record { value_of = λ name. find name pairs; map = pairs }
+
+-- the names of a context, none where there is none
+abbrev pub pairs_of : Option Pairs → Pairs
+pairs_of None = []
+pairs_of (Some pairs) = pairs
+
+-- the zone of a name
+abbrev pub zone_at : Additions → List ℕ → Option TimezoneValue
+zone_at added name = get_by_text added.zones name
+
+-- what an environment adds: zones and a moment, and no function
+abbrev pub added_by : Additions → Host
+added_by added = record {
+  is_added = λ _. false;
+  calls = λ _ _ _. ⊥;
+  zones = zone_at added;
+  moment = added.moment;
+}
+
+-- the same, nothing where there is no environment
+abbrev pub host_by : Option Additions → Host
+host_by None = no_host
+host_by (Some added) = added_by added
+
+-- what a program's meaning allows, whichever way it comes to that
+abbrev pub MayGive : Host → Context → Block → Answer → Type 0
+MayGive host ctx b answer = ∥ AllowsBlock host ctx b answer ∥₁

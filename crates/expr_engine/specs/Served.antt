@@ -1,0 +1,50 @@
+-- What a call answers.
+use Rattle.std.specs.Prelude.{◌≡◌, ◌≢◌, ◌⊎◌, ℕ, Result, Ok, Err}
+use Rattle.expr_engine.specs.Engines.{Asked, MayAnswer}
+use Rattle.expr_exchange.specs.Refusals.{status_of}
+use Rattle.expr_exchange.specs.declared.refused.Refused.{Refused}
+use Rattle.expr_exchange.specs.declared.refused.Refused.TheVariants.{Language, Unknown, Misuse}
+use Rattle.expr_exchange.specs.declared.refused.Status.{Status}
+use Rattle.expr_exchange.specs.declared.refused.Status.TheVariants as ends
+use Rattle.expr_value.specs.Fault.{fault_of, syntax, literal, evaluation, pattern, memory}
+use Rattle.expr_value.specs.declared.value.Value.{Value}
+
+-- the number of an ending
+abbrev pub number_of : Status → ℕ
+number_of ends.Done = 0
+number_of ends.Syntax = 1
+number_of ends.Literal = 2
+number_of ends.Evaluation = 3
+number_of ends.Pattern = 4
+number_of ends.Memory = 5
+number_of ends.Unknown = 6
+number_of ends.Misuse = 7
+
+-- A run that found all three gives the value that is then looked at, or a refusal.
+abbrev pub Runs : {A : Type 0} → Asked → Result A Refused → Value → Type 0
+Runs q (Ok shown) value = MayAnswer q (Ok value)
+Runs q (Err (Language error)) value = fault_of error ≢ memory → MayAnswer q (Err (fault_of error))
+Runs q (Err Unknown) value = ⊥
+Runs q (Err Misuse) value = ⊥
+
+-- What the ending of such a run says: its value, or its kind of refusal, is one that the meaning allows.
+abbrev pub Says : Asked → Status → Value → Type 0
+Says q ends.Done value = MayAnswer q (Ok value)
+Says q ends.Syntax value = MayAnswer q (Err syntax)
+Says q ends.Literal value = MayAnswer q (Err literal)
+Says q ends.Evaluation value = MayAnswer q (Err evaluation)
+Says q ends.Pattern value = MayAnswer q (Err pattern)
+Says q ends.Memory value = Unit {0}
+Says q ends.Unknown value = ⊥
+Says q ends.Misuse value = ⊥
+
+-- the same of the number of an ending
+pub record Answers (q : Asked) (number : ℕ) (value : Value) : Type 0 where
+  pub status : Status
+  pub is : number ≡ number_of status
+  pub says : Says q status value
+
+-- A call that ended so has this number, or memory was refused for its message.
+abbrev pub Ends : {A : Type 0} → Result A Refused → ℕ → Type 0
+Ends (Ok shown) number = number ≡ 0
+Ends (Err refused) number = (number ≡ number_of (status_of refused)) ⊎ (number ≡ 5)

@@ -1,0 +1,140 @@
+//! What a host adds to the language: zones, and the moment that is now.
+ghost use Rattle.std.specs.Prelude.{◌≡◌, ℕ, List, None, OnErr, Some, option_map};
+ghost use Rattle.expr_engine.specs.Runs.{zone_at};
+ghost use Rattle.expr_value.specs.Times.{instant};
+
+use expr::{DateTimeValue, Error, Result, TimezoneValue, Value};
+use expr_meaning::{ExprCall, Functions};
+use expr_value::refusal;
+use indexmap::IndexMap;
+use jiff::Timestamp;
+use jiff::tz::{Offset, TimeZone};
+use std::alloc::Global;
+
+/// The zones and the moment that a host has added. It adds no function.
+#[derive(Drop)]
+pub struct Additions {
+    alloc: Global,
+    zones: IndexMap<String, TimezoneValue>,
+    moment: Option<DateTimeValue>,
+}
+
+impl Additions {
+    /// Nothing added. It takes no memory.
+    pub fn new(alloc: Global) -> Additions
+        ensures zones { (name : List ℕ) → zone_at result name ≡ None }
+        ensures moment { result.moment ≡ None }
+    {
+        Additions {
+            alloc,
+            zones: IndexMap::new(alloc),
+            moment: None,
+        }
+    }
+
+    /// Adds a zone whose clock is so many seconds ahead of UTC, in place of an earlier one of this name.
+    ///
+    /// # Errors
+    ///
+    /// `ExprError` for `UTC`, which is always known, and for more than a day, or `MemoryError`.
+    pub fn add_fixed(&mut self, name: &str, seconds: i64) -> Result<()>
+        ensures err { OnErr result ((key : List ℕ) → zone_at self.new key ≡ zone_at self.old key) }
+        ensures moment { self.new.moment ≡ self.old.moment }
+    {
+        let offset = match i32::try_from(seconds) {
+            Ok(seconds) => Offset::from_seconds(seconds).ok(),
+            Err(_) => None,
+        };
+        match offset {
+            Some(offset) => self.add(name, TimeZone::fixed(offset)),
+            None => Err(refusal(self.alloc, "no clock is so far ahead")),
+        }
+    }
+
+    /// Adds a zone by a rule in POSIX's form, in place of an earlier one of this name.
+    ///
+    /// # Errors
+    ///
+    /// `ExprError` for `UTC` and for what is no rule, or `MemoryError`.
+    pub fn add_rule(&mut self, name: &str, rule: &str) -> Result<()>
+        ensures err { OnErr result ((key : List ℕ) → zone_at self.new key ≡ zone_at self.old key) }
+        ensures moment { self.new.moment ≡ self.old.moment }
+    {
+        match TimeZone::posix(rule) {
+            Ok(rules) => self.add(name, rules),
+            Err(_) => Err(refusal(self.alloc, "no rule of a zone in POSIX's form")),
+        }
+    }
+
+    /// Adds a zone by a rule, if there is one, or by the seconds that its clock is ahead of UTC.
+    ///
+    /// # Errors
+    ///
+    /// What [`Additions::add_rule`] and [`Additions::add_fixed`] refuse.
+    pub fn add_zone(&mut self, name: &str, seconds: i64, rule: Option<&str>) -> Result<()>
+        ensures err { OnErr result ((key : List ℕ) → zone_at self.new key ≡ zone_at self.old key) }
+        ensures moment { self.new.moment ≡ self.old.moment }
+    {
+        match rule {
+            Some(rule) => self.add_rule(name, rule),
+            None => self.add_fixed(name, seconds),
+        }
+    }
+
+    fn add(&mut self, name: &str, rules: TimeZone<'static>) -> Result<()>
+        ensures err { OnErr result ((key : List ℕ) → zone_at self.new key ≡ zone_at self.old key) }
+        ensures moment { self.new.moment ≡ self.old.moment }
+    {
+        let alloc = self.alloc;
+        if name == "UTC" {
+            return Err(refusal(alloc, "the zone UTC is always known"));
+        }
+        let zone = TimezoneValue::named(alloc, name, rules)?;
+        let name = String::from_str(alloc, name)?;
+        self.zones.insert(name, zone)?;
+        Ok(())
+    }
+
+    /// Sets the moment that is taken for now, on a clock in UTC.
+    pub fn set_now(&mut self, now: Timestamp)
+        ensures moment { option_map instant self.new.moment ≡ Some now.nanosecond }
+        ensures zones { (key : List ℕ) → zone_at self.new key ≡ zone_at self.old key }
+    {
+        self.moment = Some(DateTimeValue::fixed(now, Offset::UTC));
+    }
+}
+
+/// What an environment adds, or nothing where there is none.
+#[derive(Clone, Copy)]
+pub struct LentHost<'a> {
+    pub added: Option<&'a Additions>,
+}
+
+impl<'a> Functions for LentHost<'a> {
+    ghost use Rattle.std.specs.Option.{option_copied};
+    ghost use Rattle.expr_engine.specs.Runs.{host_by};
+
+    ghost host = { λ lent. host_by (option_copied lent.added) };
+
+    fn has(&self, _name: &str) -> bool {
+        false
+    }
+
+    fn ask(&self, call: ExprCall) -> Result<Value> {
+        Err(Error::ExprError(call.ident))
+    }
+
+    fn zone(&self, name: &str) -> Option<&TimezoneValue> {
+        match self.added {
+            Some(added) => added.zones.get(name),
+            None => None,
+        }
+    }
+
+    fn moment(&self) -> Option<&DateTimeValue> {
+        match self.added {
+            Some(added) => added.moment.as_ref(),
+            None => None,
+        }
+    }
+}

@@ -1,0 +1,25 @@
+//! An engine for hosts that are not written in Rattle: programs, contexts and environments under handles, and one call that
+//! does what it is asked to.
+#![tactic(auto)]
+
+mod adding;
+mod additions;
+mod building;
+mod call;
+mod engine;
+mod filling;
+mod lent;
+mod letting;
+mod looking;
+mod rule;
+mod running;
+mod serving;
+
+pub use additions::{Additions, LentHost};
+pub use call::{Ask, Call};
+pub use engine::Engine;
+pub use expr_exchange::{Kind, Refused, Status};
+pub use expr_kept::Handle;
+pub use lent::LentNames;
+pub use rule::Rule;
+pub use serving::serve;

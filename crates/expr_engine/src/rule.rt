@@ -1,0 +1,65 @@
+//! A program that is kept, and its code.
+ghost use Rattle.expr_code.specs.Codes.{IsCode};
+ghost use Rattle.expr_engine.specs.Codes.{code_of};
+ghost use Rattle.expr_tree.specs.Written.{program_written};
+
+use crate::lent::LentNames;
+use expr::{
+    Code, KeptCode, KeptMachine, Program, Result, Value, compile_within, execution_answers_programs,
+};
+use expr_meaning::Functions;
+use std::alloc::Global;
+
+/// A program that is kept, and its code.
+#[derive(Drop)]
+pub struct Rule {
+    pub program: Program,
+    pub code: KeptCode,
+    pub ghost lowered: { ∥ IsCode (program_written program) (code_of code) ∥₁ },
+}
+
+impl Rule {
+    ghost use Rattle.std.specs.Prelude.{◌≡◌, ◌≢◌, Err, IfOk, IfErr};
+    ghost use Rattle.std.specs.Option.{option_copied};
+    ghost use Rattle.expr.specs.Texts.{IsRefusedWithin};
+    ghost use Rattle.expr_engine.specs.Runs.{MayGive, context_of, pairs_of};
+    ghost use Rattle.expr_syntax.specs.Texts.{IsPlaced, IsProgramWithin};
+    ghost use Rattle.expr_tree.specs.Written.{program_written};
+    ghost use Rattle.expr_value.specs.Answers.{Gives};
+    ghost use Rattle.expr_value.specs.Fault.{fault_of, memory};
+
+    /// The program of a text, whose tree is no higher than a bound.
+    ///
+    /// # Errors
+    ///
+    /// What `compile_within` refuses.
+    pub fn compile(alloc: Global, text: &str, height: usize) -> Result<Rule>
+        ensures program { IfOk result (λ r. IsProgramWithin text.now height (program_written r.program)) }
+        ensures refused { IfErr result
+            (λ e. fault_of e ≢ memory → IsRefusedWithin height text.now (Err (fault_of e))) }
+        ensures place { IsPlaced text.now result }
+    {
+        let program = compile_within(alloc, text, height)?;
+        let code = Code::lower(alloc, &program)?.keep(alloc)?;
+        Ok(Rule { program, code })
+    }
+
+    /// The names that the program asks for, each on a line, and how many they are.
+    pub fn names(&self, alloc: Global) -> Result<(String, usize)> {
+        let names = self.program.names(alloc)?;
+        Ok((names.join(alloc, "\n")?, names.len()))
+    }
+
+    /// What the program answers.
+    ///
+    /// # Errors
+    ///
+    /// The first refusal in the order of evaluation: `ExprError`, `RegexError`, or `MemoryError` where a growth is refused.
+    pub fn run<H: Functions>(&self, alloc: Global, host: &H, names: LentNames<'_>) -> Result<Value>
+        ensures { Gives result (MayGive (H.host host.now)
+            (context_of (pairs_of (option_copied names.entry.names))) (program_written self.now.program)) }
+    {
+        execution_answers_programs::<H>();
+        KeptMachine::new(alloc, &self.code).execute_among(host, names)
+    }
+}

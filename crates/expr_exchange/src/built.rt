@@ -1,0 +1,128 @@
+//! Values that a host builds, one behind the other.
+ghost use Rattle.std.specs.Prelude.{◌≡◌, ◌++◌, ◌∷◌, [], IfErr, IfOk, OnErr, OnOk, length, pos};
+ghost use Rattle.expr_exchange.specs.Built.{TakesPlace, values_of};
+
+use crate::refused::Refused;
+use expr_value::{Context, KeyedMap, Value};
+use std::alloc::Global;
+
+/// Values that are built: an array takes the place of its items, a map of its pairs.
+#[derive(Drop)]
+pub struct Built {
+    alloc: Global,
+    values: Vec<Value>,
+}
+
+impl Built {
+    /// Nothing built. It takes no memory.
+    pub fn new(alloc: Global) -> Built
+        ensures { values_of result ≡ [] }
+    {
+        Built {
+            alloc,
+            values: Vec::new(alloc),
+        }
+    }
+
+    /// Puts a value behind the others.
+    pub fn push(&mut self, value: Value) -> Result<(), Refused>
+        ensures ok { OnOk result (values_of self.new ≡ values_of self.old ++ value ∷ []) }
+        ensures err { OnErr result (values_of self.new ≡ values_of self.old) }
+    {
+        self.values.push(value)?;
+        Ok(())
+    }
+
+    /// Takes the last value.
+    pub fn pop(&mut self) -> Result<Value, Refused>
+        ensures ok { IfOk result (λ value. values_of self.old ≡ values_of self.new ++ value ∷ []) }
+        ensures err { IfErr result (λ e. (e ≡ Refused.Misuse) × (values_of self.old ≡ [])) }
+    {
+        match self.values.pop() {
+            Some(value) => Ok(value),
+            None => Err(Refused::Misuse),
+        }
+    }
+
+    /// Lets go of all values.
+    pub fn clear(&mut self)
+        ensures { values_of self.new ≡ [] }
+    {
+        self.values.clear();
+    }
+
+    /// Takes the last values, as many as that.
+    fn taken(&mut self, count: i64) -> Result<Vec<Value>, Refused>
+        ensures ok { IfOk result (λ last. values_of self.old ≡ values_of self.new ++ last.items) }
+        ensures count { IfOk result (λ last. pos (length last.items) ≡ count) }
+    {
+        let Ok(count) = usize::try_from(count) else {
+            return Err(Refused::Misuse);
+        };
+        let Some(place) = self.values.len().checked_sub(count) else {
+            return Err(Refused::Misuse);
+        };
+        Ok(self.values.split_off(place)?)
+    }
+
+    /// Makes an array of the last values.
+    pub fn array(&mut self, count: i64) -> Result<(), Refused>
+        ensures { OnOk result (TakesPlace count (values_of self.old) Value.Array (values_of self.new)) }
+    {
+        let items = self.taken(count)?;
+        self.push(Value::from(items))
+    }
+
+    /// Makes a map of the last pairs: one by names where all keys are texts, else one by scalars. A repeated key keeps its
+    /// first place and takes its last value.
+    pub fn map(&mut self, count: i64) -> Result<(), Refused> {
+        let Some(count) = count.checked_mul(2) else {
+            return Err(Refused::Misuse);
+        };
+        let values = self.taken(count)?;
+        let map = map_of(self.alloc, values)?;
+        self.push(map)
+    }
+
+    /// The context of the last value, a map by names.
+    pub fn context(&mut self) -> Result<Context, Refused> {
+        let value = self.pop()?;
+        Ok(Context::try_from(self.alloc, value)?)
+    }
+}
+
+/// The map of keys and values that stand one behind the other.
+fn map_of(alloc: Global, values: Vec<Value>) -> expr_value::Result<Value> {
+    let mut names: Vec<(String, Value)> = Vec::with_capacity(alloc, values.len() / 2)?;
+    let mut keyed: Vec<(Value, Value)> = Vec::new(alloc);
+    let mut key = None;
+    for value in values {
+        match key.take() {
+            None => key = Some(value),
+            Some(Value::String(name)) if keyed.is_empty() => names.push((
+                name.into_string(),
+                value,
+            ))?,
+            Some(other) => {
+                if keyed.is_empty() {
+                    keyed = keyed_of(alloc, names)?;
+                    names = Vec::new(alloc);
+                }
+                keyed.push((other, value))?
+            }
+        }
+    }
+    if keyed.is_empty() {
+        return Value::from_pairs(alloc, names);
+    }
+    Ok(Value::KeyedMap(KeyedMap::from_pairs(alloc, keyed)?))
+}
+
+/// The same pairs with values for keys.
+fn keyed_of(alloc: Global, names: Vec<(String, Value)>) -> expr_value::Result<Vec<(Value, Value)>> {
+    let mut keyed = Vec::with_capacity(alloc, names.len())?;
+    for (name, value) in names {
+        keyed.push((Value::from(name), value))?;
+    }
+    Ok(keyed)
+}

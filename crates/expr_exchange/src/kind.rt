@@ -1,0 +1,51 @@
+//! Kinds of values, by their numbers.
+
+/// What kind of value. A host knows the kinds by their numbers, from 0 in the order in which they stand here.
+#[derive(Clone, Copy, Debug, PartialEq, Eq)]
+pub enum Kind {
+    Nil,
+    Bool,
+    Integer,
+    String,
+    Bytes,
+    Duration,
+    DateTime,
+    Timezone,
+    Month,
+    Weekday,
+    Array,
+    Map,
+    /// A map whose keys are any scalars.
+    KeyedMap,
+    /// Handed in alone: the value of a JSON text.
+    Json,
+    /// Handed in alone: the value that was built last.
+    Built,
+    /// Handed in alone: a copy of the value that is looked at.
+    Looked,
+}
+
+impl Kind {
+    /// The kind of a number.
+    pub fn numbered(number: u32) -> Option<Kind> {
+        match number {
+            0 => Some(Kind::Nil),
+            1 => Some(Kind::Bool),
+            2 => Some(Kind::Integer),
+            3 => Some(Kind::String),
+            4 => Some(Kind::Bytes),
+            5 => Some(Kind::Duration),
+            6 => Some(Kind::DateTime),
+            7 => Some(Kind::Timezone),
+            8 => Some(Kind::Month),
+            9 => Some(Kind::Weekday),
+            10 => Some(Kind::Array),
+            11 => Some(Kind::Map),
+            12 => Some(Kind::KeyedMap),
+            13 => Some(Kind::Json),
+            14 => Some(Kind::Built),
+            15 => Some(Kind::Looked),
+            _ => None,
+        }
+    }
+}

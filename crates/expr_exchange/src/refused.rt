@@ -1,0 +1,75 @@
+//! Why a host is refused.
+ghost use Rattle.std.specs.Prelude.{◌≡◌};
+ghost use Rattle.expr_exchange.specs.Refusals.{status_of};
+ghost use Rattle.expr_exchange.specs.declared.refused.Refused.TheVariants.{Language};
+ghost use Rattle.expr_value.specs.declared.error.Error.TheVariants.{MemoryError};
+
+use expr_value::Error;
+use std::alloc::{AllocError, AllocFailed};
+
+/// How a call ended. A host knows the endings by their numbers, from 0 in the order in which they stand here.
+#[derive(Clone, Copy, Debug, PartialEq, Eq)]
+pub enum Status {
+    Done,
+    Syntax,
+    Literal,
+    Evaluation,
+    Pattern,
+    Memory,
+    /// A handle finds nothing: it is out of date, or was never given.
+    Unknown,
+    /// What is asked stands for nothing: an unknown number, bytes that are not UTF-8, an item that isn't there.
+    Misuse,
+}
+
+/// Why a host is refused.
+#[derive(Drop)]
+pub enum Refused {
+    /// The language refuses.
+    Language(Error),
+    /// A handle finds nothing.
+    Unknown,
+    /// What is asked stands for nothing.
+    Misuse,
+}
+
+impl Refused {
+    /// How a call ends that is refused.
+    pub fn status(&self) -> Status
+        ensures { result ≡ status_of self.now }
+    {
+        match self {
+            Refused::Language(Error::PestError(_)) => Status::Syntax,
+            Refused::Language(Error::ParseError(_)) => Status::Literal,
+            Refused::Language(Error::ExprError(_)) => Status::Evaluation,
+            Refused::Language(Error::RegexError(_)) => Status::Pattern,
+            Refused::Language(Error::MemoryError) => Status::Memory,
+            Refused::Unknown => Status::Unknown,
+            Refused::Misuse => Status::Misuse,
+        }
+    }
+}
+
+impl From<Error> for Refused {
+    ghost from_gives = { λ error refused. refused ≡ Language error };
+
+    fn from(error: Error) -> Refused {
+        Refused::Language(error)
+    }
+}
+
+impl From<AllocError> for Refused {
+    ghost from_gives = { λ _ refused. refused ≡ Language MemoryError };
+
+    fn from(_error: AllocError) -> Refused {
+        Refused::Language(Error::MemoryError)
+    }
+}
+
+impl<T: Drop> From<AllocFailed<T>> for Refused {
+    ghost from_gives = { λ _ refused. refused ≡ Language MemoryError };
+
+    fn from(_error: AllocFailed<T>) -> Refused {
+        Refused::Language(Error::MemoryError)
+    }
+}

@@ -1,0 +1,66 @@
+//! Values that a host hands in by a number or a text.
+use crate::kind::Kind;
+use crate::refused::Refused;
+use expr_value::{DateTimeValue, Value};
+use jiff::Timestamp;
+use jiff::tz::Offset;
+use std::alloc::Global;
+
+/// The value of a kind that is handed in by a number or a text; a moment, on a clock in UTC, by its second and the
+/// nanoseconds past it.
+///
+/// # Errors
+///
+/// `Misuse` for kinds that are handed in otherwise, for numbers that stand for nothing, and for a text that isn't UTF-8; or
+/// `MemoryError`.
+pub fn scalar_of(
+    alloc: Global,
+    kind: Kind,
+    number: i64,
+    fraction: u32,
+    text: &[u8],
+) -> Result<Value, Refused> {
+    match kind {
+        Kind::Nil => Ok(Value::Nil),
+        Kind::Bool => Ok(Value::Bool(number != 0)),
+        Kind::Integer => Ok(Value::Integer(number)),
+        Kind::String => text_value(alloc, text),
+        Kind::Bytes => {
+            let mut bytes = Vec::new(alloc);
+            bytes.extend_from_slice(text)?;
+            Ok(Value::from(bytes))
+        }
+        Kind::Duration => Ok(Value::Duration(number)),
+        Kind::DateTime => {
+            let moment = DateTimeValue::fixed(moment_of(number, fraction)?, Offset::UTC);
+            Ok(Value::datetime(alloc, moment)?)
+        }
+        Kind::Month => match u32::try_from(number) {
+            Ok(month) if 1 <= month && month <= 12 => Ok(Value::Month(month)),
+            _ => Err(Refused::Misuse),
+        },
+        Kind::Weekday => match u32::try_from(number) {
+            Ok(day) if day <= 6 => Ok(Value::Weekday(day)),
+            _ => Err(Refused::Misuse),
+        },
+        _ => Err(Refused::Misuse),
+    }
+}
+
+fn text_value(alloc: Global, text: &[u8]) -> Result<Value, Refused> {
+    match std::str::from_utf8(text) {
+        Ok(text) => Ok(Value::text(alloc, text)?),
+        Err(_) => Err(Refused::Misuse),
+    }
+}
+
+/// The moment of a second since 1970 began, and nanoseconds past it.
+pub fn moment_of(second: i64, fraction: u32) -> Result<Timestamp, Refused> {
+    match i32::try_from(fraction) {
+        Ok(fraction) => match Timestamp::new(second, fraction) {
+            Ok(moment) => Ok(moment),
+            Err(_) => Err(Refused::Misuse),
+        },
+        Err(_) => Err(Refused::Misuse),
+    }
+}

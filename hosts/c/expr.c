@@ -1,0 +1,428 @@
+/* The calls of expr.h over the three of the engine. What this file owes the engine is written where it owes it. */
+#include "expr.h"
+#include <stdlib.h>
+#include <string.h>
+
+/* As `Call` of crates/expr_engine/src/call.rt; a slice is a pointer, which is never null, and a length. */
+typedef struct { size_t place; uint64_t number; } handle;
+typedef struct {
+    uint32_t ask, status, kind, fraction;
+    handle program, context, environment;
+    int64_t number;
+    size_t place, line, column, length;
+    const uint8_t *name;
+    size_t name_length;
+    const uint8_t *text;
+    size_t text_length;
+    uint8_t *room;
+    size_t room_length;
+} call;
+_Static_assert(sizeof(call) == 152, "as in call.rt");
+_Static_assert(offsetof(call, number) == 64 && offsetof(call, name) == 104 && offsetof(call, room) == 136,
+               "as in call.rt");
+
+size_t expr_c_size(void);
+/* at: room for expr_c_size() bytes, at a multiple of 16. */
+void expr_c_open(void *at);
+/* at: where expr_c_open made an engine, not given back, in no other call; call: valid, its slices apart from one another. */
+void expr_c_call(void *at, call *call);
+
+/* As `Ask` of call.rt. */
+enum ask {
+    COMPILE, NAMES, RUN, CONTEXT, CONTEXT_OF, SET, PUSH, ARRAY, MAP, UNBUILD, LOOK, DOWN, UP, KEY, SHOWN, TEXT, JSON, SAID,
+    ENVIRONMENT, FIXED_ZONE, ZONE_RULE, NOW, DROP_PROGRAM, DROP_CONTEXT, DROP_ENVIRONMENT, CLEAR
+};
+/* As `Kind` of call.rt, behind those of expr_kind. */
+enum { KIND_JSON = EXPR_KEYED_MAP + 1, KIND_BUILT, KIND_LOOKED };
+
+struct expr_engine {
+    void *inside;
+    uint8_t *room;
+    size_t room_length;
+    call call;
+};
+
+static const uint8_t EMPTY[1];
+
+expr_engine *expr_open(void) {
+    expr_engine *engine = calloc(1, sizeof *engine);
+    if (!engine) return NULL;
+    engine->room_length = 128;
+    engine->room = calloc(1, engine->room_length);
+    engine->inside = malloc(expr_c_size()); /* at a multiple of 16, as malloc's blocks are */
+    if (engine->room && engine->inside) {
+        expr_c_open(engine->inside);
+        return engine;
+    }
+    free(engine->inside);
+    free(engine->room);
+    free(engine);
+    return NULL;
+}
+
+static call *begun(expr_engine *engine, enum ask ask) {
+    call *c = &engine->call;
+    c->ask = ask;
+    c->name = c->text = EMPTY;
+    c->name_length = c->text_length = 0;
+    c->room = engine->room;
+    c->room_length = engine->room_length - 1; /* a zero byte goes behind what is said */
+    return c;
+}
+
+static expr_status asked(expr_engine *engine) {
+    expr_c_call(engine->inside, &engine->call);
+    return (expr_status)engine->call.status;
+}
+
+static expr_status asked_alone(expr_engine *engine, enum ask ask) {
+    if (!engine) return EXPR_MISUSE;
+    begun(engine, ask);
+    return asked(engine);
+}
+
+/* What is said, whole and with a zero byte behind it: asked `again` with room enough where there was too little. Null
+ * where there is no memory. */
+static const char *whole(expr_engine *engine, enum ask again) {
+    size_t wanted = engine->call.length;
+    if (wanted >= engine->room_length) {
+        if (wanted == SIZE_MAX) return NULL;
+        uint8_t *room = realloc(engine->room, wanted + 1);
+        if (!room) return NULL;
+        engine->room = room;
+        engine->room_length = wanted + 1;
+        begun(engine, again);
+        asked(engine);
+        if (engine->call.length != wanted) return NULL;
+    }
+    engine->room[wanted] = 0;
+    return (const char *)engine->room;
+}
+
+/* A text that the engine said may be handed in again. It lies in the room, so that call then has no room. */
+static void apart_from_room(expr_engine *engine, const char *text) {
+    uintptr_t at = (uintptr_t)text, room = (uintptr_t)engine->room;
+    static uint8_t none[1];
+    if (at < room || at - room >= engine->room_length) return;
+    engine->call.room = none;
+    engine->call.room_length = 0;
+}
+
+static void set_text(expr_engine *engine, const char *text, size_t length) {
+    if (!text) return;
+    engine->call.text = (const uint8_t *)text;
+    engine->call.text_length = length == EXPR_Z ? strlen(text) : length;
+    apart_from_room(engine, text);
+}
+
+static void set_name(expr_engine *engine, const char *name, size_t length) {
+    if (!name) return;
+    engine->call.name = (const uint8_t *)name;
+    engine->call.name_length = length == EXPR_Z ? strlen(name) : length;
+    apart_from_room(engine, name);
+}
+
+void expr_close(expr_engine *engine) {
+    if (!engine) return;
+    asked_alone(engine, CLEAR);
+    free(engine->inside); /* the engine in it holds nothing now */
+    free(engine->room);
+    free(engine);
+}
+
+expr_status expr_clear(expr_engine *engine) { return asked_alone(engine, CLEAR); }
+
+const char *expr_message(expr_engine *engine) {
+    if (asked_alone(engine, SAID) != EXPR_OK) return "";
+    const char *message = whole(engine, SAID);
+    return message ? message : "out of memory";
+}
+
+const char *expr_status_word(expr_status status) {
+    static const char *const words[] = {"ok",      "syntax",    "literal",        "evaluation",
+                                        "pattern", "no memory", "unknown handle", "misuse"};
+    return (unsigned)status < sizeof words / sizeof *words ? words[status] : "?";
+}
+
+/* --- programs --- */
+
+expr_status expr_compile(expr_engine *engine, const char *text, size_t length, size_t height, expr_program *program,
+                         expr_place *place) {
+    if (!engine || !program) return EXPR_MISUSE;
+    call *c = begun(engine, COMPILE);
+    set_text(engine, text, length);
+    c->number = height > INT64_MAX ? INT64_MAX : (int64_t)height;
+    c->place = c->line = c->column = 0;
+    expr_status status = asked(engine);
+    *program = status == EXPR_OK ? (expr_program){c->program.place, c->program.number} : (expr_program){0, UINT64_MAX};
+    if (place) *place = (expr_place){c->place, c->line, c->column};
+    return status;
+}
+
+expr_status expr_names(expr_engine *engine, expr_program program, size_t *count, const char **names) {
+    if (count) *count = 0;
+    if (names) *names = "";
+    if (!engine) return EXPR_MISUSE;
+    call *c = begun(engine, NAMES);
+    c->program = (handle){program.place, program.number};
+    expr_status status = asked(engine);
+    if (status != EXPR_OK) return status;
+    if (count) *count = (size_t)c->number;
+    if (names) *names = whole(engine, SAID);
+    return names && !*names ? EXPR_MEMORY : EXPR_OK;
+}
+
+expr_status expr_drop_program(expr_engine *engine, expr_program program) {
+    if (!engine) return EXPR_MISUSE;
+    begun(engine, DROP_PROGRAM)->program = (handle){program.place, program.number};
+    return asked(engine);
+}
+
+/* --- values that are handed in --- */
+
+static call *given(expr_engine *engine, enum ask ask, uint32_t kind, int64_t number, const char *text, size_t length) {
+    call *c = begun(engine, ask);
+    c->kind = kind;
+    c->number = number;
+    c->fraction = 0;
+    set_text(engine, text, length);
+    return c;
+}
+
+static expr_status pushed(expr_engine *engine, uint32_t kind, int64_t number, const char *text, size_t length) {
+    if (!engine) return EXPR_MISUSE;
+    given(engine, PUSH, kind, number, text, length);
+    return asked(engine);
+}
+
+static expr_status set(expr_engine *engine, expr_context context, const char *name, size_t name_length, uint32_t kind,
+                       int64_t number, const char *text, size_t length) {
+    if (!engine) return EXPR_MISUSE;
+    call *c = given(engine, SET, kind, number, text, length);
+    c->context = (handle){context.place, context.number};
+    set_name(engine, name, name_length);
+    return asked(engine);
+}
+
+expr_status expr_push_nil(expr_engine *engine) { return pushed(engine, EXPR_NIL, 0, NULL, 0); }
+expr_status expr_push_bool(expr_engine *engine, int value) { return pushed(engine, EXPR_BOOL, value != 0, NULL, 0); }
+expr_status expr_push_integer(expr_engine *engine, int64_t value) { return pushed(engine, EXPR_INTEGER, value, NULL, 0); }
+expr_status expr_push_string(expr_engine *engine, const char *text, size_t length) {
+    return pushed(engine, EXPR_STRING, 0, text, length);
+}
+expr_status expr_push_bytes(expr_engine *engine, const void *bytes, size_t length) {
+    return pushed(engine, EXPR_BYTES, 0, bytes, length);
+}
+expr_status expr_push_duration(expr_engine *engine, int64_t nanoseconds) {
+    return pushed(engine, EXPR_DURATION, nanoseconds, NULL, 0);
+}
+expr_status expr_push_datetime(expr_engine *engine, int64_t second, uint32_t fraction) {
+    if (!engine) return EXPR_MISUSE;
+    given(engine, PUSH, EXPR_DATETIME, second, NULL, 0)->fraction = fraction;
+    return asked(engine);
+}
+expr_status expr_push_month(expr_engine *engine, unsigned month) { return pushed(engine, EXPR_MONTH, month, NULL, 0); }
+expr_status expr_push_weekday(expr_engine *engine, unsigned day) { return pushed(engine, EXPR_WEEKDAY, day, NULL, 0); }
+expr_status expr_push_json(expr_engine *engine, const char *json, size_t length) {
+    return pushed(engine, KIND_JSON, 0, json, length);
+}
+
+expr_status expr_push_looked(expr_engine *engine) { return pushed(engine, KIND_LOOKED, 0, NULL, 0); }
+
+static expr_status made(expr_engine *engine, enum ask ask, size_t count) {
+    if (!engine) return EXPR_MISUSE;
+    begun(engine, ask)->number = count > INT64_MAX ? INT64_MAX : (int64_t)count;
+    return asked(engine);
+}
+
+expr_status expr_make_array(expr_engine *engine, size_t count) { return made(engine, ARRAY, count); }
+expr_status expr_make_map(expr_engine *engine, size_t count) { return made(engine, MAP, count); }
+expr_status expr_unbuild(expr_engine *engine) { return asked_alone(engine, UNBUILD); }
+
+expr_status expr_set_nil(expr_engine *engine, expr_context context, const char *name, size_t name_length) {
+    return set(engine, context, name, name_length, EXPR_NIL, 0, NULL, 0);
+}
+expr_status expr_set_bool(expr_engine *engine, expr_context context, const char *name, size_t name_length, int value) {
+    return set(engine, context, name, name_length, EXPR_BOOL, value != 0, NULL, 0);
+}
+expr_status expr_set_integer(expr_engine *engine, expr_context context, const char *name, size_t name_length,
+                             int64_t value) {
+    return set(engine, context, name, name_length, EXPR_INTEGER, value, NULL, 0);
+}
+expr_status expr_set_string(expr_engine *engine, expr_context context, const char *name, size_t name_length,
+                            const char *text, size_t length) {
+    return set(engine, context, name, name_length, EXPR_STRING, 0, text, length);
+}
+expr_status expr_set_bytes(expr_engine *engine, expr_context context, const char *name, size_t name_length,
+                           const void *bytes, size_t length) {
+    return set(engine, context, name, name_length, EXPR_BYTES, 0, bytes, length);
+}
+expr_status expr_set_duration(expr_engine *engine, expr_context context, const char *name, size_t name_length,
+                              int64_t nanoseconds) {
+    return set(engine, context, name, name_length, EXPR_DURATION, nanoseconds, NULL, 0);
+}
+expr_status expr_set_datetime(expr_engine *engine, expr_context context, const char *name, size_t name_length,
+                              int64_t second, uint32_t fraction) {
+    if (!engine) return EXPR_MISUSE;
+    call *c = given(engine, SET, EXPR_DATETIME, second, NULL, 0);
+    c->fraction = fraction;
+    c->context = (handle){context.place, context.number};
+    set_name(engine, name, name_length);
+    return asked(engine);
+}
+expr_status expr_set_json(expr_engine *engine, expr_context context, const char *name, size_t name_length,
+                          const char *json, size_t length) {
+    return set(engine, context, name, name_length, KIND_JSON, 0, json, length);
+}
+expr_status expr_set_built(expr_engine *engine, expr_context context, const char *name, size_t name_length) {
+    return set(engine, context, name, name_length, KIND_BUILT, 0, NULL, 0);
+}
+
+expr_status expr_set_looked(expr_engine *engine, expr_context context, const char *name, size_t name_length) {
+    return set(engine, context, name, name_length, KIND_LOOKED, 0, NULL, 0);
+}
+
+/* --- contexts --- */
+
+static expr_status context_by(expr_engine *engine, enum ask ask, expr_context *context) {
+    expr_status status = asked_alone(engine, ask);
+    /* a handle that finds nothing, and not EXPR_NO_CONTEXT, which runs */
+    *context = status == EXPR_OK ? (expr_context){engine->call.context.place, engine->call.context.number}
+                                 : (expr_context){SIZE_MAX, UINT64_MAX - 1};
+    return status;
+}
+
+expr_status expr_context_new(expr_engine *engine, expr_context *context) {
+    return context ? context_by(engine, CONTEXT, context) : EXPR_MISUSE;
+}
+
+expr_status expr_context_built(expr_engine *engine, expr_context *context) {
+    return context ? context_by(engine, CONTEXT_OF, context) : EXPR_MISUSE;
+}
+
+expr_status expr_context_json(expr_engine *engine, const char *json, size_t length, expr_context *context) {
+    if (!context) return EXPR_MISUSE;
+    *context = (expr_context){SIZE_MAX, UINT64_MAX - 1};
+    expr_status status = expr_push_json(engine, json, length);
+    return status == EXPR_OK ? context_by(engine, CONTEXT_OF, context) : status;
+}
+
+expr_status expr_drop_context(expr_engine *engine, expr_context context) {
+    if (!engine) return EXPR_MISUSE;
+    begun(engine, DROP_CONTEXT)->context = (handle){context.place, context.number};
+    return asked(engine);
+}
+
+/* --- answers --- */
+
+/* What a call tells of a value, whose text is asked for again by `again` where there was too little room. */
+static expr_status told(expr_engine *engine, expr_status status, enum ask again, expr_answer *answer) {
+    if (!answer) return status;
+    *answer = (expr_answer){EXPR_NIL, 0, 0, NULL};
+    if (status != EXPR_OK) return status;
+    const call *c = &engine->call;
+    expr_answer found = {(expr_kind)c->kind, c->fraction, c->number, NULL};
+    int has_text = again != LOOK || found.kind == EXPR_STRING || found.kind == EXPR_BYTES || found.kind == EXPR_TIMEZONE;
+    if (has_text && !(found.text = whole(engine, again))) return EXPR_MEMORY;
+    *answer = found;
+    return EXPR_OK;
+}
+
+expr_status expr_run(expr_engine *engine, expr_program program, expr_environment environment, expr_context context,
+                     expr_answer *answer) {
+    if (!engine) return EXPR_MISUSE;
+    call *c = begun(engine, RUN);
+    c->program = (handle){program.place, program.number};
+    c->environment = (handle){environment.place, environment.number};
+    c->context = (handle){context.place, context.number};
+    return told(engine, asked(engine), LOOK, answer);
+}
+
+expr_status expr_eval(expr_engine *engine, const char *text, size_t length, expr_environment environment,
+                      expr_context context, expr_answer *answer) {
+    expr_program program;
+    if (answer) *answer = (expr_answer){EXPR_NIL, 0, 0, NULL};
+    expr_status status = expr_compile(engine, text, length, 0, &program, NULL);
+    if (status != EXPR_OK) return status;
+    status = expr_run(engine, program, environment, context, answer);
+    expr_drop_program(engine, program); /* what is said and the text of the answer stay */
+    return status;
+}
+
+expr_status expr_look(expr_engine *engine, expr_answer *answer) {
+    return told(engine, asked_alone(engine, LOOK), LOOK, answer);
+}
+
+expr_status expr_down(expr_engine *engine, size_t number, expr_answer *answer) {
+    return told(engine, made(engine, DOWN, number), LOOK, answer);
+}
+
+expr_status expr_up(expr_engine *engine, expr_answer *answer) {
+    return told(engine, asked_alone(engine, UP), LOOK, answer);
+}
+
+expr_status expr_key(expr_engine *engine, size_t number, expr_answer *key) {
+    return told(engine, made(engine, KEY, number), SAID, key);
+}
+
+static const char *text_by(expr_engine *engine, enum ask ask, size_t *length) {
+    if (length) *length = 0;
+    if (asked_alone(engine, ask) != EXPR_OK) return NULL;
+    const char *text = whole(engine, SAID);
+    if (text && length) *length = engine->call.length;
+    return text;
+}
+
+const char *expr_shown(expr_engine *engine, size_t *length) { return text_by(engine, SHOWN, length); }
+const char *expr_text(expr_engine *engine, size_t *length) { return text_by(engine, TEXT, length); }
+const char *expr_json(expr_engine *engine, size_t *length) { return text_by(engine, JSON, length); }
+
+/* --- environments --- */
+
+expr_status expr_environment_new(expr_engine *engine, expr_environment *environment) {
+    if (!environment) return EXPR_MISUSE;
+    expr_status status = asked_alone(engine, ENVIRONMENT);
+    /* a handle that finds nothing, and not EXPR_NO_ENVIRONMENT, which runs */
+    *environment = status == EXPR_OK
+                       ? (expr_environment){engine->call.environment.place, engine->call.environment.number}
+                       : (expr_environment){SIZE_MAX, UINT64_MAX - 1};
+    return status;
+}
+
+static call *on_environment(expr_engine *engine, enum ask ask, expr_environment environment) {
+    call *c = begun(engine, ask);
+    c->environment = (handle){environment.place, environment.number};
+    return c;
+}
+
+expr_status expr_add_fixed_zone(expr_engine *engine, expr_environment environment, const char *name, size_t name_length,
+                                int32_t seconds) {
+    if (!engine) return EXPR_MISUSE;
+    call *c = on_environment(engine, FIXED_ZONE, environment);
+    set_name(engine, name, name_length);
+    c->number = seconds;
+    return asked(engine);
+}
+
+expr_status expr_add_zone_rule(expr_engine *engine, expr_environment environment, const char *name, size_t name_length,
+                               const char *rule, size_t length) {
+    if (!engine) return EXPR_MISUSE;
+    on_environment(engine, ZONE_RULE, environment);
+    set_name(engine, name, name_length);
+    set_text(engine, rule, length);
+    return asked(engine);
+}
+
+expr_status expr_set_now(expr_engine *engine, expr_environment environment, int64_t second, uint32_t fraction) {
+    if (!engine) return EXPR_MISUSE;
+    call *c = on_environment(engine, NOW, environment);
+    c->number = second;
+    c->fraction = fraction;
+    return asked(engine);
+}
+
+expr_status expr_drop_environment(expr_engine *engine, expr_environment environment) {
+    if (!engine) return EXPR_MISUSE;
+    on_environment(engine, DROP_ENVIRONMENT, environment);
+    return asked(engine);
+}

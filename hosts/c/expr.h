@@ -1,0 +1,231 @@
+/* expr: an expression language for hosts in C.
+ *
+ *     expr_engine *engine = expr_open();
+ *     expr_program rule;
+ *     expr_context order;
+ *     expr_answer answer;
+ *     if (expr_compile(engine, "price * count > 100", EXPR_Z, 500, &rule, NULL) != EXPR_OK) ..
+ *     expr_context_new(engine, &order);
+ *     expr_set_integer(engine, order, "price", EXPR_Z, 60);
+ *     expr_set_integer(engine, order, "count", EXPR_Z, 2);
+ *     expr_run(engine, rule, EXPR_NO_ENVIRONMENT, order, &answer);      answer.kind is EXPR_BOOL, answer.number 1
+ *     expr_close(engine);
+ *
+ * Link with `pkg-config --cflags --libs expr`, or with libexpr.a alone: it needs the C library and nothing else.
+ *
+ * Engines. An engine keeps programs, contexts and environments, the last answer and the last message. It belongs to one
+ * thread: one engine a thread, and no call while another call on it runs. Engines have nothing in common.
+ *
+ * Handles. Programs, contexts and environments are named by handles. No handle is given twice, so one that was let go of,
+ * or that was never given, is EXPR_UNKNOWN, and nothing changes. Handles are plain data: copy them as you like.
+ *
+ * What a host must get right. The pointer to the engine: after expr_close it is as dead as a pointer after free. That a
+ * text has as many bytes as its length says. That a pointer for an answer may be written to. All else may be anything:
+ * bytes that are not UTF-8, kinds that there aren't, handles of all sorts.
+ *
+ * Texts are UTF-8. Each is given with its length in bytes, or with EXPR_Z if it ends at a zero byte; it is copied where
+ * it is kept, and may be one that the engine said. A null pointer stands for the empty text.
+ *
+ * Refusals. A call that is refused leaves the programs, contexts, environments and the answer as they were. It lets go of
+ * what was being built (see expr_push_nil). expr_message has the reason. */
+#ifndef EXPR_H
+#define EXPR_H
+#include <stddef.h>
+#include <stdint.h>
+#ifdef __cplusplus
+extern "C" {
+#endif
+
+typedef struct expr_engine expr_engine;
+typedef struct { size_t place; uint64_t number; } expr_program;
+typedef struct { size_t place; uint64_t number; } expr_context;
+typedef struct { size_t place; uint64_t number; } expr_environment;
+
+/* No context: a program finds no names. */
+#define EXPR_NO_CONTEXT ((expr_context){0, UINT64_MAX})
+/* No environment: there is no zone but UTC, and no moment that is now. */
+#define EXPR_NO_ENVIRONMENT ((expr_environment){0, UINT64_MAX})
+/* The length of a text that ends at a zero byte. */
+#define EXPR_Z SIZE_MAX
+
+/* How a call ended. */
+typedef enum {
+    EXPR_OK,
+    EXPR_SYNTAX,     /* the text is none of the language: see expr_place */
+    EXPR_LITERAL,    /* a number of 2^63 or more, or a text that nests deeper than was allowed */
+    EXPR_EVALUATION, /* a name, field or function that isn't there, a wrong kind, a remainder by zero, a division */
+    EXPR_PATTERN,    /* a pattern that doesn't build */
+    EXPR_MEMORY,     /* a growth was refused */
+    EXPR_UNKNOWN,    /* a handle that finds nothing */
+    EXPR_MISUSE      /* what is asked stands for nothing: bytes that are not UTF-8, an item that isn't there */
+} expr_status;
+
+/* What kind of value. */
+typedef enum {
+    EXPR_NIL,
+    EXPR_BOOL,
+    EXPR_INTEGER,
+    EXPR_STRING,
+    EXPR_BYTES,
+    EXPR_DURATION,
+    EXPR_DATETIME,
+    EXPR_TIMEZONE,
+    EXPR_MONTH,
+    EXPR_WEEKDAY,
+    EXPR_ARRAY,
+    EXPR_MAP,      /* by names */
+    EXPR_KEYED_MAP /* by any scalars */
+} expr_kind;
+
+/* A place in a text: in bytes from 0, and the line and the character in that line from 1. */
+typedef struct { size_t byte, line, column; } expr_place;
+
+/* What is told of a value. `number` is an integer, a boolean (0 or 1), the nanoseconds of a duration, the second of a
+ * moment since 1970 began, a month from 1 or a day of the week from 0, which is Sunday, or how many bytes, items or pairs
+ * there are. `fraction` has the nanoseconds of a moment past its second. `text` has the bytes of a string, of bytes, or
+ * of a zone's name, and is null for any other value. It is there until the next call on the engine, with a zero byte
+ * behind it. */
+typedef struct {
+    expr_kind kind;
+    uint32_t fraction;
+    int64_t number;
+    const char *text;
+} expr_answer;
+
+/* An engine, or null where there is no memory. */
+expr_engine *expr_open(void);
+/* Frees the engine and all that it keeps. Null is passed over. */
+void expr_close(expr_engine *engine);
+/* Lets go of all programs, contexts and environments, and of the answer. */
+expr_status expr_clear(expr_engine *engine);
+/* Why the last call was refused: a line, or for EXPR_SYNTAX the line of the text and a caret under the place, on two. It
+ * is there until the next call on the engine. Never null. */
+const char *expr_message(expr_engine *engine);
+/* A word for a status. */
+const char *expr_status_word(expr_status status);
+
+/* --- programs --- */
+
+/* The program of a text, whose tree may be no higher than `height`, if that isn't 0. Predicates inside predicates take
+ * stack by depth, so give a height for the texts of strangers: 500 does for 8 MB. `place` may be null. Where the text is
+ * refused, `program` is a handle that finds nothing. */
+expr_status expr_compile(expr_engine *engine, const char *text, size_t length, size_t height, expr_program *program,
+                         expr_place *place);
+/* The names that a program asks for, each on a line, and how many they are. The text is there until the next call on the
+ * engine. Both pointers may be null. */
+expr_status expr_names(expr_engine *engine, expr_program program, size_t *count, const char **names);
+expr_status expr_drop_program(expr_engine *engine, expr_program program);
+
+/* --- contexts: names and their values --- */
+
+/* A context without names. */
+expr_status expr_context_new(expr_engine *engine, expr_context *context);
+/* A context with the names of a JSON object. */
+expr_status expr_context_json(expr_engine *engine, const char *json, size_t length, expr_context *context);
+/* A context with the names of the map that was built last (see expr_push_nil). */
+expr_status expr_context_built(expr_engine *engine, expr_context *context);
+expr_status expr_drop_context(expr_engine *engine, expr_context context);
+
+/* Each puts a value under a name, in place of an earlier one. The length of a name comes behind it. */
+expr_status expr_set_nil(expr_engine *engine, expr_context context, const char *name, size_t name_length);
+expr_status expr_set_bool(expr_engine *engine, expr_context context, const char *name, size_t name_length, int value);
+expr_status expr_set_integer(expr_engine *engine, expr_context context, const char *name, size_t name_length,
+                             int64_t value);
+expr_status expr_set_string(expr_engine *engine, expr_context context, const char *name, size_t name_length,
+                            const char *text, size_t length);
+expr_status expr_set_bytes(expr_engine *engine, expr_context context, const char *name, size_t name_length,
+                           const void *bytes, size_t length);
+/* A length of time, in nanoseconds. */
+expr_status expr_set_duration(expr_engine *engine, expr_context context, const char *name, size_t name_length,
+                              int64_t nanoseconds);
+/* A moment, on a clock in UTC: its second since 1970 began, and nanoseconds past that, below 1000000000. */
+expr_status expr_set_datetime(expr_engine *engine, expr_context context, const char *name, size_t name_length,
+                              int64_t second, uint32_t fraction);
+/* The value of a JSON text. Names of objects come in rising order, and all numbers must be whole. */
+expr_status expr_set_json(expr_engine *engine, expr_context context, const char *name, size_t name_length,
+                          const char *json, size_t length);
+/* The value that was built last. */
+expr_status expr_set_built(expr_engine *engine, expr_context context, const char *name, size_t name_length);
+/* A copy of the part of the answer that is looked at (see expr_down). */
+expr_status expr_set_looked(expr_engine *engine, expr_context context, const char *name, size_t name_length);
+
+/* --- values that are built item by item ---
+ *
+ * Values are pushed one behind the other. expr_make_array makes an array of the last ones, expr_make_map a map of the
+ * last pairs, each a key and then its value; the array or the map then stands in their place. So [1, {"a": nil}] is
+ *
+ *     expr_push_integer(engine, 1);
+ *     expr_push_string(engine, "a", EXPR_Z), expr_push_nil(engine), expr_make_map(engine, 1);
+ *     expr_make_array(engine, 2);
+ *
+ * expr_set_built and expr_context_built take the last value. Any refusal lets go of all that was built, so a host may
+ * look at the last status alone. */
+expr_status expr_push_nil(expr_engine *engine);
+expr_status expr_push_bool(expr_engine *engine, int value);
+expr_status expr_push_integer(expr_engine *engine, int64_t value);
+expr_status expr_push_string(expr_engine *engine, const char *text, size_t length);
+expr_status expr_push_bytes(expr_engine *engine, const void *bytes, size_t length);
+expr_status expr_push_duration(expr_engine *engine, int64_t nanoseconds);
+expr_status expr_push_datetime(expr_engine *engine, int64_t second, uint32_t fraction);
+/* A month from 1, a day of the week from 0, which is Sunday. */
+expr_status expr_push_month(expr_engine *engine, unsigned month);
+expr_status expr_push_weekday(expr_engine *engine, unsigned day);
+expr_status expr_push_json(expr_engine *engine, const char *json, size_t length);
+/* A copy of the part of the answer that is looked at (see expr_down). */
+expr_status expr_push_looked(expr_engine *engine);
+expr_status expr_make_array(expr_engine *engine, size_t count);
+/* Keys that are all strings make a map by names, others a map by scalars. A repeated key takes its last value. */
+expr_status expr_make_map(expr_engine *engine, size_t count);
+/* Lets go of what was built. */
+expr_status expr_unbuild(expr_engine *engine);
+
+/* --- answers --- */
+
+/* What a program answers in an environment and a context. The answer is kept until the next, and is looked at as a whole.
+ * `answer` may be null. */
+expr_status expr_run(expr_engine *engine, expr_program program, expr_environment environment, expr_context context,
+                     expr_answer *answer);
+/* A compile, a run and a drop in one. */
+expr_status expr_eval(expr_engine *engine, const char *text, size_t length, expr_environment environment,
+                      expr_context context, expr_answer *answer);
+
+/* The engine looks at the whole answer or at a part of it. expr_down goes to an item of an array, or to the value of a
+ * pair of a map, counted from 0, expr_up back to what it is an item of; both tell of the value that is looked at then.
+ *
+ *     for (int64_t i = 0; i < answer.number; i++) {
+ *         expr_answer item;
+ *         expr_down(engine, i, &item);
+ *         ..
+ *         expr_up(engine, NULL);
+ *     } */
+expr_status expr_look(expr_engine *engine, expr_answer *answer);
+expr_status expr_down(expr_engine *engine, size_t number, expr_answer *answer);
+expr_status expr_up(expr_engine *engine, expr_answer *answer);
+/* The key of a pair of the map that is looked at. Its text is the string, or what the key prints as. */
+expr_status expr_key(expr_engine *engine, size_t number, expr_answer *key);
+
+/* The value that is looked at, as a text that is there until the next call on the engine, with a zero byte behind it:
+ * as the language prints it, a string in quotes; as the built-in `string` gives it; as JSON, which moments in keyed maps
+ * and some others don't have. Null where the call is refused. `length` may be null. */
+const char *expr_shown(expr_engine *engine, size_t *length);
+const char *expr_text(expr_engine *engine, size_t *length);
+const char *expr_json(expr_engine *engine, size_t *length);
+
+/* --- environments: what a host adds to the language --- */
+
+/* An environment that adds nothing. */
+expr_status expr_environment_new(expr_engine *engine, expr_environment *environment);
+/* Adds a zone whose clock is so many seconds ahead of UTC. UTC itself is refused. */
+expr_status expr_add_fixed_zone(expr_engine *engine, expr_environment environment, const char *name, size_t name_length,
+                                int32_t seconds);
+/* Adds a zone by a rule in POSIX's form, such as "EST5EDT,M3.2.0,M11.1.0". */
+expr_status expr_add_zone_rule(expr_engine *engine, expr_environment environment, const char *name, size_t name_length,
+                               const char *rule, size_t length);
+/* Sets the moment that `now()` answers. */
+expr_status expr_set_now(expr_engine *engine, expr_environment environment, int64_t second, uint32_t fraction);
+expr_status expr_drop_environment(expr_engine *engine, expr_environment environment);
+
+#ifdef __cplusplus
+}
+#endif
+#endif

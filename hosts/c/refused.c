@@ -1,0 +1,98 @@
+/* Refuses each growth in turn: the calls of malloc, calloc and realloc that a run makes are counted, and the n-th run has the
+ * n-th of them answered by null; then the same again with all from the n-th on. Each run must end, each call with EXPR_OK or
+ * EXPR_MEMORY, and the engine must then do again what it did before. `refused STEP` tries each STEP-th n. Link with
+ * -Wl,--wrap=malloc,--wrap=calloc,--wrap=realloc. */
+#include "expr.h"
+#include <stdio.h>
+#include <stdlib.h>
+#include <string.h>
+
+static long left = -1; /* how many calls are granted; below 0: all */
+static int from_then_on;
+void *__real_malloc(size_t size);
+void *__real_calloc(size_t count, size_t size);
+void *__real_realloc(void *at, size_t size);
+
+static int is_refused(void) {
+    if (left < 0) return 0;
+    if (left > 0) { left--; return 0; }
+    if (!from_then_on) left = -1;
+    return 1;
+}
+void *__wrap_malloc(size_t size) { return is_refused() ? NULL : __real_malloc(size); }
+void *__wrap_calloc(size_t count, size_t size) { return is_refused() ? NULL : __real_calloc(count, size); }
+void *__wrap_realloc(void *at, size_t size) { return is_refused() ? NULL : __real_realloc(at, size); }
+
+#define FAIL(what) do { left = -1; printf("%s:%d: %s\n", __FILE__, __LINE__, what); exit(1); } while (0)
+
+static int saw_memory;
+/* A call that may want memory, and nothing else. */
+static int ok(expr_status status) {
+    if (status == EXPR_MEMORY) saw_memory = 1;
+    else if (status != EXPR_OK) FAIL(expr_status_word(status));
+    return status == EXPR_OK;
+}
+
+static void build(expr_engine *engine, expr_context context) {
+    int all = ok(expr_push_string(engine, "a text that is longer than a word", EXPR_Z)) && ok(expr_push_integer(engine, 3)) &&
+              ok(expr_make_array(engine, 2)) && ok(expr_push_string(engine, "k", 1)) && ok(expr_push_nil(engine)) &&
+              ok(expr_make_map(engine, 1)) && ok(expr_make_array(engine, 2)) &&
+              ok(expr_set_built(engine, context, "built", EXPR_Z));
+    if (!all && expr_make_array(engine, 1) != EXPR_MISUSE) FAIL("something stays built");
+}
+
+/* All kinds of work; the parts that are refused are passed over. */
+static void work(expr_engine *engine) {
+    expr_program rule;
+    expr_context context;
+    expr_environment host;
+    expr_answer answer;
+    size_t count;
+    const char *text = "map(filter(xs, # > 1), {\"n\": #, \"t\": string(#) + \"!\"})[0].t matches \"[0-9]+!\" ? built ?? 1 : 2";
+    int has_rule = ok(expr_compile(engine, text, EXPR_Z, 500, &rule, NULL));
+    int has_context = ok(expr_context_json(engine, "{\"xs\": [1, 2, 3], \"built\": null}", EXPR_Z, &context));
+    int has_host = ok(expr_environment_new(engine, &host)) && ok(expr_add_fixed_zone(engine, host, "Here", EXPR_Z, 3600)) &&
+                   ok(expr_add_zone_rule(engine, host, "There", EXPR_Z, "EST5EDT,M3.2.0,M11.1.0", EXPR_Z)) &&
+                   ok(expr_set_now(engine, host, 5, 6));
+    if (has_context) {
+        ok(expr_set_string(engine, context, "s", EXPR_Z, "some text", EXPR_Z));
+        ok(expr_set_datetime(engine, context, "t", EXPR_Z, 1, 2));
+        build(engine, context);
+    }
+    if (has_rule) ok(expr_names(engine, rule, &count, NULL));
+    if (has_rule && has_context && has_host && ok(expr_run(engine, rule, host, context, &answer))) {
+        if (answer.kind == EXPR_ARRAY && ok(expr_down(engine, 0, &answer))) ok(expr_up(engine, &answer));
+        expr_shown(engine, NULL);
+        expr_json(engine, NULL);
+    }
+    ok(expr_eval(engine, "repeat(\"long\", 100)", EXPR_Z, EXPR_NO_ENVIRONMENT, EXPR_NO_CONTEXT, &answer));
+    expr_message(engine);
+    if (has_rule && expr_drop_program(engine, rule) != EXPR_OK) FAIL("drop");
+    if (has_context && expr_drop_context(engine, context) != EXPR_OK) FAIL("drop");
+}
+
+int main(int count, char **words) {
+    long runs = 0, step = count > 1 ? atol(words[1]) : 1;
+    for (from_then_on = 0; from_then_on < 2; from_then_on++) {
+        for (long n = 0;; n += step, runs++) {
+            saw_memory = 0;
+            left = n;
+            expr_engine *engine = expr_open();
+            if (engine) work(engine);
+            int was_enough = left > 0;
+            left = -1;
+            if (engine) {
+                expr_answer answer;
+                if (expr_eval(engine, "1 + 2", EXPR_Z, EXPR_NO_ENVIRONMENT, EXPR_NO_CONTEXT, &answer) != EXPR_OK) FAIL("after");
+                if (answer.number != 3) FAIL("after");
+                expr_close(engine);
+            }
+            if (was_enough) {
+                if (saw_memory) FAIL("memory was refused in vain");
+                break;
+            }
+        }
+    }
+    printf("refused: ok, %ld runs\n", runs);
+    return 0;
+}

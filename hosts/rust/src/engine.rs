@@ -1,0 +1,265 @@
+//! The engine of a thread, and what is kept in it for values of this crate, which go from thread to thread.
+use crate::error::{Error, Place, Result};
+use crate::map::Map;
+use crate::raw::{kind, Ask, Asked, Handle, Raw, Told};
+use crate::value::{DateTimeValue, Value};
+use std::cell::RefCell;
+use std::sync::{Arc, Mutex, MutexGuard, PoisonError};
+
+/// What an engine of another thread is asked to let go of, when that thread calls it next.
+type Inbox = Arc<Mutex<Vec<(Ask, Handle)>>>;
+
+struct Engine {
+    raw: Raw,
+    inbox: Inbox,
+}
+
+thread_local! {
+    static ENGINE: RefCell<Engine> = RefCell::new(Engine { raw: Raw::open(), inbox: Inbox::default() });
+}
+
+/// A thing that is kept in the engine of one thread, and let go of with this value.
+#[derive(Debug)]
+struct Kept {
+    inbox: Inbox,
+    drop: Ask,
+    handle: Handle,
+}
+
+impl Drop for Kept {
+    fn drop(&mut self) {
+        let left = ENGINE.try_with(|engine| match engine.try_borrow_mut() {
+            Ok(mut engine) if Arc::ptr_eq(&engine.inbox, &self.inbox) => {
+                let asked = asked_about(self.drop, self.handle);
+                engine.raw.call(self.drop, asked);
+                false
+            }
+            _ => true,
+        });
+        if left != Ok(false) {
+            lock(&self.inbox).push((self.drop, self.handle));
+        }
+    }
+}
+
+fn asked_about(drop: Ask, handle: Handle) -> Asked<'static> {
+    match drop {
+        Ask::DropProgram => Asked { program: handle, ..Asked::default() },
+        Ask::DropContext => Asked { context: handle, ..Asked::default() },
+        _ => Asked { environment: handle, ..Asked::default() },
+    }
+}
+
+fn lock<T>(mutex: &Mutex<T>) -> MutexGuard<'_, T> {
+    mutex.lock().unwrap_or_else(PoisonError::into_inner)
+}
+
+/// What the engines of the threads that used a value keep for it.
+#[derive(Debug, Default)]
+pub struct Copies {
+    kept: Mutex<Vec<Kept>>,
+}
+
+impl Copies {
+    /// The handle in this engine, which is made if there is none yet.
+    pub fn handle(
+        &self,
+        engine: &mut Session<'_>,
+        drop: Ask,
+        make: impl FnOnce(&mut Session<'_>) -> Result<Handle>,
+    ) -> Result<Handle> {
+        let mut kept = lock(&self.kept);
+        if let Some(kept) = kept.iter().find(|kept| Arc::ptr_eq(&kept.inbox, engine.inbox)) {
+            return Ok(kept.handle);
+        }
+        let handle = make(engine)?;
+        kept.push(Kept { inbox: engine.inbox.clone(), drop, handle });
+        Ok(handle)
+    }
+
+    /// Lets go of all copies, since the value changes.
+    pub fn clear(&mut self) {
+        self.kept.get_mut().unwrap_or_else(PoisonError::into_inner).clear();
+    }
+
+    /// The handle, if the engine of this thread has the one copy that there is.
+    pub fn only(&self, engine: &Session<'_>) -> Option<Handle> {
+        match lock(&self.kept).as_slice() {
+            [kept] if Arc::ptr_eq(&kept.inbox, engine.inbox) => Some(kept.handle),
+            _ => None,
+        }
+    }
+
+    pub fn is_empty(&self) -> bool {
+        lock(&self.kept).is_empty()
+    }
+}
+
+/// The engine of this thread, in use.
+pub struct Session<'e> {
+    raw: &'e mut Raw,
+    inbox: &'e Inbox,
+}
+
+/// Uses the engine of this thread.
+pub fn with_engine<T>(work: impl FnOnce(&mut Session<'_>) -> Result<T>) -> Result<T> {
+    ENGINE.with(|engine| {
+        let mut engine = engine.borrow_mut();
+        let Engine { raw, inbox } = &mut *engine;
+        for (drop, handle) in lock(inbox).drain(..) {
+            raw.call(drop, asked_about(drop, handle));
+        }
+        work(&mut Session { raw, inbox })
+    })
+}
+
+impl Session<'_> {
+    /// Asks, and answers what is told, or the refusal.
+    pub fn ask(&mut self, ask: Ask, asked: Asked<'_>) -> Result<Told> {
+        let told = self.raw.call(ask, asked);
+        match told.status {
+            0 => Ok(told),
+            status => Err(self.refusal(status, &told)),
+        }
+    }
+
+    fn refusal(&mut self, status: u32, told: &Told) -> Error {
+        let message = self.text(told, Ask::Said);
+        match status {
+            1 => Error::PestError(Place { byte: told.place, line: told.line, column: told.column, shown: message }),
+            2 => Error::ParseError(message),
+            3 => Error::ExprError(message),
+            4 => Error::RegexError(message),
+            5 => Error::MemoryError,
+            _ => Error::ExprError("the engine has no such value".into()),
+        }
+    }
+
+    /// The text that a call left.
+    pub fn text(&mut self, told: &Told, again: Ask) -> String {
+        String::from_utf8_lossy(self.raw.bytes(told, again)).into_owned()
+    }
+
+    /// Puts a value behind those that are being built.
+    pub fn push(&mut self, value: &Value) -> Result<()> {
+        match value {
+            Value::Array(items) => {
+                items.iter().try_for_each(|item| self.push(item))?;
+                self.make(Ask::Array, items.len())
+            }
+            Value::Map(map) => self.push_map(map),
+            Value::KeyedMap(pairs) => {
+                for (key, item) in pairs {
+                    self.push(key)?;
+                    self.push(item)?;
+                }
+                self.make(Ask::Map, pairs.len())
+            }
+            scalar => self.push_scalar(asked_with(scalar)),
+        }
+    }
+
+    /// Puts a map behind those that are being built.
+    pub fn push_map(&mut self, map: &Map) -> Result<()> {
+        for (name, item) in map {
+            self.push_scalar(Asked { kind: kind::STRING, text: name.as_bytes(), ..Asked::default() })?;
+            self.push(item)?;
+        }
+        self.make(Ask::Map, map.len())
+    }
+
+    fn push_scalar(&mut self, asked: Asked<'_>) -> Result<()> {
+        self.ask(Ask::Push, asked).map(|_| ())
+    }
+
+    fn make(&mut self, ask: Ask, count: usize) -> Result<()> {
+        let number = i64::try_from(count).unwrap_or(i64::MAX);
+        self.ask(ask, Asked { number, ..Asked::default() }).map(|_| ())
+    }
+
+    /// Puts a value under a name in a context that is kept.
+    pub fn set(&mut self, context: Handle, name: &str, value: &Value) -> Result<()> {
+        let asked = match value {
+            Value::Array(_) | Value::Map(_) | Value::KeyedMap(_) => {
+                self.push(value)?;
+                Asked { kind: kind::BUILT, ..Asked::default() }
+            }
+            scalar => asked_with(scalar),
+        };
+        self.ask(Ask::Set, Asked { context, name: name.as_bytes(), ..asked }).map(|_| ())
+    }
+
+    /// The value that is looked at, of which a call told.
+    pub fn value(&mut self, told: &Told) -> Result<Value> {
+        Ok(match told.kind {
+            kind::BOOL => Value::Bool(told.number != 0),
+            kind::INTEGER => Value::Integer(told.number),
+            kind::STRING => Value::String(self.text(told, Ask::Look)),
+            kind::BYTES => Value::Bytes(self.raw.bytes(told, Ask::Look).to_vec()),
+            kind::DURATION => Value::Duration(told.number),
+            kind::DATETIME => {
+                let shown = self.ask(Ask::Shown, Asked::default())?;
+                let text = self.text(&shown, Ask::Said);
+                Value::DateTime(DateTimeValue::told(told.number, told.fraction, text))
+            }
+            kind::TIMEZONE => Value::Timezone(self.text(told, Ask::Look)),
+            kind::MONTH => Value::Month(u32::try_from(told.number).unwrap_or(0)),
+            kind::WEEKDAY => Value::Weekday(u32::try_from(told.number).unwrap_or(0)),
+            kind::ARRAY => Value::Array((0..told.number).map(|i| self.item(i)).collect::<Result<_>>()?),
+            kind::MAP => {
+                let mut map = Map::new();
+                for i in 0..told.number {
+                    let key = self.ask(Ask::Key, Asked { number: i, ..Asked::default() })?;
+                    let name = self.text(&key, Ask::Said);
+                    map.insert(name, self.item(i)?);
+                }
+                Value::Map(map)
+            }
+            kind::KEYED_MAP => {
+                Value::KeyedMap((0..told.number).map(|i| Ok((self.key(i)?, self.item(i)?))).collect::<Result<_>>()?)
+            }
+            _ => Value::Nil,
+        })
+    }
+
+    /// An item of the array or map that is looked at.
+    fn item(&mut self, number: i64) -> Result<Value> {
+        let told = self.ask(Ask::Down, Asked { number, ..Asked::default() })?;
+        let value = self.value(&told)?;
+        self.ask(Ask::Up, Asked::default())?;
+        Ok(value)
+    }
+
+    /// A key of the map that is looked at.
+    fn key(&mut self, number: i64) -> Result<Value> {
+        let told = self.ask(Ask::Key, Asked { number, ..Asked::default() })?;
+        let text = self.text(&told, Ask::Said);
+        Ok(match told.kind {
+            kind::BOOL => Value::Bool(told.number != 0),
+            kind::INTEGER => Value::Integer(told.number),
+            kind::STRING => Value::String(text),
+            kind::DURATION => Value::Duration(told.number),
+            kind::DATETIME => Value::DateTime(DateTimeValue::told(told.number, told.fraction, text)),
+            kind::TIMEZONE => Value::Timezone(text),
+            kind::MONTH => Value::Month(u32::try_from(told.number).unwrap_or(0)),
+            kind::WEEKDAY => Value::Weekday(u32::try_from(told.number).unwrap_or(0)),
+            _ => Value::Nil,
+        })
+    }
+}
+
+/// How a value is handed in that isn't an array or a map. A zone goes as its name, since the engine has its rules.
+fn asked_with(value: &Value) -> Asked<'_> {
+    let (kind, number, fraction, text): (u32, i64, u32, &[u8]) = match value {
+        Value::Bool(truth) => (kind::BOOL, i64::from(*truth), 0, b""),
+        Value::Integer(number) => (kind::INTEGER, *number, 0, b""),
+        Value::String(text) | Value::Timezone(text) => (kind::STRING, 0, 0, text.as_bytes()),
+        Value::Bytes(bytes) => (kind::BYTES, 0, 0, bytes),
+        Value::Duration(nanoseconds) => (kind::DURATION, *nanoseconds, 0, b""),
+        Value::DateTime(moment) => (kind::DATETIME, moment.second(), moment.nanosecond(), b""),
+        Value::Month(month) => (kind::MONTH, i64::from(*month), 0, b""),
+        Value::Weekday(day) => (kind::WEEKDAY, i64::from(*day), 0, b""),
+        Value::Nil | Value::Array(_) | Value::Map(_) | Value::KeyedMap(_) => (kind::NIL, 0, 0, b""),
+    };
+    Asked { kind, number, fraction, text, ..Asked::default() }
+}

@@ -1,0 +1,245 @@
+//! The three calls of the engine, as `crates/expr_c/src/lib.rt` and `crates/expr_engine/src/call.rt` have them. Nothing
+//! compares the declarations but the assertion below and the tests.
+use std::ffi::c_void;
+use std::marker::PhantomData;
+use std::mem::{offset_of, size_of, MaybeUninit};
+use std::ptr::NonNull;
+
+/// The name of a thing that an engine keeps.
+#[repr(C)]
+#[derive(Clone, Copy, Debug, PartialEq, Eq)]
+pub struct Handle {
+    pub place: usize,
+    pub number: u64,
+}
+
+/// The handle of no context, or of no environment.
+pub const NONE: Handle = Handle { place: 0, number: u64::MAX };
+
+/// A slice as it crosses: a pointer that is never null, and a length.
+#[repr(C)]
+struct Slice<'a> {
+    at: NonNull<u8>,
+    length: usize,
+    lent: PhantomData<&'a [u8]>,
+}
+
+impl<'a> Slice<'a> {
+    fn of(bytes: &'a [u8]) -> Slice<'a> {
+        Slice { at: NonNull::from(bytes).cast(), length: bytes.len(), lent: PhantomData }
+    }
+}
+
+/// Room as it crosses.
+#[repr(C)]
+struct Room<'a> {
+    at: NonNull<u8>,
+    length: usize,
+    lent: PhantomData<&'a mut [u8]>,
+}
+
+impl<'a> Room<'a> {
+    fn of(bytes: &'a mut [u8]) -> Room<'a> {
+        let length = bytes.len();
+        Room { at: NonNull::from(bytes).cast(), length, lent: PhantomData }
+    }
+}
+
+#[repr(C)]
+struct Call<'a> {
+    ask: u32,
+    status: u32,
+    kind: u32,
+    fraction: u32,
+    program: Handle,
+    context: Handle,
+    environment: Handle,
+    number: i64,
+    place: usize,
+    line: usize,
+    column: usize,
+    length: usize,
+    name: Slice<'a>,
+    text: Slice<'a>,
+    room: Room<'a>,
+}
+
+const _: () = assert!(
+    size_of::<Call>() == 152
+        && offset_of!(Call, number) == 64
+        && offset_of!(Call, name) == 104
+        && offset_of!(Call, room) == 136
+);
+
+/// What may be asked, as `Ask` of call.rt.
+#[derive(Clone, Copy, Debug)]
+#[repr(u32)]
+#[allow(dead_code)]
+pub enum Ask {
+    Compile,
+    Names,
+    Run,
+    Context,
+    ContextOf,
+    Set,
+    Push,
+    Array,
+    Map,
+    Unbuild,
+    Look,
+    Down,
+    Up,
+    Key,
+    Shown,
+    Text,
+    Json,
+    Said,
+    Environment,
+    FixedZone,
+    ZoneRule,
+    Now,
+    DropProgram,
+    DropContext,
+    DropEnvironment,
+    Clear,
+}
+
+/// Kinds of values, as `Kind` of call.rt.
+pub mod kind {
+    pub const NIL: u32 = 0;
+    pub const BOOL: u32 = 1;
+    pub const INTEGER: u32 = 2;
+    pub const STRING: u32 = 3;
+    pub const BYTES: u32 = 4;
+    pub const DURATION: u32 = 5;
+    pub const DATETIME: u32 = 6;
+    pub const TIMEZONE: u32 = 7;
+    pub const MONTH: u32 = 8;
+    pub const WEEKDAY: u32 = 9;
+    pub const ARRAY: u32 = 10;
+    pub const MAP: u32 = 11;
+    pub const KEYED_MAP: u32 = 12;
+    pub const BUILT: u32 = 14;
+}
+
+unsafe extern "C" {
+    fn expr_c_size() -> usize;
+    fn expr_c_open(at: *mut c_void);
+    fn expr_c_call(at: *mut c_void, call: *mut Call<'_>);
+}
+
+/// What is asked with.
+#[derive(Clone, Copy)]
+pub struct Asked<'a> {
+    pub program: Handle,
+    pub context: Handle,
+    pub environment: Handle,
+    pub kind: u32,
+    pub fraction: u32,
+    pub number: i64,
+    pub name: &'a [u8],
+    pub text: &'a [u8],
+}
+
+impl Default for Asked<'_> {
+    fn default() -> Self {
+        Asked {
+            program: NONE,
+            context: NONE,
+            environment: NONE,
+            kind: 0,
+            fraction: 0,
+            number: 0,
+            name: b"",
+            text: b"",
+        }
+    }
+}
+
+/// What is told of a call, beside the text that is left in the room.
+#[derive(Clone, Copy)]
+pub struct Told {
+    pub status: u32,
+    pub kind: u32,
+    pub fraction: u32,
+    pub program: Handle,
+    pub context: Handle,
+    pub environment: Handle,
+    pub number: i64,
+    pub place: usize,
+    pub line: usize,
+    pub column: usize,
+    pub length: usize,
+}
+
+/// An engine, and room for what it says. The engine lies in memory of this struct's own, which nothing else reaches.
+pub struct Raw {
+    inside: Box<[MaybeUninit<u128>]>,
+    room: Vec<u8>,
+    /// An engine stays on its thread.
+    stays: PhantomData<*mut ()>,
+}
+
+impl Raw {
+    pub fn open() -> Raw {
+        // SAFETY: it takes nothing and touches nothing.
+        let size = unsafe { expr_c_size() };
+        let words = size.div_ceil(size_of::<u128>());
+        let mut inside: Box<[MaybeUninit<u128>]> = (0..words).map(|_| MaybeUninit::uninit()).collect();
+        // SAFETY: so many bytes are there, at a multiple of 16.
+        unsafe { expr_c_open(inside.as_mut_ptr().cast()) };
+        Raw { inside, room: vec![0; 128], stays: PhantomData }
+    }
+
+    pub fn call(&mut self, ask: Ask, asked: Asked<'_>) -> Told {
+        let mut call = Call {
+            ask: ask as u32,
+            status: 0,
+            kind: asked.kind,
+            fraction: asked.fraction,
+            program: asked.program,
+            context: asked.context,
+            environment: asked.environment,
+            number: asked.number,
+            place: 0,
+            line: 0,
+            column: 0,
+            length: 0,
+            name: Slice::of(asked.name),
+            text: Slice::of(asked.text),
+            room: Room::of(&mut self.room),
+        };
+        // SAFETY: `open` made an engine there, which stays until `drop` and is in no other call, since `self` is borrowed
+        // for writing; the slices are Rust's, and the room is apart from the others.
+        unsafe { expr_c_call(self.inside.as_mut_ptr().cast(), &mut call) };
+        Told {
+            status: call.status,
+            kind: call.kind,
+            fraction: call.fraction,
+            program: call.program,
+            context: call.context,
+            environment: call.environment,
+            number: call.number,
+            place: call.place,
+            line: call.line,
+            column: call.column,
+            length: call.length,
+        }
+    }
+
+    /// The bytes that a call left, whole: asked `again` with room enough where there was too little.
+    pub fn bytes(&mut self, told: &Told, again: Ask) -> &[u8] {
+        if told.length > self.room.len() {
+            self.room.resize(told.length, 0);
+            self.call(again, Asked::default());
+        }
+        &self.room[..told.length]
+    }
+}
+
+impl Drop for Raw {
+    fn drop(&mut self) {
+        // The engine holds nothing then, and its room goes with the box.
+        self.call(Ask::Clear, Asked::default());
+    }
+}

@@ -1,0 +1,106 @@
+use expr::{compile, compile_within, eval, run, value, Context, DateTimeValue, Environment, Error, Map, Program, Value};
+
+fn alone(code: &str) -> expr::Result<Value> {
+    eval(code, &Context::default())
+}
+
+#[test]
+fn a_rule_runs() {
+    let rule = compile("price * count > 100 and not blocked").unwrap();
+    assert_eq!(rule.names().unwrap(), ["blocked", "count", "price"]);
+    let mut order = Context::from_iter([("price", 60), ("count", 2)]);
+    assert!(matches!(run(&rule, &order), Err(Error::ExprError(_))));
+    order.insert("blocked", false);
+    assert_eq!(run(&rule, &order), Ok(Value::Bool(true)));
+    order.insert("blocked", true);
+    assert_eq!(run(&rule, &order), Ok(Value::Bool(false)));
+    assert_eq!(order.get("count"), Some(&Value::Integer(2)));
+}
+
+#[test]
+fn values_come_and_go() {
+    let nested = value!({
+        "z": [1, nil, true, "line\n\"quoted\" \u{1f600} \u{0}"],
+        "a": {"b": Value::Duration(90_000_000_000), "c": Value::Bytes(vec![0, 255])},
+        "m": [Value::Month(3), Value::Weekday(0)],
+        "k": Value::KeyedMap(vec![(Value::Integer(7), Value::Nil), (value!("x"), value!([]))]),
+    });
+    let context = Context::from_iter([("x", nested.clone())]);
+    assert_eq!(eval("x", &context), Ok(nested.clone()));
+    assert_eq!(eval("x", &context).unwrap().to_string(), nested.to_string());
+    assert_eq!(eval("keys(x)", &context), Ok(value!(["z", "a", "m", "k"])));
+    assert_eq!(eval("x.z[0] + len(x.k)", &context), Ok(Value::Integer(3)));
+    assert_eq!(eval("x.a.c", &context), Ok(Value::Bytes(vec![0, 255])));
+}
+
+#[test]
+fn moments_come_and_go() {
+    let moment = alone("date('1969-12-31T23:59:59.25Z')").unwrap();
+    assert_eq!(moment, Value::DateTime(DateTimeValue::from_timestamp(-1, 250_000_000)));
+    assert!(moment.to_string().starts_with("1969-12-31"), "{moment}");
+    let context = Context::from_iter([("t", moment)]);
+    assert_eq!(eval("t.Year()", &context), Ok(Value::Integer(1969)));
+    let mut env = Environment::new();
+    env.add_zone_rule("New York", "EST5EDT,M3.2.0,M11.1.0").unwrap();
+    assert!(matches!(env.add_fixed_zone("UTC", 0), Err(Error::ExprError(_))));
+    assert!(matches!(env.eval("now()", &context), Err(Error::ExprError(_))));
+    env.set_now(1_709_373_600, 0);
+    assert_eq!(env.eval("now().In(timezone('New York')).Hour()", &context), Ok(Value::Integer(5)));
+}
+
+#[test]
+fn refusals_say_where_and_why() {
+    let Err(Error::PestError(place)) = compile("1 +\n  \"é\" * * 2") else {
+        panic!("no fault");
+    };
+    assert_eq!((place.byte, place.line, place.column), (13, 2, 9), "{}", place.shown);
+    assert_eq!(place.shown, "  \"é\" * * 2\n        ^");
+    assert!(matches!(compile("9223372036854775808"), Err(Error::ParseError(_))));
+    assert!(matches!(compile_within("((((1))))", 3), Err(Error::ParseError(_))));
+    assert!(matches!(alone("1 / 0"), Err(Error::ExprError(_))));
+    assert!(matches!(alone("'a' matches '('"), Err(Error::RegexError(_))));
+    assert!(matches!(Context::try_from(value!([1])), Err(Error::ExprError(_))));
+    assert!(!alone("nope").unwrap_err().to_string().is_empty());
+}
+
+#[test]
+fn long_texts_come_whole() {
+    assert_eq!(alone("repeat('ab', 5000)"), Ok(Value::from("ab".repeat(5000))));
+    let long = "é".repeat(3000);
+    assert_eq!(eval("x", &Context::from_iter([("x", &long)])), Ok(Value::from(&long)));
+}
+
+#[test]
+fn maps_have_an_order_and_an_equality() {
+    let many: Map = (0..100).map(|i| (format!("n{i}"), i)).collect();
+    assert_eq!(many.get("n99"), Some(&Value::Integer(99)));
+    assert_eq!(many.keys().nth(37).unwrap(), "n37");
+    assert_eq!(value!({"a": 1, "b": 2}), value!({"b": 2, "a": 1,}));
+    assert_ne!(value!({"a": 1}), value!({"a": 1, "b": 2}));
+    let context = Context::try_from(Value::Map(many.clone())).unwrap();
+    assert_eq!(eval("$env", &context), Ok(Value::Map(many)));
+}
+
+#[test]
+fn programs_and_contexts_go_from_thread_to_thread() {
+    fn is_shared<T: Send + Sync>() {}
+    is_shared::<(Program, Context, Value, Environment)>();
+    let program = compile("x * 2 + len(list)").unwrap();
+    let shared = Context::from_iter([("x", value!(1)), ("list", value!([1, 2]))]);
+    assert_eq!(run(&program, &shared), Ok(Value::Integer(4)));
+    std::thread::scope(|threads| {
+        for i in 0..4 {
+            let (program, shared) = (&program, &shared);
+            threads.spawn(move || {
+                for j in 0..200 {
+                    let mut own = shared.clone();
+                    own.insert("x", i * 1000 + j);
+                    assert_eq!(run(program, &own), Ok(Value::Integer(2 * i64::from(i * 1000 + j) + 2)));
+                    assert_eq!(run(program, shared), Ok(Value::Integer(4)));
+                }
+            });
+        }
+    });
+    let moved = std::thread::spawn(move || run(&program, &shared).unwrap()).join().unwrap();
+    assert_eq!(moved, Value::Integer(4));
+}
