@@ -48,6 +48,8 @@ fn put_copies(alloc: Global, context: &Context, program: &Program, wrong: &mut P
 fn put_code(alloc: Global, context: &Context, program: &Program, wrong: &mut Page) -> Result<()> {
     let code = Code::lower(alloc, program)?;
     wrong.answer("Code::lower", execute(alloc, &code, context), "20");
+    let once = Code::lower_once(alloc, program)?;
+    wrong.answer("Code::lower_once", execute(alloc, &once, context), "20");
     let kept = code.keep(alloc)?;
     wrong.answer("Code::keep", execute(alloc, &kept, context), "20");
     wrong.answer("execute", execute(alloc, &code, context), "20");
