@@ -18,7 +18,7 @@ const SIZES: &[(&str, usize, usize)] = &[
     (
         "Instruction that lends",
         size_of::<Instruction<&'static Value, &'static String, &'static Pattern>>(),
-        24,
+        32,
     ),
 ];
 
