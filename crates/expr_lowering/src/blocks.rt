@@ -71,7 +71,8 @@ impl<'p> Lowering<'p> {
 
     /// The jump over the second of two ways, which is written; the test between the condition and the first waits.
     fn turn(&mut self, condition: &'p Node, mark: usize) -> Result<(), AllocError>
-        ensures state { OnOk result (state_of self.new ≡ turned (written condition.now) mark (state_of self.old)) }
+        ensures state { OnOk result (state_of self.new
+            ≡ turned (written condition.now) mark (state_of self.old)) }
         ensures kept { NodeKeeps condition.now → Keeps self.old → OnOk result (Keeps self.new) }
     {
         let here = self.here();
