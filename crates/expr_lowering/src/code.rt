@@ -3,6 +3,7 @@ ghost use Rattle.expr_instructions.specs.Shapes.{IsSafeShape};
 
 use crate::lowering::Lowering;
 use expr_instructions::Block;
+use expr_pattern::PatternRoom;
 use expr_tree::node::{Pattern, Program};
 use expr_value::{Result, Value};
 use std::alloc::Global;
@@ -15,6 +16,8 @@ pub struct Code<L, N, P> {
     pub first: Block<L, N, P>,
     /// The blocks of predicates.
     pub later: Vec<Block<L, N, P>>,
+    /// Room for the first pattern that a run builds, since it is no literal; the runs of this code share it.
+    pub room: PatternRoom,
     pub ghost safe: { IsSafeShape first later },
 }
 
@@ -76,6 +79,10 @@ impl<'p> Code<&'p Value, &'p String, &'p Pattern> {
     {
         let mut lowering = Lowering::new(alloc, is_run_again);
         let (first, later) = lowering.blocks(program)?;
-        Ok(Code { first, later })
+        Ok(Code {
+            first,
+            later,
+            room: PatternRoom::new(),
+        })
     }
 }

@@ -7,7 +7,7 @@ ghost use Rattle.expr_value.specs.Fault.{fault_of, memory};
 
 use crate::code::Code;
 use expr_instructions::{Block, Holder, Instruction, PredicateCall};
-use expr_pattern::{Pattern, Unbuilt};
+use expr_pattern::{Pattern, PatternRoom, Unbuilt};
 use expr_value::{Result, Value};
 use std::alloc::{AllocError, Global};
 
@@ -34,7 +34,11 @@ impl<L: Holder<Value>, N: Holder<String>, P: Holder<Pattern>> Code<L, N, P> {
         for block in &self.later {
             later.push(kept_block(alloc, block)?)?;
         }
-        Ok(Code { first, later })
+        Ok(Code {
+            first,
+            later,
+            room: PatternRoom::new(),
+        })
     }
 }
 
