@@ -4,9 +4,8 @@ ghost use Rattle.expr_engine.specs.Codes.{code_of};
 ghost use Rattle.expr_tree.specs.Written.{program_written};
 
 use crate::lent::LentNames;
-use expr::{
-    Code, KeptCode, KeptMachine, Program, Result, Value, compile_within, execution_answers_programs,
-};
+use expr::{Code, KeptCode, Program, Result, Value, compile_within, execution_answers_programs};
+use expr_machine::Machine;
 use expr_meaning::Functions;
 use std::alloc::Global;
 
@@ -60,6 +59,11 @@ impl Rule {
             (context_of (pairs_of (option_copied names.entry.names))) (program_written self.now.program)) }
     {
         execution_answers_programs::<H>();
-        KeptMachine::new(alloc, &self.code).execute_among(host, names)
+        let machine = Machine {
+            alloc,
+            host,
+            provider: names,
+        };
+        machine.execute_once(&self.code)
     }
 }

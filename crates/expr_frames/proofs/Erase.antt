@@ -92,7 +92,7 @@ abbrev frame_of : tree.Frame → Frame
 frame_of (tree.Under o) = frame.Reaching (reaching.Under o)
 frame_of (tree.After l o) = frame.Reaching (reaching.After (measured l) o)
 frame_of (tree.Otherwise c a) = frame.Reaching (reaching.Otherwise (measured c) (measured a))
-frame_of tree.Inside = frame.Inside
+frame_of tree.Inside = frame.Inside 0
 frame_of (tree.Middle c) = frame.Middle (measured c)
 frame_of (tree.Listed s r) = frame.List (holder_of s) (items_given r)
 frame_of (tree.Calling c r) = frame.Call (caller_of c) (row_given r)

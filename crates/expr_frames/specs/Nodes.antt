@@ -202,7 +202,7 @@ bind k w t = Fail
 
 -- A token that is no operator, after an operand: it ends what the innermost frame waits for.
 abbrev pub close : Token → List Frame → Measured → State
-close t (frame.Inside ∷ k) l = at_close t (whole k (bracketed l)) Fail
+close t (frame.Inside more ∷ k) l = at_close t (whole k (bracketed l)) Fail
 close t (frame.Middle c ∷ k) l = at_colon t (wanting (frame.Reaching (reaching.Otherwise c l) ∷ k)) Fail
 close t (frame.List h g ∷ k) l = listed t h (given_more g l) k
 close t (frame.Call c g ∷ k) l = argument_end t c (given_more g l) k
@@ -263,7 +263,7 @@ begin (start.Literal v) k = whole k (leaf (literal v))
 begin (start.Name w) k = On k (place.Have (operand.Name w))
 begin (start.HashName w) k = whole k (leaf (name w))
 begin (start.Sign o) k = wanting (frame.Reaching (reaching.Under o) ∷ k)
-begin start.Group k = wanting (frame.Inside ∷ k)
+begin start.Group k = wanting (frame.Inside 0 ∷ k)
 begin start.List k = wanting (frame.List holder.Array none_given ∷ k)
 begin start.Brace k = begin_brace k
 begin start.Field k = On k place.NamesField

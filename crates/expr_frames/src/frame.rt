@@ -49,7 +49,8 @@ pub enum Reaching {
 #[derive(Drop)]
 pub enum Frame {
     Reaching(Reaching),
-    Inside,
+    /// Brackets, each directly inside the one before it, and how many there are beside the first.
+    Inside(usize),
     Middle(Part),
     List(Holder, Arguments),
     Call(Caller, Arguments),

@@ -6,6 +6,7 @@ mod conditions;
 mod kept;
 mod machine;
 mod names;
+mod room;
 mod stores;
 mod turns;
 

@@ -1,3 +1,4 @@
 pub mod Begun
+mod Runs
 mod Turns
 mod Whole

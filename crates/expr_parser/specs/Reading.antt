@@ -1,5 +1,5 @@
 -- What the functions of the parser do, in the words of the machine.
-use Rattle.std.specs.Prelude.{◌≡◌, ℕ, ◌<◌, ◌≤◌, List, [], ◌∷◌, length, Option, Some, None, Result, Ok, Err, fold}
+use Rattle.std.specs.Prelude.{◌≡◌, ℕ, zero, suc, ◌<◌, ◌≤◌, List, [], ◌∷◌, length, Option, Some, None, Result, Ok, Err, fold}
 use Rattle.expr_token.specs.declared.token.Token.{Token}
 use Rattle.expr_parts.specs.Parts.{Measured, MeasuredBlock, MeasuredLines, Given}
 use Rattle.expr_frames.specs.declared.frame.Caller.{Caller}
@@ -17,9 +17,19 @@ use Rattle.expr_frames.specs.Measures.{measured_program}
 use Rattle.expr_frames.specs.Nodes.{plug, settle, argued, bind, whole_in, State, On, Fail}
 use Rattle.expr_grammar.specs.Prefixes.{StopsAt}
 
+-- so many brackets, each directly inside the one before it
+abbrev pub brackets : ℕ → List Frame → List Frame
+brackets zero k = k
+brackets (suc n) k = frame.Inside 0 ∷ brackets n k
+
+-- the frames k and what one more stands for: a run of brackets is one frame, and each of them one of the machine's
+abbrev pub onto : Frame → List Frame → List Frame
+onto (frame.Inside more) k = frame.Inside 0 ∷ brackets more k
+onto f k = f ∷ k
+
 -- The frames, the last first.
 abbrev pub stack : List Frame → List Frame
-stack fs = fold (λ k f. f ∷ k) [] fs
+stack fs = fold (λ k f. onto f k) [] fs
 
 -- The state s is where the parser stands, and it fails only where s does.
 abbrev pub Stands : State → List Frame → Result Place Fault → Type 0

@@ -10,9 +10,9 @@ ghost use Rattle.expr_value.specs.declared.value.Value as value;
 use crate::stack::Stack;
 use expr_held::Held;
 use expr_value::{Items, Result, Text, Value, ValueMap};
-use std::alloc::Global;
+use std::alloc::{Allocator, Global};
 
-impl<'s> Stack<'s> {
+impl<'s, A: Allocator + Copy> Stack<'s, A> {
     /// So many top values taken off, to be read; those in places are lent from there.
     #[inline(never)]
     pub fn pop_many<'k>(

@@ -97,7 +97,7 @@ impl Parser {
             (frame ∷ stack self.old.frames.items) last) self.new.frames.items result }
     {
         match frame {
-            Frame::Inside => {
+            Frame::Inside(_) => {
                 let Token::Sign(Sign::ParenClose) = token else {
                     return Err(Fault::Syntax);
                 };

@@ -27,7 +27,7 @@ impl Parser {
             Start::Name(name) => Ok(Place::Have(Operand::Name(name))),
             Start::HashName(name) => Ok(whole(Part::name(name.into_string()))),
             Start::Sign(sign) => self.enter(Frame::Reaching(Reaching::Under(sign))),
-            Start::Group => self.enter(Frame::Inside),
+            Start::Group => self.group(),
             Start::List => self.enter(Frame::List(Holder::Array, Arguments::new(self.alloc))),
             Start::Brace => self.brace(),
             Start::Field => Ok(Place::NamesField),

@@ -1,8 +1,9 @@
 //! The open frames, the innermost on top.
 
-ghost use Rattle.std.specs.Prelude.{◌≡◌, ◌∷◌, [], IfOk, MatchOption, vec_len, ◌<◌};
+ghost use Rattle.std.specs.Prelude.{◌≡◌, ◌∷◌, [], IfOk, MatchOption};
+ghost use Rattle.expr_frames.specs.declared.frame.Start.TheVariants as start;
 ghost use Rattle.expr_frames.specs.Nodes as machine;
-ghost use Rattle.expr_parser.specs.Reading.{stack, IsBodyOnTop, IsCallOnTop, Stands, PopsAbove};
+ghost use Rattle.expr_parser.specs.Reading.{stack, onto, IsBodyOnTop, IsCallOnTop, Stands, PopsAbove};
 
 use crate::parser::Parser;
 use expr_frames::frame::{Caller, Fault, Frame, Operand, Place, Reaching, Section};
@@ -35,7 +36,7 @@ impl Parser {
         ensures { PopsAbove level self.old.frames.items self.new.frames.items result }
     {
         match self.frames.last() {
-            Some(frame) if level < frame.reach() => self.pop()?.into_reaching(),
+            Some(frame) if level < frame.reach() => self.frames.pop()?.into_reaching(),
             _ => None,
         }
     }
@@ -57,25 +58,48 @@ impl Parser {
     // An operand comes next, inside the frame.
     pub(super) fn enter(&mut self, frame: Frame) -> Result<Place, Fault>
         ensures { Stands (machine.wanting
-            (frame ∷ stack self.old.frames.items)) self.new.frames.items result }
+            (onto frame (stack self.old.frames.items))) self.new.frames.items result }
     {
         self.push(frame)?;
         Ok(Place::Want)
     }
 
+    // A bracket opens: one more where the innermost frame is of brackets, so that a run of them takes one frame.
+    pub(super) fn group(&mut self) -> Result<Place, Fault>
+        ensures { Stands (machine.begin start.Group
+            (stack self.old.frames.items)) self.new.frames.items result }
+    {
+        match self.frames.last() {
+            Some(Frame::Inside(more)) if *more < usize::MAX => {
+                let more = *more + 1;
+                let at = self.frames.len() - 1;
+                self.frames[at] = Frame::Inside(more);
+                Ok(Place::Want)
+            }
+            _ => self.enter(Frame::Inside(0)),
+        }
+    }
+
     pub(super) fn push(&mut self, frame: Frame) -> Result<(), AllocError>
-        ensures { IfOk result (λ _. stack self.new.frames.items ≡ frame ∷ stack self.old.frames.items) }
+        ensures { IfOk result (λ _. stack self.new.frames.items ≡ onto frame (stack self.old.frames.items)) }
     {
         self.frames.push(frame)?;
         Ok(())
     }
 
+    // The innermost frame, of brackets one alone.
     pub(super) fn pop(&mut self) -> Option<Frame>
-        ensures top { MatchOption result (stack self.old.frames.items ≡ [])
+        ensures { MatchOption result (stack self.old.frames.items ≡ [])
             (λ f. stack self.old.frames.items ≡ f ∷ stack self.new.frames.items) }
-        ensures len { MatchOption result (vec_len self.new.frames ≡ 0)
-            (λ _. vec_len self.new.frames < vec_len self.old.frames) }
     {
-        self.frames.pop()
+        match self.frames.last() {
+            Some(Frame::Inside(more)) if *more > 0 => {
+                let more = *more - 1;
+                let at = self.frames.len() - 1;
+                self.frames[at] = Frame::Inside(more);
+                Some(Frame::Inside(0))
+            }
+            _ => self.frames.pop(),
+        }
     }
 }

@@ -3,7 +3,7 @@ use Rattle.expr_stack.proofs.Off.{off_given}
 use Rattle.expr_stack.proofs.stack.Stack.take_many.Goals as goal
 
 pub loop-values-preserved : goal.loop-values-preserved
-loop-values-preserved c =
+loop-values-preserved g c =
     let one : length c.push_reserved.new.self.items ≡ length c.loop-values.values.items + 1 =
     ap length c.push_reserved.ensures.items ∙ length-append c.loop-values.values.items (c.in_ok-held_apart.field-0 ∷ []) in
     record {
