@@ -13,8 +13,9 @@
  *
  * Link with `pkg-config --cflags --libs expr`, or with libexpr.a alone: it needs the C library and nothing else.
  *
- * Engines. An engine keeps programs, contexts and environments, the last answer and the last message. It belongs to one
- * thread: one engine a thread, and no call while another call on it runs. Engines have nothing in common.
+ * Engines. An engine keeps programs, contexts and environments, the last answer and the last message. It belongs to the
+ * thread that opened it, since it isn't proved that one may go to another: one engine a thread, and no call while another
+ * call on it runs. Engines have nothing in common.
  *
  * Handles. Programs, contexts and environments are named by handles. No handle is given twice, so one that was let go of,
  * or that was never given, is EXPR_UNKNOWN, and nothing changes. Handles are plain data: copy them as you like.

@@ -16,8 +16,9 @@
 //! The engine is written in Rattle, Rust with contracts, and every function of it is proved; this crate is plain Rust over
 //! it, which is tested. All that isn't safe stands in one module of it, `raw`.
 //!
-//! Each thread has an engine of its own. Programs, contexts, values and environments go from thread to thread, and may be
-//! shared; a thread that runs a program for the first time compiles it for itself.
+//! Each thread has an engine of its own, which stays there: that one may go to another thread isn't proved. Programs,
+//! contexts, values and environments go from thread to thread, and may be shared; a thread that runs a program for the
+//! first time compiles it for itself.
 mod context;
 mod engine;
 mod environment;

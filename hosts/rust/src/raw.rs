@@ -176,7 +176,7 @@ pub struct Told {
 pub struct Raw {
     inside: Box<[MaybeUninit<u128>]>,
     room: Vec<u8>,
-    /// An engine stays on its thread.
+    /// An engine stays on its thread: that one may go to another isn't proved, since it keeps patterns.
     stays: PhantomData<*mut ()>,
 }
 
