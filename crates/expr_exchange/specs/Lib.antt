@@ -1,3 +1,5 @@
 pub mod Built
+pub mod Kinds
 pub mod Looked
 pub mod Refusals
+pub mod Scalars

@@ -1,5 +1,5 @@
 -- How calls end, and what they give.
-use Rattle.std.specs.Prelude.{◌≢◌, Result, Ok, Err}
+use Rattle.std.specs.Prelude.{◌≡◌, ◌≢◌, Option, None, Result, Ok, Err}
 use Rattle.expr_exchange.specs.declared.refused.Refused.{Refused}
 use Rattle.expr_exchange.specs.declared.refused.Refused.TheVariants.{Language, Unknown, Misuse}
 use Rattle.expr_exchange.specs.declared.refused.Status.{Status}
@@ -25,3 +25,21 @@ GivesHost (Ok v) allowed = allowed (Ok v)
 GivesHost (Err (Language error)) allowed = fault_of error ≢ memory → allowed (Err (fault_of error))
 GivesHost (Err Unknown) allowed = ⊥
 GivesHost (Err Misuse) allowed = ⊥
+
+-- A refusal for want of memory.
+abbrev pub IsForMemory : Refused → Type 0
+IsForMemory (Language error) = fault_of error ≡ memory
+IsForMemory Unknown = ⊥
+IsForMemory Misuse = ⊥
+
+-- A refusal of what isn't there, or for want of memory.
+abbrev pub NotThere : {A : Type 0} → Option A → Refused → Type 0
+NotThere sought (Language error) = fault_of error ≡ memory
+NotThere sought Unknown = ⊥
+NotThere sought Misuse = sought ≡ None
+
+-- A refusal of what stands for nothing, or for want of memory.
+abbrev pub NotMeant : Type 0 → Refused → Type 0
+NotMeant Means (Language error) = fault_of error ≡ memory
+NotMeant Means Unknown = ⊥
+NotMeant Means Misuse = Means → ⊥

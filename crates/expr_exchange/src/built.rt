@@ -1,6 +1,7 @@
 //! Values that a host builds, one behind the other.
-ghost use Rattle.std.specs.Prelude.{◌≡◌, ◌++◌, ◌∷◌, [], IfErr, IfOk, OnErr, OnOk, length, pos};
-ghost use Rattle.expr_exchange.specs.Built.{TakesPlace, values_of};
+ghost use Rattle.std.specs.Prelude.{◌≡◌, ◌≢◌, ◌++◌, ◌∷◌, [], IfErr, IfOk, IsOk, OnErr, OnOk, length, pos};
+ghost use Rattle.expr_exchange.specs.Built.{EndsInMap, HasLast, TakesNames, TakesPlace, values_of};
+ghost use Rattle.expr_exchange.specs.Refusals.{IsForMemory, NotMeant};
 
 use crate::refused::Refused;
 use expr_value::{Context, KeyedMap, Value};
@@ -28,6 +29,8 @@ impl Built {
     pub fn push(&mut self, value: Value) -> Result<(), Refused>
         ensures ok { OnOk result (values_of self.new ≡ values_of self.old ++ value ∷ []) }
         ensures err { OnErr result (values_of self.new ≡ values_of self.old) }
+        ensures refused { IfErr result IsForMemory }
+        ensures found { IfErr result (λ e. e ≢ Refused.Unknown) }
     {
         self.values.push(value)?;
         Ok(())
@@ -55,6 +58,8 @@ impl Built {
     fn taken(&mut self, count: i64) -> Result<Vec<Value>, Refused>
         ensures ok { IfOk result (λ last. values_of self.old ≡ values_of self.new ++ last.items) }
         ensures count { IfOk result (λ last. pos (length last.items) ≡ count) }
+        ensures refused { IfErr result (NotMeant (HasLast count (values_of self.old))) }
+        ensures found { IfErr result (λ e. e ≢ Refused.Unknown) }
     {
         let Ok(count) = usize::try_from(count) else {
             return Err(Refused::Misuse);
@@ -67,7 +72,9 @@ impl Built {
 
     /// Makes an array of the last values.
     pub fn array(&mut self, count: i64) -> Result<(), Refused>
-        ensures { OnOk result (TakesPlace count (values_of self.old) Value.Array (values_of self.new)) }
+        ensures ok { OnOk result (TakesPlace count (values_of self.old) Value.Array (values_of self.new)) }
+        ensures refused { IfErr result (NotMeant (HasLast count (values_of self.old))) }
+        ensures found { IfErr result (λ e. e ≢ Refused.Unknown) }
     {
         let items = self.taken(count)?;
         self.push(Value::from(items))
@@ -75,7 +82,9 @@ impl Built {
 
     /// Makes a map of the last pairs: one by names where all keys are texts, else one by scalars. A repeated key keeps its
     /// first place and takes its last value.
-    pub fn map(&mut self, count: i64) -> Result<(), Refused> {
+    pub fn map(&mut self, count: i64) -> Result<(), Refused>
+        ensures found { IfErr result (λ e. e ≢ Refused.Unknown) }
+    {
         let Some(count) = count.checked_mul(2) else {
             return Err(Refused::Misuse);
         };
@@ -85,7 +94,11 @@ impl Built {
     }
 
     /// The context of the last value, a map by names.
-    pub fn context(&mut self) -> Result<Context, Refused> {
+    pub fn context(&mut self) -> Result<Context, Refused>
+        ensures ok { IfOk result (TakesNames (values_of self.old) (values_of self.new)) }
+        ensures given { EndsInMap (values_of self.old) → IsOk result }
+        ensures found { IfErr result (λ e. e ≢ Refused.Unknown) }
+    {
         let value = self.pop()?;
         Ok(Context::try_from(self.alloc, value)?)
     }

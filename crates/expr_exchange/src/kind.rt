@@ -1,4 +1,6 @@
 //! Kinds of values, by their numbers.
+ghost use Rattle.std.specs.Prelude.{◌≡◌, Some};
+ghost use Rattle.expr_exchange.specs.Kinds.{kind_numbered};
 
 /// What kind of value. A host knows the kinds by their numbers, from 0 in the order in which they stand here.
 #[derive(Clone, Copy, Debug, PartialEq, Eq)]
@@ -27,7 +29,9 @@ pub enum Kind {
 
 impl Kind {
     /// The kind of a number.
-    pub fn numbered(number: u32) -> Option<Kind> {
+    pub fn numbered(number: u32) -> Option<Kind>
+        ensures { result ≡ kind_numbered number }
+    {
         match number {
             0 => Some(Kind::Nil),
             1 => Some(Kind::Bool),
@@ -46,6 +50,30 @@ impl Kind {
             14 => Some(Kind::Built),
             15 => Some(Kind::Looked),
             _ => None,
+        }
+    }
+
+    /// The number of this kind.
+    pub fn number(self) -> u32
+        ensures { kind_numbered result ≡ Some self }
+    {
+        match self {
+            Kind::Nil => 0,
+            Kind::Bool => 1,
+            Kind::Integer => 2,
+            Kind::String => 3,
+            Kind::Bytes => 4,
+            Kind::Duration => 5,
+            Kind::DateTime => 6,
+            Kind::Timezone => 7,
+            Kind::Month => 8,
+            Kind::Weekday => 9,
+            Kind::Array => 10,
+            Kind::Map => 11,
+            Kind::KeyedMap => 12,
+            Kind::Json => 13,
+            Kind::Built => 14,
+            Kind::Looked => 15,
         }
     }
 }

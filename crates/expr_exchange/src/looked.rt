@@ -1,13 +1,17 @@
 //! A value that is kept, and the part of it that a host looks at.
-ghost use Rattle.std.specs.Prelude.{◌≡◌, IfOk, OnErr, string_bytes};
+ghost use Rattle.std.specs.Prelude.{◌≡◌, ◌≤ℤ◌, [], pos, length, IfErr, IfOk, OnErr, OnOk, Some, string_bytes};
+ghost use Rattle.std.specs.Int.{int_div_euclid, int_rem_euclid};
 ghost use Rattle.std.specs.Option.{option_copied};
-ghost use Rattle.expr_exchange.specs.Looked.{item_at, part_of};
+ghost use Rattle.expr_exchange.specs.Kinds.{bytes_in, fraction_of, kind_of, number_of};
+ghost use Rattle.expr_exchange.specs.Looked.{LooksDown, LooksUp, SameLook, at_number, item_at, key_at, part_of, way_of};
+ghost use Rattle.expr_exchange.specs.Refusals.{NotThere};
 ghost use Rattle.expr_value.specs.Strings.{string_text};
+ghost use Rattle.expr_value.specs.Times.{instant};
 ghost use Rattle.expr_value.specs.Values.{text_of};
 
 use crate::kind::Kind;
 use crate::refused::Refused;
-use expr_value::Value;
+use expr_value::{DateTimeValue, Value};
 use std::alloc::Global;
 
 /// A value that is kept, and the way to the part of it that is looked at: the places of items, from the whole inwards.
@@ -29,7 +33,8 @@ pub struct Told {
 impl Looked {
     /// Nil. It takes no memory.
     pub fn new(alloc: Global) -> Looked
-        ensures { part_of result ≡ Value.Nil }
+        ensures part { part_of result ≡ Value.Nil }
+        ensures way { way_of result ≡ [] }
     {
         Looked {
             alloc,
@@ -40,7 +45,8 @@ impl Looked {
 
     /// Keeps a value in place of the last, and looks at the whole.
     pub fn keep(&mut self, value: Value)
-        ensures { part_of self.new ≡ value }
+        ensures part { part_of self.new ≡ value }
+        ensures way { way_of self.new ≡ [] }
     {
         self.whole = value;
         self.way.clear();
@@ -52,9 +58,8 @@ impl Looked {
     {
         let mut part = &self.whole;
         for place in &self.way {
-            match item_of(part, *place) {
-                Some(item) => part = item,
-                None => return part,
+            if let Some(item) = item_of(part, *place) {
+                part = item;
             }
         }
         part
@@ -62,7 +67,9 @@ impl Looked {
 
     /// Looks at an item of the part.
     pub fn go_down(&mut self, number: i64) -> Result<(), Refused>
-        ensures err { OnErr result (part_of self.new ≡ part_of self.old) }
+        ensures ok { OnOk result (LooksDown number self.old self.new) }
+        ensures err { OnErr result (SameLook self.old self.new) }
+        ensures refused { IfErr result (NotThere (at_number number (item_at (part_of self.old)))) }
     {
         let Ok(place) = usize::try_from(number) else {
             return Err(Refused::Misuse);
@@ -76,7 +83,9 @@ impl Looked {
 
     /// Looks at what the part is an item of.
     pub fn go_up(&mut self) -> Result<(), Refused>
-        ensures err { OnErr result (part_of self.new ≡ part_of self.old) }
+        ensures ok { OnOk result (LooksUp self.old self.new) }
+        ensures err { OnErr result (SameLook self.old self.new) }
+        ensures refused { IfErr result (λ e. (e ≡ Refused.Misuse) × (way_of self.old ≡ [])) }
     {
         match self.way.pop() {
             Some(_) => Ok(()),
@@ -118,7 +127,9 @@ fn item_of(value: &Value, place: usize) -> Option<&Value>
 }
 
 /// The bytes of a text or of bytes; none of any other value.
-pub fn bytes_of(value: &Value) -> &[u8] {
+pub fn bytes_of(value: &Value) -> &[u8]
+    ensures { result.now ≡ bytes_in value.now }
+{
     match value {
         Value::String(text) => text.as_str().as_bytes(),
         Value::Bytes(bytes) => bytes.as_slice(),
@@ -128,25 +139,35 @@ pub fn bytes_of(value: &Value) -> &[u8] {
 }
 
 /// What is told of a value.
-pub fn described(value: &Value) -> Told {
-    let (kind, number) = match value {
-        Value::Nil => (Kind::Nil, 0),
-        Value::Bool(truth) => (Kind::Bool, i64::from(*truth)),
-        Value::Integer(number) => (Kind::Integer, *number),
-        Value::String(text) => (Kind::String, count(text.len())),
-        Value::Duration(nanoseconds) => (Kind::Duration, *nanoseconds),
-        Value::Month(month) => (Kind::Month, i64::from(*month)),
-        Value::Weekday(day) => (Kind::Weekday, i64::from(*day)),
-        Value::DateTime(moment) => {
-            let instant = moment.get().timestamp().as_nanosecond();
-            return moment_described(instant);
-        }
-        Value::Timezone(_) => (Kind::Timezone, 0),
-        Value::Array(items) => (Kind::Array, count(items.len())),
-        Value::Bytes(bytes) => (Kind::Bytes, count(bytes.len())),
-        Value::Map(map) => (Kind::Map, count(map.len())),
-        Value::KeyedMap(map) => (Kind::KeyedMap, count(map.len())),
-    };
+pub fn described(value: &Value) -> Told
+    ensures kind { result.kind ≡ kind_of value.now }
+    ensures number { number_of value.now ≤ℤ pos 9_223_372_036_854_775_807
+        → result.number ≡ number_of value.now }
+    ensures fraction { pos result.fraction ≡ fraction_of value.now }
+{
+    match value {
+        Value::Nil => of_kind(Kind::Nil, 0),
+        Value::Bool(truth) => of_kind(Kind::Bool, i64::from(*truth)),
+        Value::Integer(number) => of_kind(Kind::Integer, *number),
+        Value::String(text) => of_kind(Kind::String, count(text.len())),
+        Value::Duration(nanoseconds) => of_kind(Kind::Duration, *nanoseconds),
+        Value::Month(month) => of_kind(Kind::Month, i64::from(*month)),
+        Value::Weekday(day) => of_kind(Kind::Weekday, i64::from(*day)),
+        Value::DateTime(moment) => of_moment(moment.get()),
+        Value::Timezone(_) => of_kind(Kind::Timezone, 0),
+        Value::Array(items) => of_kind(Kind::Array, count(items.len())),
+        Value::Bytes(bytes) => of_kind(Kind::Bytes, count(bytes.len())),
+        Value::Map(map) => of_kind(Kind::Map, count(map.len())),
+        Value::KeyedMap(map) => of_kind(Kind::KeyedMap, count(map.len())),
+    }
+}
+
+/// What is told of a value that is no moment.
+fn of_kind(kind: Kind, number: i64) -> Told
+    ensures kind { result.kind ≡ kind }
+    ensures number { result.number ≡ number }
+    ensures fraction { result.fraction ≡ 0 }
+{
     Told {
         kind,
         number,
@@ -154,23 +175,31 @@ pub fn described(value: &Value) -> Told {
     }
 }
 
-/// What is told of a moment, so many nanoseconds after 1970 began.
-fn moment_described(instant: i128) -> Told {
-    let second = instant.div_euclid(1_000_000_000);
-    let fraction = instant.rem_euclid(1_000_000_000);
+/// What is told of a moment: its second since 1970 began, and the nanoseconds past it.
+fn of_moment(moment: &DateTimeValue) -> Told
+    ensures kind { result.kind ≡ Kind.DateTime }
+    ensures number { result.number ≡ int_div_euclid (instant moment.now) (pos 1_000_000_000) }
+    ensures fraction { pos result.fraction ≡ int_rem_euclid (instant moment.now) (pos 1_000_000_000) }
+{
+    let instant = moment.timestamp().as_nanosecond();
     Told {
         kind: Kind::DateTime,
-        number: i64::try_from(second).unwrap_or(0),
-        fraction: u32::try_from(fraction).unwrap_or(0),
+        number: instant.div_euclid(1_000_000_000) as i64,
+        fraction: instant.rem_euclid(1_000_000_000) as u32,
     }
 }
 
-fn count(length: usize) -> i64 {
+fn count(length: usize) -> i64
+    ensures { pos length ≤ℤ pos 9_223_372_036_854_775_807 → result ≡ pos length }
+{
     i64::try_from(length).unwrap_or(0)
 }
 
 /// The key of a place in a map, as a value.
-pub fn key_of(alloc: Global, value: &Value, number: i64) -> Result<Value, Refused> {
+pub fn key_of(alloc: Global, value: &Value, number: i64) -> Result<Value, Refused>
+    ensures ok { IfOk result (λ key. at_number number (key_at value.now) ≡ Some key) }
+    ensures refused { IfErr result (NotThere (at_number number (key_at value.now))) }
+{
     let Ok(place) = usize::try_from(number) else {
         return Err(Refused::Misuse);
     };

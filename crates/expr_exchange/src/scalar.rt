@@ -1,4 +1,9 @@
 //! Values that a host hands in by a number or a text.
+ghost use Rattle.std.specs.Prelude.{◌≡◌, pos, IfErr, IfOk, IsUtf8};
+ghost use Rattle.expr_exchange.specs.Refusals.{NotMeant};
+ghost use Rattle.expr_exchange.specs.Scalars.{HasScalar, IsScalar, instant_by};
+ghost use Rattle.jiff.specs.Instant.{IsTimestampParts};
+
 use crate::kind::Kind;
 use crate::refused::Refused;
 use expr_value::{DateTimeValue, Value};
@@ -19,7 +24,10 @@ pub fn scalar_of(
     number: i64,
     fraction: u32,
     text: &[u8],
-) -> Result<Value, Refused> {
+) -> Result<Value, Refused>
+    ensures ok { IfOk result (IsScalar kind number fraction text.now) }
+    ensures refused { IfErr result (NotMeant (HasScalar kind number fraction text.now)) }
+{
     match kind {
         Kind::Nil => Ok(Value::Nil),
         Kind::Bool => Ok(Value::Bool(number != 0)),
@@ -47,7 +55,10 @@ pub fn scalar_of(
     }
 }
 
-fn text_value(alloc: Global, text: &[u8]) -> Result<Value, Refused> {
+fn text_value(alloc: Global, text: &[u8]) -> Result<Value, Refused>
+    ensures ok { IfOk result (λ v. v ≡ Value.String text.now) }
+    ensures refused { IfErr result (NotMeant (IsUtf8 text.now)) }
+{
     match std::str::from_utf8(text) {
         Ok(text) => Ok(Value::text(alloc, text)?),
         Err(_) => Err(Refused::Misuse),
@@ -55,7 +66,10 @@ fn text_value(alloc: Global, text: &[u8]) -> Result<Value, Refused> {
 }
 
 /// The moment of a second since 1970 began, and nanoseconds past it.
-pub fn moment_of(second: i64, fraction: u32) -> Result<Timestamp, Refused> {
+pub fn moment_of(second: i64, fraction: u32) -> Result<Timestamp, Refused>
+    ensures ok { IfOk result (λ t. t.nanosecond ≡ instant_by second fraction) }
+    ensures refused { IfErr result (NotMeant (IsTimestampParts second (pos fraction))) }
+{
     match i32::try_from(fraction) {
         Ok(fraction) => match Timestamp::new(second, fraction) {
             Ok(moment) => Ok(moment),

@@ -80,6 +80,7 @@ impl<T: Drop> Kept<T> {
         ensures kept { IfOk result (λ h. found self.new h ≡ Some thing) }
         ensures others { IfOk result (λ h. KeepsOthers h self.old self.new) }
         ensures err { OnErr result (SameThings self.old self.new) }
+        ensures same_next { OnErr result (next_number self.new ≡ next_number self.old) }
     {
         let number = self.next;
         let Some(next) = number.checked_add(1) else {
