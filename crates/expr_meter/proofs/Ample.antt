@@ -1,0 +1,231 @@
+-- With room enough each run is a counted run.
+use Rattle.std.proofs.Common.{◌≡◌, ℕ, zero, suc, ◌+◌, ◌≤◌, Bool, true, false, List, [], ◌∷◌, ◌++◌, length, take, Result, Ok, Err, MatchBool, MatchOption, Option, Some, None, bytes_eq, codes, refl, ap, subst, inl}
+use Rattle.expr_code.proofs.Ran.{On, runs_of_answers, stepped}
+use Rattle.expr_code.specs.Asked.{bound_values}
+use Rattle.expr_code.specs.Machine.{CodeAnswers, Op, push, load, look, look_with, env, store, act, asks, refuse, jump, jump_if_false, and_then, or_else, unless_nil, Later, Move, moved, onward, refused as refused_by, Step}
+use Rattle.expr_code.specs.Rest.{Ends, Next as Next_run, Rest, Runs}
+use Rattle.expr_code.specs.declared.binds.Binds.{Binds}
+use Rattle.expr_meaning.specs.Allows.{AllowsCall}
+use Rattle.expr_meaning.specs.Calls.{AllowsBuiltin, AllowsOnValues, ByName}
+use Rattle.expr_meaning.specs.Host.{Host}
+use Rattle.expr_predicates.specs.Calls.{AllowsAsking, SortsItems, Start, asking_named, begun}
+use Rattle.expr_predicates.specs.Runs.{Asks}
+use Rattle.expr_predicates.specs.Tasks.{Question, Reply, Task, Outcome, about, stopped, refused}
+use Rattle.expr_predicates.specs.declared.asking.Asking.{Asking}
+use Rattle.expr_sizes.specs.Sizes.{depth, inside, weight}
+use Rattle.expr_steps.specs.Context.{Context}
+use Rattle.expr_value.specs.Answers.{Answer, After, Goes}
+use Rattle.expr_value.specs.Fault.{Fault, evaluation}
+use Rattle.expr_value.specs.declared.value.Value.{Value}
+use Rattle.expr_meter.specs.Asking.{CountsAsking, CountsAsks, CountsCall, CountsStart, Predicate, kept_first, kept_of, replaces}
+use Rattle.expr_meter.specs.Counting.{Answers, Counted, Ending, Keeping, Passing, Then, ended, gives, refuses}
+use Rattle.expr_meter.specs.Counts.{CodeCounts, Costs, Counts, CountsEnd, CountsLater, CountsMade, CountsMove, CountsRest, CountsRuns, CountsTop, Next, Whose, Working, lent, own, either, no_block, looked_at}
+use Rattle.expr_meter.specs.Rooms.{Begins, Holds, Room, Takes, freed, rooms, unlimited, within}
+use Rattle.expr_meter.specs.declared.limit.Limit.{Limit}
+use Rattle.expr_meter.proofs.Enough.{Alone, Ample, Asked, Called, Part, ample_answer, ample_anew, ample_asked, ample_call_refused, ample_called, ample_counted, ample_here, ample_keeping, ample_more, ample_refused, ample_unlimited, ample_within, begins_passes, holds_passes, takes_passes}
+
+-- a built-in that asks
+module _ (asks : Predicate Room) (asks' : Question → Answer → Type 0) (has : (q : Question) (a : Answer) → asks' q a → Ample a (Alone (asks q))) where
+  -- what it comes to from here
+  abbrev Runs_on : Task → List Value → List Reply → Part
+  Runs_on task left rs first now e = CountsAsks rooms task first asks left rs now e
+
+  -- what follows once what it keeps of a reply is counted
+  abbrev Judged : Task → Bool → List Value → List Reply → Part
+  Judged task b left rs first now e = MatchBool b (e ≡ refuses evaluation) (Runs_on task left rs first now e)
+
+  abbrev Kept : Task → List Value → List Reply → Value → Value → Part
+  Kept task left rs x v first now e = Keeping rooms (kept_of task (x, v)) now (Judged task (refused task v) left (rs ++ (x, v) ∷ []) first) e
+
+  judged : (task : Task) (left : List Value) (rs : List Reply) (a : Answer) (b : Bool) → (Asks task asks' left rs a → Ample a (Runs_on task left rs)) → MatchBool b (a ≡ Err evaluation) (Asks task asks' left rs a)
+      → Ample a (Judged task b left rs)
+  judged task left rs a true f p = ample_here a (Judged task true left rs) (λ first now. ap (λ x. ended x now) p)
+  judged task left rs a false f p = f p
+
+  -- the answers of the run of today, about one item
+  abbrev Judged' : Task → List Value → List Reply → Value → Value → Answer → Type 0
+  Judged' task left rs x v b = MatchBool (refused task v) (b ≡ Err evaluation) (Asks task asks' left (rs ++ (x, v) ∷ []) b)
+
+  follows : (task : Task) (left : List Value) (rs : List Reply) (x : Value) (q : Question) (a : Answer) → ((v : Value) → Asks task asks' left (rs ++ (x, v) ∷ []) a → Ample a (Runs_on task left (rs ++ (x, v) ∷ [])))
+      → (y : Answer) → asks' q y → Goes y (Judged' task left rs x) a → Ample a (Asked (replaces task) (asks q) (Kept task left rs x))
+  follows task left rs x q a f (Ok v) p g =
+      ample_asked (replaces task) (asks q) (Kept task left rs x) a v (has q (Ok v) p) (
+      ample_keeping (kept_of task (x, v)) a (Judged task (refused task v) left (rs ++ (x, v) ∷ [])) (judged task left (rs ++ (x, v) ∷ []) a (refused task v) (f v) g)
+      )
+  follows task left rs x q a f (Err e) p g = ample_refused (replaces task) (asks q) (Kept task left rs x) a e (has q (Err e) p) g
+
+  one : (task : Task) (left : List Value) (rs : List Reply) (x : Value) (a : Answer) (b : Bool) → ((v : Value) → Asks task asks' left (rs ++ (x, v) ∷ []) a → Ample a (Runs_on task left (rs ++ (x, v) ∷ [])))
+      → MatchBool b (Outcome task rs a) (After (asks' (about task rs x)) (Judged' task left rs x) a)
+      → Ample a (λ first now e. MatchBool b (Answers (Outcome task rs) now e) (Asked (replaces task) (asks (about task rs x)) (Kept task left rs x) first now e))
+  one task left rs x a true f p = ample_answer a (Outcome task rs) p
+  one task left rs x a false f p = follows task left rs x (about task rs x) a f p.0 p.1 p.2
+
+  asks_ample : (task : Task) (left : List Value) (rs : List Reply) (a : Answer) → Asks task asks' left rs a → Ample a (Runs_on task left rs)
+  asks_ample task [] rs a p = ample_answer a (Outcome task rs) p
+  asks_ample task (x ∷ left) rs a p = one task left rs x a (stopped task rs) (λ v. asks_ample task left (rs ++ (x, v) ∷ []) a) p
+
+  start_ample : (s : Result Start Fault) (a : Answer) → Goes s (λ s. Asks s.task asks' s.items []) a → Ample a (Alone (CountsStart rooms s asks))
+  start_ample (Ok s) a p =
+      ample_anew a (λ first now. Keeping rooms (kept_first s.task) now (λ kept. CountsAsks rooms s.task first asks s.items [] kept)) (
+      ample_keeping (kept_first s.task) a (Runs_on s.task s.items []) (asks_ample s.task s.items [] a p)
+      )
+  start_ample (Err e) a p = ample_here a (Alone (CountsStart rooms (Err e) asks)) (λ first now. ap (λ x. ended x now) p)
+
+  module _ (host : Host) (key : List ℕ) (vs : List Value) (a : Answer) where
+    asking_ample : (o : Option Asking) → MatchOption o (AllowsOnValues host key vs a) (λ b. AllowsAsking b vs true asks' a)
+        → Ample a (Alone (λ now e. MatchOption o (Answers (AllowsOnValues host key vs) now e) (λ b. CountsStart rooms (begun b vs true) asks now e)))
+    asking_ample None p = ample_answer a (AllowsOnValues host key vs) p
+    asking_ample (Some b) p = start_ample (begun b vs true) a p
+
+    named_ample : (b : Bool) → MatchBool b (SortsItems vs a) (MatchOption (asking_named key) (AllowsOnValues host key vs a) (λ b. AllowsAsking b vs true asks' a))
+        → Ample a (
+        Alone (λ now e. MatchBool b (Answers (SortsItems vs) now e) (MatchOption (asking_named key) (Answers (AllowsOnValues host key vs) now e) (λ b. CountsStart rooms (begun b vs true) asks now e)))
+        )
+    named_ample true p = ample_answer a (SortsItems vs) p
+    named_ample false p = asking_ample (asking_named key) p
+
+    added_ample : (b : Bool) → MatchBool b (host.calls key vs a) (AllowsBuiltin host key vs true asks' a)
+        → Ample a (
+        Alone (λ now e. MatchBool b (Answers (host.calls key vs) now e) (ByName key (Answers (SortsItems vs) now e) (Answers (AllowsOnValues host key vs) now e) (λ b. CountsStart rooms (begun b vs true) asks now e)))
+        )
+    added_ample true p = ample_answer a (host.calls key vs) p
+    added_ample false p = named_ample (bytes_eq key (codes "sort")) p
+
+  pub call_ample : (host : Host) (key : List ℕ) (vs : List Value) (a : Answer) → AllowsCall host key vs true asks' a → Ample a (Alone (CountsCall rooms host key vs asks))
+  call_ample host key vs a p = added_ample host key vs a (host.is_added key) p
+
+module _ (costs : Costs) where
+  top_ample : (a : Answer) (stack : List Value) (part : Room → Ending Room → Type 0) → Ample a (Alone part) → Ample a (Alone (λ now. CountsTop rooms costs stack now part))
+  top_ample a (v ∷ stack) part p = ample_counted (inside v + depth v) (Holds (inside v) (depth v)) a (Alone part) (holds_passes (inside v) (depth v)) p
+  top_ample a [] part p = p
+
+  made_ample : (a : Answer) (whose : Whose) (stack : List Value) (part : Room → Ending Room → Type 0) → Ample a (Alone part) → Ample a (Alone (λ now. CountsMade rooms costs whose stack now part))
+  made_ample a lent stack part p = p
+  made_ample a own stack part p = top_ample a stack part p
+  made_ample a either stack part p = ample_more a (Alone part) (Alone (λ now. CountsMade rooms costs either stack now part)) (λ first now e q. inl q) p
+
+  move_ample : (a : Answer) (op : Op) (move : Move) (next' : Next_run) (next : Next rooms costs) → ((k : ℕ) (st sl : List Value) → next' k st sl a → Ample a (Alone (next k st sl))) → On move next' a
+      → Ample a (Alone (CountsMove rooms costs op move next))
+  move_ample a op (onward k st sl) next' next f p = made_ample a (costs.leaves op) st (next k st sl) (f k st sl p)
+  move_ample a op (refused_by e) next' next f p = ample_here a (Alone (CountsMove rooms costs op (refused_by e) next)) (λ first now. ap (λ x. ended x now) p)
+
+  module _ (host : Host) (ctx : Context) (counts : CountsLater rooms costs) (later : Later)
+      (has : (n : ℕ) (slots : List Value) (a : Answer) → later n slots a → Ample a (Alone (counts n slots))) where
+    module _ (a : Answer) (next' : Next_run) (next : Next rooms costs) (goes : (k : ℕ) (st sl : List Value) → next' k st sl a → Ample a (Alone (next k st sl))) where
+      abbrev Plain : Op → List Value → List Value → Room → Ending Room → Type 0
+      Plain op stack slots begun e = (m : Move) × Step host ctx no_block op stack slots m × CountsMove rooms costs op m next begun e
+
+      plain_ample : (op : Op) (stack slots : List Value) (move : Move) → Step host ctx no_block op stack slots move → On move next' a
+          → Ample a (Alone (λ now. Working rooms costs op (looked_at op stack slots) now (Plain op stack slots)))
+      plain_ample op stack slots move step on =
+          let n = costs.work op (looked_at op stack slots) in
+          let k = costs.room op (looked_at op stack slots) in
+          ample_counted (n + k) (Begins n k) a (Alone (Plain op stack slots)) (begins_passes n k) (
+          ample_more a (Alone (CountsMove rooms costs op move next)) (Alone (Plain op stack slots)) (λ first now e q. (move, step, q)) (move_ample a op move next' next goes on)
+          )
+
+      -- a call that asks, and what follows it
+      abbrev Call : List ℕ → List Value → ℕ → ℕ → Binds → List Value → Room → Ending Room → Type 0
+      Call key vs block slot binds slots = CountsCall rooms host key vs (λ q. counts block (take slot slots ++ bound_values binds q))
+
+      abbrev Rested : List Value → ℕ → List Value → Value → Room → Ending Room → Type 0
+      Rested rest slot slots v now e = Counted (rooms.keeps v) now (next 0 (v ∷ rest) (take slot slots)) e
+
+      answer_ample : (n k : ℕ) (key : List ℕ) (block slot : ℕ) (binds : Binds) (vs rest slots : List Value) (x : Answer) → Ample x (Alone (Call key vs block slot binds slots))
+          → On (moved x (λ v. onward 0 (v ∷ rest) (take slot slots))) next' a → Ample a (Called n k (Call key vs block slot binds slots) (Rested rest slot slots))
+      answer_ample n k key block slot binds vs rest slots (Ok v) h on =
+          ample_called n k (Call key vs block slot binds slots) (Rested rest slot slots) a v h (
+          ample_counted (weight v + depth v) (Holds (weight v) (depth v)) a (Alone (next 0 (v ∷ rest) (take slot slots))) (holds_passes (weight v) (depth v)) (goes 0 (v ∷ rest) (take slot slots) on)
+          )
+      answer_ample n k key block slot binds vs rest slots (Err f) h on = ample_call_refused n k (Call key vs block slot binds slots) (Rested rest slot slots) a f h on
+
+      abbrev Asking_of : List ℕ → List Value → ℕ → ℕ → Binds → List Value → List Value → Room → Room → Ending Room → Type 0
+      Asking_of key vs block slot binds rest slots now = CountsAsking rooms host key vs (λ q. counts block (take slot slots ++ bound_values binds q)) now (λ v. next 0 (v ∷ rest) (take slot slots))
+
+      -- nothing need be copied
+      none_copied : (key : List ℕ) (vs : List Value) (block slot : ℕ) (binds : Binds) (rest slots : List Value) (now : Room) (r : Result Room Limit) (e : Ending Room)
+          → Passing r (λ begun. Then (Call key vs block slot binds slots begun) (λ v ran. Rested rest slot slots v (freed now ran))) e → Passing r (Asking_of key vs block slot binds rest slots now) e
+      none_copied key vs block slot binds rest slots now (Ok begun) e p = ([], tt, p)
+      none_copied key vs block slot binds rest slots now (Err limit) e p = p
+
+      abbrev One : Op → List Value → List Value → Room → Ending Room → Type 0
+      One op stack slots = Counts rooms costs host ctx counts op next stack slots
+
+      step_ample : (op : Op) (stack slots : List Value) (move : Move) → Step host ctx later op stack slots move → On move next' a → Ample a (Alone (One op stack slots))
+      step_ample (asks key n block slot binds) stack slots move (vs, rest, x, stood, many, h, e) on =
+          let w = costs.work (asks key n block slot binds) vs in
+          let k = costs.room (asks key n block slot binds) vs in
+          ample_more a (Called w k (Call key vs block slot binds slots) (Rested rest slot slots)) (Alone (One (asks key n block slot binds) stack slots)) (
+          λ first now f q. (vs, rest, stood, many, (q.0, q.1, none_copied key vs block slot binds rest slots now q.0 f q.2))
+          ) (
+          answer_ample w k key block slot binds vs rest slots x (
+          call_ample (λ q. counts block (take slot slots ++ bound_values binds q)) (λ q. later block (take slot slots ++ bound_values binds q)) (λ q. has block (take slot slots ++ bound_values binds q)) host key vs x h
+          ) (subst (λ m. On m next' a) e on)
+          )
+      step_ample (push v) stack slots move p on = plain_ample (push v) stack slots move p on
+      step_ample (load i) stack slots move p on = plain_ample (load i) stack slots move p on
+      step_ample (look key) stack slots move p on = plain_ample (look key) stack slots move p on
+      step_ample (look_with key i) stack slots move p on = plain_ample (look_with key i) stack slots move p on
+      step_ample env stack slots move p on = plain_ample env stack slots move p on
+      step_ample (store i) [] slots move p on = absurd p
+      step_ample (store i) (v ∷ stack) slots move p on = plain_ample (store i) (v ∷ stack) slots move p on
+      step_ample (act k) stack slots move p on = plain_ample (act k) stack slots move p on
+      step_ample refuse stack slots move p on = plain_ample refuse stack slots move p on
+      step_ample (jump n) stack slots move p on = plain_ample (jump n) stack slots move p on
+      step_ample (jump_if_false n) [] slots move p on = absurd p
+      step_ample (jump_if_false n) (v ∷ stack) slots move p on = plain_ample (jump_if_false n) (v ∷ stack) slots move p on
+      step_ample (and_then n) [] slots move p on = absurd p
+      step_ample (and_then n) (v ∷ stack) slots move p on = plain_ample (and_then n) (v ∷ stack) slots move p on
+      step_ample (or_else n) [] slots move p on = absurd p
+      step_ample (or_else n) (v ∷ stack) slots move p on = plain_ample (or_else n) (v ∷ stack) slots move p on
+      step_ample (unless_nil n) [] slots move p on = absurd p
+      step_ample (unless_nil n) (v ∷ stack) slots move p on = plain_ample (unless_nil n) (v ∷ stack) slots move p on
+
+    end_ample : (a : Answer) (skip : ℕ) (stack slots : List Value) → Ends skip stack slots a → Ample a (Alone (CountsEnd rooms costs skip stack slots))
+    end_ample a zero [] slots p = absurd p
+    end_ample a zero (v ∷ []) slots p = ample_here a (Alone (CountsEnd rooms costs zero (v ∷ []) slots)) (λ first now. ap (λ x. ended x now) p)
+    end_ample a zero (v ∷ w ∷ stack) slots p = absurd p
+    end_ample a (suc skip) stack slots p = absurd p
+
+    rest_ample : (a : Answer) (ops : List Op) (skip : ℕ) (stack slots : List Value) → Rest host ctx later ops Ends skip stack slots a
+        → Ample a (Alone (CountsRest rooms costs host ctx counts ops (CountsEnd rooms costs) skip stack slots))
+    rest_ample a [] skip stack slots p = end_ample a skip stack slots p
+    rest_ample a (op ∷ ops) (suc skip) stack slots p = rest_ample a ops skip stack slots p
+    rest_ample a (op ∷ ops) zero stack slots p =
+        let s = stepped host ctx later op (Rest host ctx later ops Ends) stack slots a p in
+        step_ample a (Rest host ctx later ops Ends) (CountsRest rooms costs host ctx counts ops (CountsEnd rooms costs)) (rest_ample a ops) op stack slots s.0 s.1 s.2
+
+  module _ (host : Host) (ctx : Context) where
+    abbrev Behind : List (List Op) → CountsLater rooms costs
+    Behind blocks = CountsRuns rooms costs host ctx blocks
+
+    runs_ample : (blocks : List (List Op)) (n : ℕ) (slots : List Value) (a : Answer) → Runs host ctx blocks n slots a → Ample a (Alone (Behind blocks n slots))
+    runs_ample [] n slots a p = absurd p
+    runs_ample (ops ∷ blocks) zero slots a p =
+        ample_counted (length ops + length ops) (Takes (length ops) (length ops)) a (Alone (CountsRest rooms costs host ctx (Behind blocks) ops (CountsEnd rooms costs) 0 [] slots)) (takes_passes (length ops) (length ops)) (
+        rest_ample host ctx (Behind blocks) (Runs host ctx blocks) (runs_ample blocks) a ops 0 [] slots p
+        )
+    runs_ample (ops ∷ blocks) (suc n) slots a p = runs_ample blocks n slots a p
+
+    -- the answer is kept in the end
+    abbrev Last : Value → Part
+    Last v first now e = Counted (rooms.keeps v) now (λ last f. f ≡ gives v last) e
+
+    code_by : (blocks : List (List Op)) (a : Answer) → Ample a (Alone (Behind blocks 0 [])) → Ample a (Asked false (Behind blocks 0 []) Last)
+    code_by blocks (Ok v) p =
+        ample_asked false (Behind blocks 0 []) Last (Ok v) v p (
+        ample_counted (weight v + depth v) (Holds (weight v) (depth v)) (Ok v) (λ first last f. f ≡ gives v last) (holds_passes (weight v) (depth v)) (ample_here (Ok v) (λ first last f. f ≡ gives v last) (λ first now. refl))
+        )
+    code_by blocks (Err e) p = ample_refused false (Behind blocks 0 []) Last (Err e) e p refl
+
+    code_ample : (blocks : List (List Op)) (a : Answer) → CodeAnswers host ctx blocks a → Ample a (Alone (CodeCounts rooms costs host ctx blocks))
+    code_ample blocks a p = code_by blocks a (runs_ample blocks 0 [] a (runs_of_answers host ctx blocks 0 [] a p))
+
+    -- each run of a code is a counted run within limits that are large enough
+    pub code_within : (blocks : List (List Op)) (a : Answer) → CodeAnswers host ctx blocks a
+        → (need : ℕ) × ((s w d : ℕ) → need ≤ s → need ≤ w → need ≤ d → (left : Room) × CodeCounts rooms costs host ctx blocks (within s w d) (ended a left))
+    code_within blocks a p = ample_within a (CodeCounts rooms costs host ctx blocks) (code_ample blocks a p)
+
+    -- and where there is none
+    pub code_unlimited : (blocks : List (List Op)) (a : Answer) → CodeAnswers host ctx blocks a → CodeCounts rooms costs host ctx blocks unlimited (ended a unlimited)
+    code_unlimited blocks a p = ample_unlimited a (CodeCounts rooms costs host ctx blocks) (code_ample blocks a p)

@@ -1,0 +1,149 @@
+//! What is left of limits.
+ghost use Rattle.std.specs.Prelude.{◌≡◌, ◌+◌, ◌≤◌, ℕ, IfOk, IfErr, None, min};
+ghost use Rattle.expr_sizes.specs.Sizes.{Passes};
+ghost use Rattle.expr_meter.specs.Metered.{Charges, Metered};
+ghost use Rattle.expr_meter.specs.Rooms.{Holds, Takes, within};
+
+use crate::limit::Limit;
+use crate::limits::Limits;
+use crate::meter::Meter;
+use expr_sizes::{Passed, weigh, weigh_inside};
+use expr_value::Value;
+use std::alloc::AllocError;
+
+/// What is left of limits, and which of them was passed, if one was.
+#[derive(Clone, Copy, Debug, Drop)]
+pub struct Budget {
+    steps: u64,
+    size: u64,
+    depth: usize,
+    stopped: Option<Limit>,
+}
+
+impl Budget {
+    /// All that limits allow a run.
+    #[inline(always)]
+    pub fn new(limits: &Limits) -> Budget
+        ensures { ⟦<Budget as Meter>⟧.metered result
+            ≡ record { room = within limits.now.steps limits.now.size limits.now.depth; stopped = None } }
+    {
+        Budget {
+            steps: limits.steps,
+            size: limits.size,
+            depth: limits.depth,
+            stopped: None,
+        }
+    }
+
+    /// The limit that was passed, if one was.
+    #[inline(always)]
+    pub fn stopped(&self) -> Option<Limit>
+        ensures { result ≡ (⟦<Budget as Meter>⟧.metered self.now).stopped }
+    {
+        self.stopped
+    }
+
+    /// So many steps are taken and so much is held, unless that passes a limit.
+    #[inline(always)]
+    fn take(&mut self, steps: u64, size: u64) -> Result<(), AllocError>
+        ensures { Charges result (Takes steps size)
+            (⟦<Budget as Meter>⟧.metered self.old) (⟦<Budget as Meter>⟧.metered self.new) }
+    {
+        if self.steps < steps {
+            self.stopped = Some(Limit::Steps);
+            return Err(AllocError);
+        }
+        if self.size < size {
+            self.stopped = Some(Limit::Size);
+            return Err(AllocError);
+        }
+        self.steps -= steps;
+        self.size -= size;
+        Ok(())
+    }
+
+    /// The most that a value may weigh which is held.
+    #[inline(always)]
+    fn room(&self) -> u64
+        ensures { result ≡ min self.now.steps self.now.size }
+    {
+        self.steps.min(self.size)
+    }
+
+    /// A value is held of which so much is left of the room, or which passes a limit.
+    fn hold(&mut self, measured: Result<u64, Passed>) -> Result<(), AllocError>
+        requires { IfOk measured (λ left. left ≤ min self.old.steps self.old.size) }
+        ensures { (weight depth : ℕ)
+            → IfOk measured (λ left. (weight + left ≡ min self.old.steps self.old.size)
+            × (depth ≤ self.old.depth))
+            → IfErr measured (λ p. Passes p weight depth (min self.old.steps self.old.size) self.old.depth)
+            → Charges result (Holds weight depth)
+            (⟦<Budget as Meter>⟧.metered self.old) (⟦<Budget as Meter>⟧.metered self.new) }
+    {
+        match measured {
+            Ok(left) => {
+                let weight = self.room() - left;
+                self.take(weight, weight)
+            }
+            Err(Passed::Depth) => {
+                self.stopped = Some(Limit::Depth);
+                Err(AllocError)
+            }
+            Err(Passed::Weight) => {
+                let is_size = self.size <= self.steps;
+                self.stopped = Some(if is_size { Limit::Size } else { Limit::Steps });
+                Err(AllocError)
+            }
+        }
+    }
+}
+
+impl Meter for Budget {
+    ghost metered = { λ b. record { room = within b.steps b.size b.depth; stopped = b.stopped } };
+
+    #[inline(always)]
+    fn counts(&self) -> bool {
+        true
+    }
+
+    #[inline(always)]
+    fn enter(&mut self, instructions: usize) -> Result<(), AllocError> {
+        self.take(instructions as u64, instructions as u64)
+    }
+
+    #[inline(always)]
+    fn work(&mut self, steps: u64, room: u64) -> Result<(), AllocError> {
+        if self.steps < steps || self.steps - steps < room {
+            self.stopped = Some(Limit::Steps);
+            return Err(AllocError);
+        }
+        if self.size < room {
+            self.stopped = Some(Limit::Size);
+            return Err(AllocError);
+        }
+        self.steps -= steps;
+        Ok(())
+    }
+
+    #[inline(never)]
+    fn made(&mut self, value: &Value) -> Result<(), AllocError> {
+        let measured = weigh_inside(value, self.room(), self.depth);
+        self.hold(measured)
+    }
+
+    #[inline(never)]
+    fn keep(&mut self, value: &Value) -> Result<(), AllocError> {
+        let measured = weigh(value, self.room(), self.depth);
+        self.hold(measured)
+    }
+
+    #[inline(always)]
+    fn mark(&self) -> u64 {
+        self.size
+    }
+
+    #[inline(always)]
+    fn release(&mut self, mark: u64) {
+        self.size = mark;
+    }
+}
