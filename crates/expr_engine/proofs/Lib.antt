@@ -1,3 +1,5 @@
 pub mod Ended
 pub mod Given
+pub mod Handed
+pub mod Told
 pub mod Unchanged

@@ -1,12 +1,15 @@
 -- Engines that keep what they kept.
-use Rattle.std.proofs.Common.{◌≡◌, ℕ, Bool, true, false, List, Option, None, Some, Result, Ok, Err, OnErr, if◌then◌else◌, ◌∙◌, arith, ap, sym, refl, option_map}
+use Rattle.std.proofs.Common.{◌≡◌, ◌≤◌, ◌+◌, ℕ, Bool, true, false, List, Option, None, Some, IsSomeAnd, is_some, Result, Ok, Err, OnErr, if◌then◌else◌, ◌∙◌, arith, ap, sym, refl, subst, option_map}
+use Rattle.std.proofs.lemmas.Bool.{false≢true}
 use Rattle.std.proofs.lemmas.Grind.{common_steps}
 use Rattle.std.specs.Option.{unwrap_or}
-use Rattle.expr_engine.specs.Engines.{SameAdditions, SameKept}
+use Rattle.expr_engine.specs.Doings.{Adds, Changes}
+use Rattle.expr_engine.specs.Engines.{Leaves, NumbersRise, SameAdditions, SameKept}
 use Rattle.expr_engine.specs.Runs.{zone_at}
 use Rattle.expr_engine.specs.declared.additions.Additions.{Additions}
 use Rattle.expr_engine.specs.declared.engine.Engine.{Engine}
-use Rattle.expr_kept.specs.Kept.{SameThings, found, is_same}
+use Rattle.expr_exchange.specs.Looked.{SameLook, way_of, whole_of}
+use Rattle.expr_kept.specs.Kept.{SameThings, found, is_same, next_number}
 use Rattle.expr_kept.specs.declared.Handle.{Handle}
 use Rattle.expr_kept.specs.declared.Kept.{Kept}
 
@@ -75,7 +78,128 @@ additions_by_exchange old mid new h spare was is m n w zones moment = record {
   moments = λ k. told_at (λ a. a.moment) old mid new h spare was is m n w moment k (is_same h k) refl;
 }
 
+-- a thing was exchanged, and exchanged back as it was
+put_back : {T : Type 0} (o n : Option T) (spare was is : T) → n ≡ option_map (λ _. is) o → was ≡ unwrap_or o spare → is ≡ was → n ≡ o
+put_back None n spare was is e w z = e
+put_back (Some x) n spare was is e w z = e ∙ ap Some (z ∙ w)
+
+thing_at : {T : Type 0} (old mid new : Kept T) (h : Handle) (spare was is : T) → ((k : Handle) → found mid k ≡ (if is_same h k then option_map (λ _. spare) (found old k) else found old k))
+    → ((k : Handle) → found new k ≡ (if is_same h k then option_map (λ _. is) (found mid k) else found mid k)) → was ≡ unwrap_or (found old h) spare → is ≡ was
+    → (k : Handle) (b : Bool) → is_same h k ≡ b → found new k ≡ found old k
+thing_at old mid new h spare was is m n w z k true e =
+    put_back (found old k) (found new k) spare was is (exchanged_twice (found old k) (found mid k) (found new k) spare is (rw e at (m k)) (rw e at (n k))) (w ∙ ap (λ o. unwrap_or o spare) (sym (one_finds old h k e))) z
+thing_at old mid new h spare was is m n w z k false e = rw e at (n k) ∙ rw e at (m k)
+
+pub things_by_exchange : {T : Type 0} (old mid new : Kept T) (h : Handle) (spare was is : T) → ((k : Handle) → found mid k ≡ (if is_same h k then option_map (λ _. spare) (found old k) else found old k))
+    → ((k : Handle) → found new k ≡ (if is_same h k then option_map (λ _. is) (found mid k) else found mid k)) → was ≡ unwrap_or (found old h) spare → is ≡ was → SameThings old new
+things_by_exchange old mid new h spare was is m n w z = λ k. thing_at old mid new h spare was is m n w z k (is_same h k) refl
+
 -- what holds, holds where a result is a refusal
 pub on_err : {A E P : Type 0} (r : Result A E) → P → OnErr r P
 on_err (Ok v) p = tt
 on_err (Err e) p = p
+
+pub leaves : {old new : Engine} → SameKept old new → new.answer ≡ old.answer → Leaves old new
+leaves k a = record { kept = k; look = record { whole = ap whole_of a; way = ap way_of a } }
+
+-- numbers that are the same don't fall
+no_less : (a b : ℕ) → b ≡ a → a ≤ b
+no_less a b e = omega arith
+
+pub numbers_same : {old new : Engine} → next_number new.rules ≡ next_number old.rules → next_number new.contexts ≡ next_number old.contexts → next_number new.environments ≡ next_number old.environments → NumbersRise old new
+numbers_same r c e = record { rules = no_less _ _ r; contexts = no_less _ _ c; environments = no_less _ _ e }
+
+-- a handle is itself
+same_self : (h : Handle) → is_same h h ≡ true
+same_self h = grind (arith, common_steps)
+
+finds_changed : {T : Type 0} (Becomes : T → T → Type 0) (o n : Option T) (was is : T) → o ≡ Some was → n ≡ option_map (λ _. is) o → Becomes was is → IsSomeAnd n (Becomes was)
+finds_changed Becomes None n was is s e b = let no : ⊥ = cc s in absurd no
+finds_changed Becomes (Some x) n was is s e b = subst (λ m. IsSomeAnd m (Becomes was)) (sym e) b
+
+stood_as : {T : Type 0} (o : Option T) (spare was : T) → is_some o ≡ true → was ≡ unwrap_or o spare → o ≡ Some was
+stood_as None spare was known w = absurd (false≢true known)
+stood_as (Some x) spare was known w = ap Some (sym w)
+
+-- a thing was exchanged, became another, and was exchanged back
+pub changes_by_exchange : {T : Type 0} (Becomes : T → T → Type 0) (old mid new : Kept T) (h : Handle) (spare was is : T) → ((k : Handle) → found mid k ≡ (if is_same h k then option_map (λ _. spare) (found old k) else found old k))
+    → ((k : Handle) → found new k ≡ (if is_same h k then option_map (λ _. is) (found mid k) else found mid k)) → is_some (found old h) ≡ true → was ≡ unwrap_or (found old h) spare
+    → Becomes was is → Changes Becomes old new h
+changes_by_exchange Becomes old mid new h spare was is m n known w b = record {
+  was = was;
+  stood = stood_as (found old h) spare was known w;
+  kept = finds_changed Becomes (found old h) (found new h) was is (stood_as (found old h) spare was known w)
+      (exchanged_twice (found old h) (found mid h) (found new h) spare is (rw (same_self h) at (m h)) (rw (same_self h) at (n h))) b;
+  others = λ k e. rw e at (n k) ∙ rw e at (m k);
+}
+
+-- what was left is left by what changes nothing of it after
+pub leaves_after : {old mid new : Engine} → Leaves old mid → new.rules ≡ mid.rules → new.contexts ≡ mid.contexts → new.environments ≡ mid.environments → new.answer ≡ mid.answer → Leaves old new
+leaves_after l r c e a = record {
+  kept = record {
+    rules = λ h. ap (λ k. found k h) r ∙ l.kept.rules h;
+    contexts = λ h. ap (λ k. found k h) c ∙ l.kept.contexts h;
+    environments = record {
+      zones = λ h name. ap (λ k. option_map (λ a. zone_at a name) (found k h)) e ∙ l.kept.environments.zones h name;
+      moments = λ h. ap (λ k. option_map (λ a. a.moment) (found k h)) e ∙ l.kept.environments.moments h;
+    };
+  };
+  look = record { whole = ap whole_of a ∙ l.look.whole; way = ap way_of a ∙ l.look.way };
+}
+
+as_far : (a b c : ℕ) → a ≤ b → c ≡ b → a ≤ c
+as_far a b c h e = omega arith
+
+pub rise_after : {old mid new : Engine} → NumbersRise old mid → new.rules ≡ mid.rules → new.contexts ≡ mid.contexts → new.environments ≡ mid.environments → NumbersRise old new
+rise_after n r c e = record {
+  rules = as_far _ _ _ n.rules (ap (λ k. next_number k) r);
+  contexts = as_far _ _ _ n.contexts (ap (λ k. next_number k) c);
+  environments = as_far _ _ _ n.environments (ap (λ k. next_number k) e);
+}
+
+pub numbers_kept : {old new : Engine} → new.rules ≡ old.rules → new.contexts ≡ old.contexts → new.environments ≡ old.environments → NumbersRise old new
+numbers_kept r c e = numbers_same (ap (λ k. next_number k) r) (ap (λ k. next_number k) c) (ap (λ k. next_number k) e)
+
+pub numbers_by_rules : {old new : Engine} → next_number new.rules ≡ next_number old.rules → new.contexts ≡ old.contexts → new.environments ≡ old.environments → NumbersRise old new
+numbers_by_rules r c e = numbers_same r (ap (λ k. next_number k) c) (ap (λ k. next_number k) e)
+
+pub numbers_by_contexts : {old new : Engine} → new.rules ≡ old.rules → next_number new.contexts ≡ next_number old.contexts → new.environments ≡ old.environments → NumbersRise old new
+numbers_by_contexts r c e = numbers_same (ap (λ k. next_number k) r) c (ap (λ k. next_number k) e)
+
+pub numbers_by_environments : {old new : Engine} → new.rules ≡ old.rules → new.contexts ≡ old.contexts → next_number new.environments ≡ next_number old.environments → NumbersRise old new
+numbers_by_environments r c e = numbers_same (ap (λ k. next_number k) r) (ap (λ k. next_number k) c) e
+
+-- what a call leaves that is refused: all of it, or where one of the three finds the same things
+pub left_same : {A E : Type 0} (old new : Engine) (r : Result A E) → new.rules ≡ old.rules → new.contexts ≡ old.contexts → new.environments ≡ old.environments → new.answer ≡ old.answer → OnErr r (Leaves old new)
+left_same old new (Ok v) a b c d = tt
+left_same old new (Err x) a b c d = leaves (same_kept a b c) d
+
+pub left_rules : {A E : Type 0} (old new : Engine) (r : Result A E) → OnErr r (SameThings old.rules new.rules) → new.contexts ≡ old.contexts → new.environments ≡ old.environments → new.answer ≡ old.answer → OnErr r (Leaves old new)
+left_rules old new (Ok v) s c e a = tt
+left_rules old new (Err x) s c e a = leaves (same_rules s c e) a
+
+pub left_contexts : {A E : Type 0} (old new : Engine) (r : Result A E) → new.rules ≡ old.rules → OnErr r (SameThings old.contexts new.contexts) → new.environments ≡ old.environments → new.answer ≡ old.answer → OnErr r (Leaves old new)
+left_contexts old new (Ok v) k s e a = tt
+left_contexts old new (Err x) k s e a = leaves (same_contexts k s e) a
+
+pub left_environments : {A E : Type 0} (old new : Engine) (r : Result A E) → new.rules ≡ old.rules → new.contexts ≡ old.contexts → OnErr r (SameAdditions old.environments new.environments) → new.answer ≡ old.answer → OnErr r (Leaves old new)
+left_environments old new (Ok v) k c s a = tt
+left_environments old new (Err x) k c s a = leaves (same_environments k c s) a
+
+pub left_look : {A E : Type 0} (old new : Engine) (r : Result A E) → new.rules ≡ old.rules → new.contexts ≡ old.contexts → new.environments ≡ old.environments → OnErr r (SameLook old.answer new.answer) → OnErr r (Leaves old new)
+left_look old new (Ok v) k c e l = tt
+left_look old new (Err x) k c e l = record { kept = same_kept k c e; look = l }
+
+pub left_answer : {A E : Type 0} (old new : Engine) (r : Result A E) → new.rules ≡ old.rules → new.contexts ≡ old.contexts → new.environments ≡ old.environments → OnErr r (new.answer ≡ old.answer) → OnErr r (Leaves old new)
+left_answer old new (Ok v) k c e a = tt
+left_answer old new (Err x) k c e a = leaves (same_kept k c e) a
+
+-- a new thing takes the next number
+pub adds_rise : {T : Type 0} {Is : T → Type 0} {old new : Kept T} {h : Handle} → Adds Is old new h → next_number old ≤ next_number new
+adds_rise a = omega (arith, a.number, a.next)
+
+pub rise_by_rules : {old new : Engine} → next_number old.rules ≤ next_number new.rules → new.contexts ≡ old.contexts → new.environments ≡ old.environments → NumbersRise old new
+rise_by_rules r c e = record { rules = r; contexts = no_less _ _ (ap (λ k. next_number k) c); environments = no_less _ _ (ap (λ k. next_number k) e) }
+
+pub rise_by_contexts : {old new : Engine} → new.rules ≡ old.rules → next_number old.contexts ≤ next_number new.contexts → new.environments ≡ old.environments → NumbersRise old new
+rise_by_contexts r c e = record { rules = no_less _ _ (ap (λ k. next_number k) r); contexts = c; environments = no_less _ _ (ap (λ k. next_number k) e) }

@@ -1,17 +1,20 @@
 -- What an engine keeps under handles, and what a run finds there.
-use Rattle.std.specs.Prelude.{◌≡◌, ◌≢◌, ℕ, ◌==◌, List, [], Option, None, Some, Err, if◌then◌else◌, option_map}
+use Rattle.std.specs.Prelude.{◌≡◌, ◌≢◌, ◌≤◌, ℕ, ◌==◌, List, [], Option, None, Some, Result, Err, IsUtf8, if◌then◌else◌, option_map}
 use Rattle.std.specs.Option.{option_and_then}
 use Rattle.expr.specs.Texts.{IsRefusedWithin}
 use Rattle.expr_engine.specs.Runs.{MayGive, Pairs, context_of, host_by, zone_at}
 use Rattle.expr_engine.specs.declared.additions.Additions.{Additions}
 use Rattle.expr_engine.specs.declared.engine.Engine.{Engine}
 use Rattle.expr_engine.specs.declared.rule.Rule.{Rule}
+use Rattle.expr_exchange.specs.Built.{values_of}
+use Rattle.expr_exchange.specs.Looked.{SameLook}
 use Rattle.expr_exchange.specs.declared.refused.Refused.{Refused}
 use Rattle.expr_exchange.specs.declared.refused.Refused.TheVariants.{Language, Unknown, Misuse}
-use Rattle.expr_kept.specs.Kept.{SameThings, found}
+use Rattle.expr_kept.specs.Kept.{SameThings, found, next_number}
 use Rattle.expr_kept.specs.declared.Handle.{Handle}
 use Rattle.expr_kept.specs.declared.Kept.{Kept}
 use Rattle.expr_tree.specs.Written.{program_written}
+use Rattle.expr_syntax.specs.Texts.{IsPlaced}
 use Rattle.expr_value.specs.Answers.{Answer}
 use Rattle.expr_value.specs.Fault.{fault_of, memory}
 
@@ -50,6 +53,18 @@ RefusesText height text (Language error) = fault_of error ≢ memory → IsRefus
 RefusesText height text Unknown = ⊥
 RefusesText height text Misuse = ⊥
 
+-- A fault of syntax is at the text's first fault.
+abbrev pub IsPlacedRefusal : List ℕ → Refused → Type 0
+IsPlacedRefusal text (Language error) = IsPlaced {A = Unit {0}} text (Err error)
+IsPlacedRefusal text Unknown = Unit {0}
+IsPlacedRefusal text Misuse = Unit {0}
+
+-- The same of a text that is handed in, and misused only where it is no text.
+abbrev pub CompileRefuses : ℕ → List ℕ → Refused → Type 0
+CompileRefuses height text (Language error) = RefusesText height text (Language error) × IsPlacedRefusal text (Language error) × IsUtf8 text
+CompileRefuses height text Unknown = ⊥
+CompileRefuses height text Misuse = IsUtf8 text → ⊥
+
 -- Every handle finds an environment with the zones and the moment that it found.
 pub record SameAdditions (old new : Kept Additions) : Type 0 where
   pub zones : (h : Handle) (name : List ℕ) → option_map (λ a. zone_at a name) (found new h)
@@ -61,3 +76,14 @@ pub record SameKept (old new : Engine) : Type 0 where
   pub rules : SameThings old.rules new.rules
   pub contexts : SameThings old.contexts new.contexts
   pub environments : SameAdditions old.environments new.environments
+
+-- The numbers of things to come don't fall, so that no handle is given twice.
+pub record NumbersRise (old new : Engine) : Type 0 where
+  pub rules : next_number old.rules ≤ next_number new.rules
+  pub contexts : next_number old.contexts ≤ next_number new.contexts
+  pub environments : next_number old.environments ≤ next_number new.environments
+
+-- What a refusal leaves: all that handles find, and what is looked at.
+pub record Leaves (old new : Engine) : Type 0 where
+  pub kept : SameKept old new
+  pub look : SameLook old.answer new.answer

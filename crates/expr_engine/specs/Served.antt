@@ -1,6 +1,11 @@
 -- What a call answers.
-use Rattle.std.specs.Prelude.{◌≡◌, ◌≢◌, ◌⊎◌, ℕ, Result, Ok, Err}
+use Rattle.std.specs.Prelude.{◌≡◌, ◌≢◌, ◌⊎◌, ℕ, List, [], Result, Ok, Err, string_bytes}
 use Rattle.expr_engine.specs.Engines.{Asked, MayAnswer}
+use Rattle.expr_engine.specs.declared.call.Shows.{Shows}
+use Rattle.expr_engine.specs.declared.call.Shows.TheVariants as shows
+use Rattle.expr_engine.specs.declared.engine.Engine.{Engine}
+use Rattle.expr_exchange.specs.Kinds.{bytes_in}
+use Rattle.expr_exchange.specs.Looked.{part_of}
 use Rattle.expr_exchange.specs.Refusals.{status_of}
 use Rattle.expr_exchange.specs.declared.refused.Refused.{Refused}
 use Rattle.expr_exchange.specs.declared.refused.Refused.TheVariants.{Language, Unknown, Misuse}
@@ -48,3 +53,9 @@ pub record Answers (q : Asked) (number : ℕ) (value : Value) : Type 0 where
 abbrev pub Ends : {A : Type 0} → Result A Refused → ℕ → Type 0
 Ends (Ok shown) number = number ≡ 0
 Ends (Err refused) number = (number ≡ number_of (status_of refused)) ⊎ (number ≡ 5)
+
+-- the text that an engine shows
+abbrev pub text_shown : Shows → Engine → List ℕ
+text_shown shows.Nothing engine = []
+text_shown shows.Said engine = string_bytes engine.said
+text_shown shows.Value engine = bytes_in (part_of engine.answer)

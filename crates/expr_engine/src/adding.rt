@@ -1,53 +1,76 @@
 //! Asks about environments.
-ghost use Rattle.std.specs.Prelude.{◌≡◌, OnErr};
-ghost use Rattle.expr_engine.specs.Engines.{SameAdditions};
+ghost use Rattle.std.specs.Prelude.{◌≡◌, None, ◌≢◌, IfErr, Err, OnErr, OnOk};
+ghost use Rattle.expr_engine.specs.Doings.{AddsEnvironment, AddsFixedZone, AddsZoneByRule, SetsNow, reply_of};
+ghost use Rattle.expr_engine.specs.Engines.{NumbersRise, SameAdditions};
+ghost use Rattle.expr_kept.specs.Kept.{found, next_number};
 
 use crate::additions::Additions;
 use crate::call::Call;
 use crate::engine::Engine;
 use crate::running::utf8;
-use crate::serving::Shows;
 use expr_exchange::{Refused, moment_of};
 
 /// Keeps an environment that adds nothing.
 #[tactic(auto, using(crate::proofs::Unchanged::additions_by_things))]
-pub fn add_environment(engine: &mut Engine, call: &mut Call<'_>) -> Result<Shows, Refused>
+pub fn add_environment(engine: &mut Engine, call: &mut Call<'_>) -> Result<(), Refused>
+    ensures done { OnOk result (AddsEnvironment engine.old engine.new (reply_of call.new)) }
+    ensures found { IfErr result (λ e. e ≢ Refused.Unknown) }
     ensures err { OnErr result (SameAdditions engine.old.environments engine.new.environments) }
+    ensures numbers { NumbersRise engine.old engine.new }
     ensures rules { engine.new.rules ≡ engine.old.rules }
     ensures contexts { engine.new.contexts ≡ engine.old.contexts }
+    ensures answer { engine.new.answer ≡ engine.old.answer }
 {
     call.environment = engine.environments.put(Additions::new(engine.alloc))?;
-    Ok(Shows::Nothing)
+    Ok(())
 }
 
 /// Adds a zone to an environment, by the seconds that its clock is ahead of UTC.
-pub fn zone_by_seconds(engine: &mut Engine, call: &Call<'_>) -> Result<Shows, Refused>
+pub fn zone_by_seconds(engine: &mut Engine, call: &Call<'_>) -> Result<(), Refused>
+    ensures done { OnOk result (AddsFixedZone engine.old engine.new call.now) }
+    ensures unknown { found engine.old.environments call.now.environment ≡ None
+        → result ≡ Err Refused.Unknown }
+    ensures known { result ≡ Err Refused.Unknown → found engine.old.environments call.now.environment ≡ None }
     ensures err { OnErr result (SameAdditions engine.old.environments engine.new.environments) }
+    ensures next { next_number engine.new.environments ≡ next_number engine.old.environments }
     ensures rules { engine.new.rules ≡ engine.old.rules }
     ensures contexts { engine.new.contexts ≡ engine.old.contexts }
+    ensures answer { engine.new.answer ≡ engine.old.answer }
 {
-    engine.add_zone(call.environment, utf8(call.name)?, call.number, None)?;
-    Ok(Shows::Nothing)
+    engine.knows_environment(call.environment)?;
+    engine.add_zone(call.environment, utf8(call.name)?, call.number, None)
 }
 
 /// Adds a zone to an environment, by a rule in POSIX's form.
-pub fn zone_by_rule(engine: &mut Engine, call: &Call<'_>) -> Result<Shows, Refused>
+pub fn zone_by_rule(engine: &mut Engine, call: &Call<'_>) -> Result<(), Refused>
+    ensures done { OnOk result (AddsZoneByRule engine.old engine.new call.now) }
+    ensures unknown { found engine.old.environments call.now.environment ≡ None
+        → result ≡ Err Refused.Unknown }
+    ensures known { result ≡ Err Refused.Unknown → found engine.old.environments call.now.environment ≡ None }
     ensures err { OnErr result (SameAdditions engine.old.environments engine.new.environments) }
+    ensures next { next_number engine.new.environments ≡ next_number engine.old.environments }
     ensures rules { engine.new.rules ≡ engine.old.rules }
     ensures contexts { engine.new.contexts ≡ engine.old.contexts }
+    ensures answer { engine.new.answer ≡ engine.old.answer }
 {
+    engine.knows_environment(call.environment)?;
     let rule = utf8(call.text)?;
-    engine.add_zone(call.environment, utf8(call.name)?, 0, Some(rule))?;
-    Ok(Shows::Nothing)
+    engine.add_zone(call.environment, utf8(call.name)?, 0, Some(rule))
 }
 
 /// Sets the moment that an environment takes for now.
-pub fn set_now(engine: &mut Engine, call: &Call<'_>) -> Result<Shows, Refused>
+pub fn set_now(engine: &mut Engine, call: &Call<'_>) -> Result<(), Refused>
+    ensures done { OnOk result (SetsNow engine.old engine.new call.now) }
+    ensures unknown { found engine.old.environments call.now.environment ≡ None
+        → result ≡ Err Refused.Unknown }
+    ensures known { result ≡ Err Refused.Unknown → found engine.old.environments call.now.environment ≡ None }
     ensures err { OnErr result (SameAdditions engine.old.environments engine.new.environments) }
+    ensures next { next_number engine.new.environments ≡ next_number engine.old.environments }
     ensures rules { engine.new.rules ≡ engine.old.rules }
     ensures contexts { engine.new.contexts ≡ engine.old.contexts }
+    ensures answer { engine.new.answer ≡ engine.old.answer }
 {
+    engine.knows_environment(call.environment)?;
     let now = moment_of(call.number, call.fraction)?;
-    engine.set_now(call.environment, now)?;
-    Ok(Shows::Nothing)
+    engine.set_now(call.environment, now)
 }

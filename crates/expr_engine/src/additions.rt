@@ -1,7 +1,8 @@
 //! What a host adds to the language: zones, and the moment that is now.
-ghost use Rattle.std.specs.Prelude.{◌≡◌, ℕ, List, None, OnErr, Some, option_map};
+ghost use Rattle.std.specs.Prelude.{◌≡◌, ℕ, List, None, OnErr, OnOk, Some, IfSome, IsNone, option_map};
+ghost use Rattle.expr_engine.specs.Adding.{AddsNothing, BecomesByRule, BecomesFixed, BecomesNow, GainsZone};
 ghost use Rattle.expr_engine.specs.Runs.{zone_at};
-ghost use Rattle.expr_value.specs.Times.{instant};
+ghost use Rattle.expr_value.specs.Times.{plain_rules};
 
 use expr::{DateTimeValue, Error, Result, TimezoneValue, Value};
 use expr_meaning::{ExprCall, Functions};
@@ -22,8 +23,7 @@ pub struct Additions {
 impl Additions {
     /// Nothing added. It takes no memory.
     pub fn new(alloc: Global) -> Additions
-        ensures zones { (name : List ℕ) → zone_at result name ≡ None }
-        ensures moment { result.moment ≡ None }
+        ensures { AddsNothing result }
     {
         Additions {
             alloc,
@@ -38,14 +38,11 @@ impl Additions {
     ///
     /// `ExprError` for `UTC`, which is always known, and for more than a day, or `MemoryError`.
     pub fn add_fixed(&mut self, name: &str, seconds: i64) -> Result<()>
+        ensures added { OnOk result (BecomesFixed name.now seconds self.old self.new) }
         ensures err { OnErr result ((key : List ℕ) → zone_at self.new key ≡ zone_at self.old key) }
         ensures moment { self.new.moment ≡ self.old.moment }
     {
-        let offset = match i32::try_from(seconds) {
-            Ok(seconds) => Offset::from_seconds(seconds).ok(),
-            Err(_) => None,
-        };
-        match offset {
+        match ahead(seconds) {
             Some(offset) => self.add(name, TimeZone::fixed(offset)),
             None => Err(refusal(self.alloc, "no clock is so far ahead")),
         }
@@ -57,6 +54,7 @@ impl Additions {
     ///
     /// `ExprError` for `UTC` and for what is no rule, or `MemoryError`.
     pub fn add_rule(&mut self, name: &str, rule: &str) -> Result<()>
+        ensures added { OnOk result (BecomesByRule name.now rule.now self.old self.new) }
         ensures err { OnErr result ((key : List ℕ) → zone_at self.new key ≡ zone_at self.old key) }
         ensures moment { self.new.moment ≡ self.old.moment }
     {
@@ -72,6 +70,9 @@ impl Additions {
     ///
     /// What [`Additions::add_rule`] and [`Additions::add_fixed`] refuse.
     pub fn add_zone(&mut self, name: &str, seconds: i64, rule: Option<&str>) -> Result<()>
+        ensures fixed { OnOk result (IsNone rule.entry → BecomesFixed name.now seconds self.old self.new) }
+        ensures by_rule { OnOk result (IfSome rule.entry
+            (λ rule. BecomesByRule name.now rule.now self.old self.new)) }
         ensures err { OnErr result ((key : List ℕ) → zone_at self.new key ≡ zone_at self.old key) }
         ensures moment { self.new.moment ≡ self.old.moment }
     {
@@ -82,6 +83,7 @@ impl Additions {
     }
 
     fn add(&mut self, name: &str, rules: TimeZone<'static>) -> Result<()>
+        ensures added { OnOk result (GainsZone name.now (plain_rules rules.entry) self.old self.new) }
         ensures err { OnErr result ((key : List ℕ) → zone_at self.new key ≡ zone_at self.old key) }
         ensures moment { self.new.moment ≡ self.old.moment }
     {
@@ -97,8 +99,7 @@ impl Additions {
 
     /// Sets the moment that is taken for now, on a clock in UTC.
     pub fn set_now(&mut self, now: Timestamp)
-        ensures moment { option_map instant self.new.moment ≡ Some now.nanosecond }
-        ensures zones { (key : List ℕ) → zone_at self.new key ≡ zone_at self.old key }
+        ensures { BecomesNow now.nanosecond self.old self.new }
     {
         self.moment = Some(DateTimeValue::fixed(now, Offset::UTC));
     }
@@ -136,5 +137,15 @@ impl<'a> Functions for LentHost<'a> {
             Some(added) => added.moment.as_ref(),
             None => None,
         }
+    }
+}
+
+/// The offset of a clock that is so many seconds ahead of UTC.
+fn ahead(seconds: i64) -> Option<Offset>
+    ensures { IfSome result (λ offset. offset.seconds ≡ seconds) }
+{
+    match i32::try_from(seconds) {
+        Ok(seconds) => Offset::from_seconds(seconds).ok(),
+        Err(_) => None,
     }
 }

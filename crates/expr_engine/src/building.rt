@@ -1,19 +1,24 @@
 //! Values that a call hands in.
-ghost use Rattle.std.specs.Prelude.{◌≡◌};
+ghost use Rattle.std.specs.Prelude.{◌≡◌, ◌≢◌, IfErr, IfOk, IsSomeAnd, OnOk};
+ghost use Rattle.expr_engine.specs.Doings.{HandsIn, MakesArray, MakesMap, Pushes, Unbuilds};
+ghost use Rattle.expr_exchange.specs.Kinds.{kind_numbered};
 
 use crate::call::Call;
 use crate::engine::Engine;
 use crate::running::utf8;
-use crate::serving::Shows;
 use expr::Value;
 use expr_encoding::from_json;
 use expr_exchange::{Kind, Refused, scalar_of};
 
 /// The value that a call hands in.
 pub fn handed_in(engine: &mut Engine, call: &Call<'_>) -> Result<Value, Refused>
+    ensures value { IfOk result (λ v. IsSomeAnd (kind_numbered call.now.kind)
+        (λ kind. HandsIn kind engine.old engine.new call.now v)) }
+    ensures found { IfErr result (λ e. e ≢ Refused.Unknown) }
     ensures rules { engine.new.rules ≡ engine.old.rules }
     ensures contexts { engine.new.contexts ≡ engine.old.contexts }
     ensures environments { engine.new.environments ≡ engine.old.environments }
+    ensures answer { engine.new.answer ≡ engine.old.answer }
 {
     match Kind::numbered(call.kind) {
         Some(Kind::Built) => engine.built.pop(),
@@ -25,42 +30,51 @@ pub fn handed_in(engine: &mut Engine, call: &Call<'_>) -> Result<Value, Refused>
 }
 
 /// Puts the value that is handed in behind those that were built.
-pub fn push(engine: &mut Engine, call: &Call<'_>) -> Result<Shows, Refused>
+pub fn push(engine: &mut Engine, call: &Call<'_>) -> Result<(), Refused>
+    ensures done { OnOk result (Pushes engine.old engine.new call.now) }
+    ensures found { IfErr result (λ e. e ≢ Refused.Unknown) }
     ensures rules { engine.new.rules ≡ engine.old.rules }
     ensures contexts { engine.new.contexts ≡ engine.old.contexts }
     ensures environments { engine.new.environments ≡ engine.old.environments }
+    ensures answer { engine.new.answer ≡ engine.old.answer }
 {
     let value = handed_in(engine, call)?;
-    engine.built.push(value)?;
-    Ok(Shows::Nothing)
+    engine.built.push(value)
 }
 
 /// Makes an array of what was built last.
-pub fn make_array(engine: &mut Engine, call: &Call<'_>) -> Result<Shows, Refused>
+pub fn make_array(engine: &mut Engine, call: &Call<'_>) -> Result<(), Refused>
+    ensures done { OnOk result (MakesArray engine.old engine.new call.now) }
+    ensures found { IfErr result (λ e. e ≢ Refused.Unknown) }
     ensures rules { engine.new.rules ≡ engine.old.rules }
     ensures contexts { engine.new.contexts ≡ engine.old.contexts }
     ensures environments { engine.new.environments ≡ engine.old.environments }
+    ensures answer { engine.new.answer ≡ engine.old.answer }
 {
-    engine.built.array(call.number)?;
-    Ok(Shows::Nothing)
+    engine.built.array(call.number)
 }
 
 /// Makes a map of what was built last.
-pub fn make_map(engine: &mut Engine, call: &Call<'_>) -> Result<Shows, Refused>
+pub fn make_map(engine: &mut Engine, call: &Call<'_>) -> Result<(), Refused>
+    ensures done { OnOk result (MakesMap engine.old engine.new) }
+    ensures found { IfErr result (λ e. e ≢ Refused.Unknown) }
     ensures rules { engine.new.rules ≡ engine.old.rules }
     ensures contexts { engine.new.contexts ≡ engine.old.contexts }
     ensures environments { engine.new.environments ≡ engine.old.environments }
+    ensures answer { engine.new.answer ≡ engine.old.answer }
 {
-    engine.built.map(call.number)?;
-    Ok(Shows::Nothing)
+    engine.built.map(call.number)
 }
 
 /// Lets go of what was built.
-pub fn unbuild(engine: &mut Engine) -> Result<Shows, Refused>
+pub fn unbuild(engine: &mut Engine) -> Result<(), Refused>
+    ensures done { OnOk result (Unbuilds engine.old engine.new) }
+    ensures found { IfErr result (λ e. e ≢ Refused.Unknown) }
     ensures rules { engine.new.rules ≡ engine.old.rules }
     ensures contexts { engine.new.contexts ≡ engine.old.contexts }
     ensures environments { engine.new.environments ≡ engine.old.environments }
+    ensures answer { engine.new.answer ≡ engine.old.answer }
 {
     engine.built.clear();
-    Ok(Shows::Nothing)
+    Ok(())
 }

@@ -1,6 +1,6 @@
 //! What is asked of an engine, and what it answers.
 ghost use Rattle.std.specs.Prelude.{◌≡◌};
-ghost use Rattle.expr_engine.specs.Asks.{ask_of};
+ghost use Rattle.expr_engine.specs.Asks.{ask_of, shows_of};
 
 use expr_kept::Handle;
 
@@ -89,7 +89,28 @@ pub enum Ask {
     Clear,
 }
 
+/// Which text a call shows.
+#[derive(Clone, Copy, Debug, PartialEq, Eq)]
+pub enum Shows {
+    Nothing,
+    /// What was said last.
+    Said,
+    /// The text or the bytes of the value that is looked at.
+    Value,
+}
+
 impl Ask {
+    /// Which text a call shows that does this.
+    pub fn shows(self) -> Shows
+        ensures { result ≡ shows_of self }
+    {
+        match self {
+            Ask::Run | Ask::Look | Ask::Down | Ask::Up => Shows::Value,
+            Ask::Names | Ask::Key | Ask::Shown | Ask::Text | Ask::Json | Ask::Said => Shows::Said,
+            _ => Shows::Nothing,
+        }
+    }
+
     /// What a number asks for.
     pub fn numbered(number: u32) -> Option<Ask>
         ensures { result ≡ ask_of number }

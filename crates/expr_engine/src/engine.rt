@@ -1,10 +1,14 @@
 //! An engine: programs, contexts and environments under handles, what is built, the last answer, and what was said last.
-ghost use Rattle.std.specs.Prelude.{◌≡◌, IfOk, IfErr, OnOk, OnErr, IfSome, IsSome, IsOk, IsSomeAnd, MatchOption, Err, None, Some};
+ghost use Rattle.std.specs.Prelude.{◌≡◌, ◌≢◌, ◌≤ℤ◌, [], pos, codes, length, string_bytes, IfOk, IfErr, OnOk, OnErr, IfSome, IsSome, IsOk, IsNone, IsSomeAnd, MatchOption, Err, None, Some};
 ghost use Rattle.std.specs.Option.{option_copied};
-ghost use Rattle.expr_engine.specs.Engines.{MayAnswer, RefusesText, SameAdditions, additions_at, asked, names_at};
+ghost use Rattle.expr_engine.specs.Adding.{BecomesByRule, BecomesFixed, BecomesNow};
+ghost use Rattle.expr_engine.specs.Doings.{Adds, AreSaid, Changes};
+ghost use Rattle.expr_engine.specs.Engines.{IsPlacedRefusal, MayAnswer, NumbersRise, RefusesText, SameAdditions, additions_at, asked, names_at};
 ghost use Rattle.expr_engine.specs.Runs.{pairs_of};
+ghost use Rattle.expr_exchange.specs.Built.{values_of};
+ghost use Rattle.expr_exchange.specs.Looked.{part_of, way_of};
 ghost use Rattle.expr_exchange.specs.Refusals.{GivesHost};
-ghost use Rattle.expr_kept.specs.Kept.{KeepsOthers, SameThings, found};
+ghost use Rattle.expr_kept.specs.Kept.{SameThings, found, next_number};
 ghost use Rattle.expr_kept.specs.declared.Handle.{Handle};
 ghost use Rattle.expr_syntax.specs.Texts.{IsProgramWithin};
 ghost use Rattle.expr_tree.specs.Written.{program_written};
@@ -48,6 +52,8 @@ impl Engine {
         ensures rules { (handle : Handle) → found result.rules handle ≡ None }
         ensures contexts { (handle : Handle) → found result.contexts handle ≡ None }
         ensures environments { (handle : Handle) → found result.environments handle ≡ None }
+        ensures built { values_of result.built ≡ [] }
+        ensures part { part_of result.answer ≡ Value.Nil }
     {
         Engine {
             alloc,
@@ -62,20 +68,27 @@ impl Engine {
 
     /// Keeps the program of a text.
     pub fn compile(&mut self, text: &str, height: usize) -> Result<Handle, Refused>
-        ensures kept { IfOk result (λ h. IsSomeAnd (found self.new.rules h)
-            (λ rule. IsProgramWithin text.now height (program_written rule.program))) }
-        ensures others { IfOk result (λ h. KeepsOthers h self.old.rules self.new.rules) }
+        ensures kept { IfOk result (Adds (λ rule. IsProgramWithin text.now height
+            (program_written rule.program)) self.old.rules self.new.rules) }
         ensures refused { IfErr result (RefusesText height text.now) }
+        ensures place { IfErr result (IsPlacedRefusal text.now) }
         ensures err { OnErr result (SameThings self.old.rules self.new.rules) }
+        ensures next { OnErr result (next_number self.new.rules ≡ next_number self.old.rules) }
         ensures contexts { self.new.contexts ≡ self.old.contexts }
         ensures environments { self.new.environments ≡ self.old.environments }
+        ensures answer { self.new.answer ≡ self.old.answer }
     {
         let rule = Rule::compile(self.alloc, text, height)?;
         Ok(self.rules.put(rule)?)
     }
 
     /// The names that a program asks for, each on a line, and how many they are.
-    pub fn names(&self, program: Handle) -> Result<(String, usize), Refused> {
+    pub fn names(&self, program: Handle) -> Result<(String, usize), Refused>
+        ensures said { MatchOption (found self.now.rules program) (result ≡ Err Refused.Unknown)
+            (λ rule. IfOk result (λ p. AreSaid (program_written rule.program) (string_bytes p.0) p.1)) }
+        ensures unknown { found self.now.rules program ≡ None → result ≡ Err Refused.Unknown }
+        ensures known { result ≡ Err Refused.Unknown → found self.now.rules program ≡ None }
+    {
         match self.rules.get(program) {
             Some(rule) => Ok(rule.names(self.alloc)?),
             None => Err(Refused::Unknown),
@@ -131,16 +144,42 @@ impl Engine {
         Ok(rule.run(self.alloc, &host, names)?)
     }
 
+    /// Refuses a handle that finds no context.
+    pub fn knows_context(&self, context: Handle) -> Result<(), Refused>
+        ensures { MatchOption (found self.now.contexts context) (result ≡ Err Refused.Unknown)
+            (λ _. IsOk result) }
+    {
+        match self.contexts.get(context) {
+            Some(_) => Ok(()),
+            None => Err(Refused::Unknown),
+        }
+    }
+
+    /// Refuses a handle that finds no environment.
+    pub fn knows_environment(&self, environment: Handle) -> Result<(), Refused>
+        ensures { MatchOption (found self.now.environments environment) (result ≡ Err Refused.Unknown)
+            (λ _. IsOk result) }
+    {
+        match self.environments.get(environment) {
+            Some(_) => Ok(()),
+            None => Err(Refused::Unknown),
+        }
+    }
+
     /// Puts a value under a name in a context.
     pub fn set(&mut self, context: Handle, name: &str, value: Value) -> Result<(), Refused>
-        ensures known { OnOk result (IsSome (found self.old.contexts context)) }
-        ensures set { OnOk result (IfSome (found self.old.contexts context)
-            (λ names. found self.new.contexts context ≡ Some (put name.now value names))) }
-        ensures others { KeepsOthers context self.old.contexts self.new.contexts }
+        ensures set { OnOk result (Changes (λ was is. is ≡ put name.now value was) self.old.contexts
+            self.new.contexts context) }
+        ensures unknown { found self.old.contexts context ≡ None → result ≡ Err Refused.Unknown }
+        ensures known { result ≡ Err Refused.Unknown → found self.old.contexts context ≡ None }
         ensures err { OnErr result (SameThings self.old.contexts self.new.contexts) }
+        ensures next { next_number self.new.contexts ≡ next_number self.old.contexts }
         ensures rules { self.new.rules ≡ self.old.rules }
         ensures environments { self.new.environments ≡ self.old.environments }
+        ensures answer { self.new.answer ≡ self.old.answer }
+        ensures built { self.new.built ≡ self.old.built }
     {
+        self.knows_context(context)?;
         let name = String::from_str(self.alloc, name)?;
         let mut names = Context::new(self.alloc);
         if !self.contexts.swap(context, &mut names) {
@@ -159,11 +198,17 @@ impl Engine {
         seconds: i64,
         rule: Option<&str>,
     ) -> Result<(), Refused>
-        ensures known { OnOk result (IsSome (found self.old.environments environment)) }
-        ensures others { KeepsOthers environment self.old.environments self.new.environments }
+        ensures fixed { OnOk result (IsNone rule.entry → Changes (BecomesFixed name.now seconds)
+            self.old.environments self.new.environments environment) }
+        ensures by_rule { OnOk result (IfSome rule.entry (λ rule. Changes (BecomesByRule name.now rule.now)
+            self.old.environments self.new.environments environment)) }
+        ensures unknown { found self.old.environments environment ≡ None → result ≡ Err Refused.Unknown }
+        ensures known { result ≡ Err Refused.Unknown → found self.old.environments environment ≡ None }
         ensures err { OnErr result (SameAdditions self.old.environments self.new.environments) }
+        ensures next { next_number self.new.environments ≡ next_number self.old.environments }
         ensures rules { self.new.rules ≡ self.old.rules }
         ensures contexts { self.new.contexts ≡ self.old.contexts }
+        ensures answer { self.new.answer ≡ self.old.answer }
     {
         let mut host = Additions::new(self.alloc);
         if !self.environments.swap(environment, &mut host) {
@@ -176,11 +221,15 @@ impl Engine {
 
     /// Sets the moment that an environment takes for now.
     pub fn set_now(&mut self, environment: Handle, now: Timestamp) -> Result<(), Refused>
-        ensures known { OnOk result (IsSome (found self.old.environments environment)) }
+        ensures set { OnOk result (Changes (BecomesNow now.nanosecond) self.old.environments
+            self.new.environments environment) }
+        ensures unknown { found self.old.environments environment ≡ None → result ≡ Err Refused.Unknown }
+        ensures known { result ≡ Err Refused.Unknown → found self.old.environments environment ≡ None }
         ensures err { OnErr result (SameAdditions self.old.environments self.new.environments) }
-        ensures others { KeepsOthers environment self.old.environments self.new.environments }
+        ensures next { next_number self.new.environments ≡ next_number self.old.environments }
         ensures rules { self.new.rules ≡ self.old.rules }
         ensures contexts { self.new.contexts ≡ self.old.contexts }
+        ensures answer { self.new.answer ≡ self.old.answer }
     {
         let mut host = Additions::new(self.alloc);
         if !self.environments.swap(environment, &mut host) {
@@ -196,6 +245,9 @@ impl Engine {
         ensures rules { (handle : Handle) → found self.new.rules handle ≡ None }
         ensures contexts { (handle : Handle) → found self.new.contexts handle ≡ None }
         ensures environments { (handle : Handle) → found self.new.environments handle ≡ None }
+        ensures numbers { NumbersRise self.old self.new }
+        ensures built { values_of self.new.built ≡ [] }
+        ensures part { part_of self.new.answer ≡ Value.Nil }
     {
         let alloc = self.alloc;
         self.rules.clear(alloc);
@@ -212,7 +264,9 @@ impl Engine {
         ensures contexts { self.new.contexts ≡ self.old.contexts }
         ensures environments { self.new.environments ≡ self.old.environments }
         ensures answer { self.new.answer ≡ self.old.answer }
+        ensures built { self.new.built ≡ self.old.built }
         ensures unknown { refused.now ≡ Refused.Unknown → IsOk result }
+        ensures misuse { refused.now ≡ Refused.Misuse → IsOk result }
     {
         let alloc = self.alloc;
         self.said = String::new(alloc);

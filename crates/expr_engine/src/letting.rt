@@ -1,16 +1,20 @@
 //! Asks to let go of what is kept.
-ghost use Rattle.std.specs.Prelude.{◌≡◌, IsOk, OnErr, false};
-ghost use Rattle.expr_engine.specs.Engines.{SameAdditions};
-ghost use Rattle.expr_kept.specs.Kept.{KeepsOthers, SameThings};
+ghost use Rattle.std.specs.Prelude.{◌≡◌, None, Err, IsOk, OnErr, OnOk, Ok, if◌then◌else◌};
+ghost use Rattle.expr_engine.specs.Doings.{DropsContext, DropsEnvironment, DropsProgram, ForgetsAll};
+ghost use Rattle.expr_engine.specs.Engines.{NumbersRise, SameAdditions};
+ghost use Rattle.expr_kept.specs.Kept.{SameThings, found, next_number};
 
 use crate::call::Call;
 use crate::engine::Engine;
-use crate::serving::Shows;
 use expr_exchange::Refused;
 
 /// Lets go of a program.
-pub fn drop_program(engine: &mut Engine, call: &Call<'_>) -> Result<Shows, Refused>
-    ensures others { KeepsOthers call.now.program engine.old.rules engine.new.rules }
+pub fn drop_program(engine: &mut Engine, call: &Call<'_>) -> Result<(), Refused>
+    ensures done { OnOk result (DropsProgram engine.old engine.new call.now) }
+    ensures unknown { found engine.old.rules call.now.program ≡ None → result ≡ Err Refused.Unknown }
+    ensures known { result ≡ Err Refused.Unknown → found engine.old.rules call.now.program ≡ None }
+    ensures next { next_number engine.new.rules ≡ next_number engine.old.rules }
+    ensures answer { engine.new.answer ≡ engine.old.answer }
     ensures err { OnErr result (SameThings engine.old.rules engine.new.rules) }
     ensures contexts { engine.new.contexts ≡ engine.old.contexts }
     ensures environments { engine.new.environments ≡ engine.old.environments }
@@ -20,8 +24,12 @@ pub fn drop_program(engine: &mut Engine, call: &Call<'_>) -> Result<Shows, Refus
 }
 
 /// Lets go of a context.
-pub fn drop_context(engine: &mut Engine, call: &Call<'_>) -> Result<Shows, Refused>
-    ensures others { KeepsOthers call.now.context engine.old.contexts engine.new.contexts }
+pub fn drop_context(engine: &mut Engine, call: &Call<'_>) -> Result<(), Refused>
+    ensures done { OnOk result (DropsContext engine.old engine.new call.now) }
+    ensures unknown { found engine.old.contexts call.now.context ≡ None → result ≡ Err Refused.Unknown }
+    ensures known { result ≡ Err Refused.Unknown → found engine.old.contexts call.now.context ≡ None }
+    ensures next { next_number engine.new.contexts ≡ next_number engine.old.contexts }
+    ensures answer { engine.new.answer ≡ engine.old.answer }
     ensures err { OnErr result (SameThings engine.old.contexts engine.new.contexts) }
     ensures rules { engine.new.rules ≡ engine.old.rules }
     ensures environments { engine.new.environments ≡ engine.old.environments }
@@ -32,8 +40,13 @@ pub fn drop_context(engine: &mut Engine, call: &Call<'_>) -> Result<Shows, Refus
 
 /// Lets go of an environment.
 #[tactic(auto, using(crate::proofs::Unchanged::additions_by_things))]
-pub fn drop_environment(engine: &mut Engine, call: &Call<'_>) -> Result<Shows, Refused>
-    ensures others { KeepsOthers call.now.environment engine.old.environments engine.new.environments }
+pub fn drop_environment(engine: &mut Engine, call: &Call<'_>) -> Result<(), Refused>
+    ensures done { OnOk result (DropsEnvironment engine.old engine.new call.now) }
+    ensures unknown { found engine.old.environments call.now.environment ≡ None
+        → result ≡ Err Refused.Unknown }
+    ensures known { result ≡ Err Refused.Unknown → found engine.old.environments call.now.environment ≡ None }
+    ensures next { next_number engine.new.environments ≡ next_number engine.old.environments }
+    ensures answer { engine.new.answer ≡ engine.old.answer }
     ensures err { OnErr result (SameAdditions engine.old.environments engine.new.environments) }
     ensures rules { engine.new.rules ≡ engine.old.rules }
     ensures contexts { engine.new.contexts ≡ engine.old.contexts }
@@ -43,20 +56,22 @@ pub fn drop_environment(engine: &mut Engine, call: &Call<'_>) -> Result<Shows, R
 }
 
 /// Refuses a handle that finds nothing.
-fn known(is_known: bool) -> Result<Shows, Refused>
-    ensures { OnErr result (is_known ≡ false) }
+fn known(is_known: bool) -> Result<(), Refused>
+    ensures { result ≡ (if is_known then Ok tt else Err Refused.Unknown) }
 {
     if is_known {
-        Ok(Shows::Nothing)
+        Ok(())
     } else {
         Err(Refused::Unknown)
     }
 }
 
 /// Lets go of all that is kept.
-pub fn clear(engine: &mut Engine) -> Result<Shows, Refused>
-    ensures { IsOk result }
+pub fn clear(engine: &mut Engine) -> Result<(), Refused>
+    ensures done { OnOk result (ForgetsAll engine.old engine.new) }
+    ensures numbers { NumbersRise engine.old engine.new }
+    ensures ok { IsOk result }
 {
     engine.clear();
-    Ok(Shows::Nothing)
+    Ok(())
 }

@@ -1,95 +1,130 @@
 //! Asks about the answer.
-ghost use Rattle.std.specs.Prelude.{◌≡◌};
+ghost use Rattle.std.specs.Prelude.{◌≡◌, ◌≢◌, IfErr, IfOk, Ok, OnErr, OnOk, string_bytes};
+ghost use Rattle.expr_encoding.specs.Optional.{given};
+ghost use Rattle.expr_encoding.specs.Writing.{json_text};
+ghost use Rattle.expr_engine.specs.Doings.{Looks, LooksIn, LooksOut, SaysKey, SaysText, Tells, key_said, reply_of};
+ghost use Rattle.expr_exchange.specs.Looked.{SameLook, part_of};
+ghost use Rattle.expr_value.specs.Strings.{string_text};
+ghost use Rattle.expr_value.specs.Values.{text_of};
 
 use crate::call::Call;
 use crate::engine::Engine;
-use crate::serving::Shows;
 use expr::Value;
 use expr_encoding::to_json;
 use expr_exchange::{Refused, described, key_of};
+use std::alloc::Global;
 
-/// Tells of the value that is looked at.
-pub fn describe(engine: &Engine, call: &mut Call<'_>) -> Shows {
-    let told = described(engine.answer.part());
-    call.kind = told.kind as u32;
+/// Tells of a value.
+pub fn describe(value: &Value, call: &mut Call<'_>)
+    ensures { Tells value.now (reply_of call.new) }
+{
+    let told = described(value);
+    call.kind = told.kind.number();
     call.number = told.number;
     call.fraction = told.fraction;
-    Shows::Value
 }
 
 /// Looks at the same value again.
-pub fn look(engine: &mut Engine, call: &mut Call<'_>) -> Result<Shows, Refused>
+pub fn look(engine: &mut Engine, call: &mut Call<'_>) -> Result<(), Refused>
+    ensures done { OnOk result (Looks engine.old engine.new (reply_of call.new)) }
+    ensures answer { engine.new.answer ≡ engine.old.answer }
+    ensures found { IfErr result (λ e. e ≢ Refused.Unknown) }
     ensures rules { engine.new.rules ≡ engine.old.rules }
     ensures contexts { engine.new.contexts ≡ engine.old.contexts }
     ensures environments { engine.new.environments ≡ engine.old.environments }
 {
-    Ok(describe(engine, call))
+    describe(engine.answer.part(), call);
+    Ok(())
 }
 
 /// Looks at an item of the value.
-pub fn look_down(engine: &mut Engine, call: &mut Call<'_>) -> Result<Shows, Refused>
+pub fn look_down(engine: &mut Engine, call: &mut Call<'_>) -> Result<(), Refused>
+    ensures done { OnOk result (LooksIn engine.old engine.new call.old (reply_of call.new)) }
+    ensures look { OnErr result (SameLook engine.old.answer engine.new.answer) }
+    ensures found { IfErr result (λ e. e ≢ Refused.Unknown) }
     ensures rules { engine.new.rules ≡ engine.old.rules }
     ensures contexts { engine.new.contexts ≡ engine.old.contexts }
     ensures environments { engine.new.environments ≡ engine.old.environments }
 {
     engine.answer.go_down(call.number)?;
-    Ok(describe(engine, call))
+    describe(engine.answer.part(), call);
+    Ok(())
 }
 
 /// Looks at what the value is an item of.
-pub fn look_up(engine: &mut Engine, call: &mut Call<'_>) -> Result<Shows, Refused>
+pub fn look_up(engine: &mut Engine, call: &mut Call<'_>) -> Result<(), Refused>
+    ensures done { OnOk result (LooksOut engine.old engine.new (reply_of call.new)) }
+    ensures look { OnErr result (SameLook engine.old.answer engine.new.answer) }
+    ensures found { IfErr result (λ e. e ≢ Refused.Unknown) }
     ensures rules { engine.new.rules ≡ engine.old.rules }
     ensures contexts { engine.new.contexts ≡ engine.old.contexts }
     ensures environments { engine.new.environments ≡ engine.old.environments }
 {
     engine.answer.go_up()?;
-    Ok(describe(engine, call))
+    describe(engine.answer.part(), call);
+    Ok(())
 }
 
 /// Tells of a key of the map that is looked at, and says its text.
-pub fn show_key(engine: &mut Engine, call: &mut Call<'_>) -> Result<Shows, Refused>
+pub fn show_key(engine: &mut Engine, call: &mut Call<'_>) -> Result<(), Refused>
+    ensures done { OnOk result (SaysKey engine.old engine.new call.old (reply_of call.new)) }
+    ensures answer { engine.new.answer ≡ engine.old.answer }
+    ensures found { IfErr result (λ e. e ≢ Refused.Unknown) }
     ensures rules { engine.new.rules ≡ engine.old.rules }
     ensures contexts { engine.new.contexts ≡ engine.old.contexts }
     ensures environments { engine.new.environments ≡ engine.old.environments }
 {
     let key = key_of(engine.alloc, engine.answer.part(), call.number)?;
-    let told = described(&key);
-    engine.said = match &key {
-        Value::String(text) => text.as_str().to_string(engine.alloc)?,
-        other => other.to_string(engine.alloc)?,
-    };
-    call.kind = told.kind as u32;
-    call.number = told.number;
-    call.fraction = told.fraction;
-    Ok(Shows::Said)
+    describe(&key, call);
+    engine.said = key_text(engine.alloc, &key)?;
+    Ok(())
+}
+
+/// The text of a key: the string, or what the key prints as.
+fn key_text(alloc: Global, key: &Value) -> expr::Result<String>
+    ensures { IfOk result (λ text. string_bytes text ≡ key_said key.now) }
+{
+    match key {
+        Value::String(text) => Ok(text.as_str().to_string(alloc)?),
+        other => Ok(other.to_string(alloc)?),
+    }
 }
 
 /// Says what the value prints as.
-pub fn say_shown(engine: &mut Engine) -> Result<Shows, Refused>
+pub fn say_shown(engine: &mut Engine) -> Result<(), Refused>
+    ensures done { OnOk result (SaysText (λ v text. text ≡ text_of v) engine.old engine.new) }
+    ensures answer { engine.new.answer ≡ engine.old.answer }
+    ensures found { IfErr result (λ e. e ≢ Refused.Unknown) }
     ensures rules { engine.new.rules ≡ engine.old.rules }
     ensures contexts { engine.new.contexts ≡ engine.old.contexts }
     ensures environments { engine.new.environments ≡ engine.old.environments }
 {
-    engine.said = engine.answer.shown()?;
-    Ok(Shows::Said)
+    engine.said = engine.answer.part().to_string(engine.alloc)?;
+    Ok(())
 }
 
 /// Says what the built-in `string` gives of the value.
-pub fn say_text(engine: &mut Engine) -> Result<Shows, Refused>
+pub fn say_text(engine: &mut Engine) -> Result<(), Refused>
+    ensures done { OnOk result (SaysText (λ v text. text ≡ string_text v) engine.old engine.new) }
+    ensures answer { engine.new.answer ≡ engine.old.answer }
+    ensures found { IfErr result (λ e. e ≢ Refused.Unknown) }
     ensures rules { engine.new.rules ≡ engine.old.rules }
     ensures contexts { engine.new.contexts ≡ engine.old.contexts }
     ensures environments { engine.new.environments ≡ engine.old.environments }
 {
-    engine.said = engine.answer.text()?;
-    Ok(Shows::Said)
+    engine.said = engine.answer.part().string_text(engine.alloc)?;
+    Ok(())
 }
 
 /// Says the value as JSON.
-pub fn say_json(engine: &mut Engine) -> Result<Shows, Refused>
+pub fn say_json(engine: &mut Engine) -> Result<(), Refused>
+    ensures done { OnOk result (SaysText (λ v text. given (json_text v) ≡ Ok text) engine.old engine.new) }
+    ensures answer { engine.new.answer ≡ engine.old.answer }
+    ensures found { IfErr result (λ e. e ≢ Refused.Unknown) }
     ensures rules { engine.new.rules ≡ engine.old.rules }
     ensures contexts { engine.new.contexts ≡ engine.old.contexts }
     ensures environments { engine.new.environments ≡ engine.old.environments }
 {
     engine.said = to_json(engine.alloc, engine.answer.part())?.into_string();
-    Ok(Shows::Said)
+    Ok(())
 }

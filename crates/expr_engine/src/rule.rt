@@ -18,9 +18,10 @@ pub struct Rule {
 }
 
 impl Rule {
-    ghost use Rattle.std.specs.Prelude.{◌≡◌, ◌≢◌, Err, IfOk, IfErr};
+    ghost use Rattle.std.specs.Prelude.{◌≡◌, ◌≢◌, Err, IfOk, IfErr, string_bytes};
     ghost use Rattle.std.specs.Option.{option_copied};
     ghost use Rattle.expr.specs.Texts.{IsRefusedWithin};
+    ghost use Rattle.expr_engine.specs.Doings.{AreSaid};
     ghost use Rattle.expr_engine.specs.Runs.{MayGive, context_of, pairs_of};
     ghost use Rattle.expr_syntax.specs.Texts.{IsPlaced, IsProgramWithin};
     ghost use Rattle.expr_tree.specs.Written.{program_written};
@@ -44,7 +45,9 @@ impl Rule {
     }
 
     /// The names that the program asks for, each on a line, and how many they are.
-    pub fn names(&self, alloc: Global) -> Result<(String, usize)> {
+    pub fn names(&self, alloc: Global) -> Result<(String, usize)>
+        ensures { IfOk result (λ p. AreSaid (program_written self.now.program) (string_bytes p.0) p.1) }
+    {
         let names = self.program.names(alloc)?;
         Ok((names.join(alloc, "\n")?, names.len()))
     }

@@ -1,30 +1,35 @@
 //! Asks about programs.
-ghost use Rattle.std.specs.Prelude.{◌≡◌, Err, IsSomeAnd, MatchOption, OnErr, OnOk};
-ghost use Rattle.expr_engine.specs.Engines.{asked};
+ghost use Rattle.std.specs.Prelude.{◌≡◌, Err, None, IfErr, IfOk, IsUtf8, MatchOption, OnErr, OnOk};
+ghost use Rattle.expr_engine.specs.Doings.{Compiles, RunsOnce, SaysNames, height_by, reply_of};
+ghost use Rattle.expr_engine.specs.Engines.{CompileRefuses, NumbersRise, asked};
 ghost use Rattle.expr_engine.specs.Served.{Runs};
 ghost use Rattle.expr_exchange.specs.Looked.{part_of};
-ghost use Rattle.expr_kept.specs.Kept.{KeepsOthers, SameThings, found};
+ghost use Rattle.expr_kept.specs.Kept.{SameThings, found};
 
 use crate::call::Call;
 use crate::engine::Engine;
 use crate::looking::describe;
-use crate::serving::Shows;
 use expr_exchange::Refused;
 
 /// Keeps the program of a text.
-pub fn compile(engine: &mut Engine, call: &mut Call<'_>) -> Result<Shows, Refused>
-    ensures others { OnOk result (KeepsOthers call.new.program engine.old.rules engine.new.rules) }
+pub fn compile(engine: &mut Engine, call: &mut Call<'_>) -> Result<(), Refused>
+    ensures done { OnOk result (Compiles engine.old engine.new call.old (reply_of call.new)) }
+    ensures refused { IfErr result (CompileRefuses (height_by call.old.number) call.old.text.now) }
     ensures err { OnErr result (SameThings engine.old.rules engine.new.rules) }
+    ensures numbers { NumbersRise engine.old engine.new }
+    ensures answer { engine.new.answer ≡ engine.old.answer }
     ensures contexts { engine.new.contexts ≡ engine.old.contexts }
     ensures environments { engine.new.environments ≡ engine.old.environments }
 {
     let text = utf8(call.text)?;
     call.program = engine.compile(text, height_of(call.number))?;
-    Ok(Shows::Nothing)
+    Ok(())
 }
 
 /// The bound on a program's height that a number is: the greatest that there is, if it isn't above 0.
-fn height_of(number: i64) -> usize {
+fn height_of(number: i64) -> usize
+    ensures { result ≡ height_by number }
+{
     match usize::try_from(number) {
         Ok(height) if height > 0 => height,
         _ => usize::MAX,
@@ -32,7 +37,11 @@ fn height_of(number: i64) -> usize {
 }
 
 /// Says the names that a program asks for.
-pub fn names(engine: &mut Engine, call: &mut Call<'_>) -> Result<Shows, Refused>
+pub fn names(engine: &mut Engine, call: &mut Call<'_>) -> Result<(), Refused>
+    ensures done { OnOk result (SaysNames engine.old engine.new call.old (reply_of call.new)) }
+    ensures unknown { found engine.old.rules call.old.program ≡ None → result ≡ Err Refused.Unknown }
+    ensures known { result ≡ Err Refused.Unknown → found engine.old.rules call.old.program ≡ None }
+    ensures answer { engine.new.answer ≡ engine.old.answer }
     ensures rules { engine.new.rules ≡ engine.old.rules }
     ensures contexts { engine.new.contexts ≡ engine.old.contexts }
     ensures environments { engine.new.environments ≡ engine.old.environments }
@@ -40,11 +49,17 @@ pub fn names(engine: &mut Engine, call: &mut Call<'_>) -> Result<Shows, Refused>
     let (names, count) = engine.names(call.program)?;
     call.number = i64::try_from(count).unwrap_or(0);
     engine.said = names;
-    Ok(Shows::Said)
+    Ok(())
 }
 
 /// Keeps what a program answers in an environment and a context.
-pub fn run(engine: &mut Engine, call: &mut Call<'_>) -> Result<Shows, Refused>
+pub fn run(engine: &mut Engine, call: &mut Call<'_>) -> Result<(), Refused>
+    ensures done { OnOk result (RunsOnce engine.old engine.new call.old (reply_of call.new)) }
+    ensures unknown { asked engine.old call.old.program call.old.environment call.old.context ≡ None
+        → result ≡ Err Refused.Unknown }
+    ensures known { result ≡ Err Refused.Unknown
+        → asked engine.old call.old.program call.old.environment call.old.context ≡ None }
+    ensures answer { OnErr result (engine.new.answer ≡ engine.old.answer) }
     ensures run { MatchOption (asked engine.old call.old.program call.old.environment call.old.context)
         (result ≡ Err Refused.Unknown) (λ q. Runs q result (part_of engine.new.answer)) }
     ensures rules { engine.new.rules ≡ engine.old.rules }
@@ -53,11 +68,16 @@ pub fn run(engine: &mut Engine, call: &mut Call<'_>) -> Result<Shows, Refused>
 {
     let answer = engine.run(call.program, call.environment, call.context)?;
     engine.answer.keep(answer);
-    Ok(describe(engine, call))
+    describe(engine.answer.part(), call);
+    Ok(())
 }
 
 /// Bytes as a text.
-pub fn utf8(bytes: &[u8]) -> Result<&str, Refused> {
+pub fn utf8(bytes: &[u8]) -> Result<&str, Refused>
+    ensures ok { IfOk result (λ text. text.now ≡ bytes.now) }
+    ensures utf8 { OnOk result (IsUtf8 bytes.now) }
+    ensures refused { IfErr result (λ e. (e ≡ Refused.Misuse) × (IsUtf8 bytes.now → ⊥)) }
+{
     match std::str::from_utf8(bytes) {
         Ok(text) => Ok(text),
         Err(_) => Err(Refused::Misuse),

@@ -1,14 +1,16 @@
 //! The one call: an engine does what it is asked to.
-ghost use Rattle.std.specs.Prelude.{◌≡◌, ◌≢◌, ◌⊎◌, Err, MatchOption, OnErr, Some};
-ghost use Rattle.expr_engine.specs.Asks.{ask_of};
-ghost use Rattle.expr_engine.specs.Engines.{SameKept, asked};
-ghost use Rattle.expr_engine.specs.Served.{Answers, Ends, Runs, number_of};
+ghost use Rattle.std.specs.Prelude.{◌≡◌, ◌≢◌, ◌⊎◌, [], length, Err, MatchOption, OnErr, OnOk, Some};
+ghost use Rattle.expr_engine.specs.Asks.{ask_of, shows_of};
+ghost use Rattle.expr_engine.specs.Doings.{Does, IsMissing, reply_of};
+ghost use Rattle.expr_engine.specs.Engines.{Leaves, NumbersRise, asked};
+ghost use Rattle.expr_engine.specs.Served.{Answers, Ends, Runs, number_of, text_shown};
+ghost use Rattle.expr_exchange.specs.Built.{values_of};
 ghost use Rattle.expr_exchange.specs.Looked.{part_of};
 ghost use Rattle.expr_exchange.specs.Refusals.{status_of};
 
 use crate::adding::{add_environment, set_now, zone_by_rule, zone_by_seconds};
 use crate::building::{make_array, make_map, push, unbuild};
-use crate::call::{Ask, Call};
+use crate::call::{Ask, Call, Shows};
 use crate::engine::Engine;
 use crate::filling::{built_context, new_context, set};
 use crate::letting::{clear, drop_context, drop_environment, drop_program};
@@ -16,89 +18,124 @@ use crate::looking::{look, look_down, look_up, say_json, say_shown, say_text, sh
 use crate::running::{compile, names, run};
 use expr_exchange::{Refused, Status, bytes_of};
 
-/// Which text a call shows.
-#[derive(Clone, Copy, Debug, PartialEq, Eq)]
-pub enum Shows {
-    Nothing,
-    /// What was said last.
-    Said,
-    /// The text or the bytes of the value that is looked at.
-    Value,
-}
-
-/// Does what a call asks for. Whatever stands in the call, it returns. What is refused leaves all that is kept as it was,
-/// and lets go of what was built.
+/// Does what a call asks for. Whatever stands in the call, it returns. What is refused leaves all that is kept and what is
+/// looked at as it was, and lets go of what was built.
 pub fn serve(engine: &mut Engine, call: &mut Call<'_>)
+    // What is done, is done to what the call's handles find, and to nothing else.
+    ensures done { call.new.status ≡ 0 → MatchOption (ask_of call.old.ask) ⊥
+        (λ ask. Does ask engine.old engine.new call.old (reply_of call.new)) }
     // A run answers what the program's meaning allows in the environment and the context of the handles, or one of them
     // finds nothing.
     ensures run { ask_of call.old.ask ≡ Some Ask.Run → MatchOption
         (asked engine.old call.old.program call.old.environment call.old.context) (call.new.status ≡ 6)
         (λ q. Answers q call.new.status (part_of engine.new.answer)) }
-    ensures refused { call.new.status ≢ 0 → SameKept engine.old engine.new }
+    ensures refused { call.new.status ≢ 0 → Leaves engine.old engine.new }
+    ensures built { call.new.status ≢ 0 → values_of engine.new.built ≡ [] }
+    // A handle that is out of date, or was never given, is UNKNOWN, and nothing else is.
+    ensures unknown { MatchOption (ask_of call.old.ask) (call.new.status ≡ 7)
+        (λ ask. IsMissing ask engine.old call.old → call.new.status ≡ 6) }
+    ensures known { call.new.status ≡ 6 → MatchOption (ask_of call.old.ask) ⊥
+        (λ ask. IsMissing ask engine.old call.old) }
+    // No handle is given twice.
+    ensures numbers { NumbersRise engine.old engine.new }
+    ensures shown { call.new.status ≡ 0 → MatchOption (ask_of call.old.ask) ⊥
+        (λ ask. call.new.length ≡ length (text_shown (shows_of ask) engine.new)) }
 {
-    let done = act(engine, call);
-    finish(engine, call, done);
+    match Ask::numbered(call.ask) {
+        Some(ask) => {
+            let done = act(engine, call, ask);
+            finish(engine, call, ask.shows(), done);
+        }
+        None => finish(engine, call, Shows::Nothing, Err(Refused::Misuse)),
+    }
 }
 
 /// Does what a call asks for.
-#[tactic(auto, using(crate::proofs::Unchanged::same_kept, crate::proofs::Unchanged::same_rules, crate::proofs::Unchanged::same_contexts, crate::proofs::Unchanged::same_environments))]
-fn act(engine: &mut Engine, call: &mut Call<'_>) -> Result<Shows, Refused>
-    ensures run { ask_of call.old.ask ≡ Some Ask.Run → MatchOption
+fn act(engine: &mut Engine, call: &mut Call<'_>, ask: Ask) -> Result<(), Refused>
+    ensures done { OnOk result (Does ask engine.old engine.new call.old (reply_of call.new)) }
+    ensures run { ask ≡ Ask.Run → MatchOption
         (asked engine.old call.old.program call.old.environment call.old.context)
         (result ≡ Err Refused.Unknown) (λ q. Runs q result (part_of engine.new.answer)) }
-    ensures refused { OnErr result (SameKept engine.old engine.new) }
+    ensures refused { OnErr result (Leaves engine.old engine.new) }
+    ensures unknown { IsMissing ask engine.old call.old → result ≡ Err Refused.Unknown }
+    ensures known { result ≡ Err Refused.Unknown → IsMissing ask engine.old call.old }
+    ensures numbers { NumbersRise engine.old engine.new }
 {
-    match Ask::numbered(call.ask) {
-        None => Err(Refused::Misuse),
-        Some(Ask::Compile) => compile(engine, call),
-        Some(Ask::Names) => names(engine, call),
-        Some(Ask::Run) => run(engine, call),
-        Some(Ask::Context) => new_context(engine, call),
-        Some(Ask::ContextOf) => built_context(engine, call),
-        Some(Ask::Set) => set(engine, call),
-        Some(Ask::Push) => push(engine, call),
-        Some(Ask::Array) => make_array(engine, call),
-        Some(Ask::Map) => make_map(engine, call),
-        Some(Ask::Unbuild) => unbuild(engine),
-        Some(Ask::Look) => look(engine, call),
-        Some(Ask::Down) => look_down(engine, call),
-        Some(Ask::Up) => look_up(engine, call),
-        Some(Ask::Key) => show_key(engine, call),
-        Some(Ask::Shown) => say_shown(engine),
-        Some(Ask::Text) => say_text(engine),
-        Some(Ask::Json) => say_json(engine),
-        Some(Ask::Said) => Ok(Shows::Said),
-        Some(Ask::Environment) => add_environment(engine, call),
-        Some(Ask::FixedZone) => zone_by_seconds(engine, call),
-        Some(Ask::ZoneRule) => zone_by_rule(engine, call),
-        Some(Ask::Now) => set_now(engine, call),
-        Some(Ask::DropProgram) => drop_program(engine, call),
-        Some(Ask::DropContext) => drop_context(engine, call),
-        Some(Ask::DropEnvironment) => drop_environment(engine, call),
-        Some(Ask::Clear) => clear(engine),
+    match ask {
+        Ask::Compile => compile(engine, call),
+        Ask::Names => names(engine, call),
+        Ask::Run => run(engine, call),
+        Ask::Context => new_context(engine, call),
+        Ask::ContextOf => built_context(engine, call),
+        Ask::Set => set(engine, call),
+        Ask::Push => push(engine, call),
+        Ask::Array => make_array(engine, call),
+        Ask::Map => make_map(engine, call),
+        Ask::Unbuild => unbuild(engine),
+        Ask::Look => look(engine, call),
+        Ask::Down => look_down(engine, call),
+        Ask::Up => look_up(engine, call),
+        Ask::Key => show_key(engine, call),
+        Ask::Shown => say_shown(engine),
+        Ask::Text => say_text(engine),
+        Ask::Json => say_json(engine),
+        Ask::Said => Ok(()),
+        Ask::Environment => add_environment(engine, call),
+        Ask::FixedZone => zone_by_seconds(engine, call),
+        Ask::ZoneRule => zone_by_rule(engine, call),
+        Ask::Now => set_now(engine, call),
+        Ask::DropProgram => drop_program(engine, call),
+        Ask::DropContext => drop_context(engine, call),
+        Ask::DropEnvironment => drop_environment(engine, call),
+        Ask::Clear => clear(engine),
     }
 }
 
 /// Says how a call ended, and shows its text.
-#[tactic(auto, using(crate::proofs::Unchanged::same_kept))]
-fn finish(engine: &mut Engine, call: &mut Call<'_>, done: Result<Shows, Refused>)
-    ensures kept { SameKept engine.old engine.new }
+fn finish(engine: &mut Engine, call: &mut Call<'_>, shows: Shows, done: Result<(), Refused>)
+    ensures same { OnOk done (engine.new ≡ engine.old) }
     ensures answer { engine.new.answer ≡ engine.old.answer }
+    ensures rules { engine.new.rules ≡ engine.old.rules }
+    ensures contexts { engine.new.contexts ≡ engine.old.contexts }
+    ensures environments { engine.new.environments ≡ engine.old.environments }
+    ensures built { OnErr done (values_of engine.new.built ≡ []) }
+    ensures reply { reply_of call.new ≡ reply_of call.old }
     ensures ended { Ends done call.new.status }
     ensures unknown { done ≡ Err Refused.Unknown → call.new.status ≡ 6 }
+    ensures known { call.new.status ≡ 6 → done ≡ Err Refused.Unknown }
+    ensures misuse { done ≡ Err Refused.Misuse → call.new.status ≡ 7 }
+    ensures length { OnOk done (call.new.length ≡ length (text_shown shows engine.new)) }
 {
-    let (status, shows) = match done {
-        Ok(shows) => (Status::Done, shows),
-        Err(refused) => (refuse(engine, &refused, call), Shows::Said),
-    };
+    match done {
+        Ok(()) => answer(engine, call, Status::Done, shows),
+        Err(refused) => {
+            let status = refuse(engine, &refused, call);
+            answer(engine, call, status, Shows::Said);
+        }
+    }
+}
+
+/// Writes down how a call ended, and the text that is shown, as far as the room goes.
+fn answer(engine: &Engine, call: &mut Call<'_>, status: Status, shows: Shows)
+    ensures reply { reply_of call.new ≡ reply_of call.old }
+    ensures status { call.new.status ≡ number_of status }
+    ensures length { call.new.length ≡ length (text_shown shows engine.now) }
+{
     call.status = number(status);
-    let text = match shows {
+    let text = shown(engine, shows);
+    call.length = text.len();
+    copy_into(text, call.room);
+}
+
+/// The text that is shown.
+fn shown(engine: &Engine, shows: Shows) -> &[u8]
+    ensures { result.now ≡ text_shown shows engine.now }
+{
+    match shows {
         Shows::Nothing => &[],
         Shows::Said => engine.said.as_bytes(),
         Shows::Value => bytes_of(engine.answer.part()),
-    };
-    call.length = text.len();
-    copy_into(text, call.room);
+    }
 }
 
 /// The number of an ending.
@@ -118,12 +155,16 @@ fn number(status: Status) -> u32
 }
 
 /// Lets go of what was built, notes what is said, and answers how the call ended.
-#[tactic(auto, using(crate::proofs::Unchanged::same_kept))]
 fn refuse(engine: &mut Engine, refused: &Refused, call: &mut Call<'_>) -> Status
-    ensures kept { SameKept engine.old engine.new }
+    ensures rules { engine.new.rules ≡ engine.old.rules }
+    ensures contexts { engine.new.contexts ≡ engine.old.contexts }
+    ensures environments { engine.new.environments ≡ engine.old.environments }
     ensures answer { engine.new.answer ≡ engine.old.answer }
+    ensures built { values_of engine.new.built ≡ [] }
+    ensures reply { reply_of call.new ≡ reply_of call.old }
     ensures status { (result ≡ status_of refused.now) ⊎ (result ≡ Status.Memory) }
     ensures unknown { refused.now ≡ Refused.Unknown → result ≡ Status.Unknown }
+    ensures misuse { refused.now ≡ Refused.Misuse → result ≡ Status.Misuse }
 {
     engine.built.clear();
     match engine.note(refused, call.text) {

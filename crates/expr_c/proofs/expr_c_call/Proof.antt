@@ -1,13 +1,14 @@
--- `expr_c_call` lends what lies at the pointer for the call of `do_call`, and has it back. A walk of the code by hand.
+-- `expr_c_call` lends what lies at the pointer for the call of `do_call`, has it back, and hands on what that says. A walk of the code by hand.
 use Rattle.std.proofs.Common.{ℕ, [], ◌∷◌, ◌++◌, refl, ap, MutBor}
 use Rattle.std.proofs.raw_atomic.Walks.{proved}
 use base.Fraction.{full_share}
-use base.Logic.{id⊢}
+use base.Logic.{id⊢, sep}
 use base.Fml.{Fml, ftrue, fsep, flft, flent}
 use mir.Syntax.{named}
 use mir.Val.{vunit, vptr}
 use prog.Wp.{WpFn}
 use contract.Lifetimes.{Lfts}
+use contract.Monad.{fact}
 use contract.Running.{tables}
 use types.Logic.{sem}
 use types.Kit.{‵, raw, ◌⊛◌, some, later, prop, ◌$◌, ◌∵◌, !, qed, done, move, drop, use1, use2, use3, split, join, fsplit, fjoin, feq_i, feq_l, pick, await, regoal, suffices, show, frame, group}
@@ -23,13 +24,14 @@ use denote.RattleType.{RattleType}
 use denote.RawPtr.{Ptr, RawPtr, block_ptr, lies_at, in_a_block, rawptr_vals, rawptr_Tells}
 use denote.Ref.{MutRef, mut_vals, mut_Tells}
 use denote.Signature.{plain, named_lft}
-use denote.Steps.{nothing, only}
+use denote.Steps.{heard, nothing, only}
 use denote.Triple.Call.{calls_at}
 use denote.Triple.Clauses.{Lasts, lasts}
 use denote.Triple.Entry.{alive}
 use denote.Triple.Spec.{triple_of}
-use denote.Triple.Walked.{Stays, walk_of, stay_dropped, gave_ref, Goes-dropped, Goes-gave_ref, ends_at}
+use denote.Triple.Walked.{Stays, walk_of, stay_dropped, gave_ref, says, Goes-dropped, Goes-gave_ref, ends_at}
 use denote.Triple.Table.{framed}
+use Rattle.expr_engine.specs.Promised.{IsServed}
 use Rattle.expr_engine.specs.contracts.engine.Engine.{the_row as E}
 use Rattle.expr_engine.specs.contracts.call.Call.{the_row as call_row}
 use Rattle.expr_c.specs.contracts.expr_c_call as f
@@ -73,11 +75,11 @@ expr_c_call_spec 𝓤 𝓛 𝓜 𝓡 wired =
     calls_at ! (framed 𝓤 𝓛.H 𝓜 (tables 𝓤 𝓛.H 𝓜 𝓡 𝓡.env)) G (met 𝓤 𝓛 𝓜 𝓡 (code.calls-expr_c::do_call 𝓡.env wired)) z
     (and_then ! (get ! refl) (and_then ! (get ! refl) (no_more !))) (λ v.
     use1 𝓛 (later (some (λ (u : Unit {0}). ((‵ (flft (α ∷ []) full_share) ⊛ raw (alive 𝓛 f.signature κs qs)) ⊛ ‵ (unit.own_val u (v ∷ []))) ⊛
-    some (λ (ws : Lasts g.ended z.0.0 z.0.3). ‵ (lasts g.ended z.0.0 z.0.3 ws) ⊛ ‵ ftrue)))) (id⊢ 𝓤 _) $
+    some (λ (ws : Lasts g.ended z.0.0 z.0.3). ‵ (lasts g.ended z.0.0 z.0.3 ws) ⊛ raw (fact 𝓤 (IsServed n ws.0 r.now ws.1.0)))))) (id⊢ 𝓤 _) $
     await ! tt $ pick ! (λ u. split ! $ split ! $ split ! $ lft_end ! tt $ move ! (2 ∷ []) $ feq_l ! (λ is_unit.
     lands_as ! (ap only is_unit) refl (tt, tt) $
     -- [α is over; the tokens; the last values; what the lender keeps]
-    move ! (2 ∷ []) $ pick ! (λ ws. split ! $ move ! (1 ∷ []) $ drop ! $ fsplit ! $ fsplit ! $
+    move ! (2 ∷ []) $ pick ! (λ ws. split ! $ move ! (1 ∷ []) $ heard ! (IsServed n ws.0 r.now ws.1.0) (λ served. fsplit ! $ fsplit ! $
     -- [the loan's last value; its borrow; the call's; α is over; the tokens; what the lender keeps]
     move ! (3 ∷ 5 ∷ 0 ∷ []) $ use3 𝓛 (later (‵ ((mem E).own_at ws.0 b o))) (ref_back 𝓛 E (α ∷ []) δ ws.0 b o) $ await ! tt $
     -- [the engine; the loan's borrow; the call's; the tokens]
@@ -86,4 +88,4 @@ expr_c_call_spec 𝓤 𝓛 𝓜 𝓡 wired =
     returns ! (look_at ! 0 refl) $ free_all ! refl $
     suffices ! _ (ends_at 𝓛 f.ended stayed c (y (block_ptr b o)) vunit tt (tt, (ws.1.0, tt)) (tt, (tt, tt))) $
     move ! (1 ∷ []) $ nothing ! $ join ! $ feq_i ! _ (vunit ∷ []) _ refl $ move ! (3 ∷ 1 ∷ 0 ∷ []) $ group ! 3 $ frame ! $
-    show ! (λ (after : E.Denot). sem 𝓛 (lies_at E full_share (block_ptr b o) after)) ws.0 $ done !)))))))))
+    show ! (λ (after : E.Denot). sep 𝓤 (sem 𝓛 (lies_at E full_share (block_ptr b o) after)) (fact 𝓤 (IsServed n after r.now ws.1.0))) ws.0 $ says ! served $ done !))))))))))

@@ -1,11 +1,12 @@
--- `expr_c_open` writes what `fresh` gives into the room at the pointer. A walk of the code by hand.
+-- `expr_c_open` writes what `fresh` gives into the room at the pointer, and hands on what that says. A walk of the code by hand.
 use Rattle.std.proofs.Common.{List, [], ◌∷◌, ◌++◌, refl}
 use Rattle.std.proofs.raw_atomic.Walks.{proved}
 use base.Fraction.{full_share}
-use base.Logic.{id⊢}
+use base.Logic.{ex_e, id⊢, sep, snd∗}
 use base.Fml.{ftrue, fsep}
 use mir.Val.{Val, vunit}
 use prog.Wp.{WpFn}
+use contract.Monad.{fact}
 use contract.Running.{tables}
 use types.Logic.{sem}
 use types.Kit.{‵, raw, ◌⊛◌, some, later, prop, ◌$◌, ◌∵◌, !, qed, done, move, drop, use1, use2, split, join, fjoin, fpack, feq_i, pick, await, regoal, suffices, show, frame, group}
@@ -16,14 +17,15 @@ use denote.Laws.{Is, shows}
 use denote.Memory.{cell_at, lone, part_of}
 use denote.RawPtr.{Ptr, RawPtr, block_ptr, lies_at, room_at, in_a_block, rawptr_vals, rawptr_Tells}
 use denote.Signature.{plain}
-use denote.Steps.{nothing, peeks}
+use denote.Steps.{heard, nothing, peeks}
 use denote.Triple.Call.{calls_at}
 use denote.Triple.Clauses.{Lasts, lasts}
 use denote.Triple.Spec.{triple_of}
-use denote.Triple.Walked.{Stays, walk_of, stay_dropped, Goes-dropped, ends_at}
+use denote.Triple.Walked.{says, Stays, walk_of, stay_dropped, Goes-dropped, ends_at}
 use denote.Triple.Table.{framed}
 use Rattle.std.specs.contracts.alloc.Global.{the_row as Z}
 use Rattle.std.proofs.alloc.Global.TheLaws.{the_row_laws as LZ, lowers as heap}
+use Rattle.expr_engine.specs.Promised.{IsNew}
 use Rattle.expr_engine.specs.contracts.engine.Engine.{the_row as E}
 use Rattle.expr_engine.proofs.engine.Engine.TheLaws.{the_row_laws as LE}
 use Rattle.expr_c.specs.contracts.expr_c_open as f
@@ -60,8 +62,9 @@ expr_c_open_spec 𝓤 𝓛 𝓜 𝓡 wired =
     calls_at ! (framed 𝓤 𝓛.H 𝓜 (tables 𝓤 𝓛.H 𝓜 𝓡 𝓡.env)) G (met 𝓤 𝓛 𝓜 𝓡 (code.calls-expr_c::fresh 𝓡.env wired)) z
     (and_then ! (get ! refl) (no_more !)) (λ v.
     use1 𝓛 (later (some (λ (r : E.Denot). (‵ ftrue ⊛ ‵ (E.own_val r (v ∷ []))) ⊛
-    some (λ (ws : Lasts g.ended z.0.0 z.0.3). ‵ (lasts g.ended z.0.0 z.0.3 ws) ⊛ ‵ ftrue)))) (id⊢ 𝓤 _) $
-    await ! tt $ pick ! (λ r. split ! $ split ! $ drop ! $ move ! (1 ∷ []) $ drop ! $
+    some (λ (ws : Lasts g.ended z.0.0 z.0.3). ‵ (lasts g.ended z.0.0 z.0.3 ws) ⊛ raw (fact 𝓤 (IsNew r)))))) (id⊢ 𝓤 _) $
+    await ! tt $ pick ! (λ r. split ! $ split ! $ drop ! $ move ! (1 ∷ []) $
+    use1 𝓛 (raw (fact 𝓤 (IsNew r))) (ex_e 𝓤 _ (λ ws. snd∗ 𝓤 (sem 𝓛 (lasts g.ended z.0.0 z.0.3 ws)) (fact 𝓤 (IsNew r)))) $ heard ! (IsNew r) (λ new.
     -- [the engine; the room]
     peeks ! E (Is E) (shows 𝓛 E) r (v ∷ []) (λ is. let good = ((LE.lawful 𝓛).typed r (v ∷ []) is).0 in
     lands_as ! refl refl good $
@@ -71,4 +74,4 @@ expr_c_open_spec 𝓤 𝓛 𝓜 𝓡 wired =
     move ! (1 ∷ []) $ use1 𝓛 (‵ (cell_at full_share E.mir (v ∷ []) b o)) (𝓛.laws.at_raw full_share (lone E.mir) b o v) $ fjoin ! $ fpack ! (List Val) (λ us. fsep (cell_at full_share E.mir us b o) (E.own_val r us)) (v ∷ []) $
     suffices ! _ (ends_at 𝓛 f.ended stayed c (y (block_ptr b o)) vunit tt (tt, (tt, tt)) (tt, (tt, tt))) $
     feq_i ! _ (vunit ∷ []) _ refl $ nothing ! $ nothing ! $ join ! $ nothing ! $ join ! $ nothing ! $ group ! 3 $ frame ! $
-    show ! (λ (after : E.Denot). sem 𝓛 (lies_at E full_share (block_ptr b o) after)) r $ done !))))))
+    show ! (λ (after : E.Denot). sep 𝓤 (sem 𝓛 (lies_at E full_share (block_ptr b o) after)) (fact 𝓤 (IsNew after))) r $ says ! new $ done !)))))))

@@ -1,13 +1,50 @@
-use Rattle.std.proofs.Common.{◌≡◌, MatchOption, subst, sym}
+use Rattle.std.proofs.Common.{◌≡◌, MatchOption, length, subst, sym}
+use Rattle.expr_engine.specs.Asks.{ask_of, shows_of}
+use Rattle.expr_engine.specs.Doings.{Does, IsMissing, reply_of}
 use Rattle.expr_engine.specs.Engines.{asked}
-use Rattle.expr_engine.specs.Served.{Answers}
+use Rattle.expr_engine.specs.Served.{Answers, text_shown}
+use Rattle.expr_engine.specs.declared.call.Ask.TheVariants.{Run}
 use Rattle.expr_exchange.specs.Looked.{part_of}
-use Rattle.expr_engine.proofs.Ended.{served_by}
+use Rattle.expr_engine.proofs.Ended.{asked_for, does_by, done_by, refused_by, served_by}
+use Rattle.expr_engine.proofs.Unchanged.{leaves_after, rise_after}
 use Rattle.expr_engine.proofs.serving.serve.Goals as goal
 
-pub returns-clause-run : goal.returns-clause-run
-returns-clause-run c = λ is_run.
+pub returns-in-Some-clause-done : goal.returns-in-Some-clause-done
+returns-in-Some-clause-done c = λ z.
+    asked_for ⊥ (ask_of c.args.call.now.ask) c.in-Some.ask (λ ask. Does ask c.args.engine.now c.finish.new.engine c.args.call.now (reply_of c.finish.new.call)) (sym c.in-Some.ensures)
+    (does_by c.in-Some.ask c.args.engine.now c.act-done.new.engine c.finish.new.engine c.args.call.now (reply_of c.act-done.new.call) (reply_of c.finish.new.call)
+    (done_by c.act-done.result c.finish.new.call.status c.act-done.ensures.done c.finish.ensures.ended z) (done_by c.act-done.result c.finish.new.call.status c.finish.ensures.same c.finish.ensures.ended z) c.finish.ensures.reply)
+
+pub returns-in-Some-clause-run : goal.returns-in-Some-clause-run
+returns-in-Some-clause-run c = λ is_run.
+    let is : c.in-Some.ask ≡ Run = cc (is_run, c.in-Some.ensures) in
     let found = asked c.args.engine.now c.args.call.now.program c.args.call.now.environment c.args.call.now.context in
     let status = c.finish.new.call.status in
     subst (λ a. MatchOption found (status ≡ 6) (λ q. Answers q status (part_of a))) (sym c.finish.ensures.answer)
-    (served_by found c.act-done.result (part_of c.act-done.new.engine.answer) status (c.act-done.ensures.run is_run) c.finish.ensures.unknown c.finish.ensures.ended)
+    (served_by found c.act-done.result (part_of c.act-done.new.engine.answer) status (c.act-done.ensures.run is) c.finish.ensures.unknown c.finish.ensures.ended)
+
+pub returns-in-Some-clause-refused : goal.returns-in-Some-clause-refused
+returns-in-Some-clause-refused c = λ n.
+    leaves_after {mid = c.act-done.new.engine} (refused_by c.act-done.result c.finish.new.call.status c.act-done.ensures.refused c.finish.ensures.ended n)
+    c.finish.ensures.rules c.finish.ensures.contexts c.finish.ensures.environments c.finish.ensures.answer
+
+pub returns-in-Some-clause-built : goal.returns-in-Some-clause-built
+returns-in-Some-clause-built c = λ n. refused_by c.act-done.result c.finish.new.call.status c.finish.ensures.built c.finish.ensures.ended n
+
+pub returns-in-Some-clause-unknown : goal.returns-in-Some-clause-unknown
+returns-in-Some-clause-unknown c =
+    asked_for (c.finish.new.call.status ≡ 7) (ask_of c.args.call.now.ask) c.in-Some.ask (λ ask. IsMissing ask c.args.engine.now c.args.call.now → c.finish.new.call.status ≡ 6) (sym c.in-Some.ensures)
+    (λ m. c.finish.ensures.unknown (c.act-done.ensures.unknown m))
+
+pub returns-in-Some-clause-known : goal.returns-in-Some-clause-known
+returns-in-Some-clause-known c = λ e.
+    asked_for ⊥ (ask_of c.args.call.now.ask) c.in-Some.ask (λ ask. IsMissing ask c.args.engine.now c.args.call.now) (sym c.in-Some.ensures)
+    (c.act-done.ensures.known (c.finish.ensures.known e))
+
+pub returns-in-Some-clause-numbers : goal.returns-in-Some-clause-numbers
+returns-in-Some-clause-numbers c = rise_after c.act-done.ensures.numbers c.finish.ensures.rules c.finish.ensures.contexts c.finish.ensures.environments
+
+pub returns-in-Some-clause-shown : goal.returns-in-Some-clause-shown
+returns-in-Some-clause-shown c = λ z.
+    asked_for ⊥ (ask_of c.args.call.now.ask) c.in-Some.ask (λ ask. c.finish.new.call.length ≡ length (text_shown (shows_of ask) c.finish.new.engine)) (sym c.in-Some.ensures)
+    (subst (λ s. c.finish.new.call.length ≡ length (text_shown s c.finish.new.engine)) c.shows.ensures (done_by c.act-done.result c.finish.new.call.status c.finish.ensures.length c.finish.ensures.ended z))

@@ -1,0 +1,243 @@
+use Rattle.std.proofs.Common.{subst, sym}
+use Rattle.expr_engine.specs.Doings.{IsMissing, height_by}
+use Rattle.expr_engine.specs.Engines.{Leaves}
+use Rattle.expr_engine.proofs.Ended.{always_ok, compile_never_unknown, never_unknown, ok_never_unknown}
+use Rattle.expr_engine.proofs.Unchanged.{left_answer, left_contexts, left_environments, left_look, left_rules, left_same, numbers_by_contexts, numbers_by_environments, numbers_by_rules, numbers_kept}
+use Rattle.expr_engine.proofs.serving.act.Goals as goal
+
+pub returns-in-Compile-clause-refused : goal.returns-in-Compile-clause-refused
+returns-in-Compile-clause-refused c = left_rules c.args.engine.now c.compile.new.engine c.compile.result c.compile.ensures.err c.compile.ensures.contexts c.compile.ensures.environments c.compile.ensures.answer
+
+pub returns-in-Compile-clause-known : goal.returns-in-Compile-clause-known
+returns-in-Compile-clause-known c = λ e. absurd (compile_never_unknown (height_by c.args.call.now.number) c.args.call.now.text.now c.compile.result c.compile.ensures.refused e)
+
+pub returns-in-Names-clause-refused : goal.returns-in-Names-clause-refused
+returns-in-Names-clause-refused c = left_same c.args.engine.now c.names.new.engine c.names.result c.names.ensures.rules c.names.ensures.contexts c.names.ensures.environments c.names.ensures.answer
+
+pub returns-in-Names-clause-known : goal.returns-in-Names-clause-known
+returns-in-Names-clause-known c = λ e. subst (λ a. IsMissing a c.args.engine.now c.args.call.now) (sym c.in-Names.is) (c.names.ensures.known e)
+
+pub returns-in-Names-clause-unknown : goal.returns-in-Names-clause-unknown
+returns-in-Names-clause-unknown c = λ m. c.names.ensures.unknown (subst (λ a. IsMissing a c.args.engine.now c.args.call.now) c.in-Names.is m)
+
+pub returns-in-Names-clause-numbers : goal.returns-in-Names-clause-numbers
+returns-in-Names-clause-numbers c = numbers_kept c.names.ensures.rules c.names.ensures.contexts c.names.ensures.environments
+
+pub returns-in-Run-clause-refused : goal.returns-in-Run-clause-refused
+returns-in-Run-clause-refused c = left_answer c.args.engine.now c.run.new.engine c.run.result c.run.ensures.rules c.run.ensures.contexts c.run.ensures.environments c.run.ensures.answer
+
+pub returns-in-Run-clause-known : goal.returns-in-Run-clause-known
+returns-in-Run-clause-known c = λ e. subst (λ a. IsMissing a c.args.engine.now c.args.call.now) (sym c.in-Run.is) (c.run.ensures.known e)
+
+pub returns-in-Run-clause-unknown : goal.returns-in-Run-clause-unknown
+returns-in-Run-clause-unknown c = λ m. c.run.ensures.unknown (subst (λ a. IsMissing a c.args.engine.now c.args.call.now) c.in-Run.is m)
+
+pub returns-in-Run-clause-numbers : goal.returns-in-Run-clause-numbers
+returns-in-Run-clause-numbers c = numbers_kept c.run.ensures.rules c.run.ensures.contexts c.run.ensures.environments
+
+pub returns-in-Context-clause-refused : goal.returns-in-Context-clause-refused
+returns-in-Context-clause-refused c = left_contexts c.args.engine.now c.new_context.new.engine c.new_context.result c.new_context.ensures.rules c.new_context.ensures.err c.new_context.ensures.environments c.new_context.ensures.answer
+
+pub returns-in-Context-clause-known : goal.returns-in-Context-clause-known
+returns-in-Context-clause-known c = λ e. absurd (never_unknown c.new_context.result c.new_context.ensures.found e)
+
+pub returns-in-ContextOf-clause-refused : goal.returns-in-ContextOf-clause-refused
+returns-in-ContextOf-clause-refused c = left_contexts c.args.engine.now c.built_context.new.engine c.built_context.result c.built_context.ensures.rules c.built_context.ensures.err c.built_context.ensures.environments c.built_context.ensures.answer
+
+pub returns-in-ContextOf-clause-known : goal.returns-in-ContextOf-clause-known
+returns-in-ContextOf-clause-known c = λ e. absurd (never_unknown c.built_context.result c.built_context.ensures.found e)
+
+pub returns-in-Set-clause-refused : goal.returns-in-Set-clause-refused
+returns-in-Set-clause-refused c = left_contexts c.args.engine.now c.set.new.engine c.set.result c.set.ensures.rules c.set.ensures.err c.set.ensures.environments c.set.ensures.answer
+
+pub returns-in-Set-clause-known : goal.returns-in-Set-clause-known
+returns-in-Set-clause-known c = λ e. subst (λ a. IsMissing a c.args.engine.now c.args.call.now) (sym c.in-Set.is) (c.set.ensures.known e)
+
+pub returns-in-Set-clause-unknown : goal.returns-in-Set-clause-unknown
+returns-in-Set-clause-unknown c = λ m. c.set.ensures.unknown (subst (λ a. IsMissing a c.args.engine.now c.args.call.now) c.in-Set.is m)
+
+pub returns-in-Set-clause-numbers : goal.returns-in-Set-clause-numbers
+returns-in-Set-clause-numbers c = numbers_by_contexts c.set.ensures.rules c.set.ensures.next c.set.ensures.environments
+
+pub returns-in-Push-clause-refused : goal.returns-in-Push-clause-refused
+returns-in-Push-clause-refused c = left_same c.args.engine.now c.push.new.engine c.push.result c.push.ensures.rules c.push.ensures.contexts c.push.ensures.environments c.push.ensures.answer
+
+pub returns-in-Push-clause-known : goal.returns-in-Push-clause-known
+returns-in-Push-clause-known c = λ e. absurd (never_unknown c.push.result c.push.ensures.found e)
+
+pub returns-in-Push-clause-numbers : goal.returns-in-Push-clause-numbers
+returns-in-Push-clause-numbers c = numbers_kept c.push.ensures.rules c.push.ensures.contexts c.push.ensures.environments
+
+pub returns-in-Array-clause-refused : goal.returns-in-Array-clause-refused
+returns-in-Array-clause-refused c = left_same c.args.engine.now c.make_array.new.engine c.make_array.result c.make_array.ensures.rules c.make_array.ensures.contexts c.make_array.ensures.environments c.make_array.ensures.answer
+
+pub returns-in-Array-clause-known : goal.returns-in-Array-clause-known
+returns-in-Array-clause-known c = λ e. absurd (never_unknown c.make_array.result c.make_array.ensures.found e)
+
+pub returns-in-Array-clause-numbers : goal.returns-in-Array-clause-numbers
+returns-in-Array-clause-numbers c = numbers_kept c.make_array.ensures.rules c.make_array.ensures.contexts c.make_array.ensures.environments
+
+pub returns-in-Map-clause-refused : goal.returns-in-Map-clause-refused
+returns-in-Map-clause-refused c = left_same c.args.engine.now c.make_map.new.engine c.make_map.result c.make_map.ensures.rules c.make_map.ensures.contexts c.make_map.ensures.environments c.make_map.ensures.answer
+
+pub returns-in-Map-clause-known : goal.returns-in-Map-clause-known
+returns-in-Map-clause-known c = λ e. absurd (never_unknown c.make_map.result c.make_map.ensures.found e)
+
+pub returns-in-Map-clause-numbers : goal.returns-in-Map-clause-numbers
+returns-in-Map-clause-numbers c = numbers_kept c.make_map.ensures.rules c.make_map.ensures.contexts c.make_map.ensures.environments
+
+pub returns-in-Unbuild-clause-refused : goal.returns-in-Unbuild-clause-refused
+returns-in-Unbuild-clause-refused c = left_same c.args.engine.now c.unbuild.new.engine c.unbuild.result c.unbuild.ensures.rules c.unbuild.ensures.contexts c.unbuild.ensures.environments c.unbuild.ensures.answer
+
+pub returns-in-Unbuild-clause-known : goal.returns-in-Unbuild-clause-known
+returns-in-Unbuild-clause-known c = λ e. absurd (never_unknown c.unbuild.result c.unbuild.ensures.found e)
+
+pub returns-in-Unbuild-clause-numbers : goal.returns-in-Unbuild-clause-numbers
+returns-in-Unbuild-clause-numbers c = numbers_kept c.unbuild.ensures.rules c.unbuild.ensures.contexts c.unbuild.ensures.environments
+
+pub returns-in-Look-clause-refused : goal.returns-in-Look-clause-refused
+returns-in-Look-clause-refused c = left_same c.args.engine.now c.look.new.engine c.look.result c.look.ensures.rules c.look.ensures.contexts c.look.ensures.environments c.look.ensures.answer
+
+pub returns-in-Look-clause-known : goal.returns-in-Look-clause-known
+returns-in-Look-clause-known c = λ e. absurd (never_unknown c.look.result c.look.ensures.found e)
+
+pub returns-in-Look-clause-numbers : goal.returns-in-Look-clause-numbers
+returns-in-Look-clause-numbers c = numbers_kept c.look.ensures.rules c.look.ensures.contexts c.look.ensures.environments
+
+pub returns-in-Down-clause-refused : goal.returns-in-Down-clause-refused
+returns-in-Down-clause-refused c = left_look c.args.engine.now c.look_down.new.engine c.look_down.result c.look_down.ensures.rules c.look_down.ensures.contexts c.look_down.ensures.environments c.look_down.ensures.look
+
+pub returns-in-Down-clause-known : goal.returns-in-Down-clause-known
+returns-in-Down-clause-known c = λ e. absurd (never_unknown c.look_down.result c.look_down.ensures.found e)
+
+pub returns-in-Down-clause-numbers : goal.returns-in-Down-clause-numbers
+returns-in-Down-clause-numbers c = numbers_kept c.look_down.ensures.rules c.look_down.ensures.contexts c.look_down.ensures.environments
+
+pub returns-in-Up-clause-refused : goal.returns-in-Up-clause-refused
+returns-in-Up-clause-refused c = left_look c.args.engine.now c.look_up.new.engine c.look_up.result c.look_up.ensures.rules c.look_up.ensures.contexts c.look_up.ensures.environments c.look_up.ensures.look
+
+pub returns-in-Up-clause-known : goal.returns-in-Up-clause-known
+returns-in-Up-clause-known c = λ e. absurd (never_unknown c.look_up.result c.look_up.ensures.found e)
+
+pub returns-in-Up-clause-numbers : goal.returns-in-Up-clause-numbers
+returns-in-Up-clause-numbers c = numbers_kept c.look_up.ensures.rules c.look_up.ensures.contexts c.look_up.ensures.environments
+
+pub returns-in-Key-clause-refused : goal.returns-in-Key-clause-refused
+returns-in-Key-clause-refused c = left_same c.args.engine.now c.show_key.new.engine c.show_key.result c.show_key.ensures.rules c.show_key.ensures.contexts c.show_key.ensures.environments c.show_key.ensures.answer
+
+pub returns-in-Key-clause-known : goal.returns-in-Key-clause-known
+returns-in-Key-clause-known c = λ e. absurd (never_unknown c.show_key.result c.show_key.ensures.found e)
+
+pub returns-in-Key-clause-numbers : goal.returns-in-Key-clause-numbers
+returns-in-Key-clause-numbers c = numbers_kept c.show_key.ensures.rules c.show_key.ensures.contexts c.show_key.ensures.environments
+
+pub returns-in-Shown-clause-refused : goal.returns-in-Shown-clause-refused
+returns-in-Shown-clause-refused c = left_same c.args.engine.now c.say_shown.new.engine c.say_shown.result c.say_shown.ensures.rules c.say_shown.ensures.contexts c.say_shown.ensures.environments c.say_shown.ensures.answer
+
+pub returns-in-Shown-clause-known : goal.returns-in-Shown-clause-known
+returns-in-Shown-clause-known c = λ e. absurd (never_unknown c.say_shown.result c.say_shown.ensures.found e)
+
+pub returns-in-Shown-clause-numbers : goal.returns-in-Shown-clause-numbers
+returns-in-Shown-clause-numbers c = numbers_kept c.say_shown.ensures.rules c.say_shown.ensures.contexts c.say_shown.ensures.environments
+
+pub returns-in-Text-clause-refused : goal.returns-in-Text-clause-refused
+returns-in-Text-clause-refused c = left_same c.args.engine.now c.say_text.new.engine c.say_text.result c.say_text.ensures.rules c.say_text.ensures.contexts c.say_text.ensures.environments c.say_text.ensures.answer
+
+pub returns-in-Text-clause-known : goal.returns-in-Text-clause-known
+returns-in-Text-clause-known c = λ e. absurd (never_unknown c.say_text.result c.say_text.ensures.found e)
+
+pub returns-in-Text-clause-numbers : goal.returns-in-Text-clause-numbers
+returns-in-Text-clause-numbers c = numbers_kept c.say_text.ensures.rules c.say_text.ensures.contexts c.say_text.ensures.environments
+
+pub returns-in-Json-clause-refused : goal.returns-in-Json-clause-refused
+returns-in-Json-clause-refused c = left_same c.args.engine.now c.say_json.new.engine c.say_json.result c.say_json.ensures.rules c.say_json.ensures.contexts c.say_json.ensures.environments c.say_json.ensures.answer
+
+pub returns-in-Json-clause-known : goal.returns-in-Json-clause-known
+returns-in-Json-clause-known c = λ e. absurd (never_unknown c.say_json.result c.say_json.ensures.found e)
+
+pub returns-in-Json-clause-numbers : goal.returns-in-Json-clause-numbers
+returns-in-Json-clause-numbers c = numbers_kept c.say_json.ensures.rules c.say_json.ensures.contexts c.say_json.ensures.environments
+
+pub returns-in-Environment-clause-refused : goal.returns-in-Environment-clause-refused
+returns-in-Environment-clause-refused c = left_environments c.args.engine.now c.add_environment.new.engine c.add_environment.result c.add_environment.ensures.rules c.add_environment.ensures.contexts c.add_environment.ensures.err c.add_environment.ensures.answer
+
+pub returns-in-Environment-clause-known : goal.returns-in-Environment-clause-known
+returns-in-Environment-clause-known c = λ e. absurd (never_unknown c.add_environment.result c.add_environment.ensures.found e)
+
+pub returns-in-FixedZone-clause-refused : goal.returns-in-FixedZone-clause-refused
+returns-in-FixedZone-clause-refused c = left_environments c.args.engine.now c.zone_by_seconds.new.engine c.zone_by_seconds.result c.zone_by_seconds.ensures.rules c.zone_by_seconds.ensures.contexts c.zone_by_seconds.ensures.err c.zone_by_seconds.ensures.answer
+
+pub returns-in-FixedZone-clause-known : goal.returns-in-FixedZone-clause-known
+returns-in-FixedZone-clause-known c = λ e. subst (λ a. IsMissing a c.args.engine.now c.args.call.now) (sym c.in-FixedZone.is) (c.zone_by_seconds.ensures.known e)
+
+pub returns-in-FixedZone-clause-unknown : goal.returns-in-FixedZone-clause-unknown
+returns-in-FixedZone-clause-unknown c = λ m. c.zone_by_seconds.ensures.unknown (subst (λ a. IsMissing a c.args.engine.now c.args.call.now) c.in-FixedZone.is m)
+
+pub returns-in-FixedZone-clause-numbers : goal.returns-in-FixedZone-clause-numbers
+returns-in-FixedZone-clause-numbers c = numbers_by_environments c.zone_by_seconds.ensures.rules c.zone_by_seconds.ensures.contexts c.zone_by_seconds.ensures.next
+
+pub returns-in-ZoneRule-clause-refused : goal.returns-in-ZoneRule-clause-refused
+returns-in-ZoneRule-clause-refused c = left_environments c.args.engine.now c.zone_by_rule.new.engine c.zone_by_rule.result c.zone_by_rule.ensures.rules c.zone_by_rule.ensures.contexts c.zone_by_rule.ensures.err c.zone_by_rule.ensures.answer
+
+pub returns-in-ZoneRule-clause-known : goal.returns-in-ZoneRule-clause-known
+returns-in-ZoneRule-clause-known c = λ e. subst (λ a. IsMissing a c.args.engine.now c.args.call.now) (sym c.in-ZoneRule.is) (c.zone_by_rule.ensures.known e)
+
+pub returns-in-ZoneRule-clause-unknown : goal.returns-in-ZoneRule-clause-unknown
+returns-in-ZoneRule-clause-unknown c = λ m. c.zone_by_rule.ensures.unknown (subst (λ a. IsMissing a c.args.engine.now c.args.call.now) c.in-ZoneRule.is m)
+
+pub returns-in-ZoneRule-clause-numbers : goal.returns-in-ZoneRule-clause-numbers
+returns-in-ZoneRule-clause-numbers c = numbers_by_environments c.zone_by_rule.ensures.rules c.zone_by_rule.ensures.contexts c.zone_by_rule.ensures.next
+
+pub returns-in-Now-clause-refused : goal.returns-in-Now-clause-refused
+returns-in-Now-clause-refused c = left_environments c.args.engine.now c.set_now.new.engine c.set_now.result c.set_now.ensures.rules c.set_now.ensures.contexts c.set_now.ensures.err c.set_now.ensures.answer
+
+pub returns-in-Now-clause-known : goal.returns-in-Now-clause-known
+returns-in-Now-clause-known c = λ e. subst (λ a. IsMissing a c.args.engine.now c.args.call.now) (sym c.in-Now.is) (c.set_now.ensures.known e)
+
+pub returns-in-Now-clause-unknown : goal.returns-in-Now-clause-unknown
+returns-in-Now-clause-unknown c = λ m. c.set_now.ensures.unknown (subst (λ a. IsMissing a c.args.engine.now c.args.call.now) c.in-Now.is m)
+
+pub returns-in-Now-clause-numbers : goal.returns-in-Now-clause-numbers
+returns-in-Now-clause-numbers c = numbers_by_environments c.set_now.ensures.rules c.set_now.ensures.contexts c.set_now.ensures.next
+
+pub returns-in-DropProgram-clause-refused : goal.returns-in-DropProgram-clause-refused
+returns-in-DropProgram-clause-refused c = left_rules c.args.engine.now c.drop_program.new.engine c.drop_program.result c.drop_program.ensures.err c.drop_program.ensures.contexts c.drop_program.ensures.environments c.drop_program.ensures.answer
+
+pub returns-in-DropProgram-clause-known : goal.returns-in-DropProgram-clause-known
+returns-in-DropProgram-clause-known c = λ e. subst (λ a. IsMissing a c.args.engine.now c.args.call.now) (sym c.in-DropProgram.is) (c.drop_program.ensures.known e)
+
+pub returns-in-DropProgram-clause-unknown : goal.returns-in-DropProgram-clause-unknown
+returns-in-DropProgram-clause-unknown c = λ m. c.drop_program.ensures.unknown (subst (λ a. IsMissing a c.args.engine.now c.args.call.now) c.in-DropProgram.is m)
+
+pub returns-in-DropProgram-clause-numbers : goal.returns-in-DropProgram-clause-numbers
+returns-in-DropProgram-clause-numbers c = numbers_by_rules c.drop_program.ensures.next c.drop_program.ensures.contexts c.drop_program.ensures.environments
+
+pub returns-in-DropContext-clause-refused : goal.returns-in-DropContext-clause-refused
+returns-in-DropContext-clause-refused c = left_contexts c.args.engine.now c.drop_context.new.engine c.drop_context.result c.drop_context.ensures.rules c.drop_context.ensures.err c.drop_context.ensures.environments c.drop_context.ensures.answer
+
+pub returns-in-DropContext-clause-known : goal.returns-in-DropContext-clause-known
+returns-in-DropContext-clause-known c = λ e. subst (λ a. IsMissing a c.args.engine.now c.args.call.now) (sym c.in-DropContext.is) (c.drop_context.ensures.known e)
+
+pub returns-in-DropContext-clause-unknown : goal.returns-in-DropContext-clause-unknown
+returns-in-DropContext-clause-unknown c = λ m. c.drop_context.ensures.unknown (subst (λ a. IsMissing a c.args.engine.now c.args.call.now) c.in-DropContext.is m)
+
+pub returns-in-DropContext-clause-numbers : goal.returns-in-DropContext-clause-numbers
+returns-in-DropContext-clause-numbers c = numbers_by_contexts c.drop_context.ensures.rules c.drop_context.ensures.next c.drop_context.ensures.environments
+
+pub returns-in-DropEnvironment-clause-refused : goal.returns-in-DropEnvironment-clause-refused
+returns-in-DropEnvironment-clause-refused c = left_environments c.args.engine.now c.drop_environment.new.engine c.drop_environment.result c.drop_environment.ensures.rules c.drop_environment.ensures.contexts c.drop_environment.ensures.err c.drop_environment.ensures.answer
+
+pub returns-in-DropEnvironment-clause-known : goal.returns-in-DropEnvironment-clause-known
+returns-in-DropEnvironment-clause-known c = λ e. subst (λ a. IsMissing a c.args.engine.now c.args.call.now) (sym c.in-DropEnvironment.is) (c.drop_environment.ensures.known e)
+
+pub returns-in-DropEnvironment-clause-unknown : goal.returns-in-DropEnvironment-clause-unknown
+returns-in-DropEnvironment-clause-unknown c = λ m. c.drop_environment.ensures.unknown (subst (λ a. IsMissing a c.args.engine.now c.args.call.now) c.in-DropEnvironment.is m)
+
+pub returns-in-DropEnvironment-clause-numbers : goal.returns-in-DropEnvironment-clause-numbers
+returns-in-DropEnvironment-clause-numbers c = numbers_by_environments c.drop_environment.ensures.rules c.drop_environment.ensures.contexts c.drop_environment.ensures.next
+
+pub returns-in-Clear-clause-refused : goal.returns-in-Clear-clause-refused
+returns-in-Clear-clause-refused c = always_ok (Leaves c.args.engine.now c.clear.new.engine) c.clear.result c.clear.ensures.ok
+
+pub returns-in-Clear-clause-known : goal.returns-in-Clear-clause-known
+returns-in-Clear-clause-known c = λ e. absurd (ok_never_unknown c.clear.result c.clear.ensures.ok e)

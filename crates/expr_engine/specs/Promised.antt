@@ -1,0 +1,34 @@
+-- What is promised of an engine and of a call, in one word each.
+use Rattle.std.specs.Prelude.{◌≡◌, ◌≢◌, [], None, Some, MatchOption, length}
+use Rattle.expr_engine.specs.Asks.{ask_of, shows_of}
+use Rattle.expr_engine.specs.Doings.{Does, IsMissing, reply_of}
+use Rattle.expr_engine.specs.Engines.{Leaves, NumbersRise, asked}
+use Rattle.expr_engine.specs.Served.{Answers, text_shown}
+use Rattle.expr_engine.specs.declared.call.Ask.TheVariants.{Run}
+use Rattle.expr_engine.specs.declared.call.Call.{Call}
+use Rattle.expr_engine.specs.declared.engine.Engine.{Engine}
+use Rattle.expr_exchange.specs.Built.{values_of}
+use Rattle.expr_exchange.specs.Looked.{part_of}
+use Rattle.expr_kept.specs.Kept.{found}
+use Rattle.expr_kept.specs.declared.Handle.{Handle}
+use Rattle.expr_value.specs.declared.value.Value.{Nil}
+
+-- Nothing is kept, built or answered.
+pub record IsNew (engine : Engine) : Type 0 where
+  pub rules : (handle : Handle) → found engine.rules handle ≡ None
+  pub contexts : (handle : Handle) → found engine.contexts handle ≡ None
+  pub environments : (handle : Handle) → found engine.environments handle ≡ None
+  pub built : values_of engine.built ≡ []
+  pub part : part_of engine.answer ≡ Nil
+
+-- The clauses of `serve`: of the engine before and after, and of the call as it was asked and as it was answered.
+pub record IsServed (old new : Engine) (call answered : Call) : Type 0 where
+  pub done : answered.status ≡ 0 → MatchOption (ask_of call.ask) ⊥ (λ ask. Does ask old new call (reply_of answered))
+  pub run : ask_of call.ask ≡ Some Run
+      → MatchOption (asked old call.program call.environment call.context) (answered.status ≡ 6) (λ q. Answers q answered.status (part_of new.answer))
+  pub refused : answered.status ≢ 0 → Leaves old new
+  pub built : answered.status ≢ 0 → values_of new.built ≡ []
+  pub unknown : MatchOption (ask_of call.ask) (answered.status ≡ 7) (λ ask. IsMissing ask old call → answered.status ≡ 6)
+  pub known : answered.status ≡ 6 → MatchOption (ask_of call.ask) ⊥ (λ ask. IsMissing ask old call)
+  pub numbers : NumbersRise old new
+  pub shown : answered.status ≡ 0 → MatchOption (ask_of call.ask) ⊥ (λ ask. answered.length ≡ length (text_shown (shows_of ask) new))
