@@ -1,0 +1,99 @@
+-- What calls of a host's functions answer that a run stops at, and how such a run goes.
+use Rattle.std.specs.Prelude.{◌≡◌, ◌&&◌, ◌||◌, ◌++◌, ◌∷◌, [], ℕ, Bool, true, false, List, MatchBool, Ok, Err, Option, None, Some, IsSomeAnd, Result, String, bytes_eq, length, slice_get, string_bytes}
+use Rattle.std.specs.Cmp.Lexicographic.{pointwise}
+use Rattle.std.specs.declared.alloc.Global.{Global}
+use Rattle.std.specs.HashSet.{contains_text}
+use Rattle.expr_meaning.specs.Host.{Host}
+use Rattle.expr_stops.specs.declared.given.Given.{Given}
+use Rattle.expr_stops.specs.declared.given.Reply.{Reply}
+use Rattle.expr_stops.specs.declared.given.Reply.TheVariants as reply
+use Rattle.expr_stops.specs.declared.names.StopNames.{StopNames}
+use Rattle.expr_stops.specs.declared.replay.Stop.{Stop}
+use Rattle.expr_stops.specs.declared.stops.Stops.{Stops}
+use Rattle.expr_stops.specs.declared.stops.Turn.{Turn}
+use Rattle.expr_stops.specs.declared.stops.Turn.TheVariants.{Ended, Asks, Differs}
+use Rattle.expr_value.specs.Answers.{Answer}
+use Rattle.expr_value.specs.Fault.{evaluation}
+use Rattle.expr_value.specs.Values.{equals}
+use Rattle.expr_value.specs.declared.error.Error.{Error}
+use Rattle.expr_value.specs.declared.value.Value.{Value}
+
+-- whether a name is registered
+abbrev pub is_named : StopNames → List ℕ → Bool
+is_named registered key = contains_text registered.names key
+
+-- a reply as an answer: a function that refuses can't be evaluated
+abbrev pub answer_of : Reply → Answer
+answer_of (reply.Value v) = Ok v
+answer_of (reply.Refusal text) = Err evaluation
+
+-- whether a reply was given to a call of this name on arguments that equal these
+abbrev pub is_to : Given → List ℕ → List Value → Bool
+is_to given key vs = bytes_eq (string_bytes given.call.ident) key && pointwise equals given.call.args.items vs
+
+-- One of these replies was given to a call of this name on arguments that equal these, and is this answer.
+pub record IsReply (given : List Given) (key : List ℕ) (vs : List Value) (answer : Answer) : Type 0 where
+  pub place : ℕ
+  pub one : Given
+  pub stands : slice_get given place ≡ Some one
+  pub to : is_to one key vs ≡ true
+  pub is : answer_of one.reply ≡ answer
+
+-- a host in which a call of one of these names answers what was replied to it, and which has all else of another
+abbrev pub answered_by : Host → (List ℕ → Bool) → List Given → Host
+answered_by host named given = record {
+  is_added = λ key. named key || host.is_added key;
+  calls = λ key vs answer. MatchBool (named key) (IsReply given key vs answer) (host.calls key vs answer);
+  zones = host.zones;
+  moment = host.moment;
+}
+
+-- what a host has replied, in the order of the calls
+abbrev pub given_of : Stops → List Given
+given_of stops = stops.given.items
+
+-- the call that waits for a reply
+abbrev pub asked_of : Stops → Option Stop
+asked_of stops = stops.asked
+
+-- what is said of a run's answer
+abbrev pub IfEnded : Turn → (Result Value Error → Type 0) → Type 0
+IfEnded (Ended r) P = P r
+IfEnded Asks P = Unit {0}
+IfEnded (Differs stop) P = Unit {0}
+
+-- The reply at the place of this call, which is of a registered name, was given to another.
+pub record IsOther (named : List ℕ → Bool) (given : List Given) (stop : Stop) : Type 0 where
+  pub is_named : named (string_bytes stop.call.ident) ≡ true
+  pub one : Given
+  pub stands : slice_get given stop.place ≡ Some one
+  pub other : is_to one (string_bytes stop.call.ident) stop.call.args.items ≡ false
+
+-- This call is of a registered name, and all calls before it have replies, but it has none.
+pub record IsNext (named : List ℕ → Bool) (given : List Given) (stop : Stop) : Type 0 where
+  pub is_named : named (string_bytes stop.call.ident) ≡ true
+  pub place : stop.place ≡ length given
+
+-- A run that asks waits for the reply to its next call. Any other waits for nothing, and one that differs stopped at another call than before.
+abbrev pub StopsWell : (List ℕ → Bool) → List Given → Turn → Option Stop → Type 0
+StopsWell named given (Ended r) asked = asked ≡ None
+StopsWell named given Asks asked = IsSomeAnd asked (IsNext named given)
+StopsWell named given (Differs stop) asked = (asked ≡ None) × IsOther named given stop
+
+-- Nothing was replied, and the same call waits.
+pub record IsSame (old new : Stops) : Type 0 where
+  pub given : given_of new ≡ given_of old
+  pub asked : asked_of new ≡ asked_of old
+
+-- The call that waited has this reply, behind all others, and none waits.
+pub record IsReplied (old new : Stops) (reply : Reply) : Type 0 where
+  pub stop : Stop
+  pub waited : asked_of old ≡ Some stop
+  pub given : given_of new ≡ given_of old ++ (record { call = stop.call; reply = reply } ∷ [])
+  pub asked : asked_of new ≡ None
+
+-- The call that waited is refused with this text.
+pub record IsRefused (old new : Stops) (text : List ℕ) : Type 0 where
+  pub message : String Global
+  pub says : string_bytes message ≡ text
+  pub replied : IsReplied old new (reply.Refusal message)

@@ -1,0 +1,48 @@
+//! The names of functions that a host answers itself.
+ghost use Rattle.std.specs.Prelude.{◌≡◌, ℕ, List, IfErr, OnErr, OnOk, bytes_eq, false, if◌then◌else◌, true};
+ghost use Rattle.expr_stops.specs.Stops.{is_named};
+
+use expr_value::{Error, Result};
+use indexmap::IndexSet;
+use std::alloc::Global;
+
+/// The names of functions that a host answers itself. A call of such a name goes to the host, before functions that an
+/// environment has added and before built-ins.
+#[derive(Drop)]
+pub struct StopNames {
+    names: IndexSet<String>,
+}
+
+impl StopNames {
+    /// No names. It takes no memory.
+    pub fn new(alloc: Global) -> StopNames
+        ensures { (key : List ℕ) → is_named result key ≡ false }
+    {
+        StopNames {
+            names: IndexSet::new(alloc),
+        }
+    }
+
+    /// Registers a name, if it isn't yet. Where a growth is refused the names stay as they were.
+    ///
+    /// # Errors
+    ///
+    /// `MemoryError` alone.
+    pub fn add(&mut self, alloc: Global, name: &str) -> Result<()>
+        ensures added { OnOk result ((key : List ℕ) → is_named self.new key
+            ≡ (if bytes_eq name.now key then true else is_named self.old key)) }
+        ensures err { OnErr result ((key : List ℕ) → is_named self.new key ≡ is_named self.old key) }
+        ensures refusal { IfErr result (λ e. e ≡ Error.MemoryError) }
+    {
+        let name = String::from_str(alloc, name)?;
+        self.names.insert_full(name)?;
+        Ok(())
+    }
+
+    /// Whether a name is registered.
+    pub fn has(&self, name: &str) -> bool
+        ensures { result ≡ is_named self.now name.now }
+    {
+        self.names.contains(name)
+    }
+}

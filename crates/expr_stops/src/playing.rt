@@ -1,0 +1,132 @@
+//! One run in a host that answers from replies.
+ghost use Rattle.std.specs.Prelude.{◌≢◌, ℕ, List, IfErr};
+ghost use Rattle.expr_code.specs.Machine.{CodeAnswers};
+ghost use Rattle.expr_lowering.specs.Blocks.{CodeKeeps, blocks_of};
+ghost use Rattle.expr_lowering.specs.Kept.{ProgramKeeps};
+ghost use Rattle.expr_machine.specs.Texts.{text_of};
+ghost use Rattle.expr_meaning.specs.Allows.{AllowsBlock};
+ghost use Rattle.expr_meaning.specs.Independence.{AgreeAt};
+ghost use Rattle.expr_meaning.specs.Refusals.{NeverRefusesWith};
+ghost use Rattle.expr_steps.specs.Context.{Context};
+ghost use Rattle.expr_stops.specs.Stops.{answered_by, is_named};
+ghost use Rattle.expr_tree.specs.Names.{AreNamesOf};
+ghost use Rattle.expr_tree.specs.Written.{program_written};
+ghost use Rattle.expr_value.specs.Answers.{Gives};
+ghost use Rattle.expr_value.specs.Fault.{fault_of, pattern as bad_pattern};
+
+use crate::given::Given;
+use crate::names::StopNames;
+use crate::replay::{Replay, Stop};
+use expr_lowering::{Code, Holder};
+use expr_machine::Machine;
+use expr_meaning::Functions;
+use expr_pattern::Pattern;
+use expr_tree::node::Program;
+use expr_value::{ContextProvider, Result, Value};
+use std::alloc::Global;
+
+/// What one run came to: its answer, and the call that it stopped at.
+#[derive(Drop)]
+pub struct Played {
+    pub answer: Result<Value>,
+    pub stop: Option<Stop>,
+}
+
+/// Runs a program on replies.
+pub fn play<'a, H: Functions>(
+    alloc: Global,
+    host: &'a H,
+    names: &'a StopNames,
+    given: &'a [Given],
+    program: &Program,
+    ctx: &dyn ContextProvider,
+) -> Played
+    ensures answer { Gives result.answer (AllowsBlock
+        (answered_by (H.host host.now) (is_named names.now) given.now)
+        (context ctx.now) (program_written program.now)) }
+    ensures independent { Gives result.answer
+        (λ a. (other : Context) (keys : List (List ℕ)) → AreNamesOf keys (program_written program.now)
+        → AgreeAt keys (program_written program.now) (context ctx.now) other
+        → AllowsBlock (answered_by (H.host host.now) (is_named names.now) given.now)
+        other (program_written program.now) a) }
+    ensures pattern { NeverRefusesWith (H.host host.now) bad_pattern → ProgramKeeps program.now
+        → IfErr result.answer (λ e. fault_of e ≢ bad_pattern) }
+{
+    let replay = Replay::new(host, names, given);
+    let answer = run_in(alloc, &replay, program, ctx);
+    let stop = replay.take_stop();
+    Played { answer, stop }
+}
+
+/// Runs code on replies.
+pub fn play_code<
+    'a,
+    H: Functions,
+    P: ContextProvider + Drop,
+    L: Holder<Value>,
+    N: Holder<String>,
+    K: Holder<Pattern>,
+>(
+    alloc: Global,
+    host: &'a H,
+    names: &'a StopNames,
+    given: &'a [Given],
+    code: &Code<L, N, K>,
+    provider: P,
+) -> Played
+    ensures answer { Gives result.answer (CodeAnswers
+        (answered_by (H.host host.now) (is_named names.now) given.now)
+        (P.context provider) (blocks_of L.held (text_of N.held) code.now)) }
+    ensures pattern { NeverRefusesWith (H.host host.now) bad_pattern → CodeKeeps L.held K.held code.now
+        → IfErr result.answer (λ e. fault_of e ≢ bad_pattern) }
+{
+    let replay = Replay::new(host, names, given);
+    let answer = execute_in(alloc, &replay, code, provider);
+    let stop = replay.take_stop();
+    Played { answer, stop }
+}
+
+/// What a program answers in a host and a context.
+fn run_in<H: Functions>(
+    alloc: Global,
+    host: &H,
+    program: &Program,
+    ctx: &dyn ContextProvider,
+) -> Result<Value>
+    ensures answer { Gives result (AllowsBlock (H.host host.now) (context ctx.now)
+        (program_written program.now)) }
+    ensures independent { Gives result
+        (λ a. (other : Context) (keys : List (List ℕ)) → AreNamesOf keys (program_written program.now)
+        → AgreeAt keys (program_written program.now) (context ctx.now) other
+        → AllowsBlock (H.host host.now) other (program_written program.now) a) }
+    ensures pattern { NeverRefusesWith (H.host host.now) bad_pattern → ProgramKeeps program.now
+        → IfErr result (λ e. fault_of e ≢ bad_pattern) }
+{
+    let machine = Machine {
+        alloc,
+        host,
+        provider: ctx,
+    };
+    machine.answer_program(program)
+}
+
+/// What code answers in a host, among the names of a provider.
+fn execute_in<
+    H: Functions,
+    P: ContextProvider + Drop,
+    L: Holder<Value>,
+    N: Holder<String>,
+    K: Holder<Pattern>,
+>(alloc: Global, host: &H, code: &Code<L, N, K>, provider: P) -> Result<Value>
+    ensures answer { Gives result (CodeAnswers (H.host host.now) (P.context provider)
+        (blocks_of L.held (text_of N.held) code.now)) }
+    ensures pattern { NeverRefusesWith (H.host host.now) bad_pattern → CodeKeeps L.held K.held code.now
+        → IfErr result (λ e. fault_of e ≢ bad_pattern) }
+{
+    let machine = Machine {
+        alloc,
+        host,
+        provider,
+    };
+    machine.execute_once(code)
+}

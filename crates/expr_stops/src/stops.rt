@@ -1,0 +1,208 @@
+//! Runs that stop at a host's functions.
+ghost use Rattle.std.specs.Prelude.{◌≡◌, ◌≢◌, ◌∷◌, ◌++◌, [], ℕ, List, IfErr, None, OnErr, OnOk, Some, true, option_map};
+ghost use Rattle.std.specs.Option.{option_copied};
+ghost use Rattle.expr_code.specs.Machine.{CodeAnswers};
+ghost use Rattle.expr_lowering.specs.Blocks.{CodeKeeps, blocks_of};
+ghost use Rattle.expr_lowering.specs.Kept.{ProgramKeeps};
+ghost use Rattle.expr_machine.specs.Texts.{text_of};
+ghost use Rattle.expr_meaning.specs.Allows.{AllowsBlock};
+ghost use Rattle.expr_meaning.specs.Independence.{AgreeAt};
+ghost use Rattle.expr_meaning.specs.Refusals.{NeverRefusesWith};
+ghost use Rattle.expr_steps.specs.Context.{Context};
+ghost use Rattle.expr_stops.specs.Stops.{IfEnded, IsRefused, IsReplied, IsSame, StopsWell, answered_by, asked_of, given_of, is_named};
+ghost use Rattle.expr_stops.specs.declared.given.Given.{Given};
+ghost use Rattle.expr_stops.specs.declared.given.Reply.{Reply};
+ghost use Rattle.expr_tree.specs.Names.{AreNamesOf};
+ghost use Rattle.expr_tree.specs.Written.{program_written};
+ghost use Rattle.expr_value.specs.Answers.{Gives};
+ghost use Rattle.expr_value.specs.Fault.{fault_of, memory, pattern as bad_pattern};
+
+use crate::given::{Given, Reply};
+use crate::names::StopNames;
+use crate::playing::{Played, play, play_code};
+use crate::replay::Stop;
+use expr_lowering::{Code, Holder};
+use expr_meaning::Functions;
+use expr_pattern::Pattern;
+use expr_tree::node::Program;
+use expr_value::{ContextProvider, Error, Result, Value, refusal};
+use std::alloc::Global;
+
+/// How a run went that may stop.
+#[derive(Drop)]
+pub enum Turn {
+    /// It came to its end: the program's answer.
+    Ended(Result<Value>),
+    /// It stopped at a call of the host's that waits for a reply: [`Stops::asked`].
+    Asks,
+    /// It stopped at a call of the host's that isn't the one to which the reply at its place was given.
+    Differs(Stop),
+}
+
+/// A program's run that stops at the host's functions: what the host has answered, in the order of the calls, and the call
+/// that waits for an answer.
+///
+/// A run begins anew after each answer, so that a program that makes n calls is run n + 1 times.
+#[derive(Drop)]
+pub struct Stops {
+    alloc: Global,
+    given: Vec<Given>,
+    asked: Option<Stop>,
+}
+
+impl Stops {
+    /// A run at its beginning. It takes no memory.
+    pub fn new(alloc: Global) -> Stops
+        ensures given { given_of result ≡ [] }
+        ensures asked { asked_of result ≡ None }
+    {
+        Stops {
+            alloc,
+            given: Vec::new(alloc),
+            asked: None,
+        }
+    }
+
+    /// Runs a program up to its next call of a registered name.
+    pub fn run<H: Functions>(
+        &mut self,
+        host: &H,
+        names: &StopNames,
+        program: &Program,
+        ctx: &dyn ContextProvider,
+    ) -> Turn
+        // An answer is one that the program's meaning allows where these names answer what the host answered.
+        ensures ended { IfEnded result (λ r. Gives r (AllowsBlock
+            (answered_by (H.host host.now) (is_named names.now) (given_of self.old))
+            (context ctx.now) (program_written program.now))) }
+        // The answer is allowed in each context that agrees with this one at the program's names.
+        ensures independent { IfEnded result (λ r. Gives r
+            (λ a. (other : Context) (keys : List (List ℕ)) → AreNamesOf keys (program_written program.now)
+            → AgreeAt keys (program_written program.now) (context ctx.now) other
+            → AllowsBlock (answered_by (H.host host.now) (is_named names.now) (given_of self.old))
+            other (program_written program.now) a)) }
+        // Where each `matches` keeps the pattern of the text on its right, none is built.
+        ensures pattern { NeverRefusesWith (H.host host.now) bad_pattern → ProgramKeeps program.now
+            → IfEnded result (λ r. IfErr r (λ e. fault_of e ≢ bad_pattern)) }
+        ensures stops { StopsWell (is_named names.now) (given_of self.old) result (asked_of self.new) }
+        ensures given { given_of self.new ≡ given_of self.old }
+    {
+        let played = play(self.alloc, host, names, &self.given, program, ctx);
+        self.turn(names, played)
+    }
+
+    /// Runs code up to its next call of a registered name, among the names of a provider of any type.
+    pub fn execute<
+        H: Functions,
+        P: ContextProvider + Drop,
+        L: Holder<Value>,
+        N: Holder<String>,
+        K: Holder<Pattern>,
+    >(&mut self, host: &H, names: &StopNames, code: &Code<L, N, K>, provider: P) -> Turn
+        ensures ended { IfEnded result (λ r. Gives r (CodeAnswers
+            (answered_by (H.host host.now) (is_named names.now) (given_of self.old))
+            (P.context provider) (blocks_of L.held (text_of N.held) code.now))) }
+        ensures pattern { NeverRefusesWith (H.host host.now) bad_pattern → CodeKeeps L.held K.held code.now
+            → IfEnded result (λ r. IfErr r (λ e. fault_of e ≢ bad_pattern)) }
+        ensures stops { StopsWell (is_named names.now) (given_of self.old) result (asked_of self.new) }
+        ensures given { given_of self.new ≡ given_of self.old }
+    {
+        let played = play_code(self.alloc, host, names, &self.given, code, provider);
+        self.turn(names, played)
+    }
+
+    /// How a run went that came to this.
+    fn turn(&mut self, names: &StopNames, played: Played) -> Turn
+        ensures ended { IfEnded result (λ r. r ≡ played.answer) }
+        ensures stops { StopsWell (is_named names.now) (given_of self.old) result (asked_of self.new) }
+        ensures given { given_of self.new ≡ given_of self.old }
+    {
+        self.asked = None;
+        let Played { answer, stop } = played;
+        let Some(stop) = stop else {
+            return Turn::Ended(answer);
+        };
+        if !names.has(&stop.call.ident) {
+            return Turn::Ended(answer);
+        }
+        if stop.place == self.given.len() {
+            self.asked = Some(stop);
+            return Turn::Asks;
+        }
+        match self.given.get(stop.place) {
+            Some(given) if !given.is_to(&stop.call) => Turn::Differs(stop),
+            _ => Turn::Ended(answer),
+        }
+    }
+
+    /// The call that waits for an answer.
+    pub fn asked(&self) -> Option<&Stop>
+        ensures { option_copied result ≡ asked_of self.now }
+    {
+        self.asked.as_ref()
+    }
+
+    /// What the host has answered, in the order of the calls.
+    pub fn given(&self) -> &[Given]
+        ensures { result.now ≡ given_of self.now }
+    {
+        &self.given
+    }
+
+    /// Answers the call that waits with a value.
+    ///
+    /// # Errors
+    ///
+    /// `ExprError` where no call waits, or `MemoryError`; the run stays where it was.
+    pub fn answer(&mut self, value: Value) -> Result<()>
+        ensures given { OnOk result (IsReplied self.old self.new (Reply.Value value)) }
+        ensures err { OnErr result (IsSame self.old self.new) }
+        ensures waits { IfErr result (λ e. fault_of e ≢ memory → asked_of self.old ≡ None) }
+    {
+        self.reply(Reply::Value(value))
+    }
+
+    /// Answers the call that waits with a refusal, as a function that refuses does.
+    ///
+    /// # Errors
+    ///
+    /// `ExprError` where no call waits, or `MemoryError`; the run stays where it was.
+    pub fn refuse(&mut self, text: &str) -> Result<()>
+        ensures given { OnOk result (IsRefused self.old self.new text.now) }
+        ensures err { OnErr result (IsSame self.old self.new) }
+        ensures waits { IfErr result (λ e. fault_of e ≢ memory → asked_of self.old ≡ None) }
+    {
+        let text = String::from_str(self.alloc, text)?;
+        self.reply(Reply::Refusal(text))
+    }
+
+    /// Puts a reply to the call that waits behind those that were given.
+    fn reply(&mut self, reply: Reply) -> Result<()>
+        ensures given { OnOk result (IsReplied self.old self.new reply) }
+        ensures err { OnErr result (IsSame self.old self.new) }
+        ensures waits { IfErr result (λ e. fault_of e ≢ memory → asked_of self.old ≡ None) }
+    {
+        let Some(stop) = self.asked.take() else {
+            return Err(refusal(self.alloc, "no call waits for an answer"));
+        };
+        let Stop { call, place } = stop;
+        match self.given.push(Given { call, reply }) {
+            Ok(()) => Ok(()),
+            Err(failed) => {
+                let given = failed.value;
+                let Given { call, reply: _ } = given;
+                self.asked = Some(Stop { call, place });
+                Err(Error::MemoryError)
+            }
+        }
+    }
+
+    /// Lets go of all answers and of the call that waits, so that the next run is at its beginning.
+    pub fn forget(&mut self)
+        ensures given { given_of self.new ≡ [] }
+        ensures asked { asked_of self.new ≡ None }
+    {
+        self.given.clear();
+        self.asked = None;
+    }
+}
