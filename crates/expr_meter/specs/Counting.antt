@@ -61,3 +61,12 @@ Answers allowed now end = (answer : Answer) × allowed answer × (end ≡ ended 
 abbrev pub Keeping : (counting : Counting) → List Value → counting.Tally → (counting.Tally → Ending counting.Tally → Type 0) → Ending counting.Tally → Type 0
 Keeping counting [] now next end = next now end
 Keeping counting (v ∷ vs) now next end = Counted (counting.keeps v) now (λ kept. Keeping counting vs kept next) end
+
+-- what keeping values, one after the other, comes to
+abbrev pub KeptOn : {T : Type 0} → Result T Limit → (T → Type 0) → Result T Limit → Type 0
+KeptOn (Ok now) next r = next now
+KeptOn (Err limit) next r = r ≡ Err limit
+
+abbrev pub KeepsAll : (counting : Counting) → List Value → counting.Tally → Result counting.Tally Limit → Type 0
+KeepsAll counting [] now r = r ≡ Ok now
+KeepsAll counting (v ∷ vs) now r = (x : Result counting.Tally Limit) × counting.keeps v now x × KeptOn x (λ u. KeepsAll counting vs u r) r

@@ -1,5 +1,5 @@
 -- The counting of a run within limits: what is left of them.
-use Rattle.std.specs.Prelude.{◌≡◌, ℕ, ◌+◌, ◌-◌, ◌<◌, ◌≤◌, Ok, Err}
+use Rattle.std.specs.Prelude.{◌≡◌, ℕ, ◌+◌, ◌-◌, ◌<◌, ◌≤◌, Option, Some, None, Ok, Err}
 use Rattle.expr_sizes.specs.Sizes.{depth, inside, weight}
 use Rattle.expr_meter.specs.Counting.{Charge, Counting}
 use Rattle.expr_meter.specs.declared.limit.Limit.TheVariants.{Steps, Size, Depth}
@@ -33,6 +33,16 @@ Holds n e (within s w d) (Err Steps) = s < n
 Holds n e (within s w d) (Err Size) = w < n
 Holds n e (within s w d) (Err Depth) = d < e
 Holds n e (within s w d) (Err limit) = ⊥
+
+-- how many steps it may still take, where there is a limit
+abbrev pub steps_left : Room → Option ℕ
+steps_left unlimited = None
+steps_left (within s w d) = Some s
+
+-- more steps are needed than are left
+abbrev pub Overruns : Charge Room
+Overruns unlimited r = r ≡ Ok unlimited
+Overruns (within s w d) r = r ≡ Err Steps
 
 -- how much it may still hold, which is nothing to be told where there is no limit
 abbrev pub size_left : Room → ℕ

@@ -1,8 +1,8 @@
 //! What is left of limits.
-ghost use Rattle.std.specs.Prelude.{◌≡◌, ◌+◌, ◌≤◌, ℕ, IfOk, IfErr, None, min};
+ghost use Rattle.std.specs.Prelude.{◌≡◌, ◌+◌, ◌≤◌, ℕ, IfOk, IfErr, None, Some, min};
 ghost use Rattle.expr_sizes.specs.Sizes.{Passes};
 ghost use Rattle.expr_meter.specs.Metered.{Charges, Metered};
-ghost use Rattle.expr_meter.specs.Rooms.{Holds, Takes, within};
+ghost use Rattle.expr_meter.specs.Rooms.{Holds, Takes, steps_left, within};
 
 use crate::limit::Limit;
 use crate::limits::Limits;
@@ -41,6 +41,14 @@ impl Budget {
         ensures { result ≡ (⟦<Budget as Meter>⟧.metered self.now).stopped }
     {
         self.stopped
+    }
+
+    /// How many steps are left.
+    #[inline(always)]
+    pub fn left(&self) -> u64
+        ensures { Some result ≡ steps_left (⟦<Budget as Meter>⟧.metered self.now).room }
+    {
+        self.steps
     }
 
     /// So many steps are taken and so much is held, unless that passes a limit.
@@ -102,8 +110,8 @@ impl Meter for Budget {
     ghost metered = { λ b. record { room = within b.steps b.size b.depth; stopped = b.stopped } };
 
     #[inline(always)]
-    fn counts(&self) -> bool {
-        true
+    fn steps(&self) -> Option<u64> {
+        Some(self.steps)
     }
 
     #[inline(always)]
@@ -123,6 +131,12 @@ impl Meter for Budget {
         }
         self.steps -= steps;
         Ok(())
+    }
+
+    #[inline(always)]
+    fn overrun(&mut self) -> Result<(), AllocError> {
+        self.stopped = Some(Limit::Steps);
+        Err(AllocError)
     }
 
     #[inline(never)]

@@ -1,8 +1,8 @@
 //! What counts as code runs, or counts nothing.
-ghost use Rattle.std.specs.Prelude.{◌≡◌, IsFalse};
+ghost use Rattle.std.specs.Prelude.{◌≡◌};
 ghost use Rattle.expr_sizes.specs.Sizes.{depth, inside, weight};
 ghost use Rattle.expr_meter.specs.Metered.{Charges, Metered};
-ghost use Rattle.expr_meter.specs.Rooms.{Begins, Holds, Takes, size_left, unlimited, with_size};
+ghost use Rattle.expr_meter.specs.Rooms.{Begins, Holds, Overruns, Takes, size_left, steps_left, with_size};
 
 use expr_value::Value;
 use std::alloc::AllocError;
@@ -15,9 +15,9 @@ pub trait Meter: Drop {
     /// What is left of the limits, and the limit that was passed, if one was.
     ghost metered: { Self → Metered };
 
-    /// Whether anything is counted.
-    fn counts(&self) -> bool
-        ensures { IsFalse result → (metered self.now).room ≡ unlimited };
+    /// How many steps are left, where anything is counted.
+    fn steps(&self) -> Option<u64>
+        ensures { result ≡ steps_left (metered self.now).room };
 
     /// A block of so many instructions is entered: as many steps are taken, and as many units held.
     fn enter(&mut self, instructions: usize) -> Result<(), AllocError>
@@ -27,6 +27,10 @@ pub trait Meter: Drop {
     /// of size, which isn't taken yet.
     fn work(&mut self, steps: u64, room: u64) -> Result<(), AllocError>
         ensures { Charges result (Begins steps room) (metered self.old) (metered self.new) };
+
+    /// More steps are needed than are left.
+    fn overrun(&mut self) -> Result<(), AllocError>
+        ensures { Charges result Overruns (metered self.old) (metered self.new) };
 
     /// A value was made, whose place is counted already.
     fn made(&mut self, value: &Value) -> Result<(), AllocError>

@@ -15,8 +15,8 @@ impl Meter for Unmetered {
     ghost metered = { λ m. record { room = unlimited; stopped = None } };
 
     #[inline(always)]
-    fn counts(&self) -> bool {
-        false
+    fn steps(&self) -> Option<u64> {
+        None
     }
 
     #[inline(always)]
@@ -26,6 +26,11 @@ impl Meter for Unmetered {
 
     #[inline(always)]
     fn work(&mut self, _steps: u64, _room: u64) -> Result<(), AllocError> {
+        Ok(())
+    }
+
+    #[inline(always)]
+    fn overrun(&mut self) -> Result<(), AllocError> {
         Ok(())
     }
 

@@ -2,9 +2,11 @@
 #![tactic(auto)]
 
 mod passed;
+mod patterns;
 mod units;
 mod walk;
 
 pub use passed::Passed;
-pub use units::load;
+pub use patterns::weigh_pattern;
+pub use units::{load, take_names};
 pub use walk::{weigh, weigh_inside};

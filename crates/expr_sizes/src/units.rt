@@ -28,7 +28,7 @@ pub(crate) fn take(room: u64, count: u64) -> Result<u64, Passed>
 }
 
 /// What is left of a room once the names of a map are taken of it.
-pub(crate) fn take_names(names: &[Text], room: u64) -> Result<u64, Passed>
+pub fn take_names(names: &[Text], room: u64) -> Result<u64, Passed>
     ensures within { IfOk result (λ left. name_weights names.now + left ≡ room) }
     ensures passed { IfErr result (λ p. (p ≡ passed.Weight) × (room < name_weights names.now)) }
 {

@@ -1,0 +1,5 @@
+mod Charging
+mod Keeping
+mod Places
+mod Reducing
+mod Weighed

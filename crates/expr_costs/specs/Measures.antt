@@ -1,0 +1,91 @@
+-- What the work of an instruction is told by: the bytes, the parts and the weights of its values.
+use Rattle.std.specs.Prelude.{ℕ, zero, suc, ◌+◌, ◌*◌, ◌/◌, ◌<◌, ◌≡◌, List, [], ◌∷◌, length, max, sum_by, Option, MatchOption}
+use Rattle.expr_sizes.specs.Sizes.{load, weight}
+use Rattle.expr_costs.specs.declared.cost.Cost.{Cost}
+use Rattle.expr_value.specs.declared.value.Value as value
+use Rattle.expr_value.specs.declared.value.Value.{Value, out-Value}
+use Rattle.expr_value.specs.declared.value.Value.TheOpen.{Value-F}
+
+-- how many bytes a text or bytes have; other values have none
+abbrev pub bytes_layer : Value-F Value → ℕ
+bytes_layer (Value-F.String s) = length s
+bytes_layer (Value-F.Bytes bs) = length bs
+bytes_layer layer = 0
+
+abbrev pub bytes_of : Value → ℕ
+bytes_of v = bytes_layer (out-Value v)
+
+-- the same in units of 16 bytes
+abbrev pub load_of : Value → ℕ
+load_of v = load (bytes_of v)
+
+abbrev pub loads : List Value → ℕ
+loads vs = sum_by load_of vs
+
+-- how many entries a map has; other values have none
+abbrev pub entries_layer : Value-F Value → ℕ
+entries_layer (Value-F.Map m) = length m
+entries_layer (Value-F.KeyedMap m) = length m
+entries_layer layer = 0
+
+abbrev pub entries_of : Value → ℕ
+entries_of v = entries_layer (out-Value v)
+
+-- the items of an array; other values have none
+abbrev pub items_layer : Value-F Value → List Value
+items_layer (Value-F.Array vs) = vs
+items_layer layer = []
+
+abbrev pub items_in : Value → List Value
+items_in v = items_layer (out-Value v)
+
+abbrev pub length_of : Value → ℕ
+length_of v = length (items_in v)
+
+-- how many items an array has, or entries a map; other values have none
+abbrev pub count_of : Value → ℕ
+count_of v = length_of v + entries_of v
+
+-- so many keys are put into a map, where all of them may have one hash
+abbrev pub putting : ℕ → ℕ
+putting n = n * n / 64
+
+-- What a value holds is read for a comparison, bytes by 16. Each entry of a map in it weighs 5 at least, and is a look-up too.
+abbrev pub holding_layer : (weight : ℕ) → Value-F Value → ℕ
+holding_layer w (Value-F.Bytes bs) = load (length bs)
+holding_layer w (Value-F.Array vs) = w + putting (w / 5)
+holding_layer w (Value-F.Map m) = w + putting (w / 5)
+holding_layer w (Value-F.KeyedMap m) = w + putting (w / 5)
+holding_layer w layer = 0
+
+abbrev pub holding : Value → ℕ
+holding v = holding_layer (weight v) (out-Value v)
+
+abbrev pub holdings : List Value → ℕ
+holdings vs = sum_by holding vs
+
+-- each of some values is compared with the others
+abbrev pub pairwise : List Value → ℕ
+pairwise vs = holdings vs + length vs * holdings vs
+
+-- the part of a value at a key is sought: among the keys of a map, which may all have one hash
+abbrev pub seeking : Value → Value → ℕ
+seeking v key = entries_of v / 32 + load_of key
+
+-- the argument of a place, and nil where there are fewer
+abbrev pub argument : ℕ → List Value → Value
+argument n [] = value.Nil
+argument zero (v ∷ vs) = v
+argument (suc n) (v ∷ vs) = argument n vs
+
+-- at most so many pieces stand between the matches of the second text in the first
+abbrev pub pieces : List Value → ℕ
+pieces vs = 2 + bytes_of (argument 0 vs) / max 1 (bytes_of (argument 1 vs))
+
+-- a number that is told up to a bound: nothing is told of a greater one
+abbrev pub UpTo : ℕ → ℕ → {A : Type 0} → (A → ℕ) → Option A → Type 0
+UpTo bound n number told = MatchOption told (bound < n) (λ m. number m ≡ n)
+
+-- a cost is told up to a bound: nothing is told where there is more work, with the room that there must be, than that
+abbrev pub Costing : ℕ → (work room : ℕ) → Option Cost → Type 0
+Costing bound work room told = MatchOption told (bound < work + room) (λ cost. (cost.work ≡ work) × (cost.room ≡ room))

@@ -1,0 +1,163 @@
+//! How much there is to look at in values.
+ghost use Rattle.std.specs.Prelude.{◌≡◌, ◌+◌, ◌*◌, ◌/◌, ◌<◌, ◌≤◌, ◌^◌, IfSome};
+ghost use Rattle.expr_costs.specs.Measures.{UpTo, bytes_of as bytes, count_of as parts, entries_of as entries, holding as holds, holdings as all_hold, length_of as items, load_of as units, pairwise, putting as puts, seeking as seeks};
+ghost use Rattle.expr_sizes.specs.Sizes.{load as units_of, weight};
+
+use expr_sizes::{load, weigh};
+use expr_value::Value;
+
+/// How many bytes a text or bytes have.
+#[inline(always)]
+pub fn bytes_of(value: &Value) -> u64
+    ensures bytes { result ≡ bytes value.now }
+    ensures small { result < 2 ^ 63 }
+{
+    match value {
+        Value::String(text) => text.as_str().len() as u64,
+        Value::Bytes(bytes) => bytes.as_slice().len() as u64,
+        _ => 0,
+    }
+}
+
+/// The same in units of 16 bytes.
+#[inline(always)]
+pub fn load_of(value: &Value) -> u64
+    ensures load { result ≡ units value.now }
+    ensures small { result < 2 ^ 60 }
+{
+    bytes_of(value) / 16
+}
+
+/// How many entries a map has.
+#[inline(always)]
+pub fn entries_of(value: &Value) -> u64
+    ensures { result ≡ entries value.now }
+{
+    match value {
+        Value::Map(map) => map.len() as u64,
+        Value::KeyedMap(map) => map.len() as u64,
+        _ => 0,
+    }
+}
+
+/// How many items an array has.
+#[inline(always)]
+pub fn length_of(value: &Value) -> u64
+    ensures { result ≡ items value.now }
+{
+    match value {
+        Value::Array(items) => items.len() as u64,
+        _ => 0,
+    }
+}
+
+/// How many items an array has, or entries a map.
+#[inline(always)]
+pub fn count_of(value: &Value) -> u64
+    ensures { result ≡ parts value.now }
+{
+    match value {
+        Value::Array(_) => length_of(value),
+        _ => entries_of(value),
+    }
+}
+
+/// The product of two numbers.
+#[inline(always)]
+pub fn product(left: u64, right: u64) -> u128
+    ensures { result ≡ left * right }
+{
+    left as u128 * right as u128
+}
+
+/// The same, up to a bound.
+#[inline(always)]
+pub fn times(left: u64, right: u64, bound: u64) -> Option<u64>
+    ensures product { UpTo bound (left * right) (λ n. n) result }
+{
+    let product = product(left, right);
+    if product > bound as u128 {
+        return None;
+    }
+    Some(product as u64)
+}
+
+/// The work of putting so many keys into a map.
+#[inline(always)]
+pub fn putting(count: u64) -> u128
+    ensures work { result ≡ puts count }
+    ensures small { result < 2 ^ 122 }
+{
+    product(count, count) / 64
+}
+
+/// The work of seeking the part of a value at a key.
+#[inline(always)]
+pub fn seeking(value: &Value, key: &Value) -> u64
+    ensures work { result ≡ seeks value.now key.now }
+    ensures small { result < 2 ^ 61 }
+{
+    entries_of(value) / 32 + load_of(key)
+}
+
+/// How much a value weighs, up to a bound.
+#[inline(always)]
+#[tactic(auto, using(crate::proofs::Weighed::too_heavy))]
+pub fn weight_of(value: &Value, bound: u64) -> Option<u64>
+    ensures weight { UpTo bound (weight value.now) (λ n. n) result }
+    ensures within { IfSome result (λ n. n ≤ bound) }
+{
+    match weigh(value, bound, usize::MAX) {
+        Ok(left) => Some(bound - left),
+        Err(_) => None,
+    }
+}
+
+/// The work of reading what a value holds for a comparison, up to a bound.
+pub fn holding_of(value: &Value, bound: u64) -> Option<u128>
+    ensures work { UpTo bound (holds value.now) (λ n. n) result }
+    ensures small { IfSome result (λ n. n < 2 ^ 123) }
+{
+    match value {
+        Value::Bytes(bytes) => Some(load(bytes.len()) as u128),
+        Value::Array(_) | Value::Map(_) | Value::KeyedMap(_) => {
+            let weight = weight_of(value, bound)?;
+            Some(weight as u128 + putting(weight / 5))
+        }
+        _ => Some(0),
+    }
+}
+
+/// The same for each of some values, up to a bound.
+pub fn holdings_of(values: &[Value], bound: u64) -> Option<u64>
+    ensures work { UpTo bound (all_hold values.now) (λ n. n) result }
+{
+    let mut left = bound;
+    for value in values {
+        let holding = holding_of(value, left)?;
+        if holding > left as u128 {
+            return None;
+        }
+        left -= holding as u64;
+    }
+    Some(bound - left)
+}
+
+/// The work of comparing each of some values with the others, up to a bound.
+pub fn pairwise_of(values: &[Value], bound: u64) -> Option<u128>
+    ensures work { UpTo bound (pairwise values.now) (λ n. n) result }
+    ensures small { IfSome result (λ n. n < 2 ^ 65) }
+{
+    let once = holdings_of(values, bound)?;
+    let others = times(values.len() as u64, once, bound)?;
+    Some(once as u128 + others as u128)
+}
+
+/// The work of seeking the value of a name, so many bytes long, beside a value that may be a map with that key.
+#[inline(always)]
+pub fn look_work(bytes: usize, item: &Value) -> u64
+    ensures work { result ≡ units_of bytes + entries item.now / 32 }
+    ensures small { result < 2 ^ 61 }
+{
+    load(bytes) + entries_of(item) / 32
+}

@@ -1,0 +1,104 @@
+//! What operators cost.
+ghost use Rattle.std.specs.Prelude.{◌≡◌, ◌+◌, ◌*◌, ◌<◌, ◌^◌, IfSome};
+ghost use Rattle.expr_costs.specs.Operators.{between, comparing, finding, operator_room, operator_work, pattern_weight, searching};
+ghost use Rattle.expr_costs.specs.Measures.{Costing, UpTo};
+ghost use Rattle.expr_operators.specs.Positions.{how_many};
+ghost use Rattle.expr_value.specs.declared.value.Value.{out-Value};
+
+use crate::cost::Cost;
+use crate::measures::{holding_of, length_of, load_of, seeking, times};
+use expr_sizes::weigh_pattern;
+use expr_tree::operator::Operator;
+use expr_value::Value;
+
+/// What an operator costs on two values, up to a bound.
+pub fn operator_cost(operator: Operator, left: &Value, right: &Value, bound: u64) -> Option<Cost>
+    ensures { Costing bound (operator_work operator left.now right.now)
+        (operator_room operator left.now right.now) result }
+{
+    let work = match operator {
+        Operator::Equal | Operator::NotEqual => comparing_of(left, right, bound)?,
+        Operator::GreaterThan
+        | Operator::GreaterThanOrEqual
+        | Operator::LessThan
+        | Operator::LessThanOrEqual => load_of(left).min(load_of(right)) as u128,
+        Operator::In | Operator::NotIn => finding_of(right, left, bound)?,
+        Operator::Contains => finding_of(left, right, bound)?,
+        Operator::StartsWith | Operator::EndsWith => load_of(right) as u128,
+        Operator::Matches => searching_of(left, right, bound)?,
+        _ => 0,
+    };
+    let room = match operator {
+        Operator::Add => 2 + (load_of(left) + load_of(right)) as u128,
+        Operator::Matches => weight_of_pattern(right, bound)? as u128,
+        _ => 0,
+    };
+    Some(Cost { work, room })
+}
+
+/// The work of comparing two values, up to a bound.
+fn comparing_of(left: &Value, right: &Value, bound: u64) -> Option<u128>
+    ensures work { UpTo bound (comparing left.now right.now) (λ n. n) result }
+    ensures small { IfSome result (λ n. n < 2 ^ 124) }
+{
+    let texts = load_of(left).min(load_of(right)) as u128;
+    Some(texts + holding_of(left, bound)?)
+}
+
+/// The work of seeking a value in another, up to a bound.
+fn finding_of(value: &Value, sought: &Value, bound: u64) -> Option<u128>
+    ensures work { UpTo bound (finding value.now sought.now) (λ n. n) result }
+{
+    let one = 1 + comparing_of(sought, sought, bound)?;
+    if one > bound as u128 {
+        return None;
+    }
+    let others = times(length_of(value), one as u64, bound)? as u128;
+    let texts = (seeking(value, sought) + 2 * load_of(value)) as u128;
+    Some(texts + (one + others))
+}
+
+/// The work of making what searches for a pattern, and of leading it over a text, up to a bound.
+fn searching_of(text: &Value, pattern: &Value, bound: u64) -> Option<u128>
+    ensures work { UpTo bound (searching text.now pattern.now) (λ n. n) result }
+    ensures small { IfSome result (λ n. n < 2 ^ 66) }
+{
+    let weight = weight_of_pattern(pattern, bound)?;
+    let reading = times(load_of(text), 1 + weight / 64, bound)?;
+    Some(500 + (weight as u128 + reading as u128))
+}
+
+/// How much a value weighs as a pattern, up to a bound: 0 what is no text.
+fn weight_of_pattern(pattern: &Value, bound: u64) -> Option<u64>
+    ensures { UpTo bound (pattern_weight pattern.now) (λ n. n) result }
+{
+    match pattern {
+        Value::String(text) => match weigh_pattern(text.as_str(), bound) {
+            Ok(left) => Some(bound - left),
+            Err(_) => None,
+        },
+        _ => Some(0),
+    }
+}
+
+/// What a range costs.
+pub fn span_room(first: &Value, last: &Value) -> u128
+    ensures room { result ≡ 4 + between (out-Value first.now) (out-Value last.now) }
+{
+    match (first, last) {
+        (Value::Integer(first), Value::Integer(last)) => 4 + integers_between(*first, *last),
+        _ => 4,
+    }
+}
+
+/// How many integers there are from the first to the last.
+#[tactic(auto, unfolding(expr_operators::specs::Positions::how_many))]
+fn integers_between(first: i64, last: i64) -> u128
+    ensures count { result ≡ how_many first last }
+    ensures small { result < 2 ^ 65 }
+{
+    if first > last {
+        return 0;
+    }
+    last.abs_diff(first) as u128 + 1
+}
