@@ -1,19 +1,13 @@
 //! Which integer literals can be held.
 
 ghost use Rattle.std.specs.Prelude.{◌↔◌, IsTrue};
-ghost use Rattle.std.specs.List.{AllByRecursion};
 ghost use Rattle.expr_grammar.specs.Grammar.{IntegerFits};
 
 use expr_token::Token;
 
-/// Whether each integer is below 2^63.
-pub fn literals_fit(tokens: &[Token]) -> bool
-    ensures { IsTrue result ↔ AllByRecursion IntegerFits tokens.now }
+/// Whether integers are below 2^63: those that were read so far, and that of the token, if it is one.
+pub fn literals_fit(so_far: bool, token: &Token) -> bool
+    ensures { IsTrue result ↔ (IsTrue so_far × IntegerFits token.now) }
 {
-    for token in tokens {
-        if let Token::Integer(None) = token {
-            return false;
-        }
-    }
-    true
+    so_far && !matches!(token, Token::Integer(None))
 }

@@ -1,9 +1,7 @@
 -- Which tokens a program begins with, where the parser stands or stops.
-use Rattle.std.proofs.Common.{◌≡◌, ℕ, ◌≤◌, List, [], ◌∷◌, ◌++◌, take, length, map, arith, sym, ap, ◌∙◌, refl, subst, fold, append-nil}
-use Rattle.std.proofs.lemmas.List.{map-id}
+use Rattle.std.proofs.Common.{◌≡◌, ℕ, ◌≤◌, List, [], ◌∷◌, ◌++◌, take, length, sym, ap, ◌∙◌, refl, subst, fold}
 use Rattle.std.proofs.Math.Seq.{take-append_seam}
 use Rattle.expr_token.specs.declared.token.Token.{Token}
-use Rattle.expr_parts.specs.Parts.{MeasuredBlock}
 use Rattle.expr_frames.specs.declared.frame.Frame.{Frame as NodeFrame}
 use Rattle.expr_frames.specs.declared.frame.Place.{Place}
 use Rattle.expr_frames.specs.Nodes as node
@@ -11,7 +9,6 @@ use Rattle.expr_frames.proofs.Erase.{state, steps as kept_steps}
 use Rattle.expr_grammar.specs.Machine.{State, step, first_state}
 use Rattle.expr_grammar.specs.Prefixes.{SomeBegins, StopsAt}
 use Rattle.expr_grammar.proofs.Closing.{goes_on as begins_where}
-use Rattle.expr_parser.specs.Reading.{IsParse, IsTooLarge}
 use Rattle.expr_parser.proofs.Whole.{after, stuck_place}
 
 -- where the machine over what is kept stands, that over trees does
@@ -23,7 +20,7 @@ stands s (t ∷ ts) = ap (λ x. fold node.step x ts) (kept_steps s t) ∙ stands
 pub goes_on : (ts : List Token) (k : List NodeFrame) (p : Place) → after ts ≡ node.On k p → SomeBegins ts
 goes_on ts k p h = begins_where ts (λ f. let e : node.Fail ≡ node.On k p = sym (stands first_state ts ∙ ap state f) ∙ h in let d : ⊥ = cc in d)
 
--- so at a token that leads to no state, and where all tokens led to one
+-- so at a token that leads to no state
 module _ (ts seen : List Token) (i : ℕ) (k : List NodeFrame) (p : Place) (counted : i ≡ length seen) (at : after seen ≡ node.On k p) where
   begun : (rest : List Token) → ts ≡ seen ++ rest → SomeBegins (take i ts)
   begun rest e =
@@ -32,16 +29,3 @@ module _ (ts seen : List Token) (i : ℕ) (k : List NodeFrame) (p : Place) (coun
 
   pub stops : (rest : List Token) (t : Token) → ts ≡ seen ++ t ∷ rest → after (seen ++ t ∷ []) ≡ node.Fail → (i ≤ length ts) × StopsAt ts i
   stops rest t e f = let s = stuck_place ts seen rest t i e counted f in (s.0, (begun (t ∷ rest) e, s.1))
-
-  pub stops_at_end : map (λ x. x) seen ≡ ts → (i ≤ length ts) × StopsAt ts i
-  stops_at_end all =
-      let same : ts ≡ seen = sym all ∙ map-id seen in
-      let long : i ≡ length ts = counted ∙ ap length (sym same) in
-      (omega arith, (begun [] (same ∙ sym (append-nil seen)), λ less. absurd (omega arith)))
-
--- a program of these tokens begins with them
-pub begins_parse : (ts : List Token) (n : MeasuredBlock) → IsParse ts n → SomeBegins ts
-begins_parse ts n h = record { tree = h.tree; rest = []; spells = h.spells ∙ sym (append-nil ts); fits = h.fits }
-
-pub begins_large : (ts : List Token) → IsTooLarge ts → SomeBegins ts
-begins_large ts h = record { tree = h.tree; rest = []; spells = h.spells ∙ sym (append-nil ts); fits = h.fits }

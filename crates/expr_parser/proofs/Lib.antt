@@ -1,4 +1,4 @@
-pub mod Begun
+mod Begun
+mod Reach
 mod Runs
-mod Turns
 mod Whole

@@ -3,6 +3,7 @@ use Rattle.std.proofs.Common.{◌≡◌, ℕ, ◌<◌, ◌≤◌, ◌+◌, List,
 use Rattle.std.proofs.lemmas.List.{length-append}
 use Rattle.std.proofs.Math.Seq.{take-append_seam}
 use Rattle.std.proofs.lemmas.List.Sums.{fold-append}
+use Rattle.expr_token.specs.Reading.{Reads}
 use Rattle.expr_token.specs.declared.token.Token.{Token}
 use Rattle.expr_parts.specs.Parts.{MeasuredBlock}
 use Rattle.expr_grammar.specs.Grammar.{TreeProgram, Spells, Fits, LiteralsFit, IntegerFits}
@@ -11,7 +12,7 @@ use Rattle.expr_grammar.specs.Machine.{tree_of}
 use Rattle.expr_frames.specs.Measures.{measured_program, measured_if_any}
 use Rattle.expr_frames.specs.Nodes.{State, first_state, Fail, step, finish, block_of_tokens}
 use Rattle.expr_grammar.specs.Prefixes.{NoneBegins}
-use Rattle.expr_parser.specs.Reading.{IsParse, IsTooLarge}
+use Rattle.expr_parser.specs.Texts.{HasLargeLiteral, IsMeasureOf, IsTreeOf}
 use Rattle.expr_grammar.proofs.Complete.{complete}
 use Rattle.expr_grammar.proofs.Sound.{sound}
 use Rattle.expr_frames.proofs.Erase.{erases}
@@ -30,24 +31,26 @@ literals_of ts t s h = subst (λ us. AllByRecursion IntegerFits us) (sym s) h
 pub literals_in : (ts : List Token) (t : TreeProgram) → Spells t ts → LiteralsFit t → AllByRecursion IntegerFits ts
 literals_in ts t s h = subst (λ us. AllByRecursion IntegerFits us) s h
 
-pub parsed : (ts : List Token) (b : MeasuredBlock) → AllByRecursion IntegerFits ts → block_of_tokens ts ≡ Some b → IsParse ts b
-parsed ts b l h = choose (tree_of ts) refl
-  where
-    choose : (o : Option TreeProgram) → tree_of ts ≡ o → IsParse ts b
-    choose None e = let c : None ≡ Some b = sym (erases ts ∙ ap measured_if_any e) ∙ h in let d : ⊥ = cc in absurd d
-    choose (Some t) e =
-        let s = sound t ts e in
-        let c : Some (measured_program t) ≡ Some b = sym (erases ts ∙ ap measured_if_any e) ∙ h in
-        record { tree = t; spells = s.0; fits = s.1; literals = literals_of ts t s.0 l; same = cc }
+-- a program of the tokens that a text reads as is of a tree of the text
+module _ (text : List ℕ) (ts : List Token) (reads : Reads text ts) (b : MeasuredBlock) (h : block_of_tokens ts ≡ Some b) where
+  found : (A : Type 0) → ((t : TreeProgram) → Spells t ts → Fits t → b ≡ measured_program t → A) → A
+  found A of = choose (tree_of ts) refl
+    where
+      choose : (o : Option TreeProgram) → tree_of ts ≡ o → A
+      choose None e = let c : None ≡ Some b = sym (erases ts ∙ ap measured_if_any e) ∙ h in let d : ⊥ = cc in absurd d
+      choose (Some t) e =
+          let s = sound t ts e in
+          let c : Some (measured_program t) ≡ Some b = sym (erases ts ∙ ap measured_if_any e) ∙ h in
+          of t s.0 s.1 (cc)
 
-pub too_large : (ts : List Token) (b : MeasuredBlock) → ¬ AllByRecursion IntegerFits ts → block_of_tokens ts ≡ Some b → IsTooLarge ts
-too_large ts b l h = choose (tree_of ts) refl
-  where
-    choose : (o : Option TreeProgram) → tree_of ts ≡ o → IsTooLarge ts
-    choose None e = let c : None ≡ Some b = sym (erases ts ∙ ap measured_if_any e) ∙ h in let d : ⊥ = cc in absurd d
-    choose (Some t) e =
-        let s = sound t ts e in
-        record { tree = t; spells = s.0; fits = s.1; literals = λ f. l (literals_in ts t s.0 f) }
+  tree : (t : TreeProgram) → Spells t ts → Fits t → IsTreeOf text t
+  tree t s f = record { tokens = ts; reads = reads; spells = s; fits = f }
+
+  pub parsed : AllByRecursion IntegerFits ts → IsMeasureOf text b
+  parsed l = found (IsMeasureOf text b) (λ t s f e. record { tree = t; is_tree = tree t s f; literals = literals_of ts t s l; same = e })
+
+  pub too_large : ¬ AllByRecursion IntegerFits ts → HasLargeLiteral text
+  too_large l = found (HasLargeLiteral text) (λ t s f e. record { tree = t; is_tree = tree t s f; literals = λ fit. l (literals_in ts t s fit) })
 
 pub only_program : (ts : List Token) (b : MeasuredBlock) → AllByRecursion IntegerFits ts → block_of_tokens ts ≡ Some b → (t : TreeProgram) → Spells t ts → Fits t → (b ≡ measured_program t) × LiteralsFit t
 only_program ts b l h t s f = let p = program_is ts t s f in (cc, literals_of ts t s l)
@@ -63,9 +66,9 @@ fails (t ∷ ts) = fails ts
 pub no_more : (ts rest : List Token) → after ts ≡ Fail → (t : TreeProgram) → Spells t (ts ++ rest) → Fits t → ⊥
 no_more ts rest h = no_tree (ts ++ rest) (ap (λ s. finish s) (fold-append step first_state ts rest ∙ ap (λ s. fold step s rest) h ∙ fails rest))
 
--- at a token that leads to no state
-pub stuck : (seen : List Token) (t : Token) (s : State) → after seen ≡ s → step s t ≡ Fail → after (seen ++ t ∷ []) ≡ Fail
-stuck seen t s e f = fold-append step first_state seen (t ∷ []) ∙ ap (λ s. step s t) e ∙ f
+-- the state with one more token
+pub after_more : (seen : List Token) (t : Token) (s : State) → after seen ≡ s → after (seen ++ t ∷ []) ≡ step s t
+after_more seen t s e = fold-append step first_state seen (t ∷ []) ∙ ap (λ s. step s t) e
 
 pub stuck_only : (ts seen rest : List Token) → ts ≡ seen ++ rest → after seen ≡ Fail → (t : TreeProgram) → Spells t ts → Fits t → ⊥
 stuck_only ts seen rest e h t s f = no_more seen rest h t (s ∙ e) f

@@ -1,5 +1,5 @@
 -- What the functions of the parser do, in the words of the machine.
-use Rattle.std.specs.Prelude.{◌≡◌, ℕ, zero, suc, ◌<◌, ◌≤◌, List, [], ◌∷◌, length, Option, Some, None, Result, Ok, Err, fold}
+use Rattle.std.specs.Prelude.{◌≡◌, ℕ, zero, suc, ◌<◌, List, [], ◌∷◌, length, Option, Some, None, Result, Ok, Err, fold}
 use Rattle.expr_token.specs.declared.token.Token.{Token}
 use Rattle.expr_parts.specs.Parts.{Measured, MeasuredBlock, MeasuredLines, Given}
 use Rattle.expr_frames.specs.declared.frame.Caller.{Caller}
@@ -10,12 +10,7 @@ use Rattle.expr_frames.specs.declared.frame.Section.{Section}
 use Rattle.expr_frames.specs.declared.frame.Place.{Place}
 use Rattle.expr_frames.specs.declared.frame.Fault.{Fault}
 use Rattle.expr_frames.specs.declared.frame.Fault.TheVariants as fault
-use Rattle.expr_parser.specs.declared.parser.ParseError.{ParseError}
-use Rattle.expr_parser.specs.declared.parser.ParseError.TheVariants as error
-use Rattle.expr_grammar.specs.Grammar.{TreeProgram, Spells, Fits, LiteralsFit}
-use Rattle.expr_frames.specs.Measures.{measured_program}
 use Rattle.expr_frames.specs.Nodes.{plug, settle, argued, bind, whole_in, State, On, Fail}
-use Rattle.expr_grammar.specs.Prefixes.{StopsAt}
 
 -- so many brackets, each directly inside the one before it
 abbrev pub brackets : ℕ → List Frame → List Frame
@@ -52,39 +47,3 @@ abbrev pub PopsAbove : ℕ → List Frame → List Frame → Option Reaching →
 PopsAbove p old new None = (l : Measured) → settle p (stack old) l ≡ record { stack = stack new; left = l }
 PopsAbove p old new (Some f) =
     ((l : Measured) → settle p (stack old) l ≡ settle p (stack new) (plug f l)) × (length new < length old)
-
--- the program and the height of a tree that spells these tokens and fits, as do its literals
-pub record IsParse (ts : List Token) (n : MeasuredBlock) : Type 0 where
-  pub tree : TreeProgram
-  pub spells : Spells tree ts
-  pub fits : Fits tree
-  pub literals : LiteralsFit tree
-  pub same : n ≡ measured_program tree
-
--- a tree spells these tokens and fits, but a literal of it doesn't
-pub record IsTooLarge (ts : List Token) : Type 0 where
-  pub tree : TreeProgram
-  pub spells : Spells tree ts
-  pub fits : Fits tree
-  pub literals : ¬ LiteralsFit tree
-
--- the answer for a token list that has the tree t
-abbrev pub IsAnswer : TreeProgram → Result MeasuredBlock ParseError → Type 0
-IsAnswer t (Ok n) = (n ≡ measured_program t) × LiteralsFit t
-IsAnswer t (Err (error.Syntax place)) = ⊥
-IsAnswer t (Err error.Literal) = ¬ LiteralsFit t
-IsAnswer t (Err error.Memory) = Unit {0}
-
--- where a literal is refused, there is a tree
-abbrev pub IsLiteralFault : List Token → Result MeasuredBlock ParseError → Type 0
-IsLiteralFault ts (Ok n) = Unit {0}
-IsLiteralFault ts (Err (error.Syntax place)) = Unit {0}
-IsLiteralFault ts (Err error.Literal) = IsTooLarge ts
-IsLiteralFault ts (Err error.Memory) = Unit {0}
-
--- A fault's place is at the first token with which no program goes on, or the end.
-abbrev pub IsAtFault : List Token → Result MeasuredBlock ParseError → Type 0
-IsAtFault ts (Ok n) = Unit {0}
-IsAtFault ts (Err (error.Syntax place)) = (place ≤ length ts) × StopsAt ts place
-IsAtFault ts (Err error.Literal) = Unit {0}
-IsAtFault ts (Err error.Memory) = Unit {0}

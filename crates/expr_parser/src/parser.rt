@@ -1,4 +1,4 @@
-//! From tokens to a program, with a stack of what is open.
+//! From a text to a program, token by token, with a stack of what is open.
 
 ghost use Rattle.std.specs.Prelude.{◌≡◌, ◌∷◌, [], IfOk};
 ghost use Rattle.expr_parts.specs.Parts.{no_lines};
@@ -6,10 +6,12 @@ ghost use Rattle.expr_frames.specs.declared.frame.Frame.TheVariants as frame;
 ghost use Rattle.expr_frames.specs.declared.frame.Place.TheVariants as place;
 ghost use Rattle.expr_frames.specs.declared.frame.Section.TheVariants as section;
 ghost use Rattle.expr_frames.specs.declared.frame.Operand.TheVariants as operand;
-ghost use Rattle.expr_grammar.specs.Grammar.{TreeProgram, Spells, Fits};
+ghost use Rattle.expr_grammar.specs.Grammar.{TreeProgram};
 ghost use Rattle.expr_frames.specs.Nodes as machine;
 ghost use Rattle.expr_frames.specs.Faults.{Gives};
-ghost use Rattle.expr_parser.specs.Reading.{stack, Stands, IsParse, IsAnswer, IsLiteralFault, IsAtFault};
+ghost use Rattle.expr_parser.specs.Reading.{stack, Stands};
+ghost use Rattle.expr_parser.specs.Texts.{IsTreeOf};
+ghost use Rattle.expr_parser.specs.Parsed.{IsParsed, IsParsedAt, IsParsedFor};
 
 mod brace;
 mod choice;
@@ -25,15 +27,15 @@ use expr_frames::frame::{Fault, Frame, Operand, Place, Section};
 use expr_frames::read;
 use expr_grammar::literals::literals_fit;
 use expr_parts::{Lines, Part, ProgramPart};
-use expr_token::Token;
+use expr_token::{Next, Token, next_token};
 use std::alloc::Global;
 
 /// Why no program was made.
 #[derive(Clone, Copy, Debug, PartialEq, Eq)]
 pub enum ParseError {
-    /// No program spells the tokens and fits; none begins with the tokens up to this index.
+    /// The text has no tree, and its first fault is at this place.
     Syntax(usize),
-    /// A program spells the tokens and fits, but an integer literal of it is 2^63 or more.
+    /// The text has a tree, but an integer literal of it is 2^63 or more.
     Literal,
     /// Memory was refused.
     Memory,
@@ -139,39 +141,47 @@ fn whole(part: Part) -> Place
     Place::Have(Operand::Whole(part))
 }
 
-/// The program that spells the tokens and fits, and its height.
+/// The program of the text's tree, and the tree's height.
 ///
 /// # Errors
 ///
-/// `Syntax` if there is none, at the index of the first token with which none goes on, or the number of tokens;
-/// `Literal` if there is one and an integer literal of it is 2^63 or more; `Memory` if memory was refused.
-pub fn parse(alloc: Global, tokens: Vec<Token>) -> Result<ProgramPart, ParseError>
-    // The answer is the program of a tree that spells the tokens and fits, as do its literals.
-    ensures found { IfOk result (IsParse tokens.items) }
-    // Each tree that does is that one; there is none where the answer is a syntax fault.
-    ensures only { (t : TreeProgram) → Spells t tokens.items → Fits t → IsAnswer t result }
-    ensures literal { IsLiteralFault tokens.items result }
-    // Some program begins with the tokens before the index of a syntax fault, and none with the one at it too.
-    ensures place { IsAtFault tokens.items result }
+/// `Syntax` if it has no tree, at the first byte of the first token with which none goes on, or else of what is no
+/// token, or else at the text's end; `Literal` if it has one and an integer literal of it is 2^63 or more; `Memory` if
+/// memory was refused.
+pub fn parse(alloc: Global, text: &str) -> Result<ProgramPart, ParseError>
+    // Each answer says of the text what it means: a program that of a tree, a syntax fault that there is none.
+    ensures answer { IsParsed text.now result }
+    // Where the text has a tree, no other answer is given but that tree's.
+    ensures only { (t : TreeProgram) → IsTreeOf text.now t → IsParsedFor t result }
+    // A syntax fault's place is that of the first: some program begins with the tokens before it, and none goes on there.
+    ensures place { IsParsedAt text.now result }
 {
-    let literals_fit = literals_fit(&tokens);
     let Ok(mut parser) = Parser::new(alloc) else {
         return Err(ParseError::Memory);
     };
     let mut place = Place::Want;
-    let mut index = 0;
-    for token in tokens {
-        place = match parser.step(place, token) {
-            Ok(next) => next,
-            Err(Fault::Syntax) => return Err(ParseError::Syntax(index)),
-            Err(Fault::Memory) => return Err(ParseError::Memory),
-        };
-        index += 1;
+    let mut fit = true;
+    let mut at = 0;
+    loop {
+        match next_token(alloc, text, at) {
+            Ok(Next::Token(token, start, end)) => {
+                fit = literals_fit(fit, &token);
+                place = match parser.step(place, token) {
+                    Ok(next) => next,
+                    Err(Fault::Syntax) => return Err(ParseError::Syntax(start)),
+                    Err(Fault::Memory) => return Err(ParseError::Memory),
+                };
+                at = end;
+            }
+            Ok(Next::End) => break,
+            Ok(Next::Stuck(stuck)) => return Err(ParseError::Syntax(stuck)),
+            Err(_) => return Err(ParseError::Memory),
+        }
     }
     match parser.finish(place) {
-        Ok(program) if literals_fit => Ok(program),
+        Ok(program) if fit => Ok(program),
         Ok(_) => Err(ParseError::Literal),
-        Err(Fault::Syntax) => Err(ParseError::Syntax(index)),
+        Err(Fault::Syntax) => Err(ParseError::Syntax(text.len())),
         Err(Fault::Memory) => Err(ParseError::Memory),
     }
 }

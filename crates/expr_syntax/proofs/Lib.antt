@@ -1,2 +1,5 @@
 mod Compiled
+mod Matches
 pub mod Printed
+mod Refused
+mod Weighing

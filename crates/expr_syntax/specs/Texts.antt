@@ -1,25 +1,16 @@
--- The trees of a text, its program, and the answers of `compile`.
-use Rattle.std.specs.Prelude.{◌≡◌, ℕ, ◌+◌, ◌≤◌, List, length, take, drop, slice_get, Some, Result, Ok, Err}
-use Rattle.expr_token.specs.Reading.{Begins, NoPiece, Reads}
-use Rattle.expr_token.specs.declared.token.Token.{Token}
+-- The program of a text, and the answers of `compile`.
+use Rattle.std.specs.Prelude.{◌≡◌, ℕ, ◌≤◌, List, length, Result, Ok, Err}
 use Rattle.expr_tree.specs.Term.{Block}
 use Rattle.expr_tree.specs.Written.{program_written}
 use Rattle.expr_tree.specs.declared.node.Program.{Program}
 use Rattle.expr_value.specs.declared.error.Error.{Error}
 use Rattle.expr_value.specs.declared.error.Error.TheVariants.{PestError, ParseError, ExprError, RegexError, MemoryError}
-use Rattle.expr_grammar.specs.Grammar.{TreeProgram, Spells, Fits, LiteralsFit}
+use Rattle.expr_grammar.specs.Grammar.{TreeProgram, LiteralsFit}
 use Rattle.expr_parts.specs.Parts.{MeasuredBlock}
 use Rattle.expr_frames.specs.Measures.{measured_program}
 use Rattle.expr_frames.specs.Programs.{program_of}
 use Rattle.expr_grammar.specs.Height.{program_height}
-use Rattle.expr_grammar.specs.Prefixes.{SomeBegins, NoneBegins}
-
--- the tree spells what the text reads as, and fits
-pub record IsTreeOf (text : List ℕ) (t : TreeProgram) : Type 0 where
-  pub tokens : List Token
-  pub reads : Reads text tokens
-  pub spells : Spells t tokens
-  pub fits : Fits t
+pub use Rattle.expr_parser.specs.Texts.{FaultPlace, HasLargeLiteral, HasNoTree, IsMeasureOf, IsTreeOf}
 
 -- Two trees of a text are one.
 abbrev pub OneTreeOfText : Type 0
@@ -31,15 +22,6 @@ pub record IsProgramOf (text : List ℕ) (b : Block) : Type 0 where
   pub is_tree : IsTreeOf text tree
   pub literals : LiteralsFit tree
   pub same : b ≡ program_of tree
-
--- the text has a tree, and an integer literal of it is 2^63 or more
-pub record HasLargeLiteral (text : List ℕ) : Type 0 where
-  pub tree : TreeProgram
-  pub is_tree : IsTreeOf text tree
-  pub literals : ¬ LiteralsFit tree
-
-abbrev pub HasNoTree : List ℕ → Type 0
-HasNoTree text = (t : TreeProgram) → IsTreeOf text t → ⊥
 
 -- what each answer says of the text
 abbrev pub IsCompiled : List ℕ → Result Program Error → Type 0
@@ -92,13 +74,7 @@ IsAnswerWithin t height (Err (ExprError message)) = ⊥
 IsAnswerWithin t height (Err (RegexError error)) = ⊥
 IsAnswerWithin t height (Err MemoryError) = Unit {0}
 
--- What is read of a text, before it is known whether a bound is asked for: the program of its tree, and the height.
-pub record IsMeasureOf (text : List ℕ) (m : MeasuredBlock) : Type 0 where
-  pub tree : TreeProgram
-  pub is_tree : IsTreeOf text tree
-  pub literals : LiteralsFit tree
-  pub same : m ≡ measured_program tree
-
+-- What is read of a text, before it is known whether a bound is asked for.
 abbrev pub IsRead : List ℕ → Result MeasuredBlock Error → Type 0
 IsRead text (Ok m) = IsMeasureOf text m
 IsRead text (Err (PestError place)) = HasNoTree text
@@ -114,15 +90,6 @@ IsReadFor t (Err (ParseError message)) = ¬ LiteralsFit t
 IsReadFor t (Err (ExprError message)) = ⊥
 IsReadFor t (Err (RegexError error)) = ⊥
 IsReadFor t (Err MemoryError) = Unit {0}
-
--- the place of the first fault of a text
-pub data FaultPlace (text : List ℕ) (place : ℕ) : Type 0 where
-  -- the first byte of a token: a program begins with the tokens before it, and none goes on with it
-  AtToken : (upto : ℕ) (tokens : List Token) (starts : List ℕ) (k : ℕ) → Begins text upto tokens starts → slice_get starts k ≡ Some place → SomeBegins (take k tokens) → NoneBegins (take (k + 1) tokens) → FaultPlace text place
-  -- the end of the text, whose tokens a program begins with
-  AtEnd : (tokens : List Token) → Reads text tokens → SomeBegins tokens → place ≡ length text → FaultPlace text place
-  -- what is no token and no gap, after tokens that a program begins with
-  AtUnreadable : (tokens : List Token) (starts : List ℕ) → Begins text place tokens starts → SomeBegins tokens → NoPiece (drop place text) → FaultPlace text place
 
 abbrev pub IsPlaced : {A : Type 0} → List ℕ → Result A Error → Type 0
 IsPlaced text (Ok p) = Unit {0}

@@ -1,7 +1,9 @@
 //! From a text to its program: `compile`.
 #![tactic(auto)]
 
+mod bounded;
 pub mod laws;
 mod text;
 
+pub use bounded::{Bounded, compile_bounded};
 pub use text::{compile, compile_within};

@@ -1,20 +1,14 @@
 //! From a text to its program.
-ghost use Rattle.std.specs.Prelude.{◌≡◌, ◌≤◌, ℕ, List, Err, length, drop, slice_get, unwrap_or, IfOk, IfErr, MatchOption};
+ghost use Rattle.std.specs.Prelude.{◌≡◌, ℕ, Err, IfOk};
 ghost use Rattle.expr_grammar.specs.Grammar.{TreeProgram};
-ghost use Rattle.expr_grammar.specs.Prefixes.{SomeBegins, StopsAt};
 ghost use Rattle.expr_parts.specs.Kept.{KeepPatterns};
 ghost use Rattle.expr_syntax.specs.Texts.{IsAnswerFor, IsAnswerWithin, IsCompiled, IsCompiledWithin, IsParseRefusal, IsPlaced, IsRead, IsReadFor, IsTreeOf};
-ghost use Rattle.expr_token.specs.Reading.{Begins, NoPiece, Reads, ReadsAt};
-ghost use Rattle.expr_token.specs.declared.token.Token.{Token};
 ghost use Rattle.expr_tree.specs.Beside.{program_operations};
-ghost use Rattle.std.specs.List.{All};
 ghost use Rattle.std.specs.Str.{IsCharBoundary};
 ghost use Rattle.expr_value.specs.declared.error.Error.{Error};
-ghost use Rattle.std.specs.Prelude.{◌<◌};
 
 use expr_parser::parser::{ParseError, parse};
 use expr_parts::ProgramPart;
-use expr_token::{Reading, Token, read};
 use expr_tree::node::Program;
 use expr_value::{Error, Result};
 use std::alloc::Global;
@@ -70,90 +64,18 @@ pub fn compile_within(alloc: Global, code: &str, height: usize) -> Result<Progra
 }
 
 // The program of a text, and the height of its tree.
-fn read_program(alloc: Global, code: &str) -> Result<ProgramPart>
+pub(crate) fn read_program(alloc: Global, code: &str) -> Result<ProgramPart>
     ensures answer { IsRead code.now result }
     ensures only { (t : TreeProgram) → IsTreeOf code.now t → IsReadFor t result }
     ensures place { IsPlaced code.now result }
     ensures boundary { (place : ℕ) → result ≡ Err (Error.PestError place) → IsCharBoundary code.now place }
 {
-    let Reading {
-        tokens,
-        starts,
-        fault,
-    } = read(alloc, code)?;
-    match fault {
-        Some(place) => unreadable(alloc, code, tokens, &starts, place),
-        None => readable(alloc, code, tokens, &starts),
-    }
-}
-
-/// The program of a text that reads as the tokens.
-fn readable(alloc: Global, code: &str, tokens: Vec<Token>, starts: &[usize]) -> Result<ProgramPart>
-    requires reads { ReadsAt code.now tokens.items starts.now }
-    requires within { All (λ start. start < length code.now) starts.now }
-    requires paired { length starts.now ≡ length tokens.items }
-    ensures answer { IsRead code.now result }
-    ensures only { (t : TreeProgram) → IsTreeOf code.now t → IsReadFor t result }
-    ensures place { IsPlaced code.now result }
-{
-    match parse(alloc, tokens) {
+    match parse(alloc, code) {
         Ok(program) => Ok(program),
-        Err(ParseError::Syntax(index)) => {
-            let place = place_of(starts, index, code.len());
-            Err(Error::PestError(place))
-        }
+        Err(ParseError::Syntax(place)) => Err(Error::PestError(place)),
         Err(ParseError::Literal) => Err(refusal(alloc, "an integer literal is 2^63 or more")),
         Err(ParseError::Memory) => Err(Error::MemoryError),
     }
-}
-
-/// The refusal of a text that can't be read on from a place, before which these tokens stand.
-fn unreadable(
-    alloc: Global,
-    code: &str,
-    tokens: Vec<Token>,
-    starts: &[usize],
-    place: usize,
-) -> Result<ProgramPart>
-    requires begins { Begins code.now place tokens.items starts.now }
-    requires stuck { NoPiece (drop place code.now) }
-    requires refused { (ts : List Token) → Reads code.now ts → ⊥ }
-    requires within { All (λ start. start < length code.now) starts.now }
-    requires paired { length starts.now ≡ length tokens.items }
-    requires place { place ≤ length code.now }
-    ensures answer { IsRead code.now result }
-    ensures only { (t : TreeProgram) → IsTreeOf code.now t → IsReadFor t result }
-    ensures place { IsPlaced code.now result }
-{
-    prove!(place <= code.len());
-    match first_fault(alloc, tokens)? {
-        Some(index) => {
-            let place = place_of(starts, index, place);
-            Err(Error::PestError(place))
-        }
-        None => Err(Error::PestError(place)),
-    }
-}
-
-/// The first token with which no program goes on, if these tokens have one.
-fn first_fault(alloc: Global, tokens: Vec<Token>) -> Result<Option<usize>>
-    ensures stuck { IfOk result (λ found. MatchOption found (SomeBegins tokens.items)
-        (StopsAt tokens.items)) }
-    ensures refusal { IfErr result (λ e. e ≡ Error.MemoryError) }
-{
-    match parse(alloc, tokens) {
-        Err(ParseError::Syntax(index)) => Ok(Some(index)),
-        Err(ParseError::Memory) => Err(Error::MemoryError),
-        Err(ParseError::Literal) => Ok(None),
-        Ok(_) => Ok(None),
-    }
-}
-
-/// Where a token begins, or the end where there is none.
-fn place_of(starts: &[usize], index: usize, end: usize) -> usize
-    ensures { result ≡ unwrap_or (slice_get starts.now index) end }
-{
-    starts.get(index).copied().unwrap_or(end)
 }
 
 // The refusal of a text that has a tree.

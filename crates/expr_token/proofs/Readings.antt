@@ -4,7 +4,6 @@ use Rattle.std.specs.Option.{option_map, option_map_or, option_or}
 use Rattle.std.proofs.lemmas.List.{drop_at, drop-drop, drop_all}
 use Rattle.std.proofs.lemmas.List.Elements.{All-from_recursion}
 use Rattle.std.specs.List.{All, AllByRecursion}
-use Rattle.std.proofs.lemmas.List.Prefix.{front_fits}
 use Rattle.expr_token.specs.Lexer.{token_at, gap_at, gap_len, written, piece_at}
 use Rattle.expr_token.specs.Reading.{Piece, Blank, Line, Block, Written, piece_text, pieces_text, IsPieceBefore, ArePieces, tokens_of, starts_from, Begins, NoPiece, ReadsAt, Reads}
 use Rattle.expr_token.proofs.Pieces.{Front, GapFront, gap_sound, Continues, piece_sound, piece_complete, piece_some, same_front}
@@ -78,43 +77,37 @@ no_more (q ∷ qs) e fit =
 others : (text : List ℕ) (at : ℕ) (tokens : List Token) (starts : List ℕ) → (begun : Begins text at tokens starts) → (other : List Token) → (r : Reads text other) → Continues begun.pieces (drop at text) r.1.pieces
 others text at tokens starts begun other r = same_front begun.pieces (drop at text) r.1.pieces begun.fit r.1.fit (r.1.whole ∙ sym begun.whole)
 
--- and no other tokens are
-pub begun_unique : (text : List ℕ) (at : ℕ) (tokens : List Token) (starts : List ℕ) → Begins text at tokens starts → length text ≤ at → (other : List Token) → Reads text other → other ≡ tokens
-begun_unique text at tokens starts begun ended other r =
+-- each reading of the text begins with the tokens
+pub begun_front : (text : List ℕ) (at : ℕ) (tokens : List Token) (starts : List ℕ) → Begins text at tokens starts → (other : List Token) → Reads text other → (rest : List Token) × (other ≡ tokens ++ rest)
+begun_front text at tokens starts begun other r =
     let more = others text at tokens starts begun other r in
-    let none : more.after ≡ [] = no_more more.after (more.whole ∙ drop_all at text ended) more.fit in
-    sym r.1.in_order ∙ ap tokens_of (more.split ∙ ap (λ l. begun.pieces ++ l) none ∙ append-nil begun.pieces) ∙ begun.in_order
+    (tokens_of more.after, sym r.1.in_order ∙ ap tokens_of more.split ∙ tokens_of-append begun.pieces more.after ∙ ap (λ l. l ++ tokens_of more.after) begun.in_order)
 
--- where no piece goes on, the text has no reading
-pub begun_stuck : (text : List ℕ) (at : ℕ) (tokens : List Token) (starts : List ℕ) → Begins text at tokens starts → at < length text → piece_at (drop at text) ≡ None → (other : List Token) → Reads text other → ⊥
-begun_stuck text at tokens starts begun below none other r =
+-- where no piece is right, the text has no reading
+pub begun_refused : (text : List ℕ) (at : ℕ) (tokens : List Token) (starts : List ℕ) → Begins text at tokens starts → at < length text → NoPiece (drop at text) → (other : List Token) → Reads text other → ⊥
+begun_refused text at tokens starts begun below none other r =
     let more = others text at tokens starts begun other r in
     stuck more.after more.whole more.fit
   where
     stuck : (qs : List Piece) → pieces_text qs ≡ drop at text → ArePieces qs [] → ⊥
     stuck [] e fit = omega (arith, ap length e, length-drop at text)
-    stuck (q ∷ qs) e fit =
-        let found : piece_at (piece_text q ++ (pieces_text qs ++ [])) ≡ Some q = piece_complete q (pieces_text qs ++ []) fit.0 in
-        let same : piece_at (drop at text) ≡ Some q = ap piece_at (sym e ∙ ap (λ l. piece_text q ++ l) (sym (append-nil (pieces_text qs)))) ∙ found in
-        cc
+    stuck (q ∷ qs) e fit = none q (pieces_text qs ++ []) (ap (λ l. piece_text q ++ l) (append-nil (pieces_text qs)) ∙ e) fit.0
 
 gap_piece : (text : List ℕ) (p : Piece) → gap_at text ≡ Some p → piece_at text ≡ Some p
 gap_piece text p e = ap (λ o. option_or o (option_map (written text) (token_at text))) e
 
 -- a part of a gap
-pub begun_gap : (text : List ℕ) (at n : ℕ) (tokens : List Token) (starts : List ℕ) → n ≡ gap_len (drop at text) → 0 < n → at ≤ length text → Begins text at tokens starts → (at + n ≤ length text) × Begins text (at + n) tokens starts
-begun_gap text at n tokens starts e some within begun = by (gap_at (drop at text)) refl
+pub begun_gap : (text : List ℕ) (at n : ℕ) (tokens : List Token) (starts : List ℕ) → n ≡ gap_len (drop at text) → 0 < n → Begins text at tokens starts → Begins text (at + n) tokens starts
+begun_gap text at n tokens starts e some begun = by (gap_at (drop at text)) refl
   where
-    by : (o : Option Piece) → gap_at (drop at text) ≡ o → (at + n ≤ length text) × Begins text (at + n) tokens starts
+    by : (o : Option Piece) → gap_at (drop at text) ≡ o → Begins text (at + n) tokens starts
     by None h = let none : n ≡ 0 = e ∙ ap (λ o. option_map_or (λ p. length (piece_text p)) o 0) h in absurd (omega arith)
     by (Some p) h =
         let long : n ≡ length (piece_text p) = e ∙ ap (λ o. option_map_or (λ p. length (piece_text p)) o 0) h in
-        let gap : GapFront (drop at text) p = subst (λ o. IfSome o (GapFront (drop at text))) h (gap_sound (drop at text)) in (
-          omega (arith, front_fits (drop at text) (piece_text p) gap.front.rest gap.front.split, length-drop at text),
-          subst (λ l. Begins text (at + n) l starts) (ap (λ l. tokens ++ l) gap.no_token ∙ append-nil tokens)
-              (subst (Begins text (at + n) (tokens ++ tokens_of (p ∷ []))) (ap (λ l. starts ++ l) (gap.no_start at) ∙ append-nil starts)
-              (begun_piece text at n tokens starts p begun (gap_piece (drop at text) p h) (sym long))),
-        )
+        let gap : GapFront (drop at text) p = subst (λ o. IfSome o (GapFront (drop at text))) h (gap_sound (drop at text)) in
+        subst (λ l. Begins text (at + n) l starts) (ap (λ l. tokens ++ l) gap.no_token ∙ append-nil tokens)
+        (subst (Begins text (at + n) (tokens ++ tokens_of (p ∷ []))) (ap (λ l. starts ++ l) (gap.no_start at) ∙ append-nil starts)
+        (begun_piece text at n tokens starts p begun (gap_piece (drop at text) p h) (sym long)))
 
 -- where there is no part of a gap, the token there decides
 pub no_gap : (text : List ℕ) (n : ℕ) → n ≡ gap_len text → n ≤ 0 → gap_at text ≡ None
@@ -128,16 +121,16 @@ no_gap text n e none = by (gap_at text) refl
         let long : n ≡ length (piece_text p) = e ∙ ap (λ o. option_map_or (λ p. length (piece_text p)) o 0) h in
         absurd (omega arith)
 
-pub begun_token : (text : List ℕ) (at n : ℕ) (tokens : List Token) (starts : List ℕ) (token : Token) → Begins text at tokens starts → at ≤ length text → gap_at (drop at text) ≡ None → token_at (drop at text) ≡ Some (n, token)
-    → (at + n ≤ length text) × (0 < n) × Begins text (at + n) (tokens ++ token ∷ []) (starts ++ at ∷ [])
-begun_token text at n tokens starts token begun within gap found =
-    let stands = token_stands (drop at text) n token found in (
-      omega (arith, length-drop at text, stands.2),
-      stands.1,
-      begun_piece text at n tokens starts (Written token (take n (drop at text))) begun
-          (ap (λ o. option_or o (option_map (written (drop at text)) (token_at (drop at text)))) gap ∙ ap (option_map (written (drop at text))) found)
-          (length-take-le n (drop at text) stands.2),
-    )
+pub begun_token : (text : List ℕ) (at n : ℕ) (tokens : List Token) (starts : List ℕ) (token : Token) → Begins text at tokens starts → gap_at (drop at text) ≡ None → token_at (drop at text) ≡ Some (n, token)
+    → Begins text (at + n) (tokens ++ token ∷ []) (starts ++ at ∷ [])
+begun_token text at n tokens starts token begun gap found =
+    begun_piece text at n tokens starts (Written token (take n (drop at text))) begun
+    (ap (λ o. option_or o (option_map (written (drop at text)) (token_at (drop at text)))) gap ∙ ap (option_map (written (drop at text))) found)
+    (length-take-le n (drop at text) (token_stands (drop at text) n token found).2)
+
+pub token_within : (text : List ℕ) (at n : ℕ) (token : Token) → at ≤ length text → token_at (drop at text) ≡ Some (n, token) → (at + n ≤ length text) × (0 < n)
+token_within text at n token within found =
+    let stands = token_stands (drop at text) n token found in (omega (arith, length-drop at text, stands.2), stands.1)
 
 pub no_piece : (text : List ℕ) → gap_at text ≡ None → token_at text ≡ None → piece_at text ≡ None
 no_piece text gap none = ap (λ o. option_or o (option_map (written text) (token_at text))) gap ∙ ap (option_map (written text)) none

@@ -3,4 +3,5 @@ pub mod Lexer
 pub mod Printed
 pub mod Reading
 pub mod Spellings
+pub mod Steps
 pub mod Tokens

@@ -13,7 +13,7 @@ mod token;
 mod word;
 
 pub use laws::{lexer_gives_the_reading, one_reading, printed_text_reads};
-pub use reading::{Reading, read};
+pub use reading::{Next, Reading, next_token, read};
 pub use reserved::Reserved;
 pub use sign::Sign;
 pub use token::Token;

@@ -1,10 +1,11 @@
 //! The reading of a text.
-ghost use Rattle.std.specs.Prelude.{◌≡◌, ◌<◌, ◌==◌, ◌≤◌, List, IfOk, IfSome, IsSome, IsTrue, length, drop};
+ghost use Rattle.std.specs.Prelude.{◌≡◌, ◌<◌, ◌==◌, ◌≤◌, ℕ, List, IfOk, IfSome, IsSome, IsTrue, length, drop};
 ghost use Rattle.std.specs.List.{All};
 ghost use Rattle.expr_token.specs.Kinds.{first_is, is_word_byte};
 ghost use Rattle.expr_token.specs.Lexer.{begins_bytes, bytes_at, hash_at, quoted_at, raw_at, sign_at, token_at, word_at, word_token};
 ghost use Rattle.expr_token.specs.Tokens.{is_quote};
 ghost use Rattle.expr_token.specs.Reading.{Begins, NoPiece, Reads, ReadsAt};
+ghost use Rattle.expr_token.specs.Steps.{GoesOn, StandsWithin};
 ghost use Rattle.expr_token.specs.declared.token.Token.{Token};
 
 use crate::gap::gap_len;
@@ -20,6 +21,17 @@ use std::alloc::{AllocError, Global};
 
 /// The most tokens that a text's lists have room for at first.
 const ROOM: usize = 32;
+
+/// What stands at a place of a text, after blanks and comments.
+#[derive(Drop)]
+pub enum Next {
+    /// A token, the place of its first byte, and the place after its last one.
+    Token(Token, usize, usize),
+    /// Nothing more.
+    End,
+    /// The place where nothing that begins there can be read.
+    Stuck(usize),
+}
 
 /// What a text was read as.
 #[derive(Drop)]
@@ -164,6 +176,27 @@ fn first_room(len: usize) -> usize {
     if len < ROOM { len } else { ROOM }
 }
 
+/// What stands at a place up to which a text was read, after blanks and comments.
+pub fn next_token(alloc: Global, text: &str, from: usize) -> Result<Next, AllocError>
+    ensures goes_on { IfOk result (λ next. (tokens : List Token) (starts : List ℕ)
+        → Begins text.now from tokens starts → GoesOn text.now tokens starts next) }
+    ensures within { IfOk result (StandsWithin text.now from) }
+{
+    let bytes = text.as_bytes();
+    let mut at = from;
+    while at < bytes.len() {
+        let gap = gap_len(&bytes[at..]);
+        if gap == 0 {
+            return Ok(match token_at(alloc, text, at)? {
+                Some((len, token)) => Next::Token(token, at, at + len),
+                None => Next::Stuck(at),
+            });
+        }
+        at += gap;
+    }
+    Ok(Next::End)
+}
+
 /// Reads a text: its tokens, or those before the first place where nothing can be read.
 pub fn read(alloc: Global, text: &str) -> Result<Reading, AllocError>
     ensures reads { IfOk result (λ r. r.fault ≡ None → ReadsAt text.now r.tokens.items r.starts.items) }
@@ -177,31 +210,31 @@ pub fn read(alloc: Global, text: &str) -> Result<Reading, AllocError>
     ensures paired { IfOk result (λ r. length r.starts.items ≡ length r.tokens.items) }
     ensures within { IfOk result (λ r. All (λ start. start < length text.now) r.starts.items) }
 {
-    let bytes = text.as_bytes();
-    let room = first_room(bytes.len());
+    let room = first_room(text.len());
     let mut tokens = Vec::with_capacity(alloc, room)?;
     let mut starts = Vec::with_capacity(alloc, room)?;
     let mut at = 0;
-    while at < bytes.len() {
-        let gap = gap_len(&bytes[at..]);
-        if gap > 0 {
-            at += gap;
-            continue;
+    loop {
+        match next_token(alloc, text, at)? {
+            Next::Token(token, start, end) => {
+                tokens.push(token)?;
+                starts.push(start)?;
+                at = end;
+            }
+            Next::End => {
+                return Ok(Reading {
+                    tokens,
+                    starts,
+                    fault: None,
+                });
+            }
+            Next::Stuck(place) => {
+                return Ok(Reading {
+                    tokens,
+                    starts,
+                    fault: Some(place),
+                });
+            }
         }
-        let Some((len, token)) = token_at(alloc, text, at)? else {
-            return Ok(Reading {
-                tokens,
-                starts,
-                fault: Some(at),
-            });
-        };
-        tokens.push(token)?;
-        starts.push(at)?;
-        at += len;
     }
-    Ok(Reading {
-        tokens,
-        starts,
-        fault: None,
-    })
 }

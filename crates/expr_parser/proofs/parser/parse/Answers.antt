@@ -1,70 +1,123 @@
-use Rattle.std.proofs.Common.{rules, Err, [], ◌∷◌, ◌++◌, ◌+◌, length, drop, append_assoc, sym, subst, ◌∙◌}
-use Rattle.std.proofs.lemmas.Iterator.Adapters.{YieldsList-from_vec}
-use Rattle.std.proofs.lemmas.Iterator.Consumers.{YieldsList-turn, YieldsList-so_far, YieldsList-end}
-use Rattle.std.specs.List.{AllByRecursion}
-use Rattle.expr_grammar.specs.Grammar.{IntegerFits}
-use Rattle.expr_frames.specs.Nodes.{On, step_in, finish_in}
+use Rattle.std.proofs.Common.{Err, IsTrue, arith, rules, le_refl, subst}
+use Rattle.expr_frames.specs.Nodes.{step_in, finish_in}
 use Rattle.expr_frames.specs.Faults.{Gives}
 use Rattle.expr_parser.specs.Reading.{stack, Stands}
-use Rattle.expr_parser.proofs.Begun.{stops, stops_at_end}
-use Rattle.expr_parser.proofs.Turns.{split_at, ended}
-use Rattle.expr_parser.proofs.Whole.{parsed, too_large, only_program, no_tree, stuck, stuck_only}
+use Rattle.expr_parser.proofs.Reach.{read_none, read_more, stops_tree, stops_at, unread_tree, unread_at, ends_parsed, ends_only, ends_large, ends_unfit, ends_tree, ends_at}
 use Rattle.expr_parser.proofs.parser.parse.Goals as goal
+
+pub loop-token-init : goal.loop-token-init
+loop-token-init c = read_none c.args.text.now (stack c.in-Ok.parser.frames.items) c.in-Ok.ensures
+
+pub loop-token-preserved : goal.loop-token-preserved
+loop-token-preserved c =
+    let l = c.loop-token in
+    let read = l.invariant in
+    let more = rw c.in-Ok-Token.field-0-is at (c.in-Ok-Token.ensures.goes_on read.tokens read.starts read.begins) in
+    read_more c.args.text.now l.at l.fit (stack l.parser.frames.items) l.place read c.in-Ok-Token.token c.in-Ok-Token.start c.in-Ok-Token.end more
+    c.literals_fit-fit.result (stack c.step.new.self.frames.items) c.in-Ok-step.next c.literals_fit-fit.ensures c.in-Ok-step.ensures
+
+pub returns-in-Ok-Stuck-clause-answer : goal.returns-in-Ok-Stuck-clause-answer
+returns-in-Ok-Stuck-clause-answer c =
+    let l = c.loop-token in
+    let read = l.invariant in
+    unread_tree c.args.text.now l.at l.fit (stack l.parser.frames.items) l.place read c.in-Ok-Stuck.stuck
+    (rw c.in-Ok-Stuck.field-0-is at (c.in-Ok-Stuck.ensures.goes_on read.tokens read.starts read.begins))
+    (rw c.in-Ok-Stuck.field-0-is at c.in-Ok-Stuck.ensures.within).1
+
+pub returns-in-Ok-Stuck-clause-only : goal.returns-in-Ok-Stuck-clause-only
+returns-in-Ok-Stuck-clause-only c =
+    let l = c.loop-token in
+    let read = l.invariant in
+    unread_tree c.args.text.now l.at l.fit (stack l.parser.frames.items) l.place read c.in-Ok-Stuck.stuck
+    (rw c.in-Ok-Stuck.field-0-is at (c.in-Ok-Stuck.ensures.goes_on read.tokens read.starts read.begins))
+    (rw c.in-Ok-Stuck.field-0-is at c.in-Ok-Stuck.ensures.within).1
+
+pub returns-in-Ok-Stuck-clause-place : goal.returns-in-Ok-Stuck-clause-place
+returns-in-Ok-Stuck-clause-place c =
+    let l = c.loop-token in
+    let read = l.invariant in
+    let inside = rw c.in-Ok-Stuck.field-0-is at c.in-Ok-Stuck.ensures.within in (
+      omega (arith, inside.1),
+      unread_at c.args.text.now l.at l.fit (stack l.parser.frames.items) l.place read c.in-Ok-Stuck.stuck
+          (rw c.in-Ok-Stuck.field-0-is at (c.in-Ok-Stuck.ensures.goes_on read.tokens read.starts read.begins)),
+    )
+
+pub returns-in-Err-Syntax-clause-answer : goal.returns-in-Err-Syntax-clause-answer
+returns-in-Err-Syntax-clause-answer c =
+    let l = c.loop-token in
+    let read = l.invariant in
+    let more = rw c.in-Ok-Token.field-0-is at (c.in-Ok-Token.ensures.goes_on read.tokens read.starts read.begins) in
+    stops_tree c.args.text.now l.at l.fit (stack l.parser.frames.items) l.place read c.in-Ok-Token.token c.in-Ok-Token.start c.in-Ok-Token.end more
+    (subst (λ f. Stands (step_in (stack l.parser.frames.items) l.place c.in-Ok-Token.token) c.step.new.self.frames.items (Err f)) c.in-Err-Syntax.field-0-is c.in-Err-Syntax.ensures)
 
 pub returns-in-Err-Syntax-clause-only : goal.returns-in-Err-Syntax-clause-only
 returns-in-Err-Syntax-clause-only c =
-    let e = YieldsList-from_vec {s = c.into_iter-token-iterator.result} c.args.tokens.items (search rules) (search rules) in
-    let turn = YieldsList-turn e c.loop-token.yielded c.loop-token.token-iterator c.loop-token.yielded_by c.next.result c.next.new.self c.in-Some.token c.in-Some.is c.next.ensures.steps in
-    let far = YieldsList-so_far e c.loop-token.yielded c.loop-token.token-iterator c.loop-token.yielded_by in
-    let split = split_at c.args.tokens.items c.loop-token.yielded c.in-Some.token far turn.0 turn.1 in
-    let rest = drop (length c.loop-token.yielded + 1) c.args.tokens.items in
-    stuck_only c.args.tokens.items (c.loop-token.yielded ++ c.in-Some.token ∷ []) rest
-    (split ∙ sym (append_assoc c.loop-token.yielded (c.in-Some.token ∷ []) rest))
-    (stuck c.loop-token.yielded c.in-Some.token (On (stack c.loop-token.parser.frames.items) c.loop-token.place) c.loop-token.invariant.stands (subst (λ f. Stands (step_in (stack c.loop-token.parser.frames.items) c.loop-token.place c.in-Some.token) c.step.new.self.frames.items (Err f)) c.in-Err-Syntax.field-0-is c.in-Err-Syntax.ensures))
+    let l = c.loop-token in
+    let read = l.invariant in
+    let more = rw c.in-Ok-Token.field-0-is at (c.in-Ok-Token.ensures.goes_on read.tokens read.starts read.begins) in
+    stops_tree c.args.text.now l.at l.fit (stack l.parser.frames.items) l.place read c.in-Ok-Token.token c.in-Ok-Token.start c.in-Ok-Token.end more
+    (subst (λ f. Stands (step_in (stack l.parser.frames.items) l.place c.in-Ok-Token.token) c.step.new.self.frames.items (Err f)) c.in-Err-Syntax.field-0-is c.in-Err-Syntax.ensures)
 
 pub returns-in-Err-Syntax-clause-place : goal.returns-in-Err-Syntax-clause-place
 returns-in-Err-Syntax-clause-place c =
-    let e = YieldsList-from_vec {s = c.into_iter-token-iterator.result} c.args.tokens.items (search rules) (search rules) in
-    let turn = YieldsList-turn e c.loop-token.yielded c.loop-token.token-iterator c.loop-token.yielded_by c.next.result c.next.new.self c.in-Some.token c.in-Some.is c.next.ensures.steps in
-    let far = YieldsList-so_far e c.loop-token.yielded c.loop-token.token-iterator c.loop-token.yielded_by in
-    stops c.args.tokens.items c.loop-token.yielded c.loop-token.index (stack c.loop-token.parser.frames.items) c.loop-token.place c.loop-token.invariant.counted c.loop-token.invariant.stands
-    (drop (length c.loop-token.yielded + 1) c.args.tokens.items) c.in-Some.token
-    (split_at c.args.tokens.items c.loop-token.yielded c.in-Some.token far turn.0 turn.1)
-    (stuck c.loop-token.yielded c.in-Some.token (On (stack c.loop-token.parser.frames.items) c.loop-token.place) c.loop-token.invariant.stands (subst (λ f. Stands (step_in (stack c.loop-token.parser.frames.items) c.loop-token.place c.in-Some.token) c.step.new.self.frames.items (Err f)) c.in-Err-Syntax.field-0-is c.in-Err-Syntax.ensures))
+    let l = c.loop-token in
+    let read = l.invariant in
+    let inside = rw c.in-Ok-Token.field-0-is at c.in-Ok-Token.ensures.within in
+    let more = rw c.in-Ok-Token.field-0-is at (c.in-Ok-Token.ensures.goes_on read.tokens read.starts read.begins) in (
+      omega (arith, inside.1, inside.2),
+      stops_at c.args.text.now l.at l.fit (stack l.parser.frames.items) l.place read c.in-Ok-Token.token c.in-Ok-Token.start c.in-Ok-Token.end more
+          (subst (λ f. Stands (step_in (stack l.parser.frames.items) l.place c.in-Ok-Token.token) c.step.new.self.frames.items (Err f)) c.in-Err-Syntax.field-0-is c.in-Err-Syntax.ensures),
+    )
 
-pub returns-in-Ok-finish-clause-found : goal.returns-in-Ok-finish-clause-found
-returns-in-Ok-finish-clause-found c =
-    let e = YieldsList-from_vec {s = c.into_iter-token-iterator.result} c.args.tokens.items (search rules) (search rules) in
-    let all = YieldsList-end e c.loop-token.yielded c.loop-token.token-iterator c.loop-token.yielded_by c.next.result c.next.new.self c.in-None.is c.next.ensures.steps in
-    let at = ended c.args.tokens.items c.loop-token.yielded (On (stack c.loop-token.parser.frames.items) c.loop-token.place) all.0 c.loop-token.invariant.stands in
-    let fit : AllByRecursion IntegerFits c.args.tokens.items = search rules in
-    parsed c.args.tokens.items c.in-Ok-finish.program fit (at ∙ c.in-Ok-finish.ensures)
+pub returns-in-Ok-finish-clause-answer : goal.returns-in-Ok-finish-clause-answer
+returns-in-Ok-finish-clause-answer c =
+    let l = c.loop-token in
+    let read = l.invariant in
+    let whole = rw c.in-Ok-End.field-0-is at (c.in-Ok-End.ensures.goes_on read.tokens read.starts read.begins) in
+    ends_parsed c.args.text.now l.at l.fit (stack l.parser.frames.items) l.place read whole c.in-Ok-finish.program c.in-Ok-finish.ensures (search rules)
 
 pub returns-in-Ok-finish-clause-only : goal.returns-in-Ok-finish-clause-only
 returns-in-Ok-finish-clause-only c =
-    let e = YieldsList-from_vec {s = c.into_iter-token-iterator.result} c.args.tokens.items (search rules) (search rules) in
-    let all = YieldsList-end e c.loop-token.yielded c.loop-token.token-iterator c.loop-token.yielded_by c.next.result c.next.new.self c.in-None.is c.next.ensures.steps in
-    let at = ended c.args.tokens.items c.loop-token.yielded (On (stack c.loop-token.parser.frames.items) c.loop-token.place) all.0 c.loop-token.invariant.stands in
-    let fit : AllByRecursion IntegerFits c.args.tokens.items = search rules in
-    only_program c.args.tokens.items c.in-Ok-finish.program fit (at ∙ c.in-Ok-finish.ensures)
+    let l = c.loop-token in
+    let read = l.invariant in
+    let whole = rw c.in-Ok-End.field-0-is at (c.in-Ok-End.ensures.goes_on read.tokens read.starts read.begins) in
+    ends_only c.args.text.now l.at l.fit (stack l.parser.frames.items) l.place read whole c.in-Ok-finish.program c.in-Ok-finish.ensures (search rules)
 
-pub returns-in-Ok-2-clause-literal : goal.returns-in-Ok-2-clause-literal
-returns-in-Ok-2-clause-literal c =
-    let e = YieldsList-from_vec {s = c.into_iter-token-iterator.result} c.args.tokens.items (search rules) (search rules) in
-    let all = YieldsList-end e c.loop-token.yielded c.loop-token.token-iterator c.loop-token.yielded_by c.next.result c.next.new.self c.in-None.is c.next.ensures.steps in
-    let at = ended c.args.tokens.items c.loop-token.yielded (On (stack c.loop-token.parser.frames.items) c.loop-token.place) all.0 c.loop-token.invariant.stands in
-    let unfit : ¬ AllByRecursion IntegerFits c.args.tokens.items = search rules in
-    too_large c.args.tokens.items c.in-Ok-finish.program unfit (at ∙ c.in-Ok-finish.ensures)
+pub returns-in-Ok-2-clause-answer : goal.returns-in-Ok-2-clause-answer
+returns-in-Ok-2-clause-answer c =
+    let l = c.loop-token in
+    let read = l.invariant in
+    let whole = rw c.in-Ok-End.field-0-is at (c.in-Ok-End.ensures.goes_on read.tokens read.starts read.begins) in
+    let unfit : ¬ IsTrue l.fit = search rules in
+    ends_large c.args.text.now l.at l.fit (stack l.parser.frames.items) l.place read whole c.in-Ok-finish.program c.in-Ok-finish.ensures unfit
+
+pub returns-in-Ok-2-clause-only : goal.returns-in-Ok-2-clause-only
+returns-in-Ok-2-clause-only c =
+    let l = c.loop-token in
+    let read = l.invariant in
+    let whole = rw c.in-Ok-End.field-0-is at (c.in-Ok-End.ensures.goes_on read.tokens read.starts read.begins) in
+    let unfit : ¬ IsTrue l.fit = search rules in
+    ends_unfit c.args.text.now l.at l.fit (stack l.parser.frames.items) l.place read whole unfit
+
+pub returns-in-Err-Syntax-finish-clause-answer : goal.returns-in-Err-Syntax-finish-clause-answer
+returns-in-Err-Syntax-finish-clause-answer c =
+    let l = c.loop-token in
+    let read = l.invariant in
+    let whole = rw c.in-Ok-End.field-0-is at (c.in-Ok-End.ensures.goes_on read.tokens read.starts read.begins) in
+    ends_tree c.args.text.now l.at l.fit (stack l.parser.frames.items) l.place read whole
+    (subst (λ f. Gives (finish_in (stack l.parser.frames.items) l.place) (Err f)) c.in-Err-Syntax-finish.field-0-is c.in-Err-Syntax-finish.ensures)
 
 pub returns-in-Err-Syntax-finish-clause-only : goal.returns-in-Err-Syntax-finish-clause-only
 returns-in-Err-Syntax-finish-clause-only c =
-    let e = YieldsList-from_vec {s = c.into_iter-token-iterator.result} c.args.tokens.items (search rules) (search rules) in
-    let all = YieldsList-end e c.loop-token.yielded c.loop-token.token-iterator c.loop-token.yielded_by c.next.result c.next.new.self c.in-None.is c.next.ensures.steps in
-    let at = ended c.args.tokens.items c.loop-token.yielded (On (stack c.loop-token.parser.frames.items) c.loop-token.place) all.0 c.loop-token.invariant.stands in
-    no_tree c.args.tokens.items (at ∙ subst (λ f. Gives (finish_in (stack c.loop-token.parser.frames.items) c.loop-token.place) (Err f)) c.in-Err-Syntax-finish.field-0-is c.in-Err-Syntax-finish.ensures)
+    let l = c.loop-token in
+    let read = l.invariant in
+    let whole = rw c.in-Ok-End.field-0-is at (c.in-Ok-End.ensures.goes_on read.tokens read.starts read.begins) in
+    ends_tree c.args.text.now l.at l.fit (stack l.parser.frames.items) l.place read whole
+    (subst (λ f. Gives (finish_in (stack l.parser.frames.items) l.place) (Err f)) c.in-Err-Syntax-finish.field-0-is c.in-Err-Syntax-finish.ensures)
 
 pub returns-in-Err-Syntax-finish-clause-place : goal.returns-in-Err-Syntax-finish-clause-place
 returns-in-Err-Syntax-finish-clause-place c =
-    let e = YieldsList-from_vec {s = c.into_iter-token-iterator.result} c.args.tokens.items (search rules) (search rules) in
-    let all = YieldsList-end e c.loop-token.yielded c.loop-token.token-iterator c.loop-token.yielded_by c.next.result c.next.new.self c.in-None.is c.next.ensures.steps in
-    stops_at_end c.args.tokens.items c.loop-token.yielded c.loop-token.index (stack c.loop-token.parser.frames.items) c.loop-token.place c.loop-token.invariant.counted c.loop-token.invariant.stands all.0
+    let l = c.loop-token in
+    let read = l.invariant in
+    let whole = rw c.in-Ok-End.field-0-is at (c.in-Ok-End.ensures.goes_on read.tokens read.starts read.begins) in
+    (le_refl _, ends_at c.args.text.now l.at l.fit (stack l.parser.frames.items) l.place read whole)
