@@ -1,6 +1,7 @@
 pub mod Beside
 pub mod Cuts
 pub mod Off
+pub mod Places
 pub mod Puts
 pub mod Said
 pub mod Tops

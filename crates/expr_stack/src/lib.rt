@@ -11,6 +11,7 @@ mod operand;
 mod stack;
 
 pub use cell::Cell;
+pub use many::map_under;
 pub use memory::Memory;
 pub use operand::{Operand, Taken};
 pub use stack::Stack;
