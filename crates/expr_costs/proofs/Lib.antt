@@ -1,5 +1,7 @@
 mod Charging
+mod Inside
 mod Keeping
 mod Places
+pub mod Plain
 mod Reducing
 mod Weighed

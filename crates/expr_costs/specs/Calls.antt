@@ -4,7 +4,7 @@ use Rattle.expr_meaning.specs.Host.{Host}
 use Rattle.expr_sizes.specs.Sizes.{weights}
 use Rattle.expr_value.specs.Values.{integer_of}
 use Rattle.expr_value.specs.declared.value.Value.{Value}
-use Rattle.expr_costs.specs.Measures.{argument, bytes_of, count_of, items_in, load_of, loads, pairwise, pieces, putting, seeking}
+use Rattle.expr_costs.specs.Measures.{argument, bytes_of, colons_of, count_of, items_in, load_of, loads, pairwise, pieces, putting, seeking}
 use Rattle.expr_costs.specs.declared.kind.Kind.{Kind}
 use Rattle.expr_costs.specs.declared.kind.Kind.TheVariants.{Finds, Reads, Times, Trims, Cases, Splits, Replaces, Repeats, Joins, Copies, Seeks, Pairs, Compares, Sorts, Groups, Walks, Weighs, Prints, Writes, Parses, Recodes}
 
@@ -50,7 +50,7 @@ times_of vs = natural (integer_of (argument 1 vs))
 abbrev pub first_count : List Value → ℕ
 first_count vs = count_of (argument 0 vs)
 
--- Finding the call by its name is 8 steps, to which comes this. Keys that are put into a map may all have one hash; in JSON such a key takes 10 bytes with its value. Of
+-- Finding the call by its name is 8 steps, to which comes this. Keys that are put into a map may all have one hash; in JSON a colon stands behind each. Of
 -- equal items up to 32 are compared with each other, and beyond them those that are no keys.
 abbrev pub work_of : Kind → List Value → ℕ
 work_of Reads vs = 2 * loads vs
@@ -69,7 +69,7 @@ work_of Walks vs = first_count vs
 work_of Weighs vs = weights vs
 work_of Prints vs = 4 * weights vs
 work_of Writes vs = 8 * weights vs
-work_of Parses vs = 4 * loads vs + putting (bytes_of (argument 0 vs) / 10)
+work_of Parses vs = 4 * loads vs + putting (colons_of (argument 0 vs))
 work_of kind vs = 0
 
 -- and there must be room for this

@@ -1,9 +1,10 @@
 -- What the work of an instruction is told by: the bytes, the parts and the weights of its values.
-use Rattle.std.specs.Prelude.{ℕ, zero, suc, ◌+◌, ◌*◌, ◌/◌, ◌<◌, ◌≡◌, List, [], ◌∷◌, length, max, sum_by, Option, MatchOption}
+use Rattle.std.specs.Prelude.{ℕ, zero, suc, ◌+◌, ◌*◌, ◌/◌, ◌<◌, ◌≡◌, ◌==◌, List, [], ◌∷◌, count_by, length, max, sum, sum_by, Option, MatchOption}
+use Rattle.std.specs.Map.{values_of}
 use Rattle.expr_sizes.specs.Sizes.{load, weight}
 use Rattle.expr_costs.specs.declared.cost.Cost.{Cost}
 use Rattle.expr_value.specs.declared.value.Value as value
-use Rattle.expr_value.specs.declared.value.Value.{Value, out-Value}
+use Rattle.expr_value.specs.declared.value.Value.{Value, fold-Value, out-Value}
 use Rattle.expr_value.specs.declared.value.Value.TheOpen.{Value-F}
 
 -- how many bytes a text or bytes have; other values have none
@@ -21,6 +22,19 @@ load_of v = load (bytes_of v)
 
 abbrev pub loads : List Value → ℕ
 loads vs = sum_by load_of vs
+
+-- how many of some bytes are colons
+abbrev pub colons : List ℕ → ℕ
+colons bytes = count_by (λ b. b == 58) bytes
+
+-- how many colons a text or bytes have; other values have none
+abbrev pub colons_layer : Value-F Value → ℕ
+colons_layer (Value-F.String s) = colons s
+colons_layer (Value-F.Bytes bs) = colons bs
+colons_layer layer = 0
+
+abbrev pub colons_of : Value → ℕ
+colons_of v = colons_layer (out-Value v)
 
 -- how many entries a map has; other values have none
 abbrev pub entries_layer : Value-F Value → ℕ
@@ -50,16 +64,38 @@ count_of v = length_of v + entries_of v
 abbrev pub putting : ℕ → ℕ
 putting n = n * n / 64
 
--- What a value holds is read for a comparison, bytes by 16. Each entry of a map in it weighs 5 at least, and is a look-up too.
-abbrev pub holding_layer : (weight : ℕ) → Value-F Value → ℕ
-holding_layer w (Value-F.Bytes bs) = load (length bs)
-holding_layer w (Value-F.Array vs) = w + putting (w / 5)
-holding_layer w (Value-F.Map m) = w + putting (w / 5)
-holding_layer w (Value-F.KeyedMap m) = w + putting (w / 5)
-holding_layer w layer = 0
+-- how many entries the maps of one layer have together, where each value inside is known by its own
+abbrev pub entries_inside_layer : Value-F ℕ → ℕ
+entries_inside_layer (Value-F.Array ns) = sum ns
+entries_inside_layer (Value-F.Map ns) = length ns + sum (values_of ns)
+entries_inside_layer (Value-F.KeyedMap ns) = length ns + sum (values_of ns)
+entries_inside_layer layer = 0
+
+-- how many entries a value has and all that it holds: those of each map, also of a map in a map
+abbrev pub entries_inside : Value → ℕ
+entries_inside = fold-Value ℕ entries_inside_layer
+
+abbrev pub entries_within : List Value → ℕ
+entries_within vs = sum_by entries_inside vs
+
+-- what is left of a bound once so much is taken of it: nothing is told where that is more
+abbrev pub Leaves : (bound taken : ℕ) → Option ℕ → Type 0
+Leaves bound taken told = MatchOption told (bound < taken) (λ left. taken + left ≡ bound)
+
+-- a value is read whole, and each entry of a map in it is a look-up too
+abbrev pub reading : Value → ℕ
+reading v = weight v + putting (entries_inside v)
+
+-- what a value holds is read for a comparison, bytes by 16
+abbrev pub holding_layer : (whole : ℕ) → Value-F Value → ℕ
+holding_layer n (Value-F.Bytes bs) = load (length bs)
+holding_layer n (Value-F.Array vs) = n
+holding_layer n (Value-F.Map m) = n
+holding_layer n (Value-F.KeyedMap m) = n
+holding_layer n layer = 0
 
 abbrev pub holding : Value → ℕ
-holding v = holding_layer (weight v) (out-Value v)
+holding v = holding_layer (reading v) (out-Value v)
 
 abbrev pub holdings : List Value → ℕ
 holdings vs = sum_by holding vs

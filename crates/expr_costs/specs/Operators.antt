@@ -43,8 +43,16 @@ operator_work EndsWith x y = load_of y
 operator_work Matches x y = searching x y
 operator_work op x y = 0
 
+-- the room for a text that is made of two; no other sum wants any
+abbrev pub joined_layer : (loads : ℕ) → Value-F Value → ℕ
+joined_layer n (Value-F.String s) = 2 + n
+joined_layer n layer = 0
+
+abbrev pub joined : Value → Value → ℕ
+joined x y = joined_layer (load_of x + load_of y) (out-Value x)
+
 abbrev pub operator_room : Operator → Value → Value → ℕ
-operator_room Add x y = 2 + (load_of x + load_of y)
+operator_room Add x y = joined x y
 operator_room Matches x y = pattern_weight y
 operator_room op x y = 0
 

@@ -1,11 +1,13 @@
 //! How much there is to look at in the arguments of a call.
 ghost use Rattle.std.specs.Prelude.{MatchOption, ◌≡◌, ◌+◌, ◌<◌, ◌^◌, IfSome};
 ghost use Rattle.expr_costs.specs.Calls.{first_count as parts_of_first, times_of as times};
-ghost use Rattle.expr_costs.specs.Measures.{UpTo, argument as told, bytes_of as bytes, items_in as parts, load_of as units, loads as reads, pairwise, pieces as cuts, seeking as seeks};
+ghost use Rattle.expr_costs.specs.Measures.{UpTo, argument as told, bytes_of as bytes, colons_of as all_colons, items_in as parts, load_of as units, loads as reads, pairwise, pieces as cuts, seeking as seeks};
 ghost use Rattle.expr_sizes.specs.Sizes.{weights as all_weigh};
 ghost use Rattle.expr_value.specs.declared.value.Value as value;
 
-use crate::measures::{bytes_of, count_of, entries_of, load_of, pairwise_of, seeking, weight_of};
+use crate::measures::{
+    bytes_of, colons_of, count_of, entries_of, load_of, pairwise_of, seeking, weight_of,
+};
 use expr_held::Held;
 use expr_value::Value;
 
@@ -41,6 +43,16 @@ pub(crate) fn load_at(arguments: &[Held<'_>], place: usize) -> u64
     ensures small { result < 2 ^ 60 }
 {
     bytes_at(arguments, place) / 16
+}
+
+/// The colons of the argument at a place.
+pub(crate) fn colons_at(arguments: &[Held<'_>], place: usize) -> u64
+    ensures { result ≡ all_colons (told place arguments.now) }
+{
+    match argument(arguments, place) {
+        Some(argument) => colons_of(argument),
+        None => 0,
+    }
 }
 
 /// How often the first argument is to be repeated.

@@ -5,7 +5,8 @@ ghost use Rattle.expr_costs.specs.Measures.{Costing, loads as reads, putting as 
 ghost use Rattle.expr_sizes.specs.Sizes.{name_weights, weights as all_weigh};
 
 use crate::arguments::{
-    bytes_at, first_count, first_pairwise, load_at, loads, pieces, seeking_of, times_of, weights,
+    bytes_at, colons_at, first_count, first_pairwise, load_at, loads, pieces, seeking_of, times_of,
+    weights,
 };
 use crate::cost::Cost;
 use crate::kind::Kind;
@@ -125,9 +126,9 @@ fn cost_of(kind: Kind, arguments: &[Held<'_>], bound: u64) -> Option<Cost>
         }
         Kind::Parses => {
             let loads = loads(arguments, bound)?;
-            let bytes = bytes_at(arguments, 0);
-            let work = 4 * loads + putting(bytes / 10);
-            taking(work, 8 + 4 * bytes as u128)
+            let keys = putting(colons_at(arguments, 0));
+            let bytes = bytes_at(arguments, 0) as u128;
+            taking(4 * loads + keys, 8 + 4 * bytes)
         }
         Kind::Recodes => taking(0, 2 + 2 * loads(arguments, bound)?),
     };

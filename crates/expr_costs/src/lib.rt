@@ -4,6 +4,7 @@
 mod arguments;
 mod calls;
 mod cost;
+mod entries;
 mod keeps;
 mod kind;
 mod measures;

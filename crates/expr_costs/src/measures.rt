@@ -1,8 +1,9 @@
 //! How much there is to look at in values.
 ghost use Rattle.std.specs.Prelude.{◌≡◌, ◌+◌, ◌*◌, ◌/◌, ◌<◌, ◌≤◌, ◌^◌, IfSome};
-ghost use Rattle.expr_costs.specs.Measures.{UpTo, bytes_of as bytes, count_of as parts, entries_of as entries, holding as holds, holdings as all_hold, length_of as items, load_of as units, pairwise, putting as puts, seeking as seeks};
+ghost use Rattle.expr_costs.specs.Measures.{UpTo, bytes_of as bytes, colons, colons_of as value_colons, count_of as parts, entries_of as entries, holding as holds, holdings as all_hold, length_of as items, load_of as units, pairwise, putting as puts, reading, seeking as seeks};
 ghost use Rattle.expr_sizes.specs.Sizes.{load as units_of, weight};
 
+use crate::entries::entries_inside;
 use expr_sizes::{load, weigh};
 use expr_value::Value;
 
@@ -26,6 +27,30 @@ pub fn load_of(value: &Value) -> u64
     ensures small { result < 2 ^ 60 }
 {
     bytes_of(value) / 16
+}
+
+/// How many colons a text or bytes have.
+pub fn colons_of(value: &Value) -> u64
+    ensures { result ≡ value_colons value.now }
+{
+    match value {
+        Value::String(text) => colons_in(text.as_str().as_bytes()),
+        Value::Bytes(bytes) => colons_in(bytes.as_slice()),
+        _ => 0,
+    }
+}
+
+/// How many of some bytes are colons.
+fn colons_in(bytes: &[u8]) -> u64
+    ensures { result ≡ colons bytes.now }
+{
+    let mut colons = 0;
+    for byte in bytes {
+        if *byte == b':' {
+            colons += 1;
+        }
+    }
+    colons
 }
 
 /// How many entries a map has.
@@ -113,6 +138,16 @@ pub fn weight_of(value: &Value, bound: u64) -> Option<u64>
     }
 }
 
+/// The work of reading a value whole, with a look-up for each entry of a map in it, up to a bound.
+fn reading_of(value: &Value, bound: u64) -> Option<u128>
+    ensures work { UpTo bound (reading value.now) (λ n. n) result }
+    ensures small { IfSome result (λ n. n < 2 ^ 123) }
+{
+    let weight = weight_of(value, bound)?;
+    let entries = entries_inside(value, bound)?;
+    Some(weight as u128 + putting(entries))
+}
+
 /// The work of reading what a value holds for a comparison, up to a bound.
 pub fn holding_of(value: &Value, bound: u64) -> Option<u128>
     ensures work { UpTo bound (holds value.now) (λ n. n) result }
@@ -120,10 +155,7 @@ pub fn holding_of(value: &Value, bound: u64) -> Option<u128>
 {
     match value {
         Value::Bytes(bytes) => Some(load(bytes.len()) as u128),
-        Value::Array(_) | Value::Map(_) | Value::KeyedMap(_) => {
-            let weight = weight_of(value, bound)?;
-            Some(weight as u128 + putting(weight / 5))
-        }
+        Value::Array(_) | Value::Map(_) | Value::KeyedMap(_) => reading_of(value, bound),
         _ => Some(0),
     }
 }

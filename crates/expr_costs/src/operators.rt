@@ -1,6 +1,6 @@
 //! What operators cost.
 ghost use Rattle.std.specs.Prelude.{◌≡◌, ◌+◌, ◌*◌, ◌<◌, ◌^◌, IfSome};
-ghost use Rattle.expr_costs.specs.Operators.{between, comparing, finding, operator_room, operator_work, pattern_weight, searching};
+ghost use Rattle.expr_costs.specs.Operators.{between, comparing, finding, joined, operator_room, operator_work, pattern_weight, searching};
 ghost use Rattle.expr_costs.specs.Measures.{Costing, UpTo};
 ghost use Rattle.expr_operators.specs.Positions.{how_many};
 ghost use Rattle.expr_value.specs.declared.value.Value.{out-Value};
@@ -29,11 +29,22 @@ pub fn operator_cost(operator: Operator, left: &Value, right: &Value, bound: u64
         _ => 0,
     };
     let room = match operator {
-        Operator::Add => 2 + (load_of(left) + load_of(right)) as u128,
+        Operator::Add => joined_load(left, right),
         Operator::Matches => weight_of_pattern(right, bound)? as u128,
         _ => 0,
     };
     Some(Cost { work, room })
+}
+
+/// The room for the text that two are made into: 0 where the left is no text.
+#[inline(always)]
+fn joined_load(left: &Value, right: &Value) -> u128
+    ensures { result ≡ joined left.now right.now }
+{
+    match left {
+        Value::String(_) => 2 + (load_of(left) + load_of(right)) as u128,
+        _ => 0,
+    }
 }
 
 /// The work of comparing two values, up to a bound.

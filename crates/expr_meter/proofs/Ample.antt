@@ -17,11 +17,10 @@ use Rattle.expr_steps.specs.Context.{Context}
 use Rattle.expr_value.specs.Answers.{Answer, After, Goes}
 use Rattle.expr_value.specs.Fault.{Fault, evaluation}
 use Rattle.expr_value.specs.declared.value.Value.{Value}
-use Rattle.expr_meter.specs.Asking.{CountsAsking, CountsAsks, CountsCall, CountsStart, Predicate, kept_first, kept_of, replaces}
-use Rattle.expr_meter.specs.Counting.{Answers, Counted, Ending, Keeping, Passing, Then, ended, gives, refuses}
+use Rattle.expr_meter.specs.Asking.{CountsAsks, CountsCall, CountsStart, Predicate, kept_first, kept_of, replaces}
+use Rattle.expr_meter.specs.Counting.{Answers, Counted, Ending, Keeping, ended, gives, refuses}
 use Rattle.expr_meter.specs.Counts.{CodeCounts, Costs, Counts, CountsEnd, CountsLater, CountsMade, CountsMove, CountsRest, CountsRuns, CountsTop, Next, Whose, Working, lent, own, either, no_block, looked_at}
-use Rattle.expr_meter.specs.Rooms.{Begins, Holds, Room, Takes, freed, rooms, unlimited, within}
-use Rattle.expr_meter.specs.declared.limit.Limit.{Limit}
+use Rattle.expr_meter.specs.Rooms.{Begins, Holds, Room, Takes, rooms, unlimited, within}
 use Rattle.expr_meter.proofs.Enough.{Alone, Ample, Asked, Called, Part, ample_answer, ample_anew, ample_asked, ample_call_refused, ample_called, ample_counted, ample_here, ample_keeping, ample_more, ample_refused, ample_unlimited, ample_within, begins_passes, holds_passes, takes_passes}
 
 -- a built-in that asks
@@ -139,24 +138,16 @@ module _ (costs : Costs) where
           )
       answer_ample n k key block slot binds vs rest slots (Err f) h on = ample_call_refused n k (Call key vs block slot binds slots) (Rested rest slot slots) a f h on
 
-      abbrev Asking_of : List ℕ → List Value → ℕ → ℕ → Binds → List Value → List Value → Room → Room → Ending Room → Type 0
-      Asking_of key vs block slot binds rest slots now = CountsAsking rooms host key vs (λ q. counts block (take slot slots ++ bound_values binds q)) now (λ v. next 0 (v ∷ rest) (take slot slots))
-
-      -- nothing need be copied
-      none_copied : (key : List ℕ) (vs : List Value) (block slot : ℕ) (binds : Binds) (rest slots : List Value) (now : Room) (r : Result Room Limit) (e : Ending Room)
-          → Passing r (λ begun. Then (Call key vs block slot binds slots begun) (λ v ran. Rested rest slot slots v (freed now ran))) e → Passing r (Asking_of key vs block slot binds rest slots now) e
-      none_copied key vs block slot binds rest slots now (Ok begun) e p = ([], tt, p)
-      none_copied key vs block slot binds rest slots now (Err limit) e p = p
-
       abbrev One : Op → List Value → List Value → Room → Ending Room → Type 0
       One op stack slots = Counts rooms costs host ctx counts op next stack slots
 
+      -- one instruction; a call that asks need copy nothing
       step_ample : (op : Op) (stack slots : List Value) (move : Move) → Step host ctx later op stack slots move → On move next' a → Ample a (Alone (One op stack slots))
       step_ample (asks key n block slot binds) stack slots move (vs, rest, x, stood, many, h, e) on =
           let w = costs.work (asks key n block slot binds) vs in
           let k = costs.room (asks key n block slot binds) vs in
           ample_more a (Called w k (Call key vs block slot binds slots) (Rested rest slot slots)) (Alone (One (asks key n block slot binds) stack slots)) (
-          λ first now f q. (vs, rest, stood, many, (q.0, q.1, none_copied key vs block slot binds rest slots now q.0 f q.2))
+          λ first now f q. (vs, rest, stood, many, ([], tt, q))
           ) (
           answer_ample w k key block slot binds vs rest slots x (
           call_ample (λ q. counts block (take slot slots ++ bound_values binds q)) (λ q. later block (take slot slots ++ bound_values binds q)) (λ q. has block (take slot slots ++ bound_values binds q)) host key vs x h

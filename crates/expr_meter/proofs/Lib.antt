@@ -1,6 +1,7 @@
 pub mod Ample
 pub mod Beginning
 pub mod Depths
+pub mod Empty
 pub mod Endings
 pub mod Enough
 pub mod Forgotten

@@ -11,7 +11,7 @@ use Rattle.expr_steps.specs.Context.{Context}
 use Rattle.expr_value.specs.Answers.{Answer}
 use Rattle.expr_value.specs.Fault.{Fault, evaluation}
 use Rattle.expr_value.specs.declared.value.Value.{Value}
-use Rattle.expr_meter.specs.Asking.{CountsAsking, CountsAsks, CountsCall, CountsStart, Predicate, kept_first, kept_of, replaces}
+use Rattle.expr_meter.specs.Asking.{CountsAsks, CountsCall, CountsStart, Predicate, kept_first, kept_of, replaces}
 use Rattle.expr_meter.specs.Counting.{Answers, Charge, Counted, Counting, Ending, Following, Keeping, Then, ended, gives, refuses, stops}
 use Rattle.expr_meter.specs.Counts.{Costs, Counts, CountsEnd, CountsLater, CountsMade, CountsMove, CountsRest, CountsRuns, CountsTop, Next, Whose, Working, lent, own, either, no_block, looked_at}
 
@@ -133,13 +133,13 @@ module _ (counting : Counting) (holds : counting.Tally → Type 0) (by : Keeps c
             let k = costs.room (asks key n block slot binds) vs in
             let call = λ (begun : Tally). CountsCall counting host key vs (λ q. counts block (take slot slots ++ bound_values binds q)) begun in
             let after = λ (v : Value) (ran : Tally). Counted (counting.keeps v) (counting.freed now ran) (next 0 (v ∷ rest) (take slot slots)) in
-            counted (counting.works w k) (by.works w k) now (CountsAsking counting host key vs (λ q. counts block (take slot slots ++ bound_values binds q)) now (λ v. next 0 (v ∷ rest) (take slot slots))) e h (
-            λ u m q. keeping q.0 u (λ ready. Then (call ready) after) e m (
+            keeping p.0 now (λ kept. Counted (counting.works w k) kept (λ begun. Then (call begun) after)) e h (
+            λ kept m c. counted (counting.works w k) (by.works w k) kept (λ begun. Then (call begun) after) e m (
             λ b o t. following t.0 after e (call_stays (λ q. counts block (take slot slots ++ bound_values binds q)) (λ q. later block (take slot slots ++ bound_values binds q)) host key vs b t.0 o t.1) (
             λ v ran g r. counted (counting.keeps v) (by.keeps v) (counting.freed now ran) (next 0 (v ∷ rest) (take slot slots)) e (by.freed now ran g) (f 0 (v ∷ rest) (take slot slots)) r
             ) t.2
-            ) q.2
-            ) p
+            ) c
+            ) p.2
         one_stays (push v) stack slots now h p = plain_stays (push v) stack slots now h p
         one_stays (load i) stack slots now h p = plain_stays (load i) stack slots now h p
         one_stays (look key) stack slots now h p = plain_stays (look key) stack slots now h p

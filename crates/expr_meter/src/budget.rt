@@ -1,13 +1,13 @@
 //! What is left of limits.
 ghost use Rattle.std.specs.Prelude.{◌≡◌, ◌+◌, ◌≤◌, ℕ, IfOk, IfErr, None, Some, min};
-ghost use Rattle.expr_sizes.specs.Sizes.{Passes};
+ghost use Rattle.expr_sizes.specs.Sizes.{Passes, depth, inside, weight};
 ghost use Rattle.expr_meter.specs.Metered.{Charges, Metered};
 ghost use Rattle.expr_meter.specs.Rooms.{Holds, Takes, steps_left, within};
 
 use crate::limit::Limit;
 use crate::limits::Limits;
 use crate::meter::Meter;
-use expr_sizes::{Passed, weigh, weigh_inside};
+use expr_sizes::{Passed, is_plain, weigh, weigh_inside};
 use expr_value::Value;
 use std::alloc::AllocError;
 
@@ -81,11 +81,11 @@ impl Budget {
     /// A value is held of which so much is left of the room, or which passes a limit.
     fn hold(&mut self, measured: Result<u64, Passed>) -> Result<(), AllocError>
         requires { IfOk measured (λ left. left ≤ min self.old.steps self.old.size) }
-        ensures { (weight depth : ℕ)
-            → IfOk measured (λ left. (weight + left ≡ min self.old.steps self.old.size)
-            × (depth ≤ self.old.depth))
-            → IfErr measured (λ p. Passes p weight depth (min self.old.steps self.old.size) self.old.depth)
-            → Charges result (Holds weight depth)
+        ensures { (size deep : ℕ)
+            → IfOk measured (λ left. (size + left ≡ min self.old.steps self.old.size)
+            × (deep ≤ self.old.depth))
+            → IfErr measured (λ p. Passes p size deep (min self.old.steps self.old.size) self.old.depth)
+            → Charges result (Holds size deep)
             (⟦<Budget as Meter>⟧.metered self.old) (⟦<Budget as Meter>⟧.metered self.new) }
     {
         match measured {
@@ -103,6 +103,40 @@ impl Budget {
                 Err(AllocError)
             }
         }
+    }
+
+    /// What a value holds is held, as its walk tells it.
+    #[inline(never)]
+    fn hold_inside(&mut self, value: &Value) -> Result<(), AllocError>
+        ensures { Charges result (Holds (inside value.now) (depth value.now))
+            (⟦<Budget as Meter>⟧.metered self.old) (⟦<Budget as Meter>⟧.metered self.new) }
+    {
+        let measured = weigh_inside(value, self.room(), self.depth);
+        self.hold(measured)
+    }
+
+    /// A value is held, as its walk tells it.
+    #[inline(never)]
+    fn hold_whole(&mut self, value: &Value) -> Result<(), AllocError>
+        ensures { Charges result (Holds (weight value.now) (depth value.now))
+            (⟦<Budget as Meter>⟧.metered self.old) (⟦<Budget as Meter>⟧.metered self.new) }
+    {
+        let measured = weigh(value, self.room(), self.depth);
+        self.hold(measured)
+    }
+
+    /// An array of so many scalars was made, whose place is counted already.
+    #[inline(always)]
+    pub fn made_array(&mut self, count: u64) -> Result<(), AllocError>
+        ensures { Charges result (Holds (3 + count) 1)
+            (⟦<Budget as Meter>⟧.metered self.old) (⟦<Budget as Meter>⟧.metered self.new) }
+    {
+        if self.depth == 0 {
+            self.stopped = Some(Limit::Depth);
+            return Err(AllocError);
+        }
+        self.take(3, 3)?;
+        self.take(count, count)
     }
 }
 
@@ -139,16 +173,20 @@ impl Meter for Budget {
         Err(AllocError)
     }
 
-    #[inline(never)]
+    #[inline(always)]
     fn made(&mut self, value: &Value) -> Result<(), AllocError> {
-        let measured = weigh_inside(value, self.room(), self.depth);
-        self.hold(measured)
+        if is_plain(value) {
+            return Ok(());
+        }
+        self.hold_inside(value)
     }
 
-    #[inline(never)]
+    #[inline(always)]
     fn keep(&mut self, value: &Value) -> Result<(), AllocError> {
-        let measured = weigh(value, self.room(), self.depth);
-        self.hold(measured)
+        if is_plain(value) {
+            return self.take(1, 1);
+        }
+        self.hold_whole(value)
     }
 
     #[inline(always)]

@@ -9,4 +9,4 @@ mod walk;
 pub use passed::Passed;
 pub use patterns::weigh_pattern;
 pub use units::{load, take_names};
-pub use walk::{weigh, weigh_inside};
+pub use walk::{is_plain, weigh, weigh_inside};

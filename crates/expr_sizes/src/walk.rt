@@ -1,5 +1,5 @@
 //! The walk over a value and all that it holds.
-ghost use Rattle.std.specs.Prelude.{◌≡◌, ◌+◌, ◌<◌, ◌≤◌, IfOk, IfErr, IsTrue};
+ghost use Rattle.std.specs.Prelude.{◌≡◌, ◌+◌, ◌<◌, ◌≤◌, IfOk, IfErr, IsTrue, length};
 ghost use Rattle.expr_sizes.specs.Sizes.{Passes, deepest, depth, inside, weight, weights};
 
 use crate::passed::Passed;
@@ -70,6 +70,9 @@ fn weigh_items(items: &[Value], room: u64, depths: usize) -> Result<u64, Passed>
     if depths == 0 {
         return Err(Passed::Depth);
     }
+    if are_plain(items) {
+        return take(room, items.len() as u64);
+    }
     let mut left = room;
     for item in items {
         left = weigh(item, left, depths - 1)?;
@@ -77,9 +80,22 @@ fn weigh_items(items: &[Value], room: u64, depths: usize) -> Result<u64, Passed>
     Ok(left)
 }
 
-// Whether it is a value, of those that are met most, that holds nothing.
+// Whether all of these hold nothing.
 #[inline(always)]
-fn is_plain(value: &Value) -> bool
+fn are_plain(items: &[Value]) -> bool
+    ensures { IsTrue result → (weights items.now ≡ length items.now) × (deepest items.now ≡ 0) }
+{
+    for item in items {
+        if !is_plain(item) {
+            return false;
+        }
+    }
+    true
+}
+
+/// Whether it is a value, of those that are met most, that holds nothing.
+#[inline(always)]
+pub fn is_plain(value: &Value) -> bool
     ensures { IsTrue result → (inside value.now ≡ 0) × (depth value.now ≡ 0) }
 {
     matches!(value, Value::Integer(_) | Value::Bool(_) | Value::Nil)
