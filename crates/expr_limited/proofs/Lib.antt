@@ -1,0 +1,12 @@
+pub mod Askings
+pub mod Beginnings
+pub mod Blocks
+pub mod Coded
+pub mod Comings
+pub mod Copying
+pub mod Going
+pub mod Items
+pub mod Keepings
+pub mod Parts
+pub mod Replies
+pub mod Stepping

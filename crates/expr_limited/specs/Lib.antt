@@ -1,0 +1,5 @@
+pub mod Calls
+pub mod Copies
+pub mod Firsts
+pub mod Outcomes
+pub mod Steps

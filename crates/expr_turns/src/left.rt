@@ -1,0 +1,100 @@
+//! What an instruction has left, counted after it.
+ghost use Rattle.std.specs.Prelude.{◌<◌, ◌≡◌, List, length};
+ghost use Rattle.expr_costs.specs.Costs.{op_leaves};
+ghost use Rattle.expr_costs.specs.Measures.{length_of as items};
+ghost use Rattle.expr_instructions.specs.InMemory.{op_of};
+ghost use Rattle.expr_machine.specs.Texts.{text_of};
+ghost use Rattle.expr_meaning.specs.Host.{no_host};
+ghost use Rattle.expr_meter.specs.Counts.{either};
+ghost use Rattle.expr_meter.specs.Metered.{Charges};
+ghost use Rattle.expr_stack.specs.Cells.{shown_all};
+ghost use Rattle.expr_turns.specs.Turns.{HasTop, IsCounted, IsFlat, MadeBy, MadeTop, SpansFlat};
+ghost use Rattle.expr_value.specs.declared.value.Value.{Value as declared};
+
+use expr_lowering::{Holder, Instruction};
+use expr_meter::{Budget, Meter};
+use expr_pattern::Pattern;
+use expr_stack::Stack;
+use expr_value::Value;
+use std::alloc::AllocError;
+
+/// Counts the top after an instruction: what it made, or what it may have made.
+#[inline(always)]
+pub(crate) fn count_left<L: Holder<Value>, N: Holder<String>, K: Holder<Pattern>>(
+    instruction: &Instruction<L, N, K>,
+    stack: &Stack<'_>,
+    kept: &[Value],
+    budget: &mut Budget,
+) -> Result<(), AllocError>
+    requires counted { IsCounted instruction.now }
+    requires top { HasTop (op_of L.held (text_of N.held) instruction.now) stack.now }
+    requires flat { SpansFlat (op_of L.held (text_of N.held) instruction.now)
+        (shown_all kept.now stack.now) }
+    ensures { Charges result
+        (MadeBy (op_leaves no_host (op_of L.held (text_of N.held) instruction.now))
+        (shown_all kept.now stack.now))
+        (⟦<Budget as Meter>⟧.metered budget.old) (⟦<Budget as Meter>⟧.metered budget.new) }
+{
+    match instruction {
+        Instruction::JumpIfFalse(_) => Ok(()),
+        Instruction::AndThen(_) => Ok(()),
+        Instruction::OrElse(_) => Ok(()),
+        Instruction::Refuse => Ok(()),
+        Instruction::NameAt(_, _) => count_copied(stack, budget),
+        Instruction::Index(_) => count_copied(stack, budget),
+        Instruction::IndexWith(_, _) => count_copied(stack, budget),
+        Instruction::Range => count_range(stack, kept, budget),
+        _ => count_made(stack, kept, budget),
+    }
+}
+
+/// Counts the top, which was made.
+#[inline(always)]
+fn count_made(stack: &Stack<'_>, kept: &[Value], budget: &mut Budget) -> Result<(), AllocError>
+    requires { 0 < length stack.now }
+    ensures { Charges result (MadeTop (shown_all kept.now stack.now))
+        (⟦<Budget as Meter>⟧.metered budget.old) (⟦<Budget as Meter>⟧.metered budget.new) }
+{
+    if stack.has_plain_top() {
+        return Ok(());
+    }
+    let top = stack.seen(kept);
+    budget.made(top.get())
+}
+
+/// Counts the top, which is an array of scalars: its length tells what it holds.
+#[inline(never)]
+fn count_range(stack: &Stack<'_>, kept: &[Value], budget: &mut Budget) -> Result<(), AllocError>
+    requires top { 0 < length stack.now }
+    requires flat { IsFlat (shown_all kept.now stack.now) }
+    ensures { Charges result (MadeTop (shown_all kept.now stack.now))
+        (⟦<Budget as Meter>⟧.metered budget.old) (⟦<Budget as Meter>⟧.metered budget.new) }
+{
+    let top = stack.seen(kept);
+    budget.made_array(length_of(top.get()))
+}
+
+/// How many items an array has.
+#[inline(always)]
+fn length_of(value: &Value) -> u64
+    ensures { result ≡ items value.now }
+{
+    match value {
+        Value::Array(items) => items.len() as u64,
+        _ => 0,
+    }
+}
+
+/// Counts the top, if it is the stack's own and no part that another lends.
+#[inline(always)]
+fn count_copied(stack: &Stack<'_>, budget: &mut Budget) -> Result<(), AllocError>
+    requires { 0 < length stack.now }
+    ensures { (kept : List declared) → Charges result
+        (MadeBy either (shown_all kept stack.now))
+        (⟦<Budget as Meter>⟧.metered budget.old) (⟦<Budget as Meter>⟧.metered budget.new) }
+{
+    match stack.own_top() {
+        Some(value) => budget.made(value),
+        None => Ok(()),
+    }
+}
