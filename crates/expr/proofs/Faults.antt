@@ -7,7 +7,7 @@ use Rattle.expr_tree.specs.Term.{Block}
 use Rattle.expr_tree.specs.declared.node.Program.{Program}
 use Rattle.expr_steps.specs.Context.{Context}
 use Rattle.expr_value.specs.Answers.{Gives}
-use Rattle.expr_value.specs.Fault.{evaluation, memory, pattern, syntax}
+use Rattle.expr_value.specs.Fault.{evaluation, fault_of, memory, pattern, syntax}
 use Rattle.expr_value.specs.declared.error.Error.{Error}
 use Rattle.expr_value.specs.declared.error.Error.TheVariants.{PestError, ParseError, ExprError, RegexError, MemoryError}
 use Rattle.expr_value.specs.declared.value.Value.{Value}
@@ -55,24 +55,53 @@ module _ (text : List ℕ) (host : Host) (ctx : Context) (b : Block) (of : IsPro
   boundary_of_run (inl none) place e = has_tree text b of none
   boundary_of_run (inr never) place e = boundary_never host never ctx b text r gives place e
 
--- a refusal in place of a program
-abbrev refused_with : Error → Result Program Error
-refused_with e = Err e
-
-module _ (text : List ℕ) where
-  same_place : (e : Error) → IsPlaced {A = Program} text (Err e) → IsPlaced {A = Value} text (Err e)
+-- a refusal that is passed on keeps its place, whatever would have been given
+module _ (A B : Type 0) (text : List ℕ) where
+  pub same_place : (e : Error) → IsPlaced {A = A} text (Err e) → IsPlaced {A = B} text (Err e)
   same_place (PestError place) p = p
   same_place (ParseError message) p = p
   same_place (ExprError message) p = p
   same_place (RegexError error) p = p
   same_place MemoryError p = p
 
-  -- a refusal that is passed on keeps its place
+  pub place_kept : (e : Error) → IsPlaced {A = A} text (Err e) → (r : Result B Error) → IsErrAnd r (λ x. x ≡ e) → IsPlaced text r
+  place_kept e p (Ok v) h = absurd h
+  place_kept e p (Err x) h = subst (λ y. IsPlaced {A = B} text (Err y)) (sym h) (same_place e p)
+
+  pub boundary_kept : (e : Error) → ((place : ℕ) → ◌≡◌ {A = Result A Error} (Err e) (Err (PestError place)) → IsCharBoundary text place) → (r : Result B Error) → IsErrAnd r (λ x. x ≡ e)
+      → (place : ℕ) → r ≡ Err (PestError place) → IsCharBoundary text place
+  boundary_kept e p (Ok v) h place is = absurd h
+  boundary_kept e p (Err x) h place is = p place (let same : x ≡ PestError place = cc in ap Err (sym h ∙ same))
+
+-- one for want of memory has none
+module _ (A : Type 0) (text : List ℕ) where
+  memory_placed : (e : Error) → fault_of e ≡ memory → IsPlaced {A = A} text (Err e)
+  memory_placed (PestError place) m = let no : syntax ≢ memory = λ e. cc in absurd (no m)
+  memory_placed (ParseError message) m = tt
+  memory_placed (ExprError message) m = tt
+  memory_placed (RegexError error) m = tt
+  memory_placed MemoryError m = tt
+
+  memory_bounded : (e : Error) → fault_of e ≡ memory → (place : ℕ) → ◌≡◌ {A = Result A Error} (Err e) (Err (PestError place)) → IsCharBoundary text place
+  memory_bounded e m place is =
+      let same : e ≡ PestError place = cc in
+      let no : syntax ≢ memory = λ f. cc in
+      absurd (no (sym (ap fault_of same) ∙ m))
+
+  pub memory_place : (e : Error) → fault_of e ≡ memory → (r : Result A Error) → IsErrAnd r (λ x. x ≡ e) → IsPlaced text r
+  memory_place e m r passed = place_kept A A text e (memory_placed e m) r passed
+
+  pub memory_boundary : (e : Error) → fault_of e ≡ memory → (r : Result A Error) → IsErrAnd r (λ x. x ≡ e) → (place : ℕ) → r ≡ Err (PestError place) → IsCharBoundary text place
+  memory_boundary e m r passed = boundary_kept A A text e (memory_bounded e m) r passed
+
+-- a refusal in place of a program
+abbrev refused_with : Error → Result Program Error
+refused_with e = Err e
+
+module _ (text : List ℕ) where
   pub place_passed : (e : Error) → IsPlaced {A = Program} text (Err e) → (r : Result Value Error) → IsErrAnd r (λ x. x ≡ e) → IsPlaced text r
-  place_passed e p (Ok v) h = absurd h
-  place_passed e p (Err x) h = subst (λ y. IsPlaced {A = Value} text (Err y)) (sym h) (same_place e p)
+  place_passed e p r h = place_kept Program Value text e p r h
 
   pub boundary_passed : (e : Error) → ((place : ℕ) → refused_with e ≡ refused_with (PestError place) → IsCharBoundary text place) → (r : Result Value Error) → IsErrAnd r (λ x. x ≡ e)
       → (place : ℕ) → r ≡ Err (PestError place) → IsCharBoundary text place
-  boundary_passed e p (Ok v) h place is = absurd h
-  boundary_passed e p (Err x) h place is = p place (let same : x ≡ PestError place = cc in ap refused_with (sym h ∙ same))
+  boundary_passed e p r h place is = boundary_kept Program Value text e p r h place is

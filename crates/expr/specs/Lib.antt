@@ -1,5 +1,6 @@
 pub mod Bracketed
 pub mod Hosted
+pub mod Limited
 pub mod Parsers
 pub mod Spots
 pub mod Texts

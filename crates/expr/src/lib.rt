@@ -3,6 +3,7 @@
 
 mod environment;
 mod laws;
+mod limited;
 mod parser;
 mod registered;
 mod spot;
@@ -30,6 +31,7 @@ pub use expr_meaning::{
     ExprCall, left_side_decides, none_in_programs_is_the_opposite_of_any,
     programs_refuse_to_evaluate,
 };
+pub use expr_meter::{Limit, Limits, Outcome};
 pub use expr_operators::{
     outside_is_not_within, part_stands_between_front_and_back, unequal_is_not_equal,
 };
@@ -53,6 +55,7 @@ pub use expr_value::{
     TimezoneValue, Value, ValueMap, bail, value,
 };
 pub use laws::{equal_texts_mean_equal_values, levels_are_as_in_brackets};
+pub use limited::{compile_limited, eval_limited, execute_limited};
 pub use parser::Parser;
 pub use registered::Function;
 pub use spot::{Spot, spot_of};

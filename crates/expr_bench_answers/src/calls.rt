@@ -1,7 +1,7 @@
 //! Each public call on texts, environments and parsers that takes memory, by its name and with memory to spare.
 use expr::{
-    Code, Context, Environment, ExprCall, KeptMachine, Node, Parser, Result, Value, compile, eval,
-    run, spot_of,
+    Code, Context, Environment, ExprCall, KeptMachine, Limit, Limits, Node, Outcome, Parser,
+    Result, Value, compile, compile_limited, eval, eval_limited, execute_limited, run, spot_of,
 };
 use expr_bench_values::page::Page;
 use jiff::Timestamp;
@@ -129,7 +129,61 @@ fn put_parser(alloc: Global, context: &Context, wrong: &mut Page) -> Result<()> 
     put_parsed(alloc, &host, context, wrong)
 }
 
+/// What a limited call answered; that it was stopped is told as a text.
+fn answered(alloc: Global, outcome: Result<Outcome<Value>>) -> Result<Value> {
+    match outcome? {
+        Outcome::Answered(value) => Ok(value),
+        Outcome::Stopped(Limit::Steps) => Value::text(alloc, "steps"),
+        Outcome::Stopped(Limit::Size) => Value::text(alloc, "size"),
+        Outcome::Stopped(Limit::Depth) => Value::text(alloc, "depth"),
+        Outcome::Stopped(_) => Value::text(alloc, "text"),
+    }
+}
+
+/// Texts, and what comes of them within limits where `a` is 2.
+const LIMITED: &[(&str, &str)] = &[
+    ("a * 10", "20"),
+    ("1..9223372036854775807", "\"steps\""),
+    ("1..20000", "\"size\""),
+    ("all(1..1000, {all(1..1000, {true})})", "\"steps\""),
+    (
+        "len([reduce(1..200, [[[[[[[[[[#acc]]]]]]]]]], 0)])",
+        "\"depth\"",
+    ),
+    ("\"a\" matches \"\\w{100}\"", "\"text\""),
+    ("[#]", "!evaluation"),
+];
+
+fn put_limited(alloc: Global, context: &Context, wrong: &mut Page) -> Result<()> {
+    let mut limits = Limits::for_strangers();
+    limits.depth = 100;
+    limits.size = 10_000;
+    for (code, answer) in LIMITED {
+        let outcome = eval_limited(alloc, code, context, &limits);
+        wrong.answer("eval_limited", answered(alloc, outcome), answer);
+    }
+    let host = Environment::new(alloc);
+    let outcome = host.eval_limited(alloc, "a", context, &limits);
+    wrong.answer("Environment::eval_limited", answered(alloc, outcome), "2");
+    let Outcome::Answered(program) = compile_limited(alloc, "a + 1", &limits)? else {
+        wrong.put("compile_limited\n");
+        return Ok(());
+    };
+    let code = Code::lower(alloc, &program)?;
+    let outcome = execute_limited(alloc, &code, context, &limits);
+    wrong.answer("execute_limited", answered(alloc, outcome), "3");
+    let outcome = host.execute_limited(alloc, &code, context, &limits);
+    wrong.answer(
+        "Environment::execute_limited",
+        answered(alloc, outcome),
+        "3",
+    );
+    wrong.fact("compile_limited", true);
+    Ok(())
+}
+
 fn put_texts(alloc: Global, context: &Context, wrong: &mut Page) -> Result<()> {
+    put_limited(alloc, context, wrong)?;
     wrong.answer("eval", eval(alloc, "a * 10", context), "20");
     let spot = spot_of(alloc, "a\nb c", 4)?;
     let is_there = spot.line == 2 && spot.column == 3 && spot.shown.as_str() == "b c\n  ^";

@@ -1,0 +1,68 @@
+use Rattle.std.proofs.Common.{Ok, subst}
+use Rattle.expr_meaning.specs.Host.{Host}
+use Rattle.expr_meter.specs.declared.outcome.Outcome.{Outcome}
+use Rattle.expr_steps.specs.Context.{Context}
+use Rattle.expr_tree.specs.Written.{program_written}
+use Rattle.expr_tree.specs.declared.node.Program.{Program}
+use Rattle.expr_value.specs.declared.value.Value.{Value}
+use Rattle.expr.specs.Limited.{IsCompiledLimited}
+use Rattle.expr.proofs.Ending.{memory_ends, passed_ends, run_boundary, run_place, stopped_ends, text_ends}
+use Rattle.expr.proofs.Faults.{boundary_kept, memory_boundary, memory_place, place_kept}
+use Rattle.expr.proofs.limited.answer_text.Goals as goal
+
+pub returns-in_err-compiled-clause-outcome : goal.returns-in_err-compiled-clause-outcome
+returns-in_err-compiled-clause-outcome g c =
+    let host : Host = g.H.Functions.host c.args.machine.now.host.now in
+    let ctx : Context = g.P.ContextProvider.context c.args.machine.now.provider in
+    passed_ends host ctx c.args.code.now c.args.limits.now c.in_err-compiled.field-0.0 c.in_err-compiled.ensures.answer c.from_residual.result c.from_residual.ensures.1
+
+pub returns-in_err-compiled-clause-place : goal.returns-in_err-compiled-clause-place
+returns-in_err-compiled-clause-place g c = λ own.
+    place_kept (Outcome Program) (Outcome Value) c.args.code.now c.in_err-compiled.field-0.0 c.in_err-compiled.ensures.place c.from_residual.result c.from_residual.ensures.1
+
+pub returns-in_err-compiled-clause-boundary : goal.returns-in_err-compiled-clause-boundary
+returns-in_err-compiled-clause-boundary g c = λ own.
+    boundary_kept (Outcome Program) (Outcome Value) c.args.code.now c.in_err-compiled.field-0.0 c.in_err-compiled.ensures.boundary c.from_residual.result c.from_residual.ensures.1
+
+pub returns-in_err-code-in-Answered-clause-outcome : goal.returns-in_err-code-in-Answered-clause-outcome
+returns-in_err-code-in-Answered-clause-outcome g c =
+    let host : Host = g.H.Functions.host c.args.machine.now.host.now in
+    let ctx : Context = g.P.ContextProvider.context c.args.machine.now.provider in
+    memory_ends host ctx c.args.code.now c.args.limits.now c.in_err-code-in-Answered.field-0.0 c.in_err-code-in-Answered.ensures.refused c.from_residual-in_err-code-in-Answered.result c.from_residual-in_err-code-in-Answered.ensures.1
+
+pub returns-in_err-code-in-Answered-clause-place : goal.returns-in_err-code-in-Answered-clause-place
+returns-in_err-code-in-Answered-clause-place g c = λ own.
+    memory_place (Outcome Value) c.args.code.now c.in_err-code-in-Answered.field-0.0 c.in_err-code-in-Answered.ensures.refused c.from_residual-in_err-code-in-Answered.result c.from_residual-in_err-code-in-Answered.ensures.1
+
+pub returns-in_err-code-in-Answered-clause-boundary : goal.returns-in_err-code-in-Answered-clause-boundary
+returns-in_err-code-in-Answered-clause-boundary g c = λ own.
+    memory_boundary (Outcome Value) c.args.code.now c.in_err-code-in-Answered.field-0.0 c.in_err-code-in-Answered.ensures.refused c.from_residual-in_err-code-in-Answered.result c.from_residual-in_err-code-in-Answered.ensures.1
+
+pub returns-in_ok-code-in-Answered-clause-outcome : goal.returns-in_ok-code-in-Answered-clause-outcome
+returns-in_ok-code-in-Answered-clause-outcome g c =
+    let host : Host = g.H.Functions.host c.args.machine.now.host.now in
+    let ctx : Context = g.P.ContextProvider.context c.args.machine.now.provider in
+    let read = subst (λ o. IsCompiledLimited c.args.code.now c.args.limits.now (Ok o)) c.in-Answered.is c.in_ok-compiled.ensures.answer in
+    text_ends host ctx c.args.code.now c.args.limits.now (program_written c.in-Answered.program) _ read.0 read.1 c.in_ok-code-in-Answered.ensures.code c.execute_limited.result c.execute_limited.ensures.outcome
+
+pub returns-in_ok-code-in-Answered-clause-place : goal.returns-in_ok-code-in-Answered-clause-place
+returns-in_ok-code-in-Answered-clause-place g c =
+    let host : Host = g.H.Functions.host c.args.machine.now.host.now in
+    let ctx : Context = g.P.ContextProvider.context c.args.machine.now.provider in
+    let read = subst (λ o. IsCompiledLimited c.args.code.now c.args.limits.now (Ok o)) c.in-Answered.is c.in_ok-compiled.ensures.answer in
+    run_place host ctx c.args.code.now c.args.limits.now (program_written c.in-Answered.program) _ read.0 read.1 c.in_ok-code-in-Answered.ensures.code c.execute_limited.result c.execute_limited.ensures.outcome
+
+pub returns-in_ok-code-in-Answered-clause-boundary : goal.returns-in_ok-code-in-Answered-clause-boundary
+returns-in_ok-code-in-Answered-clause-boundary g c =
+    let host : Host = g.H.Functions.host c.args.machine.now.host.now in
+    let ctx : Context = g.P.ContextProvider.context c.args.machine.now.provider in
+    let read = subst (λ o. IsCompiledLimited c.args.code.now c.args.limits.now (Ok o)) c.in-Answered.is c.in_ok-compiled.ensures.answer in
+    run_boundary host ctx c.args.code.now c.args.limits.now (program_written c.in-Answered.program) _ read.0 read.1 c.in_ok-code-in-Answered.ensures.code c.execute_limited.result c.execute_limited.ensures.outcome
+
+pub returns-in-Stopped-clause-outcome : goal.returns-in-Stopped-clause-outcome
+returns-in-Stopped-clause-outcome g c =
+    let host : Host = g.H.Functions.host c.args.machine.now.host.now in
+    let ctx : Context = g.P.ContextProvider.context c.args.machine.now.provider in
+    stopped_ends host ctx c.args.code.now c.args.limits.now c.in-Stopped.limit (
+    subst (λ o. IsCompiledLimited c.args.code.now c.args.limits.now (Ok o)) c.in-Stopped.is c.in_ok-compiled.ensures.answer
+    )

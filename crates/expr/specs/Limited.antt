@@ -1,0 +1,70 @@
+-- Calls within limits: what they answer, and where they stop.
+use Rattle.std.specs.Prelude.{◌≢◌, ℕ, List, Result, Ok, Err, ◌⊎◌}
+use Rattle.expr_code.specs.Codes.{IsCode}
+use Rattle.expr_code.specs.Machine.{Op}
+use Rattle.expr_costs.specs.Costs.{costs_in}
+use Rattle.expr_meaning.specs.Host.{Host}
+use Rattle.expr_meter.specs.Counting.{Ending, gives, refuses, stops}
+use Rattle.expr_meter.specs.Counts.{CodeCounts}
+use Rattle.expr_meter.specs.Rooms.{Room, rooms, within}
+use Rattle.expr_meter.specs.declared.limit.Limit.TheVariants.{Height, Patterns}
+use Rattle.expr_meter.specs.declared.limits.Limits.{Limits}
+use Rattle.expr_meter.specs.declared.outcome.Outcome.{Outcome}
+use Rattle.expr_meter.specs.declared.outcome.Outcome.TheVariants.{Answered, Stopped}
+use Rattle.expr_steps.specs.Context.{Context}
+use Rattle.expr_syntax.specs.Bounds.{IsHeavier, IsHigher, IsLight}
+use Rattle.expr_syntax.specs.Texts.{HasLargeLiteral, HasNoTree, IsProgramWithin}
+use Rattle.expr_tree.specs.Term.{Block}
+use Rattle.expr_tree.specs.Written.{program_written}
+use Rattle.expr_tree.specs.declared.node.Program.{Program}
+use Rattle.expr_value.specs.Answers.{Answer}
+use Rattle.expr_value.specs.Fault.{fault_of, memory}
+use Rattle.expr_value.specs.declared.error.Error.{Error}
+use Rattle.expr_value.specs.declared.error.Error.TheVariants.{PestError, ParseError, ExprError, RegexError, MemoryError}
+use Rattle.expr_value.specs.declared.value.Value.{Value}
+use Rattle.expr.specs.Texts.{IsRefused}
+
+-- what each answer of `compile_limited` says of the text
+abbrev pub IsCompiledLimited : List ℕ → Limits → Result (Outcome Program) Error → Type 0
+IsCompiledLimited text limits (Ok (Answered p)) = IsProgramWithin text limits.height (program_written p) × IsLight text limits.patterns
+IsCompiledLimited text limits (Ok (Stopped Height)) = IsHigher text limits.height
+IsCompiledLimited text limits (Ok (Stopped Patterns)) = IsHeavier text limits.patterns
+IsCompiledLimited text limits (Ok (Stopped limit)) = ⊥
+IsCompiledLimited text limits (Err (PestError place)) = HasNoTree text
+IsCompiledLimited text limits (Err (ParseError message)) = HasLargeLiteral text
+IsCompiledLimited text limits (Err (ExprError message)) = ⊥
+IsCompiledLimited text limits (Err (RegexError error)) = ⊥
+IsCompiledLimited text limits (Err MemoryError) = Unit {0}
+
+-- this is said of a program
+abbrev pub OnProgram : Outcome Program → (Program → Type 0) → Type 0
+OnProgram (Answered p) said = said p
+OnProgram (Stopped limit) said = Unit {0}
+
+-- what limits leave a run
+abbrev pub room_of : Limits → Room
+room_of limits = within limits.steps limits.size limits.depth
+
+-- what a run of code may come to that counts within limits, as docs/LIMITS.md tells in words
+abbrev pub CodeEnds : Host → Context → List (List Op) → Limits → Ending Room → Type 0
+CodeEnds host ctx blocks limits = CodeCounts rooms (costs_in host) host ctx blocks (room_of limits)
+
+-- the same of the code of a text's program, where the text's tree and its literal patterns are within the limits
+abbrev pub TextEnds : Host → Context → List ℕ → Limits → Ending Room → Type 0
+TextEnds host ctx text limits end =
+    (b : Block) × (blocks : List (List Op)) × IsProgramWithin text limits.height b × IsLight text limits.patterns × IsCode b blocks × CodeEnds host ctx blocks limits end
+
+-- A text is answered as such a run, or refused as one or for what it deserves itself; it stops where its tree is higher, its patterns weigh more, or such a run stops. For want of
+-- memory it may always be refused.
+abbrev pub EndsText : Host → Context → List ℕ → Limits → Result (Outcome Value) Error → Type 0
+EndsText host ctx text limits (Ok (Answered v)) = (left : Room) × TextEnds host ctx text limits (gives v left)
+EndsText host ctx text limits (Ok (Stopped Height)) = IsHigher text limits.height
+EndsText host ctx text limits (Ok (Stopped Patterns)) = IsHeavier text limits.patterns
+EndsText host ctx text limits (Ok (Stopped limit)) = TextEnds host ctx text limits (stops limit)
+EndsText host ctx text limits (Err e) = fault_of e ≢ memory → IsRefused text (Err (fault_of e)) ⊎ TextEnds host ctx text limits (refuses (fault_of e))
+
+-- What is answered is one of these answers, and so is what it is refused with, unless that is for want of memory. Nothing is said of where it stops.
+abbrev pub MayGive : Result (Outcome Value) Error → (Answer → Type 0) → Type 0
+MayGive (Ok (Answered v)) allowed = allowed (Ok v)
+MayGive (Ok (Stopped limit)) allowed = Unit {0}
+MayGive (Err e) allowed = fault_of e ≢ memory → allowed (Err (fault_of e))
