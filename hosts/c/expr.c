@@ -30,7 +30,7 @@ void expr_c_call(void *at, call *call);
 /* As `Ask` of call.rt. */
 enum ask {
     COMPILE, NAMES, RUN, CONTEXT, CONTEXT_OF, SET, PUSH, ARRAY, MAP, UNBUILD, LOOK, DOWN, UP, KEY, SHOWN, TEXT, JSON, SAID,
-    ENVIRONMENT, FIXED_ZONE, ZONE_RULE, NOW, DROP_PROGRAM, DROP_CONTEXT, DROP_ENVIRONMENT, CLEAR
+    ENVIRONMENT, FIXED_ZONE, ZONE_RULE, NOW, DROP_PROGRAM, DROP_CONTEXT, DROP_ENVIRONMENT, CLEAR, NAME, ANSWER, REFUSE, ASKED
 };
 /* As `Kind` of call.rt, behind those of expr_kind. */
 enum { KIND_JSON = EXPR_KEYED_MAP + 1, KIND_BUILT, KIND_LOOKED };
@@ -139,8 +139,8 @@ const char *expr_message(expr_engine *engine) {
 }
 
 const char *expr_status_word(expr_status status) {
-    static const char *const words[] = {"ok",      "syntax",    "literal",        "evaluation",
-                                        "pattern", "no memory", "unknown handle", "misuse"};
+    static const char *const words[] = {"ok",        "syntax",         "literal", "evaluation", "pattern",
+                                        "no memory", "unknown handle", "misuse",  "asks",       "differs"};
     return (unsigned)status < sizeof words / sizeof *words ? words[status] : "?";
 }
 
@@ -425,4 +425,37 @@ expr_status expr_drop_environment(expr_engine *engine, expr_environment environm
     if (!engine) return EXPR_MISUSE;
     on_environment(engine, DROP_ENVIRONMENT, environment);
     return asked(engine);
+}
+
+/* --- functions of the host --- */
+
+expr_status expr_add_name(expr_engine *engine, expr_environment environment, const char *name, size_t name_length) {
+    if (!engine) return EXPR_MISUSE;
+    on_environment(engine, NAME, environment);
+    set_name(engine, name, name_length);
+    return asked(engine);
+}
+
+expr_status expr_asked(expr_engine *engine, const char **name, expr_answer *arguments) {
+    if (name) *name = "";
+    if (arguments) *arguments = (expr_answer){EXPR_NIL, 0, 0, NULL};
+    expr_status status = asked_alone(engine, ASKED);
+    if (status != EXPR_OK) return status;
+    if (arguments) *arguments = (expr_answer){EXPR_ARRAY, 0, engine->call.number, NULL};
+    if (!name) return EXPR_OK;
+    const char *said = whole(engine, SAID);
+    if (said) *name = said;
+    return said ? EXPR_OK : EXPR_MEMORY;
+}
+
+expr_status expr_reply(expr_engine *engine, expr_answer *answer) {
+    return told(engine, asked_alone(engine, ANSWER), LOOK, answer);
+}
+
+expr_status expr_refuse(expr_engine *engine, const char *text, size_t length, expr_answer *answer) {
+    if (answer) *answer = (expr_answer){EXPR_NIL, 0, 0, NULL};
+    if (!engine) return EXPR_MISUSE;
+    begun(engine, REFUSE);
+    set_text(engine, text, length);
+    return told(engine, asked(engine), LOOK, answer);
 }

@@ -58,7 +58,9 @@ typedef enum {
     EXPR_PATTERN,    /* a pattern that doesn't build */
     EXPR_MEMORY,     /* a growth was refused */
     EXPR_UNKNOWN,    /* a handle that finds nothing */
-    EXPR_MISUSE      /* what is asked stands for nothing: bytes that are not UTF-8, an item that isn't there */
+    EXPR_MISUSE,     /* what is asked stands for nothing: bytes that are not UTF-8, an item that isn't there */
+    EXPR_ASKS,       /* a run waits for the host's reply: see expr_add_name */
+    EXPR_DIFFERS     /* a run came to another call than the one that was replied to: see expr_add_name */
 } expr_status;
 
 /* What kind of value. */
@@ -186,7 +188,8 @@ expr_status expr_unbuild(expr_engine *engine);
  * `answer` may be null. */
 expr_status expr_run(expr_engine *engine, expr_program program, expr_environment environment, expr_context context,
                      expr_answer *answer);
-/* A compile, a run and a drop in one. */
+/* A compile, a run and a drop in one. Where the text calls a function that the host answers itself, compile and run it in
+ * place of this: the program is let go of here, so that a reply is EXPR_UNKNOWN. */
 expr_status expr_eval(expr_engine *engine, const char *text, size_t length, expr_environment environment,
                       expr_context context, expr_answer *answer);
 
@@ -225,6 +228,46 @@ expr_status expr_add_zone_rule(expr_engine *engine, expr_environment environment
 /* Sets the moment that `now()` answers. */
 expr_status expr_set_now(expr_engine *engine, expr_environment environment, int64_t second, uint32_t fraction);
 expr_status expr_drop_environment(expr_engine *engine, expr_environment environment);
+
+/* --- functions of the host ---
+ *
+ * A run that comes to a call of a function that the host answers itself ends with EXPR_ASKS, and the engine waits for the
+ * reply: the host looks at the call (expr_asked), and builds a value for expr_reply, or refuses (expr_refuse). Each of the
+ * two goes on with the run and ends as expr_run does, with EXPR_ASKS again at the next call:
+ *
+ *     expr_status status = expr_run(engine, rule, environment, order, &answer);
+ *     while (status == EXPR_ASKS) {
+ *         expr_answer article;
+ *         expr_asked(engine, NULL, NULL);
+ *         if (expr_down(engine, 0, &article) == EXPR_OK && article.kind == EXPR_STRING && !strcmp(article.text, "pen")) {
+ *             expr_push_integer(engine, 3);
+ *             status = expr_reply(engine, &answer);
+ *         } else {
+ *             status = expr_refuse(engine, "no such article", EXPR_Z, &answer);
+ *         }
+ *     }
+ *
+ * A run begins anew after each reply, with the replies that it has, so that one with n calls is run n + 1 times. What it
+ * depends on should be the same each time: its context, and its environment's zones, moment and names. Where a call isn't
+ * the one that was replied to at its place, by its name and its arguments, the run ends with EXPR_DIFFERS.
+ *
+ * An engine waits for one reply at a time: expr_run and expr_eval begin another run, and expr_clear forgets it. All other
+ * calls may be made meanwhile. */
+
+/* Adds a name to the functions of an environment that the host answers itself. A call of it goes to the host, also where the
+ * language has a function of this name; a program that stands in it, as in f(xs, {# + 1}), is never run. */
+expr_status expr_add_name(expr_engine *engine, expr_environment environment, const char *name, size_t name_length);
+/* Looks at the arguments of the call that waits, an array of copies in the place of the answer (see expr_down), and tells the
+ * name of its function, a text that is there until the next call on the engine. Both pointers may be null. Where no call
+ * waits it is EXPR_MISUSE. */
+expr_status expr_asked(expr_engine *engine, const char **name, expr_answer *arguments);
+/* The call that waits answers the value that was built last (see expr_push_nil), and its run goes on. Where no call waits or
+ * nothing was built it is EXPR_MISUSE, and where the run's program, context or environment was let go of EXPR_UNKNOWN; then
+ * the call still waits, if there is one. After EXPR_MEMORY begin the run anew. `answer` may be null. */
+expr_status expr_reply(expr_engine *engine, expr_answer *answer);
+/* The call that waits is refused with a text, and its run goes on: it ends with EXPR_EVALUATION and this text as the message,
+ * as where a function of the language refuses. Else as expr_reply. */
+expr_status expr_refuse(expr_engine *engine, const char *text, size_t length, expr_answer *answer);
 
 #ifdef __cplusplus
 }

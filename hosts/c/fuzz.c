@@ -14,22 +14,22 @@ static const char *const TOKENS[] = {
     "1", "2", "0", "9223372036854775807", "9223372036854775808", "\"a\"", "'b'", "`c`", "x", "y", "list", "map1", "#", "#acc", "$env", "nil", "true", "false",
     "+", "-", "*", "/", "%", "^", "**", "==", "!=", "<", ">", "<=", ">=", "and", "or", "not", "&&", "||", "!", "??", "?", ":", "?.", ".", "..", ",", ";", "|",
     "(", ")", "[", "]", "{", "}", "let", "=", "if", "else", "in", "contains", "startsWith", "endsWith", "matches", "filter(", "map(", "sum(", "len(", "upper(",
-    "toJSON(", "fromJSON(", "duration(\"1h\")", "now()", "sort(", "groupBy(", "reduce(", "repeat(", "split(", " ", "\n", "/*", "*/", "//", "\\", "\"", "\xc3\xa9"};
+    "toJSON(", "fromJSON(", "duration(\"1h\")", "now()", "sort(", "groupBy(", "reduce(", "repeat(", "split(", "asks(", "asks(1)", " ", "\n", "/*", "*/", "//", "\\", "\"", "\xc3\xa9"};
 #define TOKEN_COUNT (sizeof TOKENS / sizeof *TOKENS)
 
 static const char *const WELL[] = {
     "1 + 2 * 3", "filter(1..20, # % 2 == 0)", "let a = 3; a * a", "x ?? 1", "{\"a\": [1, x]}.a[1]", "upper(\"abc\") + \"d\"", "map(list, # * 2)", "toJSON({\"a\": list})",
-    "sum(list) > 3 ? \"big\" : \"small\"", "\"a\" matches \"^[a-z]$\"", "map1.b", "list[1:]", "reduce(list, # + #acc)", "duration(\"90s\")", "fromJSON(\"[1,{\\\"a\\\":null}]\")"};
+    "sum(list) > 3 ? \"big\" : \"small\"", "\"a\" matches \"^[a-z]$\"", "map1.b", "list[1:]", "reduce(list, # + #acc)", "duration(\"90s\")", "map(list, asks(#))", "asks(x) + asks(y)", "fromJSON(\"[1,{\\\"a\\\":null}]\")"};
 #define WELL_COUNT (sizeof WELL / sizeof *WELL)
 
-#define ALONE EXPR_NO_ENVIRONMENT
 #define FAIL(what) do { printf("fuzz.c:%d: %s\n", __LINE__, what); exit(1); } while (0)
 
 static expr_engine *engine;
-static unsigned long endings[3][EXPR_MISUSE + 1];
+static unsigned long endings[3][EXPR_DIFFERS + 1];
 static unsigned long long bytes;
 static expr_program programs[16];
 static expr_context contexts[16];
+static expr_environment host;
 
 /* A text: bytes, an expression, a damaged one, or tokens. It ends where its block ends, so that a read beyond is seen. */
 static char *any_text(size_t *length) {
@@ -87,6 +87,22 @@ static void fill_any(uint32_t at) {
     if (next(8) == 0) expr_unbuild(engine);
 }
 
+/* Replies to calls, or to none, and changes what the run depends on. */
+static void reply_any(void) {
+    expr_answer part;
+    for (uint32_t steps = next(6); steps > 0; steps--) {
+        const char *name;
+        expr_status status = expr_asked(engine, &name, &part);
+        if (status != EXPR_OK && status != EXPR_MISUSE) FAIL("asked");
+        if (status == EXPR_OK && (strcmp(name, "asks") || part.kind != EXPR_ARRAY)) FAIL("asked");
+        if (next(9) == 0) expr_set_integer(engine, contexts[next(16)], "x", EXPR_Z, next(100));
+        if (next(30) == 0) expr_drop_program(engine, programs[next(16)]);
+        if (next(4)) expr_push_integer(engine, next(9));
+        status = next(5) ? expr_reply(engine, &part) : expr_refuse(engine, "\xc3\xa9", next(3), &part);
+        endings[2][status]++;
+    }
+}
+
 /* Runs a handle of some sort: kept, dropped, forged, of another kind. */
 static void run_any(uint32_t turn) {
     expr_program program = programs[next(16)];
@@ -95,13 +111,13 @@ static void run_any(uint32_t turn) {
     if (next(16) == 0) program = (expr_program){SIZE_MAX - next(3), UINT64_MAX - next(3)};
     if (next(16) == 0) context = (expr_context){program.place, program.number};
     expr_answer answer;
-    expr_status status = expr_run(engine, program, ALONE, context, &answer);
-    if (status >= EXPR_MISUSE) FAIL("run"); /* memory is refused to ranges without an end */
+    expr_status status = expr_run(engine, program, next(4) ? host : EXPR_NO_ENVIRONMENT, context, &answer);
+    if (status == EXPR_MISUSE || status > EXPR_ASKS) FAIL("run"); /* memory is refused to ranges without an end */
     endings[1][status]++;
+    if (next(2)) reply_any();
     size_t names;
     status = expr_names(engine, program, &names, NULL);
     if (status != EXPR_OK && status != EXPR_UNKNOWN) FAIL("names");
-    endings[2][status]++;
 }
 
 /* Looks about in the answer. */
@@ -122,11 +138,16 @@ static void look_any(void) {
     if (expr_json(engine, &said)) bytes += said;
 }
 
+static int has_host(void) {
+    return expr_environment_new(engine, &host) == EXPR_OK && expr_add_name(engine, host, "asks", EXPR_Z) == EXPR_OK;
+}
+
 int main(int count, char **words) {
     uint32_t turns = count > 1 ? (uint32_t)atol(words[1]) : 100000;
     state = count > 2 ? strtoull(words[2], NULL, 10) : 1;
     engine = expr_open();
     if (!engine) return 9;
+    if (!has_host()) return 9;
     memset(programs, 0xff, sizeof programs);
     memset(contexts, 0xff, sizeof contexts);
     for (uint32_t turn = 0; turn < turns; turn++) {
@@ -134,12 +155,12 @@ int main(int count, char **words) {
         if (next(4) == 0) fill_any(next(16));
         run_any(turn);
         look_any();
-        if (next(20000) == 0 && expr_clear(engine) != EXPR_OK) FAIL("clear");
+        if (next(20000) == 0 && (expr_clear(engine) != EXPR_OK || !has_host())) FAIL("clear");
     }
-    static const char *const CALLS[] = {"compile", "run", "names"};
+    static const char *const CALLS[] = {"compile", "run", "reply"};
     for (int i = 0; i < 3; i++) {
         printf("fuzz: %s:", CALLS[i]);
-        for (int s = 0; s <= EXPR_MISUSE; s++) printf(" %s %lu%s", expr_status_word((expr_status)s), endings[i][s], s < EXPR_MISUSE ? "," : "\n");
+        for (int s = 0; s <= EXPR_DIFFERS; s++) printf(" %s %lu%s", expr_status_word((expr_status)s), endings[i][s], s < EXPR_DIFFERS ? "," : "\n");
     }
     printf("fuzz: %llu bytes of text\n", bytes);
     expr_close(engine);

@@ -41,6 +41,20 @@ static void build(expr_engine *engine, expr_context context) {
     if (!all && expr_make_array(engine, 1) != EXPR_MISUSE) FAIL("something stays built");
 }
 
+/* A run with two calls that the host answers. */
+static void reply(expr_engine *engine, expr_environment host) {
+    expr_program program;
+    const char *name, *text = "map([\"a long text of a record\", \"b\"], {f(#) + \"!\"})";
+    if (!ok(expr_add_name(engine, host, "f", EXPR_Z)) || !ok(expr_compile(engine, text, EXPR_Z, 0, &program, NULL))) return;
+    expr_status status = expr_run(engine, program, host, EXPR_NO_CONTEXT, NULL);
+    while (status == EXPR_ASKS) {
+        if (!ok(expr_asked(engine, &name, NULL)) || !ok(expr_down(engine, 0, NULL)) || !ok(expr_push_looked(engine))) break;
+        status = expr_reply(engine, NULL);
+    }
+    if (status != EXPR_ASKS && ok(status)) expr_shown(engine, NULL);
+    expr_drop_program(engine, program);
+}
+
 /* All kinds of work; the parts that are refused are passed over. */
 static void work(expr_engine *engine) {
     expr_program rule;
@@ -59,6 +73,7 @@ static void work(expr_engine *engine) {
         ok(expr_set_datetime(engine, context, "t", EXPR_Z, 1, 2));
         build(engine, context);
     }
+    if (has_host) reply(engine, host);
     if (has_rule) ok(expr_names(engine, rule, &count, NULL));
     if (has_rule && has_context && has_host && ok(expr_run(engine, rule, host, context, &answer))) {
         if (answer.kind == EXPR_ARRAY && ok(expr_down(engine, 0, &answer))) ok(expr_up(engine, &answer));

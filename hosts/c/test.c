@@ -136,10 +136,116 @@ static int environments(expr_engine *engine) {
     return 0;
 }
 
+/* Answers the calls of a run: `double` of an integer, `next`, which counts, and no other. */
+static expr_status replied(expr_engine *engine, expr_status status, expr_answer *answer, int *calls) {
+    for (*calls = 0; status == EXPR_ASKS; ++*calls) {
+        const char *name;
+        expr_answer arguments, first;
+        if (expr_asked(engine, &name, &arguments) != EXPR_OK || arguments.kind != EXPR_ARRAY) return EXPR_MISUSE;
+        int doubles = !strcmp(name, "double") && arguments.number == 1, counts = !strcmp(name, "next");
+        if (doubles && expr_down(engine, 0, &first) == EXPR_OK && first.kind == EXPR_INTEGER) {
+            expr_push_integer(engine, first.number * 2);
+            status = expr_reply(engine, answer);
+        } else if (counts) {
+            expr_push_integer(engine, *calls);
+            status = expr_reply(engine, answer);
+        } else {
+            status = expr_refuse(engine, "no such thing", EXPR_Z, answer);
+        }
+    }
+    return status;
+}
+
+static int functions(expr_engine *engine) {
+    static const struct { const char *text; int calls; const char *shown; } rows[] = {
+        {"map([1, 2, 3], double(#) + x)", 3, "[7, 9, 11]"},
+        {"filter(1..4, double(#) > 4)", 4, "[3, 4]"},
+        {"count(1..4, double(#) > 4)", 4, "2"},
+        {"next() + next() * 10 + next() * 100", 3, "210"},
+        {"filter(1..4, {next() % 2 == 1})", 4, "[2, 4]"},
+        {"x > 3 ? double(double(x)) : fails()", 2, "20"},
+        {"let y = next(); [y, y, next()]", 2, "[0, 0, 1]"},
+        {"false and fails()", 0, "false"},
+        {"max(next(), 7)", 1, "7"},
+    };
+    expr_environment host;
+    expr_context context;
+    expr_program program;
+    expr_answer answer;
+    int calls;
+    CHECK(expr_environment_new(engine, &host) == EXPR_OK && expr_context_new(engine, &context) == EXPR_OK);
+    CHECK(expr_set_integer(engine, context, "x", EXPR_Z, 5) == EXPR_OK);
+    CHECK(expr_eval(engine, "double(1)", EXPR_Z, host, context, &answer) == EXPR_EVALUATION);
+    CHECK(expr_add_name(engine, host, "double", EXPR_Z) == EXPR_OK && expr_add_name(engine, host, "next", 4) == EXPR_OK);
+    CHECK(expr_add_name(engine, host, "fails", EXPR_Z) == EXPR_OK && expr_add_name(engine, host, "fails", EXPR_Z) == EXPR_OK);
+    for (size_t i = 0; i < sizeof rows / sizeof *rows; i++) {
+        CHECK(expr_compile(engine, rows[i].text, EXPR_Z, 0, &program, NULL) == EXPR_OK);
+        CHECK(replied(engine, expr_run(engine, program, host, context, &answer), &answer, &calls) == EXPR_OK);
+        CHECK(calls == rows[i].calls && !strcmp(expr_shown(engine, NULL), rows[i].shown));
+        CHECK(expr_asked(engine, NULL, NULL) == EXPR_MISUSE && expr_drop_program(engine, program) == EXPR_OK);
+    }
+    /* a function that refuses */
+    CHECK(expr_compile(engine, "next() + fails([x, \"y\"])", EXPR_Z, 0, &program, NULL) == EXPR_OK);
+    CHECK(replied(engine, expr_run(engine, program, host, context, &answer), &answer, &calls) == EXPR_EVALUATION);
+    CHECK(calls == 2 && !strcmp(expr_message(engine), "no such thing"));
+    CHECK(expr_push_nil(engine) == EXPR_OK && expr_reply(engine, &answer) == EXPR_MISUSE);
+    /* a function of the language gives way */
+    CHECK(expr_add_name(engine, host, "len", EXPR_Z) == EXPR_OK);
+    CHECK(expr_compile(engine, "len([1, \"b\"])", EXPR_Z, 0, &program, NULL) == EXPR_OK);
+    CHECK(expr_run(engine, program, EXPR_NO_ENVIRONMENT, context, &answer) == EXPR_OK && answer.number == 2);
+    CHECK(expr_run(engine, program, host, context, &answer) == EXPR_ASKS && answer.kind == EXPR_NIL);
+    const char *name;
+    CHECK(expr_asked(engine, &name, &answer) == EXPR_OK && !strcmp(name, "len") && answer.number == 1);
+    CHECK(!strcmp(expr_shown(engine, NULL), "[[1, \"b\"]]"));
+    CHECK(expr_push_string(engine, "mine", EXPR_Z) == EXPR_OK && expr_reply(engine, &answer) == EXPR_OK);
+    CHECK(answer.kind == EXPR_STRING && !strcmp(answer.text, "mine"));
+    return 0;
+}
+
+/* The call that waits: what is refused leaves it, and so do calls about other things. */
+static int waiting(expr_engine *engine) {
+    expr_environment host;
+    expr_context context;
+    expr_program program, other;
+    expr_answer answer;
+    const char *name;
+    CHECK(expr_environment_new(engine, &host) == EXPR_OK && expr_add_name(engine, host, "f", EXPR_Z) == EXPR_OK);
+    CHECK(expr_add_name(engine, (expr_environment){99, 99}, "f", EXPR_Z) == EXPR_UNKNOWN);
+    CHECK(expr_add_name(engine, host, "\xff", 1) == EXPR_MISUSE);
+    CHECK(expr_context_new(engine, &context) == EXPR_OK && expr_set_integer(engine, context, "x", EXPR_Z, 1) == EXPR_OK);
+    CHECK(expr_compile(engine, "f(x) + f(2)", EXPR_Z, 0, &program, NULL) == EXPR_OK);
+    CHECK(expr_run(engine, program, host, context, &answer) == EXPR_ASKS);
+    CHECK(expr_reply(engine, &answer) == EXPR_MISUSE); /* nothing was built */
+    CHECK(expr_refuse(engine, "\xff", 1, &answer) == EXPR_MISUSE);
+    CHECK(expr_compile(engine, "7", EXPR_Z, 0, &other, NULL) == EXPR_OK && expr_clear(NULL) == EXPR_MISUSE);
+    CHECK(expr_run(engine, (expr_program){99, 99}, host, context, &answer) == EXPR_UNKNOWN);
+    CHECK(expr_push_integer(engine, 20) == EXPR_OK && expr_reply(engine, &answer) == EXPR_ASKS);
+    CHECK(expr_asked(engine, &name, &answer) == EXPR_OK && !strcmp(name, "f") && !strcmp(expr_shown(engine, NULL), "[2]"));
+    CHECK(expr_push_integer(engine, 3) == EXPR_OK && expr_reply(engine, &answer) == EXPR_OK && answer.number == 23);
+    /* a call with other arguments than the one that was replied to */
+    CHECK(expr_run(engine, program, host, context, &answer) == EXPR_ASKS);
+    CHECK(expr_push_integer(engine, 20) == EXPR_OK && expr_reply(engine, &answer) == EXPR_ASKS);
+    CHECK(expr_set_integer(engine, context, "x", EXPR_Z, 5) == EXPR_OK);
+    CHECK(expr_push_integer(engine, 3) == EXPR_OK && expr_reply(engine, &answer) == EXPR_DIFFERS);
+    CHECK(expr_asked(engine, NULL, NULL) == EXPR_MISUSE && expr_refuse(engine, "", 0, NULL) == EXPR_MISUSE);
+    /* another run is begun */
+    CHECK(expr_run(engine, program, host, context, &answer) == EXPR_ASKS);
+    CHECK(expr_run(engine, other, host, context, &answer) == EXPR_OK && answer.number == 7);
+    CHECK(expr_asked(engine, NULL, NULL) == EXPR_MISUSE);
+    /* handles that are out of date */
+    CHECK(expr_run(engine, program, host, context, &answer) == EXPR_ASKS && expr_drop_program(engine, program) == EXPR_OK);
+    CHECK(expr_push_nil(engine) == EXPR_OK && expr_reply(engine, &answer) == EXPR_UNKNOWN);
+    CHECK(expr_refuse(engine, "no", 2, &answer) == EXPR_UNKNOWN);
+    CHECK(expr_asked(engine, NULL, &answer) == EXPR_OK && !strcmp(expr_shown(engine, NULL), "[5]"));
+    CHECK(expr_clear(engine) == EXPR_OK && expr_asked(engine, NULL, NULL) == EXPR_MISUSE);
+    return 0;
+}
+
 int main(void) {
     expr_engine *engine = expr_open();
     CHECK(engine);
-    int failed = programs(engine) || texts(engine) || built(engine) || refusals(engine) || environments(engine);
+    int failed = programs(engine) || texts(engine) || built(engine) || refusals(engine) || environments(engine) ||
+                 functions(engine) || waiting(engine);
     expr_close(engine);
     expr_close(NULL);
     if (!failed) printf("test: ok\n");

@@ -23,14 +23,14 @@ import threading
 
 __all__ = ["compile", "eval", "Context", "Environment", "Error", "Month", "Program", "Syntax", "Weekday"]
 
-_OK, _SYNTAX = 0, 1
-_STATUS = ["ok", "syntax", "literal", "evaluation", "pattern", "memory", "unknown", "misuse"]
+_OK, _SYNTAX, _ASKS = 0, 1, 8
+_STATUS = ["ok", "syntax", "literal", "evaluation", "pattern", "memory", "unknown", "misuse", "asks", "differs"]
 (_NIL, _BOOL, _INTEGER, _STRING, _BYTES, _DURATION, _DATETIME, _TIMEZONE, _MONTH, _WEEKDAY, _ARRAY, _MAP, _KEYED_MAP) = range(13)
 _EPOCH = datetime.datetime(1970, 1, 1, tzinfo=datetime.timezone.utc)
 
 
 class Error(Exception):
-    """A refusal; `kind` is "literal", "evaluation", "pattern", "memory", "unknown" or "misuse"."""
+    """A refusal; `kind` is "literal", "evaluation", "pattern", "memory", "unknown", "misuse" or "differs"."""
 
     def __init__(self, kind, message):
         super().__init__(message or kind)
@@ -102,6 +102,10 @@ def _load():
         "add_fixed_zone": [_Handle, text, size, ctypes.c_int32],
         "add_zone_rule": [_Handle, text, size, text, size],
         "set_now": [_Handle, whole, ctypes.c_uint32],
+        "add_name": [_Handle, text, size],
+        "asked": [ctypes.POINTER(text), answer],
+        "reply": [answer],
+        "refuse": [text, size, answer],
         "drop_program": [_Handle],
         "drop_context": [_Handle],
         "drop_environment": [_Handle],
@@ -121,6 +125,13 @@ _LIBRARY = _load()
 _HERE = threading.local()
 
 
+class _Call:
+    """A call that a run waits for: of a function of the host, in a run of this number."""
+
+    def __init__(self, name, arguments, run):
+        self.name, self.arguments, self.run = name, arguments, run
+
+
 class _Engine:
     """The engine of a thread."""
 
@@ -130,6 +141,7 @@ class _Engine:
             raise MemoryError
         self.close = _LIBRARY.expr_close
         self.left = []
+        self.runs = 0
 
     def __del__(self):
         if getattr(self, "at", None):
@@ -141,12 +153,35 @@ class _Engine:
             drop, handle = self.left.pop()
             getattr(_LIBRARY, "expr_" + drop)(self.at, handle)
         status = getattr(_LIBRARY, "expr_" + name)(self.at, *words)
-        if status != _OK:
+        if status not in (_OK, _ASKS):
             message = _LIBRARY.expr_message(self.at).decode()
             if status == _SYNTAX:
                 place = words[-1]._obj
                 raise Syntax(message, place.byte, place.line, place.column)
             raise Error(_STATUS[status], message)
+        return status
+
+    def run(self, *handles):
+        """Begins a run: its answer, or the call that it waits for."""
+        self.runs += 1
+        return self.turn("run", *handles)
+
+    def reply(self, reply):
+        """Goes on with the run that waits: its answer, or its next call."""
+        if isinstance(reply, Error):
+            text = str(reply).encode()
+            return self.turn("refuse", text, len(text))
+        self.build(reply)
+        return self.turn("reply")
+
+    def turn(self, name, *words):
+        answer = _Answer()
+        if self.ask(name, *words, ctypes.byref(answer)) != _ASKS:
+            return self.value(answer)
+        function = ctypes.c_char_p()
+        self.ask("asked", ctypes.byref(function), ctypes.byref(answer))
+        called = function.value.decode()
+        return _Call(called, self.value(answer), self.runs)
 
     def made(self, name):
         handle = _Handle()
@@ -288,13 +323,27 @@ class Program(_Kept):
 
     def run(self, context=None, environment=None):
         """What the program answers. A context is a Context, or a dict."""
-        engine, answer = _engine(), _Answer()
+        engine, replies = _engine(), []
         if context is not None and not isinstance(context, Context):
             context = Context(context)
-        context_handle = _NONE if context is None else context._handle(engine)
-        environment_handle = _NONE if environment is None else environment._handle(engine)
-        engine.ask("run", self._handle(engine), environment_handle, context_handle, ctypes.byref(answer))
-        return engine.value(answer)
+        turn = self._begin(engine, context, environment, replies)
+        while isinstance(turn, _Call):
+            replies.append(environment._call(turn))
+            if engine.runs == turn.run:
+                turn = engine.reply(replies[-1])
+            else:  # a function has run programs itself, so the engine waits for this run no longer
+                turn = self._begin(engine, context, environment, replies)
+        return turn
+
+    def _begin(self, engine, context, environment, replies):
+        """Begins a run that has these replies."""
+        context = _NONE if context is None else context._handle(engine)
+        environment = _NONE if environment is None else environment._handle(engine)
+        turn = engine.run(self._handle(engine), environment, context)
+        for reply in replies:
+            if isinstance(turn, _Call):
+                turn = engine.reply(reply)
+        return turn
 
 
 class Context(_Kept):
@@ -326,8 +375,16 @@ class Context(_Kept):
 
 
 class Environment(_Kept):
-    """What a host adds to the language: zones, and the moment that is now.
+    """What a host adds to the language: functions, zones, and the moment that is now.
 
+    A function takes the arguments of a call and answers its value; an Error that it raises is the refusal of the call, and
+    any other exception ends the run and goes to the caller. A run begins anew with each answer, so a program that makes n
+    calls is run n + 1 times, and each call is made once.
+
+    >>> prices = {"pen": 150}
+    >>> shop = Environment(functions={"price": prices.get})
+    >>> eval("price('pen') * 3", environment=shop)
+    450
     >>> here = Environment(zones={"Asia/Kolkata": 19800, "New York": "EST5EDT,M3.2.0,M11.1.0"}, now=_EPOCH)
     >>> eval("now().In(timezone('New York')).Hour()", environment=here)
     19
@@ -335,13 +392,27 @@ class Environment(_Kept):
 
     _drop = "drop_environment"
 
-    def __init__(self, zones=(), now=None):
+    def __init__(self, zones=(), now=None, functions=()):
         super().__init__()
-        self.zones, self.now = dict(zones), now
+        self.zones, self.now, self.functions = dict(zones), now, dict(functions)
         self._handle(_engine())
+
+    def add_function(self, name, function):
+        """Adds a function, in place of an earlier one of this name or of one of the language."""
+        self._forget()
+        self.functions[name] = function
+
+    def _call(self, call):
+        try:
+            return self.functions[call.name](*call.arguments)
+        except Error as refusal:
+            return refusal
 
     def _make(self, engine):
         handle = engine.made("environment_new")
+        for name in self.functions:
+            name = name.encode()
+            engine.ask("add_name", handle, name, len(name))
         for name, rule in self.zones.items():
             name = name.encode()
             if isinstance(rule, int):

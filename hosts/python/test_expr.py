@@ -58,6 +58,55 @@ class Calls(unittest.TestCase):
             thread.join()
         self.assertEqual(sorted(found), [1, 2, 3, 4])
 
+    def test_functions(self):
+        host, count = expr.Environment(), iter(range(100))
+        host.add_function("double", lambda number: number * 2)
+        host.add_function("next", lambda: next(count))
+        for text, answer in [
+            ("map([1, 2, 3], double(#) + x)", [7, 9, 11]),
+            ("filter(1..4, double(#) > 4)", [3, 4]),
+            ("count(1..4, double(#) > 4)", 2),
+            ("next() + next() * 10 + next() * 100", 210),
+            ("false and double()", False),
+        ]:
+            self.assertEqual(expr.eval(text, {"x": 5}, host), answer)
+        with self.assertRaises(expr.Error):
+            expr.eval("double(1)")
+        host.add_function("len", lambda *arguments: list(arguments))
+        self.assertEqual(expr.eval("len('a', {'b': nil})", environment=host), ["a", {"b": None}])
+
+    def test_functions_that_refuse(self):
+        def refuses(what):
+            raise expr.Error("evaluation", f"no such {what}")
+
+        host = expr.Environment(functions={"find": refuses, "fails": lambda: {}["x"], "odd": lambda: 1.5})
+        with self.assertRaises(expr.Error) as refused:
+            expr.eval("[1, find('article')]", environment=host)
+        self.assertEqual((refused.exception.kind, str(refused.exception)), ("evaluation", "no such article"))
+        with self.assertRaises(KeyError):
+            expr.eval("fails()", environment=host)
+        with self.assertRaises(TypeError):
+            expr.eval("odd()", environment=host)
+        self.assertEqual(expr.eval("1 + 1", environment=host), 2)
+
+    def test_functions_that_run_programs(self):
+        rule, inner = expr.compile("double(n) + 1"), expr.Environment(functions={"double": lambda number: number * 2})
+        host = expr.Environment(functions={"inner": lambda number: rule.run({"n": number}, inner)})
+        self.assertEqual(expr.eval("map(1..4, inner(#))", environment=host), [3, 5, 7, 9])
+        self.assertEqual(expr.eval("inner(inner(1)) + inner(2)", environment=host), 12)
+
+    def test_a_call_that_differs(self):
+        context = expr.Context({"x": 1})
+
+        def changes(number):
+            context["x"] = number + 1
+            return number
+
+        host = expr.Environment(functions={"f": changes})
+        with self.assertRaises(expr.Error) as refused:
+            expr.eval("f(x) + f(7)", context, host)
+        self.assertEqual(refused.exception.kind, "differs")
+
 
 def load_tests(loader, tests, ignore):
     tests.addTests(doctest.DocTestSuite(expr))

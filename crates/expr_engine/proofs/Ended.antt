@@ -4,36 +4,50 @@ use Rattle.std.proofs.lemmas.Bool.{false≢true}
 use Rattle.expr_engine.specs.Doings.{Does, Reply}
 use Rattle.expr_engine.specs.Engines.{Asked, CompileRefuses, MayAnswer}
 use Rattle.expr_engine.specs.Served.{Answers, Ends, Runs, Says, number_of}
+use Rattle.expr_engine.specs.Turns.{Turns}
 use Rattle.expr_engine.specs.declared.call.Ask.{Ask}
 use Rattle.expr_engine.specs.declared.call.Call.{Call}
 use Rattle.expr_engine.specs.declared.engine.Engine.{Engine}
+use Rattle.expr_engine.specs.declared.waiting.Waiting.{Waiting}
+use Rattle.expr_exchange.specs.Looked.{part_of}
+use Rattle.expr_exchange.specs.declared.looked.Looked.{Looked}
 use Rattle.expr_exchange.specs.Refusals.{ends_by, status_of}
 use Rattle.expr_exchange.specs.declared.refused.Refused.{Refused}
-use Rattle.expr_exchange.specs.declared.refused.Refused.TheVariants.{Language, Unknown, Misuse}
+use Rattle.expr_exchange.specs.declared.refused.Refused.TheVariants.{Language, Unknown, Misuse, Asks, Differs}
 use Rattle.expr_exchange.specs.declared.refused.Status.{Status}
 use Rattle.expr_exchange.specs.declared.refused.Status.TheVariants as ends
+use Rattle.expr_stops.specs.declared.given.Given.{Given}
 use Rattle.expr_value.specs.Fault.{Fault, fault_of, syntax, literal, evaluation, pattern, memory}
 use Rattle.expr_value.specs.declared.value.Value.{Value}
 
-said_by : (q : Asked) (value : Value) (fault : Fault) → (fault ≢ memory → MayAnswer q (Err fault)) → Says q (ends_by fault) value
-said_by q value syntax m = m (search rules)
-said_by q value literal m = m (search rules)
-said_by q value evaluation m = m (search rules)
-said_by q value pattern m = m (search rules)
-said_by q value memory m = tt
+said_by : (q : Asked) (given : List Given) (value : Value) (fault : Fault) → (fault ≢ memory → MayAnswer q given (Err fault)) → Says q given (ends_by fault) value
+said_by q given value syntax m = m (search rules)
+said_by q given value literal m = m (search rules)
+said_by q given value evaluation m = m (search rules)
+said_by q given value pattern m = m (search rules)
+said_by q given value memory m = tt
 
 -- what a run gives, its ending says
-pub answers_by : {A : Type 0} (q : Asked) (done : Result A Refused) (value : Value) (number : ℕ) → Runs q done value → Ends done number → Answers q number value
-answers_by q (Ok shown) value number r e = record { status = ends.Done; is = e; says = r }
-answers_by q (Err (Language error)) value number r (inl e) = record { status = ends_by (fault_of error); is = e; says = said_by q value (fault_of error) r }
-answers_by q (Err (Language error)) value number r (inr e) = record { status = ends.Memory; is = e; says = tt }
-answers_by q (Err Unknown) value number r e = absurd r
-answers_by q (Err Misuse) value number r e = absurd r
+pub answers_by : {A : Type 0} (q : Asked) (given : List Given) (done : Result A Refused) (value : Value) (number : ℕ) → Runs q given done value → Ends done number → Answers q given number value
+answers_by q given (Ok shown) value number r e = record { status = ends.Done; is = e; says = r }
+answers_by q given (Err (Language error)) value number r (inl e) = record { status = ends_by (fault_of error); is = e; says = said_by q given value (fault_of error) r }
+answers_by q given (Err (Language error)) value number r (inr e) = record { status = ends.Memory; is = e; says = tt }
+answers_by q given (Err Unknown) value number r e = absurd r
+answers_by q given (Err Misuse) value number r e = absurd r
+answers_by q given (Err Asks) value number r (inl e) = record { status = ends.Asks; is = e; says = tt }
+answers_by q given (Err Asks) value number r (inr e) = record { status = ends.Memory; is = e; says = tt }
+answers_by q given (Err Differs) value number r (inl e) = record { status = ends.Differs; is = e; says = tt }
+answers_by q given (Err Differs) value number r (inr e) = record { status = ends.Memory; is = e; says = tt }
 
 -- the same where a handle may find nothing
-pub served_by : {A : Type 0} (o : Option Asked) (done : Result A Refused) (value : Value) (number : ℕ) → MatchOption o (done ≡ Err Unknown) (λ q. Runs q done value) → (done ≡ Err Unknown → number ≡ 6) → Ends done number → MatchOption o (number ≡ 6) (λ q. Answers q number value)
-served_by None done value number m unknown e = unknown m
-served_by (Some q) done value number m unknown e = answers_by q done value number m e
+pub served_by : {A : Type 0} (o : Option Asked) (given : List Given) (done : Result A Refused) (value : Value) (number : ℕ) → MatchOption o (done ≡ Err Unknown) (λ q. Runs q given done value) → (done ≡ Err Unknown → number ≡ 6) → Ends done number → MatchOption o (number ≡ 6) (λ q. Answers q given number value)
+served_by None given done value number m unknown e = unknown m
+served_by (Some q) given done value number m unknown e = answers_by q given done value number m e
+
+-- how the run stands that waits, where the engine keeps that and its answer after
+pub turns_on : (ask : Ask) (old : Engine) (call : Call) (done : Result (Unit {0}) Refused) (mid new : Engine) → Turns ask old call done mid.waits (part_of mid.answer) → new.waits ≡ mid.waits → new.answer ≡ mid.answer → Turns ask old call done new.waits (part_of new.answer)
+turns_on ask old call done mid new t w a =
+    subst (λ (x : Waiting). Turns ask old call done x (part_of new.answer)) (sym w) (subst (λ (x : Looked). Turns ask old call done mid.waits (part_of x)) (sym a) t)
 
 -- a refusal of the language ends otherwise than done, and otherwise than by a handle that finds nothing
 not_done : (fault : Fault) → number_of (ends_by fault) ≡ 0 → ⊥
@@ -54,6 +68,8 @@ never_done : (refused : Refused) (number : ℕ) → (number ≡ number_of (statu
 never_done (Language error) number (inl e) z = not_done (fault_of error) (sym e ∙ z)
 never_done Unknown number (inl e) z = omega arith
 never_done Misuse number (inl e) z = omega arith
+never_done Asks number (inl e) z = omega arith
+never_done Differs number (inl e) z = omega arith
 never_done refused number (inr e) z = omega arith
 
 -- only a handle that finds nothing ends by this number
@@ -61,8 +77,12 @@ pub unknown_by : (status : Status) (refused : Refused) (number : ℕ) → (statu
 unknown_by status Unknown number s n z = refl
 unknown_by status (Language error) number (inl e) n z = absurd (not_unknown (fault_of error) (sym (ap (λ s. number_of s) e) ∙ sym n ∙ z))
 unknown_by status Misuse number (inl e) n z = let k : number_of status ≡ 7 = ap (λ s. number_of s) e in absurd (omega (arith, k, n, z))
+unknown_by status Asks number (inl e) n z = let k : number_of status ≡ 8 = ap (λ s. number_of s) e in absurd (omega (arith, k, n, z))
+unknown_by status Differs number (inl e) n z = let k : number_of status ≡ 9 = ap (λ s. number_of s) e in absurd (omega (arith, k, n, z))
 unknown_by status (Language error) number (inr e) n z = let k : number_of status ≡ 5 = ap (λ s. number_of s) e in absurd (omega (arith, k, n, z))
 unknown_by status Misuse number (inr e) n z = let k : number_of status ≡ 5 = ap (λ s. number_of s) e in absurd (omega (arith, k, n, z))
+unknown_by status Asks number (inr e) n z = let k : number_of status ≡ 5 = ap (λ s. number_of s) e in absurd (omega (arith, k, n, z))
+unknown_by status Differs number (inr e) n z = let k : number_of status ≡ 5 = ap (λ s. number_of s) e in absurd (omega (arith, k, n, z))
 
 -- what holds where a call is done, or refused, by the number of its ending
 pub done_by : {A P : Type 0} (done : Result A Refused) (number : ℕ) → OnOk done P → Ends done number → number ≡ 0 → P

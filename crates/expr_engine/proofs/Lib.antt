@@ -2,4 +2,5 @@ pub mod Ended
 pub mod Given
 pub mod Handed
 pub mod Told
+pub mod Turned
 pub mod Unchanged

@@ -1,11 +1,11 @@
 -- Engines that keep what they kept.
-use Rattle.std.proofs.Common.{◌≡◌, ◌≤◌, ◌+◌, ℕ, Bool, true, false, List, Option, None, Some, IsSomeAnd, is_some, Result, Ok, Err, OnErr, if◌then◌else◌, ◌∙◌, arith, ap, sym, refl, subst, option_map}
+use Rattle.std.proofs.Common.{◌≡◌, ◌≤◌, ℕ, Bool, true, false, List, Option, None, Some, IsSomeAnd, is_some, Result, Ok, Err, OnErr, if◌then◌else◌, ◌∙◌, arith, ap, sym, refl, subst, option_map}
 use Rattle.std.proofs.lemmas.Bool.{false≢true}
 use Rattle.std.proofs.lemmas.Grind.{common_steps}
 use Rattle.std.specs.Option.{unwrap_or}
 use Rattle.expr_engine.specs.Doings.{Adds, Changes}
 use Rattle.expr_engine.specs.Engines.{Leaves, NumbersRise, SameAdditions, SameKept}
-use Rattle.expr_engine.specs.Runs.{zone_at}
+use Rattle.expr_engine.specs.Runs.{named_at, zone_at}
 use Rattle.expr_engine.specs.declared.additions.Additions.{Additions}
 use Rattle.expr_engine.specs.declared.engine.Engine.{Engine}
 use Rattle.expr_exchange.specs.Looked.{SameLook, way_of, whole_of}
@@ -17,6 +17,7 @@ pub additions_by_things : {old new : Kept Additions} → SameThings old new → 
 additions_by_things s = record {
   zones = λ h name. ap (option_map (λ a. zone_at a name)) (s h);
   moments = λ h. ap (option_map (λ a. a.moment)) (s h);
+  names = λ h name. ap (option_map (λ a. named_at a name)) (s h);
 }
 
 -- where all three are the same, or one finds the same things and the others are the same
@@ -69,13 +70,14 @@ told_at f old mid new h spare was is m n w z k true e =
     same_told f (found old k) (found new k) spare was is (exchanged_twice (found old k) (found mid k) (found new k) spare is (rw e at (m k)) (rw e at (n k))) (w ∙ ap (λ o. unwrap_or o spare) (sym (one_finds old h k e))) z
 told_at f old mid new h spare was is m n w z k false e = ap (option_map f) (rw e at (n k) ∙ rw e at (m k))
 
--- an environment was exchanged, changed and exchanged back, with the zones and the moment that it had
+-- an environment was exchanged, changed and exchanged back, with the zones, the moment and the names that it had
 pub additions_by_exchange : (old mid new : Kept Additions) (h : Handle) (spare was is : Additions) → ((k : Handle) → found mid k ≡ (if is_same h k then option_map (λ _. spare) (found old k) else found old k))
     → ((k : Handle) → found new k ≡ (if is_same h k then option_map (λ _. is) (found mid k) else found mid k)) → was ≡ unwrap_or (found old h) spare
-    → ((name : List ℕ) → zone_at is name ≡ zone_at was name) → is.moment ≡ was.moment → SameAdditions old new
-additions_by_exchange old mid new h spare was is m n w zones moment = record {
+    → ((name : List ℕ) → zone_at is name ≡ zone_at was name) → is.moment ≡ was.moment → ((name : List ℕ) → named_at is name ≡ named_at was name) → SameAdditions old new
+additions_by_exchange old mid new h spare was is m n w zones moment names = record {
   zones = λ k name. told_at (λ a. zone_at a name) old mid new h spare was is m n w (zones name) k (is_same h k) refl;
   moments = λ k. told_at (λ a. a.moment) old mid new h spare was is m n w moment k (is_same h k) refl;
+  names = λ k name. told_at (λ a. named_at a name) old mid new h spare was is m n w (names name) k (is_same h k) refl;
 }
 
 -- a thing was exchanged, and exchanged back as it was
@@ -142,6 +144,7 @@ leaves_after l r c e a = record {
     environments = record {
       zones = λ h name. ap (λ k. option_map (λ a. zone_at a name) (found k h)) e ∙ l.kept.environments.zones h name;
       moments = λ h. ap (λ k. option_map (λ a. a.moment) (found k h)) e ∙ l.kept.environments.moments h;
+      names = λ h name. ap (λ k. option_map (λ a. named_at a name) (found k h)) e ∙ l.kept.environments.names h name;
     };
   };
   look = record { whole = ap whole_of a ∙ l.look.whole; way = ap way_of a ∙ l.look.way };

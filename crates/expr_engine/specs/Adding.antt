@@ -1,21 +1,23 @@
 -- How an environment becomes another.
-use Rattle.std.specs.Prelude.{◌≡◌, ℕ, ℤ, List, None, Some, option_map}
+use Rattle.std.specs.Prelude.{◌≡◌, ℕ, ℤ, List, None, Some, bytes_eq, false, if◌then◌else◌, option_map, true}
 use Rattle.jiff.specs.Placed.{IsPosixZone, fixed_zone}
 use Rattle.jiff.specs.Types.{Offset, TimeZone as Rules}
 use Rattle.expr.specs.Hosted.{IsZoneAdded}
-use Rattle.expr_engine.specs.Runs.{zone_at}
+use Rattle.expr_engine.specs.Runs.{named_at, names_in, zone_at}
 use Rattle.expr_engine.specs.declared.additions.Additions.{Additions}
 use Rattle.expr_value.specs.Times.{instant}
 
--- There are no zones, and there is no moment.
+-- There are no zones, no moment, and no functions that the host answers itself.
 pub record AddsNothing (added : Additions) : Type 0 where
   pub zones : (name : List ℕ) → zone_at added name ≡ None
   pub moment : added.moment ≡ None
+  pub names : (name : List ℕ) → named_at added name ≡ false
 
 -- There is a zone of this name and these rules now, and else what there was.
 pub record GainsZone (name : List ℕ) (rules : Rules) (was is : Additions) : Type 0 where
   pub zone : IsZoneAdded name rules (zone_at was) (zone_at is)
   pub moment : is.moment ≡ was.moment
+  pub names : names_in is ≡ names_in was
 
 -- The same where the zone's clock is so many seconds ahead of UTC.
 pub record BecomesFixed (name : List ℕ) (ahead : ℤ) (was is : Additions) : Type 0 where
@@ -29,7 +31,14 @@ pub record BecomesByRule (name rule : List ℕ) (was is : Additions) : Type 0 wh
   pub are : IsPosixZone rule rules
   pub zone : GainsZone name rules was is
 
--- The moment is another, and the zones are what they were.
+-- The moment is another, and all else is what it was.
 pub record BecomesNow (nanoseconds : ℤ) (was is : Additions) : Type 0 where
   pub moment : option_map instant is.moment ≡ Some nanoseconds
   pub zones : (name : List ℕ) → zone_at is name ≡ zone_at was name
+  pub names : names_in is ≡ names_in was
+
+-- The host answers functions of this name itself now, and all else is what it was.
+pub record GainsName (name : List ℕ) (was is : Additions) : Type 0 where
+  pub names : (key : List ℕ) → named_at is key ≡ (if bytes_eq name key then true else named_at was key)
+  pub zones : (key : List ℕ) → zone_at is key ≡ zone_at was key
+  pub moment : is.moment ≡ was.moment

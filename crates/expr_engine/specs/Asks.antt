@@ -34,6 +34,10 @@ all_asks =
     ∷ is.DropContext
     ∷ is.DropEnvironment
     ∷ is.Clear
+    ∷ is.Name
+    ∷ is.Answer
+    ∷ is.Refuse
+    ∷ is.Asked
     ∷ []
 
 abbrev pub ask_of : ℕ → Option Ask
@@ -42,6 +46,8 @@ ask_of number = slice_get all_asks number
 -- which text a call shows that does this
 abbrev pub shows_of : Ask → Shows
 shows_of is.Run = Value
+shows_of is.Answer = Value
+shows_of is.Refuse = Value
 shows_of is.Look = Value
 shows_of is.Down = Value
 shows_of is.Up = Value
@@ -51,4 +57,5 @@ shows_of is.Shown = Said
 shows_of is.Text = Said
 shows_of is.Json = Said
 shows_of is.Said = Said
+shows_of is.Asked = Said
 shows_of ask = Nothing

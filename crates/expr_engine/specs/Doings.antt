@@ -1,13 +1,13 @@
 -- What calls have done that are done.
-use Rattle.std.specs.Prelude.{◌≡◌, ◌+◌, ◌≤ℤ◌, ℕ, ℤ, pos, negsuc, ◌==◌, List, [], ◌∷◌, ◌++◌, Option, None, Some, Ok, IsSome, IsSomeAnd, length, codes, if◌then◌else◌, map, option_map, String, string_bytes}
+use Rattle.std.specs.Prelude.{◌≡◌, ◌+◌, ◌≤ℤ◌, ℕ, ℤ, pos, negsuc, ◌==◌, List, [], ◌∷◌, ◌++◌, None, Some, Ok, IsSome, IsSomeAnd, length, codes, if◌then◌else◌, map, String, string_bytes}
 use Rattle.std.specs.List.{join_by}
 use Rattle.std.specs.Option.{unwrap_or}
 use Rattle.std.specs.declared.alloc.Global.{Global}
 use Rattle.expr_encoding.specs.Optional.{given}
 use Rattle.expr_encoding.specs.Reading.{json_value}
 use Rattle.expr_encoding.specs.Writing.{json_text}
-use Rattle.expr_engine.specs.Engines.{Asked, MayAnswer, SameKept, asked}
-use Rattle.expr_engine.specs.Adding.{AddsNothing, BecomesByRule, BecomesFixed, BecomesNow}
+use Rattle.expr_engine.specs.Engines.{MayAnswer, asked, asked_again}
+use Rattle.expr_engine.specs.Adding.{AddsNothing, BecomesByRule, BecomesFixed, BecomesNow, GainsName}
 use Rattle.expr_engine.specs.declared.call.Ask.{Ask}
 use Rattle.expr_engine.specs.declared.call.Ask.TheVariants as is
 use Rattle.expr_engine.specs.declared.call.Call.{Call}
@@ -19,9 +19,11 @@ use Rattle.expr_exchange.specs.Looked.{LooksDown, LooksUp, at_number, key_at, pa
 use Rattle.expr_exchange.specs.Scalars.{IsScalar, instant_by}
 use Rattle.expr_exchange.specs.declared.kind.Kind.{Kind}
 use Rattle.expr_exchange.specs.declared.kind.Kind.TheVariants as kinds
-use Rattle.expr_kept.specs.Kept.{KeepsOthers, SameThings, found, next_number}
+use Rattle.expr_kept.specs.Kept.{KeepsOthers, found, next_number}
 use Rattle.expr_kept.specs.declared.Handle.{Handle}
 use Rattle.expr_kept.specs.declared.Kept.{Kept}
+use Rattle.expr_stops.specs.Stops.{asked_of, given_of}
+use Rattle.expr_stops.specs.declared.replay.Stop.{Stop}
 use Rattle.expr_syntax.specs.Texts.{IsProgramWithin}
 use Rattle.expr_tree.specs.Names.{AreNamesOf}
 use Rattle.expr_tree.specs.Term.{Block}
@@ -113,8 +115,25 @@ pub record Tells (v : Value) (reply : Reply) : Type 0 where
 -- The program's answer is kept, and looked at as a whole.
 pub record RunsOnce (old new : Engine) (call : Call) (reply : Reply) : Type 0 where
   pub keeps : KeepsAll old new
-  pub answer : IsSomeAnd (asked old call.program call.environment call.context) (λ q. MayAnswer q (Ok (part_of new.answer)))
+  pub answer : IsSomeAnd (asked old call.program call.environment call.context) (λ q. MayAnswer q [] (Ok (part_of new.answer)))
   pub way : way_of new.answer ≡ []
+  pub told : Tells (part_of new.answer) reply
+
+-- The run that waited came to its end. Its answer is kept, and looked at as a whole.
+pub record EndsRun (old new : Engine) (reply : Reply) : Type 0 where
+  pub keeps : KeepsAll old new
+  pub answer : IsSomeAnd (asked_again old) (λ q. MayAnswer q (given_of new.waits.stops) (Ok (part_of new.answer)))
+  pub way : way_of new.answer ≡ []
+  pub told : Tells (part_of new.answer) reply
+
+-- Copies of the arguments of the call that waits are looked at, and the name of its function is said.
+pub record LooksAtCall (old new : Engine) (reply : Reply) : Type 0 where
+  pub keeps : KeepsAll old new
+  pub stop : Stop
+  pub waits : asked_of old.waits.stops ≡ Some stop
+  pub arguments : part_of new.answer ≡ values.Array stop.call.args.items
+  pub way : way_of new.answer ≡ []
+  pub name : string_bytes new.said ≡ string_bytes stop.call.ident
   pub told : Tells (part_of new.answer) reply
 
 pub record AddsContext (old new : Engine) (reply : Reply) : Type 0 where
@@ -213,7 +232,7 @@ pub record AddsEnvironment (old new : Engine) (reply : Reply) : Type 0 where
   pub contexts : new.contexts ≡ old.contexts
   pub answer : new.answer ≡ old.answer
 
--- An environment's zones and its moment are such, and those of every other are what they were.
+-- An environment is such now, and every other is what it was.
 pub record ChangesEnvironment (Becomes : Additions → Additions → Type 0) (old new : Engine) (call : Call) : Type 0 where
   pub environments : Changes Becomes old.environments new.environments call.environment
   pub rules : new.rules ≡ old.rules
@@ -228,6 +247,9 @@ AddsZoneByRule old new call = ChangesEnvironment (BecomesByRule call.name.now ca
 
 abbrev pub SetsNow : Engine → Engine → Call → Type 0
 SetsNow old new call = ChangesEnvironment (BecomesNow (instant_by call.number call.fraction)) old new call
+
+abbrev pub AddsName : Engine → Engine → Call → Type 0
+AddsName old new call = ChangesEnvironment (GainsName call.name.now) old new call
 
 pub record DropsProgram (old new : Engine) (call : Call) : Type 0 where
   pub rules : LetsGo old.rules new.rules call.program
@@ -282,6 +304,14 @@ Does is.DropProgram old new call reply = DropsProgram old new call
 Does is.DropContext old new call reply = DropsContext old new call
 Does is.DropEnvironment old new call reply = DropsEnvironment old new call
 Does is.Clear old new call reply = ForgetsAll old new
+Does is.Name old new call reply = AddsName old new call
+Does is.Answer old new call reply = EndsRun old new reply
+Does is.Refuse old new call reply = EndsRun old new reply
+Does is.Asked old new call reply = LooksAtCall old new reply
+
+-- A call waits, and a handle of its run finds nothing.
+abbrev pub IsStale : Engine → Type 0
+IsStale engine = IsSome (asked_of engine.waits.stops) × (asked_again engine ≡ None)
 
 -- A call's handle finds nothing.
 abbrev pub IsMissing : Ask → Engine → Call → Type 0
@@ -294,4 +324,7 @@ IsMissing is.Now engine call = found engine.environments call.environment ≡ No
 IsMissing is.DropProgram engine call = found engine.rules call.program ≡ None
 IsMissing is.DropContext engine call = found engine.contexts call.context ≡ None
 IsMissing is.DropEnvironment engine call = found engine.environments call.environment ≡ None
+IsMissing is.Name engine call = found engine.environments call.environment ≡ None
+IsMissing is.Answer engine call = IsStale engine
+IsMissing is.Refuse engine call = IsStale engine
 IsMissing ask engine call = ⊥

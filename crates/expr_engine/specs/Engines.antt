@@ -1,18 +1,18 @@
 -- What an engine keeps under handles, and what a run finds there.
-use Rattle.std.specs.Prelude.{◌≡◌, ◌≢◌, ◌≤◌, ℕ, ◌==◌, List, [], Option, None, Some, Result, Err, IsUtf8, if◌then◌else◌, option_map}
+use Rattle.std.specs.Prelude.{◌≡◌, ◌≢◌, ◌≤◌, ℕ, ◌==◌, List, [], Option, None, Some, Err, IsUtf8, if◌then◌else◌, option_map}
 use Rattle.std.specs.Option.{option_and_then}
 use Rattle.expr.specs.Texts.{IsRefusedWithin}
-use Rattle.expr_engine.specs.Runs.{MayGive, Pairs, context_of, host_by, zone_at}
+use Rattle.expr_engine.specs.Runs.{MayGive, Pairs, context_of, host_with, named_at, zone_at}
 use Rattle.expr_engine.specs.declared.additions.Additions.{Additions}
 use Rattle.expr_engine.specs.declared.engine.Engine.{Engine}
 use Rattle.expr_engine.specs.declared.rule.Rule.{Rule}
-use Rattle.expr_exchange.specs.Built.{values_of}
 use Rattle.expr_exchange.specs.Looked.{SameLook}
 use Rattle.expr_exchange.specs.declared.refused.Refused.{Refused}
-use Rattle.expr_exchange.specs.declared.refused.Refused.TheVariants.{Language, Unknown, Misuse}
+use Rattle.expr_exchange.specs.declared.refused.Refused.TheVariants.{Language, Unknown, Misuse, Asks, Differs}
 use Rattle.expr_kept.specs.Kept.{SameThings, found, next_number}
 use Rattle.expr_kept.specs.declared.Handle.{Handle}
 use Rattle.expr_kept.specs.declared.Kept.{Kept}
+use Rattle.expr_stops.specs.declared.given.Given.{Given}
 use Rattle.expr_tree.specs.Written.{program_written}
 use Rattle.expr_syntax.specs.Texts.{IsPlaced}
 use Rattle.expr_value.specs.Answers.{Answer}
@@ -43,33 +43,45 @@ asked engine program environment context =
     (λ names. record { rule = rule; added = added; names = names })
     (names_at engine context)) (additions_at engine environment)) (found engine.rules program)
 
--- what the program's meaning allows in that environment and that context
-abbrev pub MayAnswer : Asked → Answer → Type 0
-MayAnswer q answer = MayGive (host_by q.added) (context_of q.names) (program_written q.rule.program) answer
+-- what the program's meaning allows in that environment and that context, where calls of the host's functions answer what it replied
+abbrev pub MayAnswer : Asked → List Given → Answer → Type 0
+MayAnswer q given answer = MayGive (host_with q.added given) (context_of q.names) (program_written q.rule.program) answer
+
+-- what the run that waits finds under its handles
+abbrev pub asked_again : Engine → Option Asked
+asked_again engine = asked engine engine.waits.program engine.waits.environment engine.waits.context
 
 -- A text is refused that deserves it, or memory is.
 abbrev pub RefusesText : ℕ → List ℕ → Refused → Type 0
 RefusesText height text (Language error) = fault_of error ≢ memory → IsRefusedWithin height text (Err (fault_of error))
 RefusesText height text Unknown = ⊥
 RefusesText height text Misuse = ⊥
+RefusesText height text Asks = ⊥
+RefusesText height text Differs = ⊥
 
 -- A fault of syntax is at the text's first fault.
 abbrev pub IsPlacedRefusal : List ℕ → Refused → Type 0
 IsPlacedRefusal text (Language error) = IsPlaced {A = Unit {0}} text (Err error)
 IsPlacedRefusal text Unknown = Unit {0}
 IsPlacedRefusal text Misuse = Unit {0}
+IsPlacedRefusal text Asks = Unit {0}
+IsPlacedRefusal text Differs = Unit {0}
 
 -- The same of a text that is handed in, and misused only where it is no text.
 abbrev pub CompileRefuses : ℕ → List ℕ → Refused → Type 0
 CompileRefuses height text (Language error) = RefusesText height text (Language error) × IsPlacedRefusal text (Language error) × IsUtf8 text
 CompileRefuses height text Unknown = ⊥
 CompileRefuses height text Misuse = IsUtf8 text → ⊥
+CompileRefuses height text Asks = ⊥
+CompileRefuses height text Differs = ⊥
 
--- Every handle finds an environment with the zones and the moment that it found.
+-- Every handle finds an environment with the zones, the moment and the names that it found.
 pub record SameAdditions (old new : Kept Additions) : Type 0 where
   pub zones : (h : Handle) (name : List ℕ) → option_map (λ a. zone_at a name) (found new h)
       ≡ option_map (λ a. zone_at a name) (found old h)
   pub moments : (h : Handle) → option_map (λ a. a.moment) (found new h) ≡ option_map (λ a. a.moment) (found old h)
+  pub names : (h : Handle) (name : List ℕ) → option_map (λ a. named_at a name) (found new h)
+      ≡ option_map (λ a. named_at a name) (found old h)
 
 -- Every handle finds what it found.
 pub record SameKept (old new : Engine) : Type 0 where

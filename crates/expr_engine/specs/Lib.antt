@@ -6,3 +6,4 @@ pub mod Engines
 pub mod Promised
 pub mod Runs
 pub mod Served
+pub mod Turns

@@ -4,6 +4,7 @@ use Rattle.expr_engine.specs.Asks.{ask_of, shows_of}
 use Rattle.expr_engine.specs.Doings.{Does, IsMissing, reply_of}
 use Rattle.expr_engine.specs.Engines.{Leaves, NumbersRise, asked}
 use Rattle.expr_engine.specs.Served.{Answers, text_shown}
+use Rattle.expr_engine.specs.Turns.{TurnsBy}
 use Rattle.expr_engine.specs.declared.call.Ask.TheVariants.{Run}
 use Rattle.expr_engine.specs.declared.call.Call.{Call}
 use Rattle.expr_engine.specs.declared.engine.Engine.{Engine}
@@ -11,6 +12,7 @@ use Rattle.expr_exchange.specs.Built.{values_of}
 use Rattle.expr_exchange.specs.Looked.{part_of}
 use Rattle.expr_kept.specs.Kept.{found}
 use Rattle.expr_kept.specs.declared.Handle.{Handle}
+use Rattle.expr_stops.specs.Stops.{asked_of}
 use Rattle.expr_value.specs.declared.value.Value.{Nil}
 
 -- Nothing is kept, built or answered.
@@ -20,12 +22,14 @@ pub record IsNew (engine : Engine) : Type 0 where
   pub environments : (handle : Handle) → found engine.environments handle ≡ None
   pub built : values_of engine.built ≡ []
   pub part : part_of engine.answer ≡ Nil
+  pub waits : asked_of engine.waits.stops ≡ None
 
 -- The clauses of `serve`: of the engine before and after, and of the call as it was asked and as it was answered.
 pub record IsServed (old new : Engine) (call answered : Call) : Type 0 where
   pub done : answered.status ≡ 0 → MatchOption (ask_of call.ask) ⊥ (λ ask. Does ask old new call (reply_of answered))
   pub run : ask_of call.ask ≡ Some Run
-      → MatchOption (asked old call.program call.environment call.context) (answered.status ≡ 6) (λ q. Answers q answered.status (part_of new.answer))
+      → MatchOption (asked old call.program call.environment call.context) (answered.status ≡ 6) (λ q. Answers q [] answered.status (part_of new.answer))
+  pub turns : MatchOption (ask_of call.ask) (new.waits ≡ old.waits) (λ ask. TurnsBy ask old call answered.status new.waits (part_of new.answer))
   pub refused : answered.status ≢ 0 → Leaves old new
   pub built : answered.status ≢ 0 → values_of new.built ≡ []
   pub unknown : MatchOption (ask_of call.ask) (answered.status ≡ 7) (λ ask. IsMissing ask old call → answered.status ≡ 6)

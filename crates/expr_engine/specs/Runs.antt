@@ -1,9 +1,12 @@
 -- What a run is asked in: the names of a context, and what an environment adds.
-use Rattle.std.specs.Prelude.{ℕ, List, [], Option, None, Some, false}
+use Rattle.std.specs.Prelude.{ℕ, Bool, List, [], Option, None, Some, false}
 use Rattle.std.specs.HashMap.{get_by_text}
 use Rattle.expr_engine.specs.declared.additions.Additions.{Additions}
 use Rattle.expr_meaning.specs.Allows.{AllowsBlock}
 use Rattle.expr_meaning.specs.Host.{Host, no_host}
+use Rattle.expr_stops.specs.Stops.{answered_by, is_named}
+use Rattle.expr_stops.specs.declared.given.Given.{Given}
+use Rattle.expr_stops.specs.declared.names.StopNames.{StopNames}
 use Rattle.expr_tree.specs.Term.{Block}
 use Rattle.expr_value.specs.Answers.{Answer}
 use Rattle.expr_value.specs.Context.{Context}
@@ -40,6 +43,23 @@ added_by added = record {
 abbrev pub host_by : Option Additions → Host
 host_by None = no_host
 host_by (Some added) = added_by added
+
+-- the functions that the host answers itself
+abbrev pub names_in : Additions → StopNames
+names_in added = added.names
+
+abbrev pub named_at : Additions → List ℕ → Bool
+named_at added name = is_named (names_in added) name
+
+-- the same, none where there is no environment
+abbrev pub named_by : Option Additions → List ℕ → Bool
+named_by None = λ _. false
+named_by (Some added) = is_named (names_in added)
+
+-- what an environment adds where calls of the functions that the host answers itself answer what it replied
+abbrev pub host_with : Option Additions → List Given → Host
+host_with None given = no_host
+host_with (Some added) given = answered_by (added_by added) (is_named (names_in added)) given
 
 -- what a program's meaning allows, whichever way it comes to that
 abbrev pub MayGive : Host → Context → Block → Answer → Type 0

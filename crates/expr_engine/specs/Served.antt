@@ -8,9 +8,10 @@ use Rattle.expr_exchange.specs.Kinds.{bytes_in}
 use Rattle.expr_exchange.specs.Looked.{part_of}
 use Rattle.expr_exchange.specs.Refusals.{status_of}
 use Rattle.expr_exchange.specs.declared.refused.Refused.{Refused}
-use Rattle.expr_exchange.specs.declared.refused.Refused.TheVariants.{Language, Unknown, Misuse}
+use Rattle.expr_exchange.specs.declared.refused.Refused.TheVariants.{Language, Unknown, Misuse, Asks, Differs}
 use Rattle.expr_exchange.specs.declared.refused.Status.{Status}
 use Rattle.expr_exchange.specs.declared.refused.Status.TheVariants as ends
+use Rattle.expr_stops.specs.declared.given.Given.{Given}
 use Rattle.expr_value.specs.Fault.{fault_of, syntax, literal, evaluation, pattern, memory}
 use Rattle.expr_value.specs.declared.value.Value.{Value}
 
@@ -24,30 +25,36 @@ number_of ends.Pattern = 4
 number_of ends.Memory = 5
 number_of ends.Unknown = 6
 number_of ends.Misuse = 7
+number_of ends.Asks = 8
+number_of ends.Differs = 9
 
--- A run that found all three gives the value that is then looked at, or a refusal.
-abbrev pub Runs : {A : Type 0} → Asked → Result A Refused → Value → Type 0
-Runs q (Ok shown) value = MayAnswer q (Ok value)
-Runs q (Err (Language error)) value = fault_of error ≢ memory → MayAnswer q (Err (fault_of error))
-Runs q (Err Unknown) value = ⊥
-Runs q (Err Misuse) value = ⊥
+-- A run that found all three, with these replies, gives the value that is then looked at, or a refusal, or it stops.
+abbrev pub Runs : {A : Type 0} → Asked → List Given → Result A Refused → Value → Type 0
+Runs q given (Ok shown) value = MayAnswer q given (Ok value)
+Runs q given (Err (Language error)) value = fault_of error ≢ memory → MayAnswer q given (Err (fault_of error))
+Runs q given (Err Unknown) value = ⊥
+Runs q given (Err Misuse) value = ⊥
+Runs q given (Err Asks) value = Unit {0}
+Runs q given (Err Differs) value = Unit {0}
 
 -- What the ending of such a run says: its value, or its kind of refusal, is one that the meaning allows.
-abbrev pub Says : Asked → Status → Value → Type 0
-Says q ends.Done value = MayAnswer q (Ok value)
-Says q ends.Syntax value = MayAnswer q (Err syntax)
-Says q ends.Literal value = MayAnswer q (Err literal)
-Says q ends.Evaluation value = MayAnswer q (Err evaluation)
-Says q ends.Pattern value = MayAnswer q (Err pattern)
-Says q ends.Memory value = Unit {0}
-Says q ends.Unknown value = ⊥
-Says q ends.Misuse value = ⊥
+abbrev pub Says : Asked → List Given → Status → Value → Type 0
+Says q given ends.Done value = MayAnswer q given (Ok value)
+Says q given ends.Syntax value = MayAnswer q given (Err syntax)
+Says q given ends.Literal value = MayAnswer q given (Err literal)
+Says q given ends.Evaluation value = MayAnswer q given (Err evaluation)
+Says q given ends.Pattern value = MayAnswer q given (Err pattern)
+Says q given ends.Memory value = Unit {0}
+Says q given ends.Unknown value = ⊥
+Says q given ends.Misuse value = ⊥
+Says q given ends.Asks value = Unit {0}
+Says q given ends.Differs value = Unit {0}
 
 -- the same of the number of an ending
-pub record Answers (q : Asked) (number : ℕ) (value : Value) : Type 0 where
+pub record Answers (q : Asked) (given : List Given) (number : ℕ) (value : Value) : Type 0 where
   pub status : Status
   pub is : number ≡ number_of status
-  pub says : Says q status value
+  pub says : Says q given status value
 
 -- A call that ended so has this number, or memory was refused for its message.
 abbrev pub Ends : {A : Type 0} → Result A Refused → ℕ → Type 0

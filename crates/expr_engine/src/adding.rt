@@ -1,6 +1,6 @@
 //! Asks about environments.
 ghost use Rattle.std.specs.Prelude.{◌≡◌, None, ◌≢◌, IfErr, Err, OnErr, OnOk};
-ghost use Rattle.expr_engine.specs.Doings.{AddsEnvironment, AddsFixedZone, AddsZoneByRule, SetsNow, reply_of};
+ghost use Rattle.expr_engine.specs.Doings.{AddsEnvironment, AddsFixedZone, AddsName, AddsZoneByRule, SetsNow, reply_of};
 ghost use Rattle.expr_engine.specs.Engines.{NumbersRise, SameAdditions};
 ghost use Rattle.expr_kept.specs.Kept.{found, next_number};
 
@@ -20,6 +20,7 @@ pub fn add_environment(engine: &mut Engine, call: &mut Call<'_>) -> Result<(), R
     ensures rules { engine.new.rules ≡ engine.old.rules }
     ensures contexts { engine.new.contexts ≡ engine.old.contexts }
     ensures answer { engine.new.answer ≡ engine.old.answer }
+    ensures waits { engine.new.waits ≡ engine.old.waits }
 {
     call.environment = engine.environments.put(Additions::new(engine.alloc))?;
     Ok(())
@@ -36,6 +37,7 @@ pub fn zone_by_seconds(engine: &mut Engine, call: &Call<'_>) -> Result<(), Refus
     ensures rules { engine.new.rules ≡ engine.old.rules }
     ensures contexts { engine.new.contexts ≡ engine.old.contexts }
     ensures answer { engine.new.answer ≡ engine.old.answer }
+    ensures waits { engine.new.waits ≡ engine.old.waits }
 {
     engine.knows_environment(call.environment)?;
     engine.add_zone(call.environment, utf8(call.name)?, call.number, None)
@@ -52,6 +54,7 @@ pub fn zone_by_rule(engine: &mut Engine, call: &Call<'_>) -> Result<(), Refused>
     ensures rules { engine.new.rules ≡ engine.old.rules }
     ensures contexts { engine.new.contexts ≡ engine.old.contexts }
     ensures answer { engine.new.answer ≡ engine.old.answer }
+    ensures waits { engine.new.waits ≡ engine.old.waits }
 {
     engine.knows_environment(call.environment)?;
     let rule = utf8(call.text)?;
@@ -69,8 +72,26 @@ pub fn set_now(engine: &mut Engine, call: &Call<'_>) -> Result<(), Refused>
     ensures rules { engine.new.rules ≡ engine.old.rules }
     ensures contexts { engine.new.contexts ≡ engine.old.contexts }
     ensures answer { engine.new.answer ≡ engine.old.answer }
+    ensures waits { engine.new.waits ≡ engine.old.waits }
 {
     engine.knows_environment(call.environment)?;
     let now = moment_of(call.number, call.fraction)?;
     engine.set_now(call.environment, now)
+}
+
+/// Adds a name to the functions of an environment that the host answers itself.
+pub fn add_name(engine: &mut Engine, call: &Call<'_>) -> Result<(), Refused>
+    ensures done { OnOk result (AddsName engine.old engine.new call.now) }
+    ensures unknown { found engine.old.environments call.now.environment ≡ None
+        → result ≡ Err Refused.Unknown }
+    ensures known { result ≡ Err Refused.Unknown → found engine.old.environments call.now.environment ≡ None }
+    ensures err { OnErr result (SameAdditions engine.old.environments engine.new.environments) }
+    ensures next { next_number engine.new.environments ≡ next_number engine.old.environments }
+    ensures rules { engine.new.rules ≡ engine.old.rules }
+    ensures contexts { engine.new.contexts ≡ engine.old.contexts }
+    ensures answer { engine.new.answer ≡ engine.old.answer }
+    ensures waits { engine.new.waits ≡ engine.old.waits }
+{
+    engine.knows_environment(call.environment)?;
+    engine.add_name(call.environment, utf8(call.name)?)
 }

@@ -1,23 +1,25 @@
-//! What a host adds to the language: zones, and the moment that is now.
-ghost use Rattle.std.specs.Prelude.{◌≡◌, ℕ, List, None, OnErr, OnOk, Some, IfSome, IsNone, option_map};
-ghost use Rattle.expr_engine.specs.Adding.{AddsNothing, BecomesByRule, BecomesFixed, BecomesNow, GainsZone};
-ghost use Rattle.expr_engine.specs.Runs.{zone_at};
+//! What a host adds to the language: zones, the moment that is now, and the names of functions that it answers itself.
+ghost use Rattle.std.specs.Prelude.{◌≡◌, ℕ, List, None, OnErr, OnOk, Some, IfSome, IsNone, bytes_eq, if◌then◌else◌, option_map, true};
+ghost use Rattle.expr_engine.specs.Adding.{AddsNothing, BecomesByRule, BecomesFixed, BecomesNow, GainsName, GainsZone};
+ghost use Rattle.expr_engine.specs.Runs.{named_at, names_in, zone_at};
 ghost use Rattle.expr_value.specs.Times.{plain_rules};
 
 use expr::{DateTimeValue, Error, Result, TimezoneValue, Value};
 use expr_meaning::{ExprCall, Functions};
+use expr_stops::StopNames;
 use expr_value::refusal;
 use indexmap::IndexMap;
 use jiff::Timestamp;
 use jiff::tz::{Offset, TimeZone};
 use std::alloc::Global;
 
-/// The zones and the moment that a host has added. It adds no function.
+/// The zones and the moment that a host has added, and the names of functions that it answers itself.
 #[derive(Drop)]
 pub struct Additions {
     alloc: Global,
     zones: IndexMap<String, TimezoneValue>,
     moment: Option<DateTimeValue>,
+    names: StopNames,
 }
 
 impl Additions {
@@ -29,6 +31,7 @@ impl Additions {
             alloc,
             zones: IndexMap::new(alloc),
             moment: None,
+            names: StopNames::new(alloc),
         }
     }
 
@@ -41,6 +44,7 @@ impl Additions {
         ensures added { OnOk result (BecomesFixed name.now seconds self.old self.new) }
         ensures err { OnErr result ((key : List ℕ) → zone_at self.new key ≡ zone_at self.old key) }
         ensures moment { self.new.moment ≡ self.old.moment }
+        ensures names { names_in self.new ≡ names_in self.old }
     {
         match ahead(seconds) {
             Some(offset) => self.add(name, TimeZone::fixed(offset)),
@@ -57,6 +61,7 @@ impl Additions {
         ensures added { OnOk result (BecomesByRule name.now rule.now self.old self.new) }
         ensures err { OnErr result ((key : List ℕ) → zone_at self.new key ≡ zone_at self.old key) }
         ensures moment { self.new.moment ≡ self.old.moment }
+        ensures names { names_in self.new ≡ names_in self.old }
     {
         match TimeZone::posix(rule) {
             Ok(rules) => self.add(name, rules),
@@ -75,6 +80,7 @@ impl Additions {
             (λ rule. BecomesByRule name.now rule.now self.old self.new)) }
         ensures err { OnErr result ((key : List ℕ) → zone_at self.new key ≡ zone_at self.old key) }
         ensures moment { self.new.moment ≡ self.old.moment }
+        ensures names { names_in self.new ≡ names_in self.old }
     {
         match rule {
             Some(rule) => self.add_rule(name, rule),
@@ -86,6 +92,7 @@ impl Additions {
         ensures added { OnOk result (GainsZone name.now (plain_rules rules.entry) self.old self.new) }
         ensures err { OnErr result ((key : List ℕ) → zone_at self.new key ≡ zone_at self.old key) }
         ensures moment { self.new.moment ≡ self.old.moment }
+        ensures names { names_in self.new ≡ names_in self.old }
     {
         let alloc = self.alloc;
         if name == "UTC" {
@@ -95,6 +102,27 @@ impl Additions {
         let name = String::from_str(alloc, name)?;
         self.zones.insert(name, zone)?;
         Ok(())
+    }
+
+    /// Adds a name to the functions that the host answers itself.
+    ///
+    /// # Errors
+    ///
+    /// `MemoryError` alone.
+    pub fn add_name(&mut self, name: &str) -> Result<()>
+        ensures added { OnOk result (GainsName name.now self.old self.new) }
+        ensures err { OnErr result ((key : List ℕ) → named_at self.new key ≡ named_at self.old key) }
+        ensures zones { (key : List ℕ) → zone_at self.new key ≡ zone_at self.old key }
+        ensures moment { self.new.moment ≡ self.old.moment }
+    {
+        self.names.add(self.alloc, name)
+    }
+
+    /// The names of the functions that the host answers itself.
+    pub fn names(&self) -> &StopNames
+        ensures { result.now ≡ names_in self.now }
+    {
+        &self.names
     }
 
     /// Sets the moment that is taken for now, on a clock in UTC.

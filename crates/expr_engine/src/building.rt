@@ -19,6 +19,7 @@ pub fn handed_in(engine: &mut Engine, call: &Call<'_>) -> Result<Value, Refused>
     ensures contexts { engine.new.contexts ≡ engine.old.contexts }
     ensures environments { engine.new.environments ≡ engine.old.environments }
     ensures answer { engine.new.answer ≡ engine.old.answer }
+    ensures waits { engine.new.waits ≡ engine.old.waits }
 {
     match Kind::numbered(call.kind) {
         Some(Kind::Built) => engine.built.pop(),
@@ -37,6 +38,7 @@ pub fn push(engine: &mut Engine, call: &Call<'_>) -> Result<(), Refused>
     ensures contexts { engine.new.contexts ≡ engine.old.contexts }
     ensures environments { engine.new.environments ≡ engine.old.environments }
     ensures answer { engine.new.answer ≡ engine.old.answer }
+    ensures waits { engine.new.waits ≡ engine.old.waits }
 {
     let value = handed_in(engine, call)?;
     engine.built.push(value)
@@ -50,6 +52,7 @@ pub fn make_array(engine: &mut Engine, call: &Call<'_>) -> Result<(), Refused>
     ensures contexts { engine.new.contexts ≡ engine.old.contexts }
     ensures environments { engine.new.environments ≡ engine.old.environments }
     ensures answer { engine.new.answer ≡ engine.old.answer }
+    ensures waits { engine.new.waits ≡ engine.old.waits }
 {
     engine.built.array(call.number)
 }
@@ -62,6 +65,7 @@ pub fn make_map(engine: &mut Engine, call: &Call<'_>) -> Result<(), Refused>
     ensures contexts { engine.new.contexts ≡ engine.old.contexts }
     ensures environments { engine.new.environments ≡ engine.old.environments }
     ensures answer { engine.new.answer ≡ engine.old.answer }
+    ensures waits { engine.new.waits ≡ engine.old.waits }
 {
     engine.built.map(call.number)
 }
@@ -74,6 +78,7 @@ pub fn unbuild(engine: &mut Engine) -> Result<(), Refused>
     ensures contexts { engine.new.contexts ≡ engine.old.contexts }
     ensures environments { engine.new.environments ≡ engine.old.environments }
     ensures answer { engine.new.answer ≡ engine.old.answer }
+    ensures waits { engine.new.waits ≡ engine.old.waits }
 {
     engine.built.clear();
     Ok(())

@@ -87,6 +87,14 @@ pub enum Ask {
     DropEnvironment,
     /// Lets go of everything.
     Clear,
+    /// Adds `name` to the functions of an environment that the host answers itself.
+    Name,
+    /// Answers the call that waits with the value that was built last, and goes on with its run.
+    Answer,
+    /// Refuses the call that waits with `text`, and goes on with its run.
+    Refuse,
+    /// Looks at the arguments of the call that waits, an array of copies, and shows the name of its function.
+    Asked,
 }
 
 /// Which text a call shows.
@@ -105,8 +113,10 @@ impl Ask {
         ensures { result ≡ shows_of self }
     {
         match self {
-            Ask::Run | Ask::Look | Ask::Down | Ask::Up => Shows::Value,
-            Ask::Names | Ask::Key | Ask::Shown | Ask::Text | Ask::Json | Ask::Said => Shows::Said,
+            Ask::Run | Ask::Answer | Ask::Refuse => Shows::Value,
+            Ask::Look | Ask::Down | Ask::Up => Shows::Value,
+            Ask::Names | Ask::Key | Ask::Shown | Ask::Text => Shows::Said,
+            Ask::Json | Ask::Said | Ask::Asked => Shows::Said,
             _ => Shows::Nothing,
         }
     }
@@ -142,6 +152,10 @@ impl Ask {
             23 => Some(Ask::DropContext),
             24 => Some(Ask::DropEnvironment),
             25 => Some(Ask::Clear),
+            26 => Some(Ask::Name),
+            27 => Some(Ask::Answer),
+            28 => Some(Ask::Refuse),
+            29 => Some(Ask::Asked),
             _ => None,
         }
     }

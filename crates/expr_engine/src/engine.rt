@@ -1,15 +1,20 @@
-//! An engine: programs, contexts and environments under handles, what is built, the last answer, and what was said last.
-ghost use Rattle.std.specs.Prelude.{◌≡◌, ◌≢◌, ◌≤ℤ◌, [], pos, codes, length, string_bytes, IfOk, IfErr, OnOk, OnErr, IfSome, IsSome, IsOk, IsNone, IsSomeAnd, MatchOption, Err, None, Some};
+//! An engine: programs, contexts and environments under handles, what is built, the last answer, what was said last, and the
+//! run that waits for a host's reply.
+ghost use Rattle.std.specs.Prelude.{◌≡◌, ◌≢◌, ◌≤ℤ◌, [], pos, codes, length, string_bytes, IfOk, IfErr, OnOk, OnErr, IfSome, IsSome, IsOk, IsNone, IsSomeAnd, MatchOption, Err, None, Some, ◌⊎◌};
 ghost use Rattle.std.specs.Option.{option_copied};
-ghost use Rattle.expr_engine.specs.Adding.{BecomesByRule, BecomesFixed, BecomesNow};
-ghost use Rattle.expr_engine.specs.Doings.{Adds, AreSaid, Changes};
-ghost use Rattle.expr_engine.specs.Engines.{IsPlacedRefusal, MayAnswer, NumbersRise, RefusesText, SameAdditions, additions_at, asked, names_at};
+ghost use Rattle.expr_engine.specs.Adding.{BecomesByRule, BecomesFixed, BecomesNow, GainsName};
+ghost use Rattle.expr_engine.specs.Doings.{Adds, AreSaid, Changes, IsStale};
+ghost use Rattle.expr_engine.specs.Engines.{IsPlacedRefusal, MayAnswer, NumbersRise, RefusesText, SameAdditions, additions_at, asked, asked_again, names_at};
 ghost use Rattle.expr_engine.specs.Runs.{pairs_of};
+ghost use Rattle.expr_engine.specs.Served.{Runs};
+ghost use Rattle.expr_engine.specs.Turns.{IsBegun, IsRefusal, IsSameRun, Keeps, Replies, Stands};
 ghost use Rattle.expr_exchange.specs.Built.{values_of};
 ghost use Rattle.expr_exchange.specs.Looked.{part_of, way_of};
 ghost use Rattle.expr_exchange.specs.Refusals.{GivesHost};
 ghost use Rattle.expr_kept.specs.Kept.{SameThings, found, next_number};
 ghost use Rattle.expr_kept.specs.declared.Handle.{Handle};
+ghost use Rattle.expr_stops.specs.Stops.{asked_of, given_of};
+ghost use Rattle.expr_stops.specs.declared.given.Reply.TheVariants as reply;
 ghost use Rattle.expr_syntax.specs.Texts.{IsProgramWithin};
 ghost use Rattle.expr_tree.specs.Written.{program_written};
 ghost use Rattle.expr_value.specs.Names.{put};
@@ -17,9 +22,11 @@ ghost use Rattle.expr_value.specs.Names.{put};
 use crate::additions::{Additions, LentHost};
 use crate::lent::LentNames;
 use crate::rule::Rule;
+use crate::waiting::Waiting;
 use expr::{Context, Error, Value, spot_of};
 use expr_exchange::{Built, Looked, Refused};
 use expr_kept::{Handle, Kept};
+use expr_stops::{Stops, Turn};
 use jiff::Timestamp;
 use std::alloc::Global;
 
@@ -33,6 +40,7 @@ pub struct Engine {
     pub built: Built,
     pub answer: Looked,
     pub said: String,
+    pub waits: Waiting,
 }
 
 /// The number that no handle has: there is no context, or no environment.
@@ -54,6 +62,7 @@ impl Engine {
         ensures environments { (handle : Handle) → found result.environments handle ≡ None }
         ensures built { values_of result.built ≡ [] }
         ensures part { part_of result.answer ≡ Value.Nil }
+        ensures waits { asked_of result.waits.stops ≡ None }
     {
         Engine {
             alloc,
@@ -63,6 +72,7 @@ impl Engine {
             built: Built::new(alloc),
             answer: Looked::new(alloc),
             said: String::new(alloc),
+            waits: Waiting::new(alloc),
         }
     }
 
@@ -77,6 +87,7 @@ impl Engine {
         ensures contexts { self.new.contexts ≡ self.old.contexts }
         ensures environments { self.new.environments ≡ self.old.environments }
         ensures answer { self.new.answer ≡ self.old.answer }
+        ensures waits { self.new.waits ≡ self.old.waits }
     {
         let rule = Rule::compile(self.alloc, text, height)?;
         Ok(self.rules.put(rule)?)
@@ -126,22 +137,162 @@ impl Engine {
         }
     }
 
-    /// What a program answers in an environment and a context.
-    pub fn run(
+    /// Runs a program, with the replies that a run has, up to its end or to its next call that the host answers itself.
+    fn turn(
         &self,
+        stops: &mut Stops,
         program: Handle,
         environment: Handle,
         context: Handle,
     ) -> Result<Value, Refused>
-        ensures { MatchOption (asked self.now program environment context) (result ≡ Err Refused.Unknown)
-            (λ q. GivesHost result (MayAnswer q)) }
+        ensures ended { MatchOption (asked self.now program environment context)
+            (result ≡ Err Refused.Unknown) (λ q. GivesHost result (MayAnswer q (given_of stops.old))) }
+        ensures stops { asked_of stops.old ≡ None → MatchOption (asked self.now program environment context)
+            (result ≡ Err Refused.Unknown)
+            (λ q. Stands q (given_of stops.old) result (asked_of stops.new)) }
+        ensures given { given_of stops.new ≡ given_of stops.old }
     {
         let Some(rule) = self.rules.get(program) else {
             return Err(Refused::Unknown);
         };
         let host = self.host_of(environment)?;
         let names = self.names_of(context)?;
-        Ok(rule.run(self.alloc, &host, names)?)
+        match rule.turn(self.alloc, host, names, stops) {
+            Turn::Ended(answer) => Ok(answer?),
+            Turn::Asks => Err(Refused::Asks),
+            Turn::Differs(_) => Err(Refused::Differs),
+        }
+    }
+
+    /// Begins a run of a program in an environment and a context, and keeps what it answers.
+    pub fn run(
+        &mut self,
+        program: Handle,
+        environment: Handle,
+        context: Handle,
+    ) -> Result<(), Refused>
+        ensures ended { MatchOption (asked self.old program environment context)
+            (result ≡ Err Refused.Unknown) (λ q. Runs q [] result (part_of self.new.answer)) }
+        ensures begun { MatchOption (asked self.old program environment context)
+            (self.new.waits ≡ self.old.waits)
+            (λ q. IsBegun q program environment context result self.new.waits) }
+        ensures way { OnOk result (way_of self.new.answer ≡ []) }
+        ensures err { OnErr result (self.new.answer ≡ self.old.answer) }
+        ensures rules { self.new.rules ≡ self.old.rules }
+        ensures contexts { self.new.contexts ≡ self.old.contexts }
+        ensures environments { self.new.environments ≡ self.old.environments }
+    {
+        self.knows_run(program, environment, context)?;
+        self.waits = Waiting {
+            program,
+            environment,
+            context,
+            stops: Stops::new(self.alloc),
+        };
+        self.go_on()
+    }
+
+    /// Refuses handles of which one finds nothing.
+    fn knows_run(
+        &self,
+        program: Handle,
+        environment: Handle,
+        context: Handle,
+    ) -> Result<(), Refused>
+        ensures { MatchOption (asked self.now program environment context) (result ≡ Err Refused.Unknown)
+            (λ _. IsOk result) }
+    {
+        if self.rules.get(program).is_none() {
+            return Err(Refused::Unknown);
+        }
+        let _host = self.host_of(environment)?;
+        let _names = self.names_of(context)?;
+        Ok(())
+    }
+
+    /// Keeps what a run answers.
+    fn keep(&mut self, answer: Result<Value, Refused>) -> Result<(), Refused>
+        ensures kept { Keeps answer result (part_of self.new.answer) }
+        ensures way { OnOk result (way_of self.new.answer ≡ []) }
+        ensures err { OnErr result (self.new.answer ≡ self.old.answer) }
+        ensures waits { self.new.waits ≡ self.old.waits }
+        ensures rules { self.new.rules ≡ self.old.rules }
+        ensures contexts { self.new.contexts ≡ self.old.contexts }
+        ensures environments { self.new.environments ≡ self.old.environments }
+    {
+        self.answer.keep(answer?);
+        Ok(())
+    }
+
+    /// Refuses where no call waits, or where a handle of its run finds nothing.
+    pub fn knows_waiting(&self) -> Result<(), Refused>
+        ensures waits { OnOk result (IsSome (asked_of self.now.waits.stops)) }
+        ensures found { OnOk result (IsSome (asked_again self.now)) }
+        ensures unknown { IsStale self.now → result ≡ Err Refused.Unknown }
+        ensures known { result ≡ Err Refused.Unknown → IsStale self.now }
+        ensures refused { IfErr result (λ e. (e ≡ Refused.Unknown) ⊎ (e ≡ Refused.Misuse)) }
+    {
+        if self.waits.stops.asked().is_none() {
+            return Err(Refused::Misuse);
+        }
+        let waits = &self.waits;
+        self.knows_run(waits.program, waits.environment, waits.context)
+    }
+
+    /// Answers the call that waits with a value, and goes on with its run.
+    pub fn reply(&mut self, value: Value) -> Result<(), Refused>
+        ensures replied { IsSome (asked_of self.old.waits.stops) → IsSome (asked_again self.old)
+            → Replies (λ r. r ≡ reply.Value value) (asked_again self.old) self.old.waits self.new.waits result
+            (part_of self.new.answer) }
+        ensures found { IsSome (asked_of self.old.waits.stops) → IsSome (asked_again self.old)
+            → IfErr result (λ e. e ≢ Refused.Unknown) }
+        ensures way { OnOk result (way_of self.new.answer ≡ []) }
+        ensures err { OnErr result (self.new.answer ≡ self.old.answer) }
+        ensures rules { self.new.rules ≡ self.old.rules }
+        ensures contexts { self.new.contexts ≡ self.old.contexts }
+        ensures environments { self.new.environments ≡ self.old.environments }
+    {
+        self.waits.stops.answer(value)?;
+        self.go_on()
+    }
+
+    /// Refuses the call that waits with a text, and goes on with its run.
+    pub fn refuse(&mut self, text: &str) -> Result<(), Refused>
+        ensures replied { IsSome (asked_of self.old.waits.stops) → IsSome (asked_again self.old)
+            → Replies (IsRefusal text.now) (asked_again self.old) self.old.waits self.new.waits result
+            (part_of self.new.answer) }
+        ensures found { IsSome (asked_of self.old.waits.stops) → IsSome (asked_again self.old)
+            → IfErr result (λ e. e ≢ Refused.Unknown) }
+        ensures way { OnOk result (way_of self.new.answer ≡ []) }
+        ensures err { OnErr result (self.new.answer ≡ self.old.answer) }
+        ensures rules { self.new.rules ≡ self.old.rules }
+        ensures contexts { self.new.contexts ≡ self.old.contexts }
+        ensures environments { self.new.environments ≡ self.old.environments }
+    {
+        self.waits.stops.refuse(text)?;
+        self.go_on()
+    }
+
+    /// Goes on with the run that has a reply, and keeps what it answers.
+    fn go_on(&mut self) -> Result<(), Refused>
+        ensures ended { MatchOption (asked_again self.old) (result ≡ Err Refused.Unknown)
+            (λ q. Runs q (given_of self.old.waits.stops) result (part_of self.new.answer)) }
+        ensures stops { asked_of self.old.waits.stops ≡ None → MatchOption (asked_again self.old)
+            (result ≡ Err Refused.Unknown)
+            (λ q. Stands q (given_of self.old.waits.stops) result (asked_of self.new.waits.stops)) }
+        ensures given { given_of self.new.waits.stops ≡ given_of self.old.waits.stops }
+        ensures run { IsSameRun self.old.waits self.new.waits }
+        ensures way { OnOk result (way_of self.new.answer ≡ []) }
+        ensures err { OnErr result (self.new.answer ≡ self.old.answer) }
+        ensures rules { self.new.rules ≡ self.old.rules }
+        ensures contexts { self.new.contexts ≡ self.old.contexts }
+        ensures environments { self.new.environments ≡ self.old.environments }
+    {
+        let mut stops = std::mem::replace(&mut self.waits.stops, Stops::new(self.alloc));
+        let waits = &self.waits;
+        let answer = self.turn(&mut stops, waits.program, waits.environment, waits.context);
+        self.waits.stops = stops;
+        self.keep(answer)
     }
 
     /// Refuses a handle that finds no context.
@@ -178,6 +329,7 @@ impl Engine {
         ensures environments { self.new.environments ≡ self.old.environments }
         ensures answer { self.new.answer ≡ self.old.answer }
         ensures built { self.new.built ≡ self.old.built }
+        ensures waits { self.new.waits ≡ self.old.waits }
     {
         self.knows_context(context)?;
         let name = String::from_str(self.alloc, name)?;
@@ -209,12 +361,35 @@ impl Engine {
         ensures rules { self.new.rules ≡ self.old.rules }
         ensures contexts { self.new.contexts ≡ self.old.contexts }
         ensures answer { self.new.answer ≡ self.old.answer }
+        ensures waits { self.new.waits ≡ self.old.waits }
     {
         let mut host = Additions::new(self.alloc);
         if !self.environments.swap(environment, &mut host) {
             return Err(Refused::Unknown);
         }
         let done = host.add_zone(name, seconds, rule);
+        let _kept = self.environments.swap(environment, &mut host);
+        Ok(done?)
+    }
+
+    /// Adds a name to the functions of an environment that the host answers itself.
+    pub fn add_name(&mut self, environment: Handle, name: &str) -> Result<(), Refused>
+        ensures added { OnOk result (Changes (GainsName name.now) self.old.environments
+            self.new.environments environment) }
+        ensures unknown { found self.old.environments environment ≡ None → result ≡ Err Refused.Unknown }
+        ensures known { result ≡ Err Refused.Unknown → found self.old.environments environment ≡ None }
+        ensures err { OnErr result (SameAdditions self.old.environments self.new.environments) }
+        ensures next { next_number self.new.environments ≡ next_number self.old.environments }
+        ensures rules { self.new.rules ≡ self.old.rules }
+        ensures contexts { self.new.contexts ≡ self.old.contexts }
+        ensures answer { self.new.answer ≡ self.old.answer }
+        ensures waits { self.new.waits ≡ self.old.waits }
+    {
+        let mut host = Additions::new(self.alloc);
+        if !self.environments.swap(environment, &mut host) {
+            return Err(Refused::Unknown);
+        }
+        let done = host.add_name(name);
         let _kept = self.environments.swap(environment, &mut host);
         Ok(done?)
     }
@@ -230,6 +405,7 @@ impl Engine {
         ensures rules { self.new.rules ≡ self.old.rules }
         ensures contexts { self.new.contexts ≡ self.old.contexts }
         ensures answer { self.new.answer ≡ self.old.answer }
+        ensures waits { self.new.waits ≡ self.old.waits }
     {
         let mut host = Additions::new(self.alloc);
         if !self.environments.swap(environment, &mut host) {
@@ -248,6 +424,7 @@ impl Engine {
         ensures numbers { NumbersRise self.old self.new }
         ensures built { values_of self.new.built ≡ [] }
         ensures part { part_of self.new.answer ≡ Value.Nil }
+        ensures waits { asked_of self.new.waits.stops ≡ None }
     {
         let alloc = self.alloc;
         self.rules.clear(alloc);
@@ -256,6 +433,7 @@ impl Engine {
         self.built = Built::new(alloc);
         self.answer = Looked::new(alloc);
         self.said = String::new(alloc);
+        self.waits = Waiting::new(alloc);
     }
 
     /// Notes what is said of a refusal, and where a text is refused.
@@ -265,6 +443,7 @@ impl Engine {
         ensures environments { self.new.environments ≡ self.old.environments }
         ensures answer { self.new.answer ≡ self.old.answer }
         ensures built { self.new.built ≡ self.old.built }
+        ensures waits { self.new.waits ≡ self.old.waits }
         ensures unknown { refused.now ≡ Refused.Unknown → IsOk result }
         ensures misuse { refused.now ≡ Refused.Misuse → IsOk result }
     {
@@ -287,7 +466,7 @@ impl Engine {
                 self.said = error.to_string(alloc)?;
                 Ok(None)
             }
-            Refused::Unknown | Refused::Misuse => Ok(None),
+            Refused::Unknown | Refused::Misuse | Refused::Asks | Refused::Differs => Ok(None),
         }
     }
 }

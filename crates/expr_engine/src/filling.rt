@@ -20,6 +20,7 @@ pub fn new_context(engine: &mut Engine, call: &mut Call<'_>) -> Result<(), Refus
     ensures rules { engine.new.rules ≡ engine.old.rules }
     ensures environments { engine.new.environments ≡ engine.old.environments }
     ensures answer { engine.new.answer ≡ engine.old.answer }
+    ensures waits { engine.new.waits ≡ engine.old.waits }
 {
     call.context = engine.contexts.put(Context::new(engine.alloc))?;
     Ok(())
@@ -34,6 +35,7 @@ pub fn built_context(engine: &mut Engine, call: &mut Call<'_>) -> Result<(), Ref
     ensures rules { engine.new.rules ≡ engine.old.rules }
     ensures environments { engine.new.environments ≡ engine.old.environments }
     ensures answer { engine.new.answer ≡ engine.old.answer }
+    ensures waits { engine.new.waits ≡ engine.old.waits }
 {
     let context = engine.built.context()?;
     call.context = engine.contexts.put(context)?;
@@ -50,6 +52,7 @@ pub fn set(engine: &mut Engine, call: &Call<'_>) -> Result<(), Refused>
     ensures rules { engine.new.rules ≡ engine.old.rules }
     ensures environments { engine.new.environments ≡ engine.old.environments }
     ensures answer { engine.new.answer ≡ engine.old.answer }
+    ensures waits { engine.new.waits ≡ engine.old.waits }
 {
     engine.knows_context(call.context)?;
     let name = utf8(call.name)?;

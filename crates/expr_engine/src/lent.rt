@@ -3,7 +3,7 @@ use expr::{Context, ContextProvider, Result, Value};
 use std::alloc::Global;
 
 /// The names of a context, or none where there is no context.
-#[derive(Clone, Copy)]
+#[derive(Clone, Copy, Drop)]
 pub struct LentNames<'a> {
     pub names: Option<&'a Context>,
 }

@@ -3,6 +3,7 @@ ghost use Rattle.std.specs.Prelude.{◌≡◌, None, Err, IsOk, OnErr, OnOk, Ok,
 ghost use Rattle.expr_engine.specs.Doings.{DropsContext, DropsEnvironment, DropsProgram, ForgetsAll};
 ghost use Rattle.expr_engine.specs.Engines.{NumbersRise, SameAdditions};
 ghost use Rattle.expr_kept.specs.Kept.{SameThings, found, next_number};
+ghost use Rattle.expr_stops.specs.Stops.{asked_of};
 
 use crate::call::Call;
 use crate::engine::Engine;
@@ -18,6 +19,7 @@ pub fn drop_program(engine: &mut Engine, call: &Call<'_>) -> Result<(), Refused>
     ensures err { OnErr result (SameThings engine.old.rules engine.new.rules) }
     ensures contexts { engine.new.contexts ≡ engine.old.contexts }
     ensures environments { engine.new.environments ≡ engine.old.environments }
+    ensures waits { engine.new.waits ≡ engine.old.waits }
 {
     let is_known = engine.rules.remove(call.program);
     known(is_known)
@@ -33,6 +35,7 @@ pub fn drop_context(engine: &mut Engine, call: &Call<'_>) -> Result<(), Refused>
     ensures err { OnErr result (SameThings engine.old.contexts engine.new.contexts) }
     ensures rules { engine.new.rules ≡ engine.old.rules }
     ensures environments { engine.new.environments ≡ engine.old.environments }
+    ensures waits { engine.new.waits ≡ engine.old.waits }
 {
     let is_known = engine.contexts.remove(call.context);
     known(is_known)
@@ -50,6 +53,7 @@ pub fn drop_environment(engine: &mut Engine, call: &Call<'_>) -> Result<(), Refu
     ensures err { OnErr result (SameAdditions engine.old.environments engine.new.environments) }
     ensures rules { engine.new.rules ≡ engine.old.rules }
     ensures contexts { engine.new.contexts ≡ engine.old.contexts }
+    ensures waits { engine.new.waits ≡ engine.old.waits }
 {
     let is_known = engine.environments.remove(call.environment);
     known(is_known)
@@ -71,6 +75,7 @@ pub fn clear(engine: &mut Engine) -> Result<(), Refused>
     ensures done { OnOk result (ForgetsAll engine.old engine.new) }
     ensures numbers { NumbersRise engine.old engine.new }
     ensures ok { IsOk result }
+    ensures waits { asked_of engine.new.waits.stops ≡ None }
 {
     engine.clear();
     Ok(())

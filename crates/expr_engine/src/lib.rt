@@ -11,9 +11,11 @@ mod filling;
 mod lent;
 mod letting;
 mod looking;
+mod replying;
 mod rule;
 mod running;
 mod serving;
+mod waiting;
 
 pub use additions::{Additions, LentHost};
 pub use call::{Ask, Call};
@@ -23,3 +25,4 @@ pub use expr_kept::Handle;
 pub use lent::LentNames;
 pub use rule::Rule;
 pub use serving::serve;
+pub use waiting::Waiting;

@@ -32,6 +32,7 @@ pub fn look(engine: &mut Engine, call: &mut Call<'_>) -> Result<(), Refused>
     ensures rules { engine.new.rules ≡ engine.old.rules }
     ensures contexts { engine.new.contexts ≡ engine.old.contexts }
     ensures environments { engine.new.environments ≡ engine.old.environments }
+    ensures waits { engine.new.waits ≡ engine.old.waits }
 {
     describe(engine.answer.part(), call);
     Ok(())
@@ -45,6 +46,7 @@ pub fn look_down(engine: &mut Engine, call: &mut Call<'_>) -> Result<(), Refused
     ensures rules { engine.new.rules ≡ engine.old.rules }
     ensures contexts { engine.new.contexts ≡ engine.old.contexts }
     ensures environments { engine.new.environments ≡ engine.old.environments }
+    ensures waits { engine.new.waits ≡ engine.old.waits }
 {
     engine.answer.go_down(call.number)?;
     describe(engine.answer.part(), call);
@@ -59,6 +61,7 @@ pub fn look_up(engine: &mut Engine, call: &mut Call<'_>) -> Result<(), Refused>
     ensures rules { engine.new.rules ≡ engine.old.rules }
     ensures contexts { engine.new.contexts ≡ engine.old.contexts }
     ensures environments { engine.new.environments ≡ engine.old.environments }
+    ensures waits { engine.new.waits ≡ engine.old.waits }
 {
     engine.answer.go_up()?;
     describe(engine.answer.part(), call);
@@ -73,6 +76,7 @@ pub fn show_key(engine: &mut Engine, call: &mut Call<'_>) -> Result<(), Refused>
     ensures rules { engine.new.rules ≡ engine.old.rules }
     ensures contexts { engine.new.contexts ≡ engine.old.contexts }
     ensures environments { engine.new.environments ≡ engine.old.environments }
+    ensures waits { engine.new.waits ≡ engine.old.waits }
 {
     let key = key_of(engine.alloc, engine.answer.part(), call.number)?;
     describe(&key, call);
@@ -98,6 +102,7 @@ pub fn say_shown(engine: &mut Engine) -> Result<(), Refused>
     ensures rules { engine.new.rules ≡ engine.old.rules }
     ensures contexts { engine.new.contexts ≡ engine.old.contexts }
     ensures environments { engine.new.environments ≡ engine.old.environments }
+    ensures waits { engine.new.waits ≡ engine.old.waits }
 {
     engine.said = engine.answer.part().to_string(engine.alloc)?;
     Ok(())
@@ -111,6 +116,7 @@ pub fn say_text(engine: &mut Engine) -> Result<(), Refused>
     ensures rules { engine.new.rules ≡ engine.old.rules }
     ensures contexts { engine.new.contexts ≡ engine.old.contexts }
     ensures environments { engine.new.environments ≡ engine.old.environments }
+    ensures waits { engine.new.waits ≡ engine.old.waits }
 {
     engine.said = engine.answer.part().string_text(engine.alloc)?;
     Ok(())
@@ -124,6 +130,7 @@ pub fn say_json(engine: &mut Engine) -> Result<(), Refused>
     ensures rules { engine.new.rules ≡ engine.old.rules }
     ensures contexts { engine.new.contexts ≡ engine.old.contexts }
     ensures environments { engine.new.environments ≡ engine.old.environments }
+    ensures waits { engine.new.waits ≡ engine.old.waits }
 {
     engine.said = to_json(engine.alloc, engine.answer.part())?.into_string();
     Ok(())

@@ -3,10 +3,12 @@ ghost use Rattle.expr_code.specs.Codes.{IsCode};
 ghost use Rattle.expr_engine.specs.Codes.{code_of};
 ghost use Rattle.expr_tree.specs.Written.{program_written};
 
+use crate::additions::LentHost;
 use crate::lent::LentNames;
 use expr::{Code, KeptCode, Program, Result, Value, compile_within, execution_answers_programs};
 use expr_machine::Machine;
 use expr_meaning::Functions;
+use expr_stops::{Stops, Turn};
 use std::alloc::Global;
 
 /// A program that is kept, and its code.
@@ -18,11 +20,12 @@ pub struct Rule {
 }
 
 impl Rule {
-    ghost use Rattle.std.specs.Prelude.{◌≡◌, ◌≢◌, Err, IfOk, IfErr, string_bytes};
+    ghost use Rattle.std.specs.Prelude.{◌≡◌, ◌≢◌, Err, IfOk, IfErr, None, string_bytes};
     ghost use Rattle.std.specs.Option.{option_copied};
     ghost use Rattle.expr.specs.Texts.{IsRefusedWithin};
     ghost use Rattle.expr_engine.specs.Doings.{AreSaid};
-    ghost use Rattle.expr_engine.specs.Runs.{MayGive, context_of, pairs_of};
+    ghost use Rattle.expr_engine.specs.Runs.{MayGive, context_of, host_with, named_by, pairs_of};
+    ghost use Rattle.expr_stops.specs.Stops.{IfEnded, StopsWell, asked_of, given_of};
     ghost use Rattle.expr_syntax.specs.Texts.{IsPlaced, IsProgramWithin};
     ghost use Rattle.expr_tree.specs.Written.{program_written};
     ghost use Rattle.expr_value.specs.Answers.{Gives};
@@ -68,5 +71,26 @@ impl Rule {
             provider: names,
         };
         machine.execute_once(&self.code)
+    }
+
+    /// Runs the program, with the replies that a run has, up to its end or to its next call that the host answers itself.
+    pub fn turn(
+        &self,
+        alloc: Global,
+        host: LentHost<'_>,
+        names: LentNames<'_>,
+        stops: &mut Stops,
+    ) -> Turn
+        ensures ended { IfEnded result (λ r. Gives r (MayGive
+            (host_with (option_copied host.entry.added) (given_of stops.old))
+            (context_of (pairs_of (option_copied names.entry.names))) (program_written self.now.program))) }
+        ensures stops { asked_of stops.old ≡ None → StopsWell (named_by (option_copied host.entry.added))
+            (given_of stops.old) result (asked_of stops.new) }
+        ensures given { given_of stops.new ≡ given_of stops.old }
+    {
+        match host.added {
+            Some(added) => stops.execute(&host, added.names(), &self.code, names),
+            None => Turn::Ended(self.run(alloc, &host, names)),
+        }
     }
 }

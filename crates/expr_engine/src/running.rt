@@ -1,8 +1,9 @@
 //! Asks about programs.
-ghost use Rattle.std.specs.Prelude.{◌≡◌, Err, None, IfErr, IfOk, IsUtf8, MatchOption, OnErr, OnOk};
+ghost use Rattle.std.specs.Prelude.{◌≡◌, [], Err, None, IfErr, IfOk, IsUtf8, MatchOption, OnErr, OnOk};
 ghost use Rattle.expr_engine.specs.Doings.{Compiles, RunsOnce, SaysNames, height_by, reply_of};
 ghost use Rattle.expr_engine.specs.Engines.{CompileRefuses, NumbersRise, asked};
 ghost use Rattle.expr_engine.specs.Served.{Runs};
+ghost use Rattle.expr_engine.specs.Turns.{IsBegun};
 ghost use Rattle.expr_exchange.specs.Looked.{part_of};
 ghost use Rattle.expr_kept.specs.Kept.{SameThings, found};
 
@@ -20,6 +21,7 @@ pub fn compile(engine: &mut Engine, call: &mut Call<'_>) -> Result<(), Refused>
     ensures answer { engine.new.answer ≡ engine.old.answer }
     ensures contexts { engine.new.contexts ≡ engine.old.contexts }
     ensures environments { engine.new.environments ≡ engine.old.environments }
+    ensures waits { engine.new.waits ≡ engine.old.waits }
 {
     let text = utf8(call.text)?;
     call.program = engine.compile(text, height_of(call.number))?;
@@ -45,6 +47,7 @@ pub fn names(engine: &mut Engine, call: &mut Call<'_>) -> Result<(), Refused>
     ensures rules { engine.new.rules ≡ engine.old.rules }
     ensures contexts { engine.new.contexts ≡ engine.old.contexts }
     ensures environments { engine.new.environments ≡ engine.old.environments }
+    ensures waits { engine.new.waits ≡ engine.old.waits }
 {
     let (names, count) = engine.names(call.program)?;
     call.number = i64::try_from(count).unwrap_or(0);
@@ -61,13 +64,15 @@ pub fn run(engine: &mut Engine, call: &mut Call<'_>) -> Result<(), Refused>
         → asked engine.old call.old.program call.old.environment call.old.context ≡ None }
     ensures answer { OnErr result (engine.new.answer ≡ engine.old.answer) }
     ensures run { MatchOption (asked engine.old call.old.program call.old.environment call.old.context)
-        (result ≡ Err Refused.Unknown) (λ q. Runs q result (part_of engine.new.answer)) }
+        (result ≡ Err Refused.Unknown) (λ q. Runs q [] result (part_of engine.new.answer)) }
+    ensures turns { MatchOption (asked engine.old call.old.program call.old.environment call.old.context)
+        (engine.new.waits ≡ engine.old.waits) (λ q. IsBegun q call.old.program call.old.environment
+        call.old.context result engine.new.waits) }
     ensures rules { engine.new.rules ≡ engine.old.rules }
     ensures contexts { engine.new.contexts ≡ engine.old.contexts }
     ensures environments { engine.new.environments ≡ engine.old.environments }
 {
-    let answer = engine.run(call.program, call.environment, call.context)?;
-    engine.answer.keep(answer);
+    engine.run(call.program, call.environment, call.context)?;
     describe(engine.answer.part(), call);
     Ok(())
 }

@@ -4,17 +4,19 @@ ghost use Rattle.expr_engine.specs.Asks.{ask_of, shows_of};
 ghost use Rattle.expr_engine.specs.Doings.{Does, IsMissing, reply_of};
 ghost use Rattle.expr_engine.specs.Engines.{Leaves, NumbersRise, asked};
 ghost use Rattle.expr_engine.specs.Served.{Answers, Ends, Runs, number_of, text_shown};
+ghost use Rattle.expr_engine.specs.Turns.{Turns, TurnsBy};
 ghost use Rattle.expr_exchange.specs.Built.{values_of};
 ghost use Rattle.expr_exchange.specs.Looked.{part_of};
 ghost use Rattle.expr_exchange.specs.Refusals.{status_of};
 
-use crate::adding::{add_environment, set_now, zone_by_rule, zone_by_seconds};
+use crate::adding::{add_environment, add_name, set_now, zone_by_rule, zone_by_seconds};
 use crate::building::{make_array, make_map, push, unbuild};
 use crate::call::{Ask, Call, Shows};
 use crate::engine::Engine;
 use crate::filling::{built_context, new_context, set};
 use crate::letting::{clear, drop_context, drop_environment, drop_program};
 use crate::looking::{look, look_down, look_up, say_json, say_shown, say_text, show_key};
+use crate::replying::{answer_call, look_asked, refuse_call};
 use crate::running::{compile, names, run};
 use expr_exchange::{Refused, Status, bytes_of};
 
@@ -28,7 +30,11 @@ pub fn serve(engine: &mut Engine, call: &mut Call<'_>)
     // finds nothing.
     ensures run { ask_of call.old.ask ≡ Some Ask.Run → MatchOption
         (asked engine.old call.old.program call.old.environment call.old.context) (call.new.status ≡ 6)
-        (λ q. Answers q call.new.status (part_of engine.new.answer)) }
+        (λ q. Answers q [] call.new.status (part_of engine.new.answer)) }
+    // The run that waits for the host's reply: one that was begun, or that goes on with the reply, or the same.
+    ensures turns { MatchOption (ask_of call.old.ask) (engine.new.waits ≡ engine.old.waits)
+        (λ ask. TurnsBy ask engine.old call.old call.new.status engine.new.waits
+        (part_of engine.new.answer)) }
     ensures refused { call.new.status ≢ 0 → Leaves engine.old engine.new }
     ensures built { call.new.status ≢ 0 → values_of engine.new.built ≡ [] }
     // A handle that is out of date, or was never given, is UNKNOWN, and nothing else is.
@@ -55,7 +61,8 @@ fn act(engine: &mut Engine, call: &mut Call<'_>, ask: Ask) -> Result<(), Refused
     ensures done { OnOk result (Does ask engine.old engine.new call.old (reply_of call.new)) }
     ensures run { ask ≡ Ask.Run → MatchOption
         (asked engine.old call.old.program call.old.environment call.old.context)
-        (result ≡ Err Refused.Unknown) (λ q. Runs q result (part_of engine.new.answer)) }
+        (result ≡ Err Refused.Unknown) (λ q. Runs q [] result (part_of engine.new.answer)) }
+    ensures turns { Turns ask engine.old call.old result engine.new.waits (part_of engine.new.answer) }
     ensures refused { OnErr result (Leaves engine.old engine.new) }
     ensures unknown { IsMissing ask engine.old call.old → result ≡ Err Refused.Unknown }
     ensures known { result ≡ Err Refused.Unknown → IsMissing ask engine.old call.old }
@@ -88,6 +95,10 @@ fn act(engine: &mut Engine, call: &mut Call<'_>, ask: Ask) -> Result<(), Refused
         Ask::DropContext => drop_context(engine, call),
         Ask::DropEnvironment => drop_environment(engine, call),
         Ask::Clear => clear(engine),
+        Ask::Name => add_name(engine, call),
+        Ask::Answer => answer_call(engine, call),
+        Ask::Refuse => refuse_call(engine, call),
+        Ask::Asked => look_asked(engine, call),
     }
 }
 
@@ -98,6 +109,7 @@ fn finish(engine: &mut Engine, call: &mut Call<'_>, shows: Shows, done: Result<(
     ensures rules { engine.new.rules ≡ engine.old.rules }
     ensures contexts { engine.new.contexts ≡ engine.old.contexts }
     ensures environments { engine.new.environments ≡ engine.old.environments }
+    ensures waits { engine.new.waits ≡ engine.old.waits }
     ensures built { OnErr done (values_of engine.new.built ≡ []) }
     ensures reply { reply_of call.new ≡ reply_of call.old }
     ensures ended { Ends done call.new.status }
@@ -151,6 +163,8 @@ fn number(status: Status) -> u32
         Status::Memory => 5,
         Status::Unknown => 6,
         Status::Misuse => 7,
+        Status::Asks => 8,
+        Status::Differs => 9,
     }
 }
 
@@ -160,6 +174,7 @@ fn refuse(engine: &mut Engine, refused: &Refused, call: &mut Call<'_>) -> Status
     ensures contexts { engine.new.contexts ≡ engine.old.contexts }
     ensures environments { engine.new.environments ≡ engine.old.environments }
     ensures answer { engine.new.answer ≡ engine.old.answer }
+    ensures waits { engine.new.waits ≡ engine.old.waits }
     ensures built { values_of engine.new.built ≡ [] }
     ensures reply { reply_of call.new ≡ reply_of call.old }
     ensures status { (result ≡ status_of refused.now) ⊎ (result ≡ Status.Memory) }

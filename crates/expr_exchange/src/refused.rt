@@ -1,4 +1,4 @@
-//! Why a host is refused.
+//! Why a host gets no answer.
 ghost use Rattle.std.specs.Prelude.{◌≡◌};
 ghost use Rattle.expr_exchange.specs.Refusals.{status_of};
 ghost use Rattle.expr_exchange.specs.declared.refused.Refused.TheVariants.{Language};
@@ -20,9 +20,13 @@ pub enum Status {
     Unknown,
     /// What is asked stands for nothing: an unknown number, bytes that are not UTF-8, an item that isn't there.
     Misuse,
+    /// A run waits for the host's reply to a call of one of its functions.
+    Asks,
+    /// A run came to another call than the one that was replied to.
+    Differs,
 }
 
-/// Why a host is refused.
+/// Why a host gets no answer.
 #[derive(Drop)]
 pub enum Refused {
     /// The language refuses.
@@ -31,6 +35,10 @@ pub enum Refused {
     Unknown,
     /// What is asked stands for nothing.
     Misuse,
+    /// A run waits for the host's reply.
+    Asks,
+    /// A run came to another call than the one that was replied to.
+    Differs,
 }
 
 impl Refused {
@@ -46,6 +54,8 @@ impl Refused {
             Refused::Language(Error::MemoryError) => Status::Memory,
             Refused::Unknown => Status::Unknown,
             Refused::Misuse => Status::Misuse,
+            Refused::Asks => Status::Asks,
+            Refused::Differs => Status::Differs,
         }
     }
 }

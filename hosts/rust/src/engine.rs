@@ -1,7 +1,7 @@
 //! The engine of a thread, and what is kept in it for values of this crate, which go from thread to thread.
 use crate::error::{Error, Place, Result};
 use crate::map::Map;
-use crate::raw::{kind, Ask, Asked, Handle, Raw, Told};
+use crate::raw::{kind, Ask, Asked, Handle, Raw, Told, ASKS, DIFFERS};
 use crate::value::{DateTimeValue, Value};
 use std::cell::RefCell;
 use std::sync::{Arc, Mutex, MutexGuard, PoisonError};
@@ -12,10 +12,12 @@ type Inbox = Arc<Mutex<Vec<(Ask, Handle)>>>;
 struct Engine {
     raw: Raw,
     inbox: Inbox,
+    /// How many runs were begun.
+    runs: u64,
 }
 
 thread_local! {
-    static ENGINE: RefCell<Engine> = RefCell::new(Engine { raw: Raw::open(), inbox: Inbox::default() });
+    static ENGINE: RefCell<Engine> = RefCell::new(Engine { raw: Raw::open(), inbox: Inbox::default(), runs: 0 });
 }
 
 /// A thing that is kept in the engine of one thread, and let go of with this value.
@@ -99,17 +101,18 @@ impl Copies {
 pub struct Session<'e> {
     raw: &'e mut Raw,
     inbox: &'e Inbox,
+    runs: &'e mut u64,
 }
 
 /// Uses the engine of this thread.
 pub fn with_engine<T>(work: impl FnOnce(&mut Session<'_>) -> Result<T>) -> Result<T> {
     ENGINE.with(|engine| {
         let mut engine = engine.borrow_mut();
-        let Engine { raw, inbox } = &mut *engine;
+        let Engine { raw, inbox, runs } = &mut *engine;
         for (drop, handle) in lock(inbox).drain(..) {
             raw.call(drop, asked_about(drop, handle));
         }
-        work(&mut Session { raw, inbox })
+        work(&mut Session { raw, inbox, runs })
     })
 }
 
@@ -123,6 +126,52 @@ impl Session<'_> {
         }
     }
 
+    /// Begins a run: what is told of its answer, or None where it waits for a reply.
+    pub fn run(&mut self, asked: Asked<'_>) -> Result<Option<Told>> {
+        *self.runs += 1;
+        self.turn(Ask::Run, asked)
+    }
+
+    /// The number of the run that was begun last.
+    pub fn run_number(&self) -> u64 {
+        *self.runs
+    }
+
+    /// Whether this run was the last to be begun.
+    pub fn run_is(&self, number: u64) -> bool {
+        *self.runs == number
+    }
+
+    fn turn(&mut self, ask: Ask, asked: Asked<'_>) -> Result<Option<Told>> {
+        let told = self.raw.call(ask, asked);
+        match told.status {
+            0 => Ok(Some(told)),
+            ASKS => Ok(None),
+            status => Err(self.refusal(status, &told)),
+        }
+    }
+
+    /// The name of the function that is called, and the arguments.
+    pub fn asked(&mut self) -> Result<(String, Vec<Value>)> {
+        let told = self.ask(Ask::Asked, Asked::default())?;
+        let name = self.text(&told, Ask::Said);
+        match self.value(&told)? {
+            Value::Array(arguments) => Ok((name, arguments)),
+            _ => Ok((name, Vec::new())),
+        }
+    }
+
+    /// Goes on with the run that waits, whose call answers so.
+    pub fn reply(&mut self, reply: &Result<Value>) -> Result<Option<Told>> {
+        match reply {
+            Ok(value) => {
+                self.push(value)?;
+                self.turn(Ask::Answer, Asked::default())
+            }
+            Err(error) => self.turn(Ask::Refuse, Asked { text: error.to_string().as_bytes(), ..Asked::default() }),
+        }
+    }
+
     fn refusal(&mut self, status: u32, told: &Told) -> Error {
         let message = self.text(told, Ask::Said);
         match status {
@@ -131,6 +180,7 @@ impl Session<'_> {
             3 => Error::ExprError(message),
             4 => Error::RegexError(message),
             5 => Error::MemoryError,
+            DIFFERS => Error::ExprError("a run came to another call than the one that was replied to".into()),
             _ => Error::ExprError("the engine has no such value".into()),
         }
     }

@@ -1,10 +1,12 @@
 //! What a host adds to the language.
 use crate::context::Context;
 use crate::engine::{with_engine, Copies, Session};
-use crate::error::Result;
+use crate::error::{Error, Result};
 use crate::program::{compile, Program};
-use crate::raw::{Ask, Asked, Handle, NONE};
+use crate::raw::{Ask, Asked, Handle, Told, NONE};
 use crate::value::{DateTimeValue, Value};
+use std::collections::HashMap;
+use std::fmt;
 
 /// What a program answers in a context, where the host adds nothing.
 pub fn run(program: &Program, ctx: &Context) -> Result<Value> {
@@ -22,15 +24,52 @@ pub fn eval(code: &str, ctx: &Context) -> Result<Value> {
 }
 
 fn answer(engine: &mut Session<'_>, program: &Program, environment: Handle, ctx: &Context) -> Result<Value> {
+    match started(engine, program, environment, ctx)? {
+        Turn::Ended(value) => Ok(value),
+        Turn::Asks(call, _) => Err(Error::ExprError(call.ident)),
+    }
+}
+
+/// How a run went: to its end, or to a call that the host answers, by the number of the run.
+enum Turn {
+    Ended(Value),
+    Asks(ExprCall, u64),
+}
+
+fn started(engine: &mut Session<'_>, program: &Program, environment: Handle, ctx: &Context) -> Result<Turn> {
     let asked = Asked {
         program: program.handle(engine)?,
         environment,
         context: ctx.handle(engine)?,
         ..Asked::default()
     };
-    let told = engine.ask(Ask::Run, asked)?;
-    engine.value(&told)
+    let told = engine.run(asked)?;
+    turned(engine, told)
 }
+
+fn go_on(engine: &mut Session<'_>, reply: &Result<Value>) -> Result<Turn> {
+    let told = engine.reply(reply)?;
+    turned(engine, told)
+}
+
+fn turned(engine: &mut Session<'_>, told: Option<Told>) -> Result<Turn> {
+    match told {
+        Some(told) => Ok(Turn::Ended(engine.value(&told)?)),
+        None => {
+            let (ident, args) = engine.asked()?;
+            Ok(Turn::Asks(ExprCall { ident, args }, engine.run_number()))
+        }
+    }
+}
+
+/// A call of a function that a host added.
+#[derive(Clone, Debug, PartialEq)]
+pub struct ExprCall {
+    pub ident: String,
+    pub args: Vec<Value>,
+}
+
+type Function = Box<dyn Fn(ExprCall) -> Result<Value> + Send + Sync>;
 
 /// A zone that a host adds.
 #[derive(Clone, Debug)]
@@ -39,7 +78,7 @@ enum Zone {
     Rule(String),
 }
 
-/// What a host adds to the language: zones, and the moment that is now.
+/// What a host adds to the language: functions, zones, and the moment that is now.
 ///
 /// ```
 /// use expr::{Context, Environment};
@@ -49,8 +88,9 @@ enum Zone {
 /// let hour = env.eval("now().In(timezone('Asia/Kolkata')).Hour()", &Context::default()).unwrap();
 /// assert_eq!(hour.as_integer(), Some(15));
 /// ```
-#[derive(Debug, Default)]
+#[derive(Default)]
 pub struct Environment {
+    functions: HashMap<String, Function>,
     zones: Vec<(String, Zone)>,
     now: Option<DateTimeValue>,
     copies: Copies,
@@ -72,6 +112,30 @@ impl Environment {
         self.add(name, Zone::Rule(rule.into()))
     }
 
+    /// Adds a function, in place of an earlier one of this name or of one of the language. Its refusal is that of the call.
+    ///
+    /// A run stops at a call of it and begins anew with the reply, so that a program that makes n calls is run n + 1 times.
+    /// Each call is answered once; the function may run programs itself.
+    ///
+    /// ```
+    /// use expr::{Context, Environment, Error, Value};
+    /// let mut env = Environment::new();
+    /// env.add_function("price", |call| match call.args.as_slice() {
+    ///     [Value::String(article)] if article == "pen" => Ok(Value::Integer(150)),
+    ///     _ => Err(Error::ExprError("no such article".into())),
+    /// });
+    /// let order = Context::from_iter([("article", "pen")]);
+    /// assert_eq!(env.eval("price(article) * 3", &order), Ok(Value::Integer(450)));
+    /// ```
+    pub fn add_function(
+        &mut self,
+        name: impl Into<String>,
+        function: impl Fn(ExprCall) -> Result<Value> + Send + Sync + 'static,
+    ) {
+        self.copies.clear();
+        self.functions.insert(name.into(), Box::new(function));
+    }
+
     fn add(&mut self, name: &str, zone: Zone) -> Result<()> {
         self.copies.clear();
         self.zones.push((name.into(), zone));
@@ -90,10 +154,47 @@ impl Environment {
 
     /// What a program answers in a context.
     pub fn run(&self, program: &Program, ctx: &Context) -> Result<Value> {
-        with_engine(|engine| {
-            let environment = self.handle(engine)?;
-            answer(engine, program, environment, ctx)
-        })
+        let mut replies = Vec::new();
+        let mut turn = with_engine(|engine| self.begin(engine, program, ctx, &replies))?;
+        loop {
+            match turn {
+                Turn::Ended(value) => return Ok(value),
+                Turn::Asks(call, run) => {
+                    replies.push(self.call(call));
+                    turn = with_engine(|engine| match replies.last() {
+                        Some(reply) if engine.run_is(run) => go_on(engine, reply),
+                        // A function has run programs itself, so the engine waits for this run no longer.
+                        _ => self.begin(engine, program, ctx, &replies),
+                    })?;
+                }
+            }
+        }
+    }
+
+    /// What a function of the host answers.
+    fn call(&self, call: ExprCall) -> Result<Value> {
+        match self.functions.get(&call.ident) {
+            Some(function) => function(call),
+            None => Err(Error::ExprError(call.ident)),
+        }
+    }
+
+    /// Begins a run that has these replies.
+    fn begin(
+        &self,
+        engine: &mut Session<'_>,
+        program: &Program,
+        ctx: &Context,
+        replies: &[Result<Value>],
+    ) -> Result<Turn> {
+        let environment = self.handle(engine)?;
+        let mut turn = started(engine, program, environment, ctx)?;
+        for reply in replies {
+            if let Turn::Asks(..) = turn {
+                turn = go_on(engine, reply)?;
+            }
+        }
+        Ok(turn)
     }
 
     /// What a text answers in a context.
@@ -112,6 +213,9 @@ impl Environment {
     }
 
     fn fill(&self, engine: &mut Session<'_>, environment: Handle) -> Result<()> {
+        for name in self.functions.keys() {
+            engine.ask(Ask::Name, Asked { environment, name: name.as_bytes(), ..Asked::default() })?;
+        }
         for (name, zone) in &self.zones {
             let asked = Asked { environment, name: name.as_bytes(), ..Asked::default() };
             match zone {
@@ -124,5 +228,16 @@ impl Environment {
             engine.ask(Ask::Now, Asked { environment, number, fraction, ..Asked::default() })?;
         }
         Ok(())
+    }
+}
+
+impl fmt::Debug for Environment {
+    fn fmt(&self, f: &mut fmt::Formatter<'_>) -> fmt::Result {
+        let functions: Vec<&String> = self.functions.keys().collect();
+        f.debug_struct("Environment")
+            .field("functions", &functions)
+            .field("zones", &self.zones)
+            .field("now", &self.now)
+            .finish()
     }
 }

@@ -30,7 +30,7 @@ mod raw;
 mod value;
 
 pub use context::Context;
-pub use environment::{eval, run, Environment};
+pub use environment::{eval, run, Environment, ExprCall};
 pub use error::{Error, Place, Result};
 pub use map::Map;
 pub use program::{compile, compile_within, Program};

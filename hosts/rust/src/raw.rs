@@ -102,7 +102,16 @@ pub enum Ask {
     DropContext,
     DropEnvironment,
     Clear,
+    Name,
+    Answer,
+    Refuse,
+    Asked,
 }
+
+/// The status of a run that waits for the host's reply, as `Status` of refused.rt.
+pub const ASKS: u32 = 8;
+/// The status of a run that came to another call than the one that was replied to.
+pub const DIFFERS: u32 = 9;
 
 /// Kinds of values, as `Kind` of call.rt.
 pub mod kind {

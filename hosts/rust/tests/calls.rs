@@ -1,4 +1,7 @@
-use expr::{compile, compile_within, eval, run, value, Context, DateTimeValue, Environment, Error, Map, Program, Value};
+use expr::{
+    compile, compile_within, eval, run, value, Context, DateTimeValue, Environment, Error, ExprCall, Map, Program, Value,
+};
+use std::sync::atomic::{AtomicI64, Ordering};
 
 fn alone(code: &str) -> expr::Result<Value> {
     eval(code, &Context::default())
@@ -103,4 +106,52 @@ fn programs_and_contexts_go_from_thread_to_thread() {
     });
     let moved = std::thread::spawn(move || run(&program, &shared).unwrap()).join().unwrap();
     assert_eq!(moved, Value::Integer(4));
+}
+
+fn doubled(call: ExprCall) -> expr::Result<Value> {
+    match call.args.as_slice() {
+        [Value::Integer(number)] => Ok(Value::Integer(number * 2)),
+        _ => Err(Error::ExprError("double takes an integer".into())),
+    }
+}
+
+#[test]
+fn functions_of_the_host_are_called() {
+    let mut env = Environment::new();
+    env.add_function("double", doubled);
+    let count = AtomicI64::new(0);
+    env.add_function("next", move |_| Ok(Value::Integer(count.fetch_add(1, Ordering::Relaxed))));
+    let context = Context::from_iter([("x", 5)]);
+    for (code, answer) in [
+        ("map([1, 2, 3], double(#) + x)", value!([7, 9, 11])),
+        ("filter(1..4, double(#) > 4)", value!([3, 4])),
+        ("count(1..4, double(#) > 4)", value!(2)),
+        ("x > 3 ? double(double(x)) : double()", value!(20)),
+        ("next() + next() * 10 + next() * 100", value!(210)),
+        ("false and double()", value!(false)),
+    ] {
+        assert_eq!(env.eval(code, &context), Ok(answer), "{code}");
+    }
+    assert_eq!(env.eval("1 + double('a')", &context), Err(Error::ExprError("double takes an integer".into())));
+    assert!(matches!(eval("double(1)", &context), Err(Error::ExprError(_))));
+    env.add_function("len", |call| Ok(Value::Array(call.args)));
+    assert_eq!(env.eval("len('a', {'b': nil})", &context), Ok(value!(["a", {"b": nil}])));
+    assert_eq!(eval("len('ab')", &context), Ok(value!(2)));
+}
+
+#[test]
+fn functions_run_programs_themselves() {
+    let mut inner = Environment::new();
+    inner.add_function("double", doubled);
+    let rule = compile("double(n) + 1").unwrap();
+    let mut env = Environment::new();
+    env.add_function("inner", move |call| inner.run(&rule, &Context::from_iter([("n", call.args[0].clone())])));
+    let context = Context::default();
+    assert_eq!(env.eval("map(1..4, inner(#))", &context), Ok(value!([3, 5, 7, 9])));
+    assert_eq!(env.eval("inner(inner(1)) + inner(2)", &context), Ok(value!(12)));
+    std::thread::scope(|threads| {
+        for _ in 0..4 {
+            threads.spawn(|| assert_eq!(env.eval("sum(map(1..20, inner(#)))", &context), Ok(value!(440))));
+        }
+    });
 }

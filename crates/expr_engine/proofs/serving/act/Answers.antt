@@ -1,6 +1,8 @@
 use Rattle.std.proofs.Common.{subst, sym}
 use Rattle.expr_engine.specs.Doings.{IsMissing, height_by}
 use Rattle.expr_engine.specs.Engines.{Leaves}
+use Rattle.expr_engine.specs.Turns.{Turns}
+use Rattle.expr_exchange.specs.Looked.{part_of}
 use Rattle.expr_engine.proofs.Ended.{always_ok, compile_never_unknown, never_unknown, ok_never_unknown}
 use Rattle.expr_engine.proofs.Unchanged.{left_answer, left_contexts, left_environments, left_look, left_rules, left_same, numbers_by_contexts, numbers_by_environments, numbers_by_rules, numbers_kept}
 use Rattle.expr_engine.proofs.serving.act.Goals as goal
@@ -241,3 +243,135 @@ returns-in-Clear-clause-refused c = always_ok (Leaves c.args.engine.now c.clear.
 
 pub returns-in-Clear-clause-known : goal.returns-in-Clear-clause-known
 returns-in-Clear-clause-known c = λ e. absurd (ok_never_unknown c.clear.result c.clear.ensures.ok e)
+
+pub returns-in-Name-clause-refused : goal.returns-in-Name-clause-refused
+returns-in-Name-clause-refused c = left_environments c.args.engine.now c.add_name.new.engine c.add_name.result c.add_name.ensures.rules c.add_name.ensures.contexts c.add_name.ensures.err c.add_name.ensures.answer
+
+pub returns-in-Name-clause-known : goal.returns-in-Name-clause-known
+returns-in-Name-clause-known c = λ e. subst (λ a. IsMissing a c.args.engine.now c.args.call.now) (sym c.in-Name.is) (c.add_name.ensures.known e)
+
+pub returns-in-Name-clause-unknown : goal.returns-in-Name-clause-unknown
+returns-in-Name-clause-unknown c = λ m. c.add_name.ensures.unknown (subst (λ a. IsMissing a c.args.engine.now c.args.call.now) c.in-Name.is m)
+
+pub returns-in-Name-clause-numbers : goal.returns-in-Name-clause-numbers
+returns-in-Name-clause-numbers c = numbers_by_environments c.add_name.ensures.rules c.add_name.ensures.contexts c.add_name.ensures.next
+
+pub returns-in-Answer-clause-refused : goal.returns-in-Answer-clause-refused
+returns-in-Answer-clause-refused c = left_answer c.args.engine.now c.answer_call.new.engine c.answer_call.result c.answer_call.ensures.rules c.answer_call.ensures.contexts c.answer_call.ensures.environments c.answer_call.ensures.answer
+
+pub returns-in-Answer-clause-known : goal.returns-in-Answer-clause-known
+returns-in-Answer-clause-known c = λ e. subst (λ a. IsMissing a c.args.engine.now c.args.call.now) (sym c.in-Answer.is) (c.answer_call.ensures.known e)
+
+pub returns-in-Answer-clause-unknown : goal.returns-in-Answer-clause-unknown
+returns-in-Answer-clause-unknown c = λ m. c.answer_call.ensures.unknown (subst (λ a. IsMissing a c.args.engine.now c.args.call.now) c.in-Answer.is m)
+
+pub returns-in-Answer-clause-numbers : goal.returns-in-Answer-clause-numbers
+returns-in-Answer-clause-numbers c = numbers_kept c.answer_call.ensures.rules c.answer_call.ensures.contexts c.answer_call.ensures.environments
+
+pub returns-in-Refuse-clause-refused : goal.returns-in-Refuse-clause-refused
+returns-in-Refuse-clause-refused c = left_answer c.args.engine.now c.refuse_call.new.engine c.refuse_call.result c.refuse_call.ensures.rules c.refuse_call.ensures.contexts c.refuse_call.ensures.environments c.refuse_call.ensures.answer
+
+pub returns-in-Refuse-clause-known : goal.returns-in-Refuse-clause-known
+returns-in-Refuse-clause-known c = λ e. subst (λ a. IsMissing a c.args.engine.now c.args.call.now) (sym c.in-Refuse.is) (c.refuse_call.ensures.known e)
+
+pub returns-in-Refuse-clause-unknown : goal.returns-in-Refuse-clause-unknown
+returns-in-Refuse-clause-unknown c = λ m. c.refuse_call.ensures.unknown (subst (λ a. IsMissing a c.args.engine.now c.args.call.now) c.in-Refuse.is m)
+
+pub returns-in-Refuse-clause-numbers : goal.returns-in-Refuse-clause-numbers
+returns-in-Refuse-clause-numbers c = numbers_kept c.refuse_call.ensures.rules c.refuse_call.ensures.contexts c.refuse_call.ensures.environments
+
+pub returns-in-Asked-clause-refused : goal.returns-in-Asked-clause-refused
+returns-in-Asked-clause-refused c = left_answer c.args.engine.now c.look_asked.new.engine c.look_asked.result c.look_asked.ensures.rules c.look_asked.ensures.contexts c.look_asked.ensures.environments c.look_asked.ensures.answer
+
+pub returns-in-Asked-clause-known : goal.returns-in-Asked-clause-known
+returns-in-Asked-clause-known c = λ e. absurd (never_unknown c.look_asked.result c.look_asked.ensures.found e)
+
+pub returns-in-Asked-clause-numbers : goal.returns-in-Asked-clause-numbers
+returns-in-Asked-clause-numbers c = numbers_kept c.look_asked.ensures.rules c.look_asked.ensures.contexts c.look_asked.ensures.environments
+
+pub returns-in-Compile-clause-turns : goal.returns-in-Compile-clause-turns
+returns-in-Compile-clause-turns c = subst (λ a. Turns a c.args.engine.now c.args.call.now c.compile.result c.compile.new.engine.waits (part_of c.compile.new.engine.answer)) (sym c.in-Compile.is) c.compile.ensures.waits
+
+pub returns-in-Names-clause-turns : goal.returns-in-Names-clause-turns
+returns-in-Names-clause-turns c = subst (λ a. Turns a c.args.engine.now c.args.call.now c.names.result c.names.new.engine.waits (part_of c.names.new.engine.answer)) (sym c.in-Names.is) c.names.ensures.waits
+
+pub returns-in-Run-clause-turns : goal.returns-in-Run-clause-turns
+returns-in-Run-clause-turns c = subst (λ a. Turns a c.args.engine.now c.args.call.now c.run.result c.run.new.engine.waits (part_of c.run.new.engine.answer)) (sym c.in-Run.is) c.run.ensures.turns
+
+pub returns-in-Context-clause-turns : goal.returns-in-Context-clause-turns
+returns-in-Context-clause-turns c = subst (λ a. Turns a c.args.engine.now c.args.call.now c.new_context.result c.new_context.new.engine.waits (part_of c.new_context.new.engine.answer)) (sym c.in-Context.is) c.new_context.ensures.waits
+
+pub returns-in-ContextOf-clause-turns : goal.returns-in-ContextOf-clause-turns
+returns-in-ContextOf-clause-turns c = subst (λ a. Turns a c.args.engine.now c.args.call.now c.built_context.result c.built_context.new.engine.waits (part_of c.built_context.new.engine.answer)) (sym c.in-ContextOf.is) c.built_context.ensures.waits
+
+pub returns-in-Set-clause-turns : goal.returns-in-Set-clause-turns
+returns-in-Set-clause-turns c = subst (λ a. Turns a c.args.engine.now c.args.call.now c.set.result c.set.new.engine.waits (part_of c.set.new.engine.answer)) (sym c.in-Set.is) c.set.ensures.waits
+
+pub returns-in-Push-clause-turns : goal.returns-in-Push-clause-turns
+returns-in-Push-clause-turns c = subst (λ a. Turns a c.args.engine.now c.args.call.now c.push.result c.push.new.engine.waits (part_of c.push.new.engine.answer)) (sym c.in-Push.is) c.push.ensures.waits
+
+pub returns-in-Array-clause-turns : goal.returns-in-Array-clause-turns
+returns-in-Array-clause-turns c = subst (λ a. Turns a c.args.engine.now c.args.call.now c.make_array.result c.make_array.new.engine.waits (part_of c.make_array.new.engine.answer)) (sym c.in-Array.is) c.make_array.ensures.waits
+
+pub returns-in-Map-clause-turns : goal.returns-in-Map-clause-turns
+returns-in-Map-clause-turns c = subst (λ a. Turns a c.args.engine.now c.args.call.now c.make_map.result c.make_map.new.engine.waits (part_of c.make_map.new.engine.answer)) (sym c.in-Map.is) c.make_map.ensures.waits
+
+pub returns-in-Unbuild-clause-turns : goal.returns-in-Unbuild-clause-turns
+returns-in-Unbuild-clause-turns c = subst (λ a. Turns a c.args.engine.now c.args.call.now c.unbuild.result c.unbuild.new.engine.waits (part_of c.unbuild.new.engine.answer)) (sym c.in-Unbuild.is) c.unbuild.ensures.waits
+
+pub returns-in-Look-clause-turns : goal.returns-in-Look-clause-turns
+returns-in-Look-clause-turns c = subst (λ a. Turns a c.args.engine.now c.args.call.now c.look.result c.look.new.engine.waits (part_of c.look.new.engine.answer)) (sym c.in-Look.is) c.look.ensures.waits
+
+pub returns-in-Down-clause-turns : goal.returns-in-Down-clause-turns
+returns-in-Down-clause-turns c = subst (λ a. Turns a c.args.engine.now c.args.call.now c.look_down.result c.look_down.new.engine.waits (part_of c.look_down.new.engine.answer)) (sym c.in-Down.is) c.look_down.ensures.waits
+
+pub returns-in-Up-clause-turns : goal.returns-in-Up-clause-turns
+returns-in-Up-clause-turns c = subst (λ a. Turns a c.args.engine.now c.args.call.now c.look_up.result c.look_up.new.engine.waits (part_of c.look_up.new.engine.answer)) (sym c.in-Up.is) c.look_up.ensures.waits
+
+pub returns-in-Key-clause-turns : goal.returns-in-Key-clause-turns
+returns-in-Key-clause-turns c = subst (λ a. Turns a c.args.engine.now c.args.call.now c.show_key.result c.show_key.new.engine.waits (part_of c.show_key.new.engine.answer)) (sym c.in-Key.is) c.show_key.ensures.waits
+
+pub returns-in-Shown-clause-turns : goal.returns-in-Shown-clause-turns
+returns-in-Shown-clause-turns c = subst (λ a. Turns a c.args.engine.now c.args.call.now c.say_shown.result c.say_shown.new.engine.waits (part_of c.say_shown.new.engine.answer)) (sym c.in-Shown.is) c.say_shown.ensures.waits
+
+pub returns-in-Text-clause-turns : goal.returns-in-Text-clause-turns
+returns-in-Text-clause-turns c = subst (λ a. Turns a c.args.engine.now c.args.call.now c.say_text.result c.say_text.new.engine.waits (part_of c.say_text.new.engine.answer)) (sym c.in-Text.is) c.say_text.ensures.waits
+
+pub returns-in-Json-clause-turns : goal.returns-in-Json-clause-turns
+returns-in-Json-clause-turns c = subst (λ a. Turns a c.args.engine.now c.args.call.now c.say_json.result c.say_json.new.engine.waits (part_of c.say_json.new.engine.answer)) (sym c.in-Json.is) c.say_json.ensures.waits
+
+pub returns-in-Environment-clause-turns : goal.returns-in-Environment-clause-turns
+returns-in-Environment-clause-turns c = subst (λ a. Turns a c.args.engine.now c.args.call.now c.add_environment.result c.add_environment.new.engine.waits (part_of c.add_environment.new.engine.answer)) (sym c.in-Environment.is) c.add_environment.ensures.waits
+
+pub returns-in-FixedZone-clause-turns : goal.returns-in-FixedZone-clause-turns
+returns-in-FixedZone-clause-turns c = subst (λ a. Turns a c.args.engine.now c.args.call.now c.zone_by_seconds.result c.zone_by_seconds.new.engine.waits (part_of c.zone_by_seconds.new.engine.answer)) (sym c.in-FixedZone.is) c.zone_by_seconds.ensures.waits
+
+pub returns-in-ZoneRule-clause-turns : goal.returns-in-ZoneRule-clause-turns
+returns-in-ZoneRule-clause-turns c = subst (λ a. Turns a c.args.engine.now c.args.call.now c.zone_by_rule.result c.zone_by_rule.new.engine.waits (part_of c.zone_by_rule.new.engine.answer)) (sym c.in-ZoneRule.is) c.zone_by_rule.ensures.waits
+
+pub returns-in-Now-clause-turns : goal.returns-in-Now-clause-turns
+returns-in-Now-clause-turns c = subst (λ a. Turns a c.args.engine.now c.args.call.now c.set_now.result c.set_now.new.engine.waits (part_of c.set_now.new.engine.answer)) (sym c.in-Now.is) c.set_now.ensures.waits
+
+pub returns-in-DropProgram-clause-turns : goal.returns-in-DropProgram-clause-turns
+returns-in-DropProgram-clause-turns c = subst (λ a. Turns a c.args.engine.now c.args.call.now c.drop_program.result c.drop_program.new.engine.waits (part_of c.drop_program.new.engine.answer)) (sym c.in-DropProgram.is) c.drop_program.ensures.waits
+
+pub returns-in-DropContext-clause-turns : goal.returns-in-DropContext-clause-turns
+returns-in-DropContext-clause-turns c = subst (λ a. Turns a c.args.engine.now c.args.call.now c.drop_context.result c.drop_context.new.engine.waits (part_of c.drop_context.new.engine.answer)) (sym c.in-DropContext.is) c.drop_context.ensures.waits
+
+pub returns-in-DropEnvironment-clause-turns : goal.returns-in-DropEnvironment-clause-turns
+returns-in-DropEnvironment-clause-turns c = subst (λ a. Turns a c.args.engine.now c.args.call.now c.drop_environment.result c.drop_environment.new.engine.waits (part_of c.drop_environment.new.engine.answer)) (sym c.in-DropEnvironment.is) c.drop_environment.ensures.waits
+
+pub returns-in-Clear-clause-turns : goal.returns-in-Clear-clause-turns
+returns-in-Clear-clause-turns c = subst (λ a. Turns a c.args.engine.now c.args.call.now c.clear.result c.clear.new.engine.waits (part_of c.clear.new.engine.answer)) (sym c.in-Clear.is) c.clear.ensures.waits
+
+pub returns-in-Name-clause-turns : goal.returns-in-Name-clause-turns
+returns-in-Name-clause-turns c = subst (λ a. Turns a c.args.engine.now c.args.call.now c.add_name.result c.add_name.new.engine.waits (part_of c.add_name.new.engine.answer)) (sym c.in-Name.is) c.add_name.ensures.waits
+
+pub returns-in-Answer-clause-turns : goal.returns-in-Answer-clause-turns
+returns-in-Answer-clause-turns c = subst (λ a. Turns a c.args.engine.now c.args.call.now c.answer_call.result c.answer_call.new.engine.waits (part_of c.answer_call.new.engine.answer)) (sym c.in-Answer.is) c.answer_call.ensures.turns
+
+pub returns-in-Refuse-clause-turns : goal.returns-in-Refuse-clause-turns
+returns-in-Refuse-clause-turns c = subst (λ a. Turns a c.args.engine.now c.args.call.now c.refuse_call.result c.refuse_call.new.engine.waits (part_of c.refuse_call.new.engine.answer)) (sym c.in-Refuse.is) c.refuse_call.ensures.turns
+
+pub returns-in-Asked-clause-turns : goal.returns-in-Asked-clause-turns
+returns-in-Asked-clause-turns c = subst (λ a. Turns a c.args.engine.now c.args.call.now c.look_asked.result c.look_asked.new.engine.waits (part_of c.look_asked.new.engine.answer)) (sym c.in-Asked.is) c.look_asked.ensures.waits

@@ -1,11 +1,12 @@
-use Rattle.std.proofs.Common.{◌≡◌, MatchOption, length, subst, sym}
+use Rattle.std.proofs.Common.{◌≡◌, [], MatchOption, length, subst, sym}
 use Rattle.expr_engine.specs.Asks.{ask_of, shows_of}
 use Rattle.expr_engine.specs.Doings.{Does, IsMissing, reply_of}
 use Rattle.expr_engine.specs.Engines.{asked}
 use Rattle.expr_engine.specs.Served.{Answers, text_shown}
+use Rattle.expr_engine.specs.Turns.{TurnsBy}
 use Rattle.expr_engine.specs.declared.call.Ask.TheVariants.{Run}
 use Rattle.expr_exchange.specs.Looked.{part_of}
-use Rattle.expr_engine.proofs.Ended.{asked_for, does_by, done_by, refused_by, served_by}
+use Rattle.expr_engine.proofs.Ended.{asked_for, does_by, done_by, refused_by, served_by, turns_on}
 use Rattle.expr_engine.proofs.Unchanged.{leaves_after, rise_after}
 use Rattle.expr_engine.proofs.serving.serve.Goals as goal
 
@@ -20,8 +21,19 @@ returns-in-Some-clause-run c = λ is_run.
     let is : c.in-Some.ask ≡ Run = cc (is_run, c.in-Some.ensures) in
     let found = asked c.args.engine.now c.args.call.now.program c.args.call.now.environment c.args.call.now.context in
     let status = c.finish.new.call.status in
-    subst (λ a. MatchOption found (status ≡ 6) (λ q. Answers q status (part_of a))) (sym c.finish.ensures.answer)
-    (served_by found c.act-done.result (part_of c.act-done.new.engine.answer) status (c.act-done.ensures.run is) c.finish.ensures.unknown c.finish.ensures.ended)
+    subst (λ a. MatchOption found (status ≡ 6) (λ q. Answers q [] status (part_of a))) (sym c.finish.ensures.answer)
+    (served_by found [] c.act-done.result (part_of c.act-done.new.engine.answer) status (c.act-done.ensures.run is) c.finish.ensures.unknown c.finish.ensures.ended)
+
+pub returns-in-Some-clause-turns : goal.returns-in-Some-clause-turns
+returns-in-Some-clause-turns c =
+    let new = c.finish.new.engine in
+    let status = c.finish.new.call.status in
+    asked_for (new.waits ≡ c.args.engine.now.waits) (ask_of c.args.call.now.ask) c.in-Some.ask (λ ask. TurnsBy ask c.args.engine.now c.args.call.now status new.waits (part_of new.answer)) (sym c.in-Some.ensures)
+    (record {
+      done = c.act-done.result;
+      ends = c.finish.ensures.ended;
+      turns = turns_on c.in-Some.ask c.args.engine.now c.args.call.now c.act-done.result c.act-done.new.engine new c.act-done.ensures.turns c.finish.ensures.waits c.finish.ensures.answer;
+    })
 
 pub returns-in-Some-clause-refused : goal.returns-in-Some-clause-refused
 returns-in-Some-clause-refused c = λ n.

@@ -19,4 +19,5 @@ returns-clause-added c = record {
         ) c.in_ok-name.ensures.ok;
   };
   moment = refl;
+  names = refl;
 }
