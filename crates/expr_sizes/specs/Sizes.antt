@@ -1,5 +1,5 @@
 -- How large values are: what they weigh, and how deep they are.
-use Rattle.std.specs.Prelude.{ℕ, suc, ◌+◌, ◌/◌, ◌<◌, List, length, map, max, sum_by}
+use Rattle.std.specs.Prelude.{◌≡◌, ℕ, suc, ◌+◌, ◌/◌, ◌<◌, List, length, map, max, sum_by}
 use Rattle.std.specs.List.{fold}
 use Rattle.std.specs.Map.{keys_of, values_of}
 use Rattle.expr_value.specs.declared.key.Key.{Key}
@@ -79,3 +79,11 @@ deepest vs = greatest (map depth vs)
 abbrev pub Passes : Passed → (weight depth room depths : ℕ) → Type 0
 Passes passed.Weight w d room depths = room < w
 Passes passed.Depth w d room depths = depths < d
+
+-- a value holds nothing
+abbrev pub IsBare : Value → Type 0
+IsBare v = (inside v ≡ 0) × (depth v ≡ 0)
+
+-- none of some values does
+abbrev pub AreBare : List Value → Type 0
+AreBare vs = (weights vs ≡ length vs) × (deepest vs ≡ 0)

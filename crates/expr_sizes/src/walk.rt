@@ -1,6 +1,6 @@
 //! The walk over a value and all that it holds.
-ghost use Rattle.std.specs.Prelude.{◌≡◌, ◌+◌, ◌<◌, ◌≤◌, IfOk, IfErr, IsTrue, length};
-ghost use Rattle.expr_sizes.specs.Sizes.{Passes, deepest, depth, inside, weight, weights};
+ghost use Rattle.std.specs.Prelude.{◌≡◌, ◌+◌, ◌<◌, ◌≤◌, IfOk, IfErr, IsTrue};
+ghost use Rattle.expr_sizes.specs.Sizes.{AreBare, IsBare, Passes, deepest, depth, inside, weight, weights};
 
 use crate::passed::Passed;
 use crate::units::{load, take, take_keys, take_names};
@@ -80,10 +80,41 @@ fn weigh_items(items: &[Value], room: u64, depths: usize) -> Result<u64, Passed>
     Ok(left)
 }
 
-// Whether all of these hold nothing.
+// Whether all of these hold nothing. Integers are passed by fours.
 #[inline(always)]
 fn are_plain(items: &[Value]) -> bool
-    ensures { IsTrue result → (weights items.now ≡ length items.now) × (deepest items.now ≡ 0) }
+    ensures { IsTrue result → AreBare items.now }
+{
+    let mut left = items;
+    while let [first, second, third, fourth, rest @ ..] = left {
+        if !are_integers(first, second, third, fourth) {
+            return are_plain_each(left);
+        }
+        left = rest;
+    }
+    are_plain_each(left)
+}
+
+// Whether four values are integers. It is told of all at once, with no jump between.
+#[inline(always)]
+fn are_integers(first: &Value, second: &Value, third: &Value, fourth: &Value) -> bool
+    ensures { IsTrue result → IsBare first.now × (IsBare second.now
+        × (IsBare third.now × IsBare fourth.now)) }
+{
+    is_integer(first) & is_integer(second) & (is_integer(third) & is_integer(fourth))
+}
+
+#[inline(always)]
+fn is_integer(value: &Value) -> bool
+    ensures { IsTrue result → IsBare value.now }
+{
+    matches!(value, Value::Integer(_))
+}
+
+// Whether all of these hold nothing, by one after another.
+#[inline(always)]
+fn are_plain_each(items: &[Value]) -> bool
+    ensures { IsTrue result → AreBare items.now }
 {
     for item in items {
         if !is_plain(item) {
@@ -96,7 +127,7 @@ fn are_plain(items: &[Value]) -> bool
 /// Whether it is a value, of those that are met most, that holds nothing.
 #[inline(always)]
 pub fn is_plain(value: &Value) -> bool
-    ensures { IsTrue result → (inside value.now ≡ 0) × (depth value.now ≡ 0) }
+    ensures { IsTrue result → IsBare value.now }
 {
     matches!(value, Value::Integer(_) | Value::Bool(_) | Value::Nil)
 }

@@ -59,7 +59,8 @@ pub fn compile_bounded(alloc: Global, code: &str, height: usize, patterns: u64) 
 /// Whether the literal patterns of a text weigh no more together than this. A text in which the bytes `matches` stand
 /// nowhere has none, so that its tokens aren't read.
 fn is_light(alloc: Global, code: &str, patterns: u64) -> Result<bool>
-    ensures answer { IfOk result (λ is. MatchBool is (IsLight code.now patterns) (IsHeavier code.now patterns)) }
+    ensures answer { IfOk result (λ is.
+        MatchBool is (IsLight code.now patterns) (IsHeavier code.now patterns)) }
     ensures refused { IfErr result (λ e. e ≡ declared.MemoryError) }
 {
     if !has_matches(code) {

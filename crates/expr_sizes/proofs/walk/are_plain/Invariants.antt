@@ -1,6 +1,10 @@
-use Rattle.std.proofs.Common.{◌≡◌, ◌≤◌, take}
-use Rattle.expr_sizes.specs.Sizes.{deepest, weights}
+use Rattle.std.proofs.Common.{length}
+use Rattle.expr_sizes.specs.Sizes.{AreBare}
 use Rattle.expr_sizes.proofs.walk.are_plain.Given as goal
 
-abbrev pub invariant-loop-item : goal.invariant-loop-item
-invariant-loop-item l = (weights (take l.item-index l.items) ≡ l.item-index) × (deepest (take l.item-index l.items) ≤ 0)
+-- where those that are left hold nothing, none does
+abbrev pub invariant-loop-left : goal.invariant-loop-left
+invariant-loop-left l = AreBare l.left → AreBare l.items
+
+abbrev pub decreases-loop-left : goal.decreases-loop-left
+decreases-loop-left l = length l.left
