@@ -15,4 +15,4 @@ pub use cost::{Cost, charge};
 pub use keeps::{Keeps, first_kept};
 pub use kind::Kind;
 pub use measures::{look_work, seeking};
-pub use operators::{operator_cost, span_room};
+pub use operators::{operator_cost, short_work, span_room};

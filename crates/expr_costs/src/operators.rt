@@ -36,6 +36,26 @@ pub fn operator_cost(operator: Operator, left: &Value, right: &Value, bound: u64
     Some(Cost { work, room })
 }
 
+/// The work of an operator on two texts, each of less than 16 bytes. There is no room to be had for it. Nothing is told of
+/// other values, nor of a sum or a pattern.
+#[inline(always)]
+pub fn short_work(operator: Operator, left: &Value, right: &Value) -> Option<u64>
+    ensures { IfSome result (λ work. (operator_work operator left.now right.now ≡ work)
+        × (operator_room operator left.now right.now ≡ 0)) }
+{
+    let (Value::String(left), Value::String(right)) = (left, right) else {
+        return None;
+    };
+    if left.len() >= 16 || right.len() >= 16 {
+        return None;
+    }
+    match operator {
+        Operator::Add | Operator::Matches => None,
+        Operator::In | Operator::NotIn | Operator::Contains => Some(1),
+        _ => Some(0),
+    }
+}
+
 /// The room for the text that two are made into: 0 where the left is no text.
 #[inline(always)]
 fn joined_load(left: &Value, right: &Value) -> u128

@@ -7,7 +7,7 @@ ghost use Rattle.expr_meter.specs.Rooms.{Holds, Takes, steps_left, within};
 use crate::limit::Limit;
 use crate::limits::Limits;
 use crate::meter::Meter;
-use expr_sizes::{Passed, is_plain, weigh, weigh_inside};
+use expr_sizes::{Passed, is_plain, load, weigh, weigh_inside};
 use expr_value::Value;
 use std::alloc::AllocError;
 
@@ -68,6 +68,15 @@ impl Budget {
         self.steps -= steps;
         self.size -= size;
         Ok(())
+    }
+
+    /// A value of such a weight is held that has no parts.
+    #[inline(always)]
+    fn take_both(&mut self, weight: u64) -> Result<(), AllocError>
+        ensures { Charges result (Holds weight 0)
+            (⟦<Budget as Meter>⟧.metered self.old) (⟦<Budget as Meter>⟧.metered self.new) }
+    {
+        self.take(weight, weight)
     }
 
     /// The most that a value may weigh which is held.
@@ -131,11 +140,29 @@ impl Budget {
         ensures { Charges result (Holds (3 + count) 1)
             (⟦<Budget as Meter>⟧.metered self.old) (⟦<Budget as Meter>⟧.metered self.new) }
     {
+        self.hold_flat(3, count)
+    }
+
+    /// An array of so many scalars is kept beside others.
+    #[inline(always)]
+    pub fn keep_array(&mut self, count: u64) -> Result<(), AllocError>
+        ensures { Charges result (Holds (4 + count) 1)
+            (⟦<Budget as Meter>⟧.metered self.old) (⟦<Budget as Meter>⟧.metered self.new) }
+    {
+        self.hold_flat(4, count)
+    }
+
+    /// An array of so many scalars is held, which takes so many units beside them.
+    #[inline(always)]
+    fn hold_flat(&mut self, units: u64, count: u64) -> Result<(), AllocError>
+        ensures { Charges result (Holds (units + count) 1)
+            (⟦<Budget as Meter>⟧.metered self.old) (⟦<Budget as Meter>⟧.metered self.new) }
+    {
         if self.depth == 0 {
             self.stopped = Some(Limit::Depth);
             return Err(AllocError);
         }
-        self.take(3, 3)?;
+        self.take(units, units)?;
         self.take(count, count)
     }
 }
@@ -178,6 +205,9 @@ impl Meter for Budget {
         if is_plain(value) {
             return Ok(());
         }
+        if let Value::String(text) = value {
+            return self.take_both(1 + load(text.len()));
+        }
         self.hold_inside(value)
     }
 
@@ -185,6 +215,9 @@ impl Meter for Budget {
     fn keep(&mut self, value: &Value) -> Result<(), AllocError> {
         if is_plain(value) {
             return self.take(1, 1);
+        }
+        if let Value::String(text) = value {
+            return self.take_both(2 + load(text.len()));
         }
         self.hold_whole(value)
     }

@@ -1,8 +1,10 @@
 pub mod After
 pub mod Flat
 pub mod Kept
+pub mod Last
 pub mod Leaving
 pub mod Light
 pub mod Plain
+pub mod Soon
 pub mod Turned
 pub mod Worked

@@ -47,6 +47,7 @@ pub fn keep_reply(
 }
 
 /// Lets go of what was held since a mark was taken, and counts a value that is kept if this holds.
+#[inline(always)]
 fn keep_if(budget: &mut Budget, mark: u64, holds: bool, value: &Value) -> Result<(), AllocError>
     ensures { Charges result (λ now r. KeepsAll rooms
         (if holds then value.now ∷ [] else []) (with_size mark now) r)

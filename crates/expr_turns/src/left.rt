@@ -1,5 +1,5 @@
 //! What an instruction has left, counted after it.
-ghost use Rattle.std.specs.Prelude.{◌<◌, ◌≡◌, List, length};
+ghost use Rattle.std.specs.Prelude.{◌<◌, ◌≡◌, ◌∷◌, [], List, length};
 ghost use Rattle.expr_costs.specs.Costs.{op_leaves};
 ghost use Rattle.expr_costs.specs.Measures.{length_of as items};
 ghost use Rattle.expr_instructions.specs.InMemory.{op_of};
@@ -7,6 +7,8 @@ ghost use Rattle.expr_machine.specs.Texts.{text_of};
 ghost use Rattle.expr_meaning.specs.Host.{no_host};
 ghost use Rattle.expr_meter.specs.Counts.{either};
 ghost use Rattle.expr_meter.specs.Metered.{Charges};
+ghost use Rattle.expr_meter.specs.Rooms.{Holds};
+ghost use Rattle.expr_sizes.specs.Sizes.{depth, weight};
 ghost use Rattle.expr_stack.specs.Cells.{shown_all};
 ghost use Rattle.expr_turns.specs.Turns.{HasTop, IsCounted, IsFlat, MadeBy, MadeTop, SpansFlat};
 ghost use Rattle.expr_value.specs.declared.value.Value.{Value as declared};
@@ -50,7 +52,11 @@ pub(crate) fn count_left<L: Holder<Value>, N: Holder<String>, K: Holder<Pattern>
 
 /// Counts the top, which was made.
 #[inline(always)]
-fn count_made(stack: &Stack<'_>, kept: &[Value], budget: &mut Budget) -> Result<(), AllocError>
+pub(crate) fn count_made(
+    stack: &Stack<'_>,
+    kept: &[Value],
+    budget: &mut Budget,
+) -> Result<(), AllocError>
     requires { 0 < length stack.now }
     ensures { Charges result (MadeTop (shown_all kept.now stack.now))
         (⟦<Budget as Meter>⟧.metered budget.old) (⟦<Budget as Meter>⟧.metered budget.new) }
@@ -74,9 +80,19 @@ fn count_range(stack: &Stack<'_>, kept: &[Value], budget: &mut Budget) -> Result
     budget.made_array(length_of(top.get()))
 }
 
+/// Keeps an array of scalars beside others: its length tells what it weighs.
+#[inline(always)]
+pub fn keep_flat(value: &Value, budget: &mut Budget) -> Result<(), AllocError>
+    requires { IsFlat (value.now ∷ []) }
+    ensures { Charges result (Holds (weight value.now) (depth value.now))
+        (⟦<Budget as Meter>⟧.metered budget.old) (⟦<Budget as Meter>⟧.metered budget.new) }
+{
+    budget.keep_array(length_of(value))
+}
+
 /// How many items an array has.
 #[inline(always)]
-fn length_of(value: &Value) -> u64
+pub(crate) fn length_of(value: &Value) -> u64
     ensures { result ≡ items value.now }
 {
     match value {

@@ -9,4 +9,5 @@ mod left;
 mod values;
 
 pub use carried::{Carried, keep_reply};
-pub use counted::{push_name, turn};
+pub use counted::{last_span, push_name, turn};
+pub use left::keep_flat;

@@ -9,6 +9,6 @@ use Rattle.expr_turns.proofs.charges.charge_one.Goals as goal
 pub returns : goal.returns
 returns c =
     let was : Metered = ghosts.metered c.args.budget.now in
-    let is : Metered = ghosts.metered c.charge.new.meter in
-    on_one (λ v. Charges c.charge.result (Begins (operator_work c.args.operator v c.args.right.now) (operator_room c.args.operator v c.args.right.now)) was is) c.args.kept.now c.args.stack.now c.get.result.now
-    (c.charge.ensures _ _ c.operator_cost-cost.ensures) (c.get.ensures ∙ c.seen-left.ensures)
+    let is : Metered = ghosts.metered c.charge_operator-charged.new.budget in
+    on_one (λ v. Charges c.charge_operator-charged.result (Begins (operator_work c.args.operator v c.args.right.now) (operator_room c.args.operator v c.args.right.now)) was is) c.args.kept.now c.args.stack.now c.get.result.now
+    c.charge_operator-charged.ensures (c.get.ensures ∙ c.seen-left.ensures)
