@@ -8,5 +8,6 @@ pub mod Going
 pub mod Items
 pub mod Keepings
 pub mod Parts
+pub mod Reaching
 pub mod Replies
 pub mod Stepping
