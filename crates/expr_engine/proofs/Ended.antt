@@ -2,21 +2,36 @@
 use Rattle.std.proofs.Common.{◌≡◌, ◌≢◌, ◌⊎◌, ◌∙◌, ℕ, List, Option, None, Some, MatchOption, Result, Ok, Err, OnErr, OnOk, IfErr, IsOk, inl, inr, ap, arith, refl, rules, subst, sym}
 use Rattle.std.proofs.lemmas.Bool.{false≢true}
 use Rattle.expr_engine.specs.Doings.{Does, Reply}
-use Rattle.expr_engine.specs.Engines.{Asked, CompileRefuses, MayAnswer}
+use Rattle.expr.proofs.Stopping.{IsOfRuns, stops_of_runs}
+use Rattle.expr_costs.specs.Costs.{costs_in}
+use Rattle.expr_engine.specs.Codes.{code_of}
+use Rattle.expr_engine.specs.Engines.{Asked, CompileRefuses, MayAnswer, MayEnd}
+use Rattle.expr_engine.specs.Limiting.{LimitsBy, limits_asked}
+use Rattle.expr_engine.specs.Runs.{context_of, host_with}
 use Rattle.expr_engine.specs.Served.{Answers, Ends, Runs, Says, number_of}
 use Rattle.expr_engine.specs.Turns.{Turns}
 use Rattle.expr_engine.specs.declared.call.Ask.{Ask}
+use Rattle.expr_engine.specs.declared.call.Ask.TheVariants as is
 use Rattle.expr_engine.specs.declared.call.Call.{Call}
 use Rattle.expr_engine.specs.declared.engine.Engine.{Engine}
 use Rattle.expr_engine.specs.declared.waiting.Waiting.{Waiting}
 use Rattle.expr_exchange.specs.Looked.{part_of}
 use Rattle.expr_exchange.specs.declared.looked.Looked.{Looked}
-use Rattle.expr_exchange.specs.Refusals.{ends_by, status_of}
+use Rattle.expr_exchange.specs.Refusals.{ends_at, ends_by, status_of}
 use Rattle.expr_exchange.specs.declared.refused.Refused.{Refused}
-use Rattle.expr_exchange.specs.declared.refused.Refused.TheVariants.{Language, Unknown, Misuse, Asks, Differs}
+use Rattle.expr_exchange.specs.declared.refused.Refused.TheVariants.{Language, Unknown, Misuse, Asks, Differs, Stopped}
 use Rattle.expr_exchange.specs.declared.refused.Status.{Status}
 use Rattle.expr_exchange.specs.declared.refused.Status.TheVariants as ends
+use Rattle.expr_code.specs.Machine.{Op}
+use Rattle.expr_meaning.specs.Host.{Host}
+use Rattle.expr_meter.specs.Counting.{stops}
+use Rattle.expr_meter.specs.Rooms.{within}
+use Rattle.expr_meter.specs.declared.limit.Limit.{Limit}
+use Rattle.expr_meter.specs.declared.limit.Limit.TheVariants.{Height, Patterns, Steps, Depth, Size}
+use Rattle.expr_meter.specs.declared.limits.Limits.{Limits}
+use Rattle.expr_stops.specs.Stops.{CodeComes}
 use Rattle.expr_stops.specs.declared.given.Given.{Given}
+use Rattle.expr_value.specs.Context.{Context}
 use Rattle.expr_value.specs.Fault.{Fault, fault_of, syntax, literal, evaluation, pattern, memory}
 use Rattle.expr_value.specs.declared.value.Value.{Value}
 
@@ -26,6 +41,21 @@ said_by q given value literal m = m (search rules)
 said_by q given value evaluation m = m (search rules)
 said_by q given value pattern m = m (search rules)
 said_by q given value memory m = tt
+
+-- code stops at a limit of runs, and at none where there are no limits
+stops_at_runs : (limits : Option Limits) (host : Host) (ctx : Context) (code : List (List Op)) (limit : Limit) → CodeComes limits host ctx code (stops limit) → IsOfRuns limit
+stops_at_runs (Some limits) host ctx code limit p = stops_of_runs (costs_in host) host ctx code (within limits.steps limits.size limits.depth) limit p
+stops_at_runs None host ctx code limit p = absurd p
+
+of_runs : (q : Asked) (given : List Given) (limit : Limit) → MayEnd q given (stops limit) → IsOfRuns limit
+of_runs q given limit p = stops_at_runs q.limits (host_with q.added given) (context_of q.names) (code_of q.rule.code) limit p
+
+said_at : (q : Asked) (given : List Given) (value : Value) (limit : Limit) → MayEnd q given (stops limit) → Says q given (ends_at limit) value
+said_at q given value Height p = of_runs q given Height p
+said_at q given value Patterns p = of_runs q given Patterns p
+said_at q given value Steps p = p
+said_at q given value Depth p = p
+said_at q given value Size p = p
 
 -- what a run gives, its ending says
 pub answers_by : {A : Type 0} (q : Asked) (given : List Given) (done : Result A Refused) (value : Value) (number : ℕ) → Runs q given done value → Ends done number → Answers q given number value
@@ -38,6 +68,8 @@ answers_by q given (Err Asks) value number r (inl e) = record { status = ends.As
 answers_by q given (Err Asks) value number r (inr e) = record { status = ends.Memory; is = e; says = tt }
 answers_by q given (Err Differs) value number r (inl e) = record { status = ends.Differs; is = e; says = tt }
 answers_by q given (Err Differs) value number r (inr e) = record { status = ends.Memory; is = e; says = tt }
+answers_by q given (Err (Stopped limit)) value number r (inl e) = record { status = ends_at limit; is = e; says = said_at q given value limit r }
+answers_by q given (Err (Stopped limit)) value number r (inr e) = record { status = ends.Memory; is = e; says = tt }
 
 -- the same where a handle may find nothing
 pub served_by : {A : Type 0} (o : Option Asked) (given : List Given) (done : Result A Refused) (value : Value) (number : ℕ) → MatchOption o (done ≡ Err Unknown) (λ q. Runs q given done value) → (done ≡ Err Unknown → number ≡ 6) → Ends done number → MatchOption o (number ≡ 6) (λ q. Answers q given number value)
@@ -64,12 +96,28 @@ not_unknown evaluation e = omega arith
 not_unknown pattern e = omega arith
 not_unknown memory e = omega arith
 
+-- nor does a stop at a limit
+not_done_at : (limit : Limit) → number_of (ends_at limit) ≡ 0 → ⊥
+not_done_at Height e = omega arith
+not_done_at Patterns e = omega arith
+not_done_at Steps e = omega arith
+not_done_at Depth e = omega arith
+not_done_at Size e = omega arith
+
+not_unknown_at : (limit : Limit) → number_of (ends_at limit) ≡ 6 → ⊥
+not_unknown_at Height e = omega arith
+not_unknown_at Patterns e = omega arith
+not_unknown_at Steps e = omega arith
+not_unknown_at Depth e = omega arith
+not_unknown_at Size e = omega arith
+
 never_done : (refused : Refused) (number : ℕ) → (number ≡ number_of (status_of refused)) ⊎ (number ≡ 5) → number ≡ 0 → ⊥
 never_done (Language error) number (inl e) z = not_done (fault_of error) (sym e ∙ z)
 never_done Unknown number (inl e) z = omega arith
 never_done Misuse number (inl e) z = omega arith
 never_done Asks number (inl e) z = omega arith
 never_done Differs number (inl e) z = omega arith
+never_done (Stopped limit) number (inl e) z = not_done_at limit (sym e ∙ z)
 never_done refused number (inr e) z = omega arith
 
 -- only a handle that finds nothing ends by this number
@@ -79,10 +127,12 @@ unknown_by status (Language error) number (inl e) n z = absurd (not_unknown (fau
 unknown_by status Misuse number (inl e) n z = let k : number_of status ≡ 7 = ap (λ s. number_of s) e in absurd (omega (arith, k, n, z))
 unknown_by status Asks number (inl e) n z = let k : number_of status ≡ 8 = ap (λ s. number_of s) e in absurd (omega (arith, k, n, z))
 unknown_by status Differs number (inl e) n z = let k : number_of status ≡ 9 = ap (λ s. number_of s) e in absurd (omega (arith, k, n, z))
+unknown_by status (Stopped limit) number (inl e) n z = absurd (not_unknown_at limit (sym (ap (λ s. number_of s) e) ∙ sym n ∙ z))
 unknown_by status (Language error) number (inr e) n z = let k : number_of status ≡ 5 = ap (λ s. number_of s) e in absurd (omega (arith, k, n, z))
 unknown_by status Misuse number (inr e) n z = let k : number_of status ≡ 5 = ap (λ s. number_of s) e in absurd (omega (arith, k, n, z))
 unknown_by status Asks number (inr e) n z = let k : number_of status ≡ 5 = ap (λ s. number_of s) e in absurd (omega (arith, k, n, z))
 unknown_by status Differs number (inr e) n z = let k : number_of status ≡ 5 = ap (λ s. number_of s) e in absurd (omega (arith, k, n, z))
+unknown_by status (Stopped limit) number (inr e) n z = let k : number_of status ≡ 5 = ap (λ s. number_of s) e in absurd (omega (arith, k, n, z))
 
 -- what holds where a call is done, or refused, by the number of its ending
 pub done_by : {A P : Type 0} (done : Result A Refused) (number : ℕ) → OnOk done P → Ends done number → number ≡ 0 → P
@@ -105,8 +155,8 @@ does_by ask old mid new call m n d e r = subst (λ (x : Engine). Does ask old x 
 pub never_unknown : {A : Type 0} (r : Result A Refused) → IfErr r (λ e. e ≢ Unknown) → r ≡ Err Unknown → ⊥
 never_unknown {A} r f e = let n : Unknown ≢ Unknown = subst (λ (x : Result A Refused). IfErr x (λ e. e ≢ Unknown)) e f in n refl
 
-pub compile_never_unknown : {A : Type 0} (height : ℕ) (text : List ℕ) (r : Result A Refused) → IfErr r (CompileRefuses height text) → r ≡ Err Unknown → ⊥
-compile_never_unknown {A} height text r f e = subst (λ (x : Result A Refused). IfErr x (CompileRefuses height text)) e f
+pub compile_never_unknown : {A : Type 0} (limits : Option Limits) (text : List ℕ) (r : Result A Refused) → IfErr r (CompileRefuses limits text) → r ≡ Err Unknown → ⊥
+compile_never_unknown {A} limits text r f e = subst (λ (x : Result A Refused). IfErr x (CompileRefuses limits text)) e f
 
 -- a result that is none of a refusal
 pub always_ok : {A : Type 0} (P : Type 0) (r : Result A Refused) → IsOk r → OnErr r P
@@ -115,3 +165,49 @@ always_ok P (Err e) k = absurd (false≢true k)
 
 pub ok_never_unknown : {A : Type 0} (r : Result A Refused) → IsOk r → r ≡ Err Unknown → ⊥
 ok_never_unknown {A} r k e = false≢true (subst (λ (x : Result A Refused). IsOk x) e k)
+
+-- how a call leaves the limits, by the number of its ending
+limits_set : (o : Option Limits) (old new : Option Limits) (done : Result (Unit {0}) Refused) (number : ℕ) → Ends done number → (done ≡ Err Misuse → number ≡ 7)
+    → MatchOption o ((done ≡ Err Misuse) × (new ≡ old)) (λ limits. (done ≡ Ok tt) × (new ≡ Some limits)) → MatchOption o ((number ≡ 7) × (new ≡ old)) (λ limits. (number ≡ 0) × (new ≡ Some limits))
+limits_set None old new done number e misuse (is, same) = (misuse is, same)
+limits_set (Some limits) old new done number e misuse (is, set) = (subst (λ (d : Result (Unit {0}) Refused). Ends d number) is e, set)
+
+limits_on : (ask : Ask) (old : Option Limits) (call : Call) (done : Result (Unit {0}) Refused) (number : ℕ) (new : Option Limits) → Ends done number → (done ≡ Err Misuse → number ≡ 7)
+    → LimitsBy ask old call (done ≡ Ok tt) (done ≡ Err Misuse) new → LimitsBy ask old call (number ≡ 0) (number ≡ 7) new
+limits_on is.Limit old call done number new e misuse l = limits_set (limits_asked old call.kind call.number) old new done number e misuse l
+limits_on is.Unlimited old call done number new e misuse l = (subst (λ (d : Result (Unit {0}) Refused). Ends d number) l.0 e, l.1)
+limits_on is.Compile old call done number new e misuse l = l
+limits_on is.Names old call done number new e misuse l = l
+limits_on is.Run old call done number new e misuse l = l
+limits_on is.Context old call done number new e misuse l = l
+limits_on is.ContextOf old call done number new e misuse l = l
+limits_on is.Set old call done number new e misuse l = l
+limits_on is.Push old call done number new e misuse l = l
+limits_on is.Array old call done number new e misuse l = l
+limits_on is.Map old call done number new e misuse l = l
+limits_on is.Unbuild old call done number new e misuse l = l
+limits_on is.Look old call done number new e misuse l = l
+limits_on is.Down old call done number new e misuse l = l
+limits_on is.Up old call done number new e misuse l = l
+limits_on is.Key old call done number new e misuse l = l
+limits_on is.Shown old call done number new e misuse l = l
+limits_on is.Text old call done number new e misuse l = l
+limits_on is.Json old call done number new e misuse l = l
+limits_on is.Said old call done number new e misuse l = l
+limits_on is.Environment old call done number new e misuse l = l
+limits_on is.FixedZone old call done number new e misuse l = l
+limits_on is.ZoneRule old call done number new e misuse l = l
+limits_on is.Now old call done number new e misuse l = l
+limits_on is.DropProgram old call done number new e misuse l = l
+limits_on is.DropContext old call done number new e misuse l = l
+limits_on is.DropEnvironment old call done number new e misuse l = l
+limits_on is.Clear old call done number new e misuse l = l
+limits_on is.Name old call done number new e misuse l = l
+limits_on is.Answer old call done number new e misuse l = l
+limits_on is.Refuse old call done number new e misuse l = l
+limits_on is.Asked old call done number new e misuse l = l
+
+pub limits_by : (ask : Ask) (old : Option Limits) (call : Call) (done : Result (Unit {0}) Refused) (number : ℕ) (mid new : Option Limits) → Ends done number → (done ≡ Err Misuse → number ≡ 7)
+    → LimitsBy ask old call (done ≡ Ok tt) (done ≡ Err Misuse) mid → new ≡ mid → LimitsBy ask old call (number ≡ 0) (number ≡ 7) new
+limits_by ask old call done number mid new e misuse l same =
+    subst (λ (x : Option Limits). LimitsBy ask old call (number ≡ 0) (number ≡ 7) x) (sym same) (limits_on ask old call done number mid e misuse l)

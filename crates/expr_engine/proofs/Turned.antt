@@ -1,14 +1,15 @@
 -- Runs that begin, and runs that go on with a reply.
 use Rattle.std.proofs.Common.{◌≡◌, ◌≢◌, ◌⊎◌, ◌∙◌, ◌∷◌, ◌++◌, List, [], Option, None, Some, IsSome, IsErrAnd, IsSomeAnd, MatchOption, Result, Ok, Err, IfErr, IsOk, OnOk, inl, inr, ap, rules, refl, subst, sym}
 use Rattle.std.proofs.lemmas.Bool.{false≢true}
-use Rattle.expr_engine.specs.Engines.{Asked, MayAnswer}
+use Rattle.expr_engine.specs.Engines.{Asked, MayAnswer, MayEnd}
 use Rattle.expr_engine.specs.Served.{Runs}
 use Rattle.expr_engine.specs.Turns.{GoesOn, IsAnswer, IsBegun, IsSameRun, Keeps, Replies, Stands}
 use Rattle.expr_engine.specs.declared.waiting.Waiting.{Waiting}
 use Rattle.expr_exchange.specs.Refusals.{GivesHost}
 use Rattle.expr_exchange.specs.declared.refused.Refused.{Refused}
-use Rattle.expr_exchange.specs.declared.refused.Refused.TheVariants.{Language, Unknown, Misuse, Asks, Differs}
+use Rattle.expr_exchange.specs.declared.refused.Refused.TheVariants.{Language, Unknown, Misuse, Asks, Differs, Stopped}
 use Rattle.expr_kept.specs.declared.Handle.{Handle}
+use Rattle.expr_meter.specs.Counting.{stops}
 use Rattle.expr_stops.specs.Stops.{IsReplied, IsSame, asked_of, given_of}
 use Rattle.expr_stops.specs.declared.given.Given.{Given}
 use Rattle.expr_stops.specs.declared.given.Reply.{Reply}
@@ -21,7 +22,7 @@ use Rattle.expr_value.specs.declared.value.Value.{Value}
 
 -- what a run gives is kept, or passed on
 runs_kept : (q : Asked) (given : List Given) (answer : Result Value Refused) (done : Result (Unit {0}) Refused) (value : Value)
-    → GivesHost answer (MayAnswer q given) → Keeps answer done value → Runs q given done value
+    → GivesHost answer (MayAnswer q given) (λ limit. MayEnd q given (stops limit)) → Keeps answer done value → Runs q given done value
 runs_kept q given (Ok v) done value g k =
     subst (λ (d : Result (Unit {0}) Refused). Runs q given d value) (sym k.0) (subst (λ (x : Value). MayAnswer q given (Ok x)) (sym k.1) g)
 runs_kept q given (Err (Language error)) done value g k = subst (λ (d : Result (Unit {0}) Refused). Runs q given d value) (sym k) g
@@ -29,9 +30,10 @@ runs_kept q given (Err Unknown) done value g k = absurd g
 runs_kept q given (Err Misuse) done value g k = absurd g
 runs_kept q given (Err Asks) done value g k = subst (λ (d : Result (Unit {0}) Refused). Runs q given d value) (sym k) tt
 runs_kept q given (Err Differs) done value g k = subst (λ (d : Result (Unit {0}) Refused). Runs q given d value) (sym k) tt
+runs_kept q given (Err (Stopped limit)) done value g k = subst (λ (d : Result (Unit {0}) Refused). Runs q given d value) (sym k) g
 
 pub went : (o : Option Asked) (given : List Given) (answer : Result Value Refused) (done : Result (Unit {0}) Refused) (value : Value)
-    → MatchOption o (answer ≡ Err Unknown) (λ q. GivesHost answer (MayAnswer q given)) → Keeps answer done value
+    → MatchOption o (answer ≡ Err Unknown) (λ q. GivesHost answer (MayAnswer q given) (λ limit. MayEnd q given (stops limit))) → Keeps answer done value
     → MatchOption o (done ≡ Err Unknown) (λ q. Runs q given done value)
 went None given (Ok v) done value m k = let no : ⊥ = cc m in absurd no
 went None given (Err e) done value m k = let same : e ≡ Unknown = cc m in k ∙ ap Err same
@@ -46,10 +48,11 @@ stands_kept q given (Err Unknown) done value waits s k = subst (λ (d : Result (
 stands_kept q given (Err Misuse) done value waits s k = subst (λ (d : Result (Unit {0}) Refused). Stands q given d waits) (sym k) s
 stands_kept q given (Err Asks) done value waits s k = subst (λ (d : Result (Unit {0}) Refused). Stands q given d waits) (sym k) s
 stands_kept q given (Err Differs) done value waits s k = subst (λ (d : Result (Unit {0}) Refused). Stands q given d waits) (sym k) s
+stands_kept q given (Err (Stopped limit)) done value waits s k = subst (λ (d : Result (Unit {0}) Refused). Stands q given d waits) (sym k) s
 
 -- the same of a run that was taken out of an engine
 pub went_as : (o : Option Asked) (was is : Stops) (answer : Result Value Refused) (done : Result (Unit {0}) Refused) (value : Value)
-    → is ≡ was → MatchOption o (answer ≡ Err Unknown) (λ q. GivesHost answer (MayAnswer q (given_of is))) → Keeps answer done value
+    → is ≡ was → MatchOption o (answer ≡ Err Unknown) (λ q. GivesHost answer (MayAnswer q (given_of is)) (λ limit. MayEnd q (given_of is) (stops limit))) → Keeps answer done value
     → MatchOption o (done ≡ Err Unknown) (λ q. Runs q (given_of was) done value)
 went_as o was is answer done value same m k =
     subst (λ (s : Stops). MatchOption o (done ≡ Err Unknown) (λ q. Runs q (given_of s) done value)) same (went o (given_of is) answer done value m k)
@@ -104,6 +107,7 @@ by_ending Is q old new (Err Unknown) value g = absurd g.runs
 by_ending Is q old new (Err Misuse) value g = absurd g.runs
 by_ending Is q old new (Err Asks) value g = g
 by_ending Is q old new (Err Differs) value g = g
+by_ending Is q old new (Err (Stopped limit)) value g = g
 
 pub replied_by : (Is : Reply → Type 0) (o : Option Asked) (old : Waiting) (mid : Stops) (new : Waiting) (r : Reply) (done : Result (Unit {0}) Refused) (value : Value)
     → IsSome o → IsReplied old.stops mid r → Is r → IsSameRun old new → given_of new.stops ≡ given_of mid
@@ -175,6 +179,7 @@ replies_so Is Js f o old new (Err Unknown) value r = r
 replies_so Is Js f o old new (Err Misuse) value r = r
 replies_so Is Js f o old new (Err Asks) value r = weaker Is Js f o old new (Err Asks) value r
 replies_so Is Js f o old new (Err Differs) value r = weaker Is Js f o old new (Err Differs) value r
+replies_so Is Js f o old new (Err (Stopped limit)) value r = weaker Is Js f o old new (Err (Stopped limit)) value r
 
 -- the value that was built last is an answer
 pub built_last : (values front : List Value) (v : Value) → values ≡ front ++ v ∷ [] → (r : Reply) → r ≡ reply.Value v → IsAnswer values r
@@ -216,3 +221,4 @@ found_ends (Some q) given (Err Unknown) value some m = absurd m
 found_ends (Some q) given (Err Misuse) value some m = absurd m
 found_ends (Some q) given (Err Asks) value some m = λ is. cc is
 found_ends (Some q) given (Err Differs) value some m = λ is. cc is
+found_ends (Some q) given (Err (Stopped limit)) value some m = λ is. cc is

@@ -38,6 +38,8 @@ all_asks =
     ∷ is.Answer
     ∷ is.Refuse
     ∷ is.Asked
+    ∷ is.Limit
+    ∷ is.Unlimited
     ∷ []
 
 abbrev pub ask_of : ℕ → Option Ask

@@ -1,5 +1,5 @@
 -- What calls have done that are done.
-use Rattle.std.specs.Prelude.{◌≡◌, ◌+◌, ◌≤ℤ◌, ℕ, ℤ, pos, negsuc, ◌==◌, List, [], ◌∷◌, ◌++◌, None, Some, Ok, IsSome, IsSomeAnd, length, codes, if◌then◌else◌, map, String, string_bytes}
+use Rattle.std.specs.Prelude.{◌≡◌, ◌+◌, ◌≤ℤ◌, ℕ, ℤ, pos, List, [], ◌∷◌, ◌++◌, None, Some, Ok, IsSome, IsSomeAnd, length, codes, map, String, string_bytes}
 use Rattle.std.specs.List.{join_by}
 use Rattle.std.specs.Option.{unwrap_or}
 use Rattle.std.specs.declared.alloc.Global.{Global}
@@ -8,6 +8,7 @@ use Rattle.expr_encoding.specs.Reading.{json_value}
 use Rattle.expr_encoding.specs.Writing.{json_text}
 use Rattle.expr_engine.specs.Engines.{MayAnswer, asked, asked_again}
 use Rattle.expr_engine.specs.Adding.{AddsNothing, BecomesByRule, BecomesFixed, BecomesNow, GainsName}
+use Rattle.expr_engine.specs.Limiting.{IsProgramBy, limits_asked}
 use Rattle.expr_engine.specs.declared.call.Ask.{Ask}
 use Rattle.expr_engine.specs.declared.call.Ask.TheVariants as is
 use Rattle.expr_engine.specs.declared.call.Call.{Call}
@@ -24,7 +25,6 @@ use Rattle.expr_kept.specs.declared.Handle.{Handle}
 use Rattle.expr_kept.specs.declared.Kept.{Kept}
 use Rattle.expr_stops.specs.Stops.{asked_of, given_of}
 use Rattle.expr_stops.specs.declared.replay.Stop.{Stop}
-use Rattle.expr_syntax.specs.Texts.{IsProgramWithin}
 use Rattle.expr_tree.specs.Names.{AreNamesOf}
 use Rattle.expr_tree.specs.Term.{Block}
 use Rattle.expr_tree.specs.Written.{program_written}
@@ -80,13 +80,8 @@ pub record KeepsAll (old new : Engine) : Type 0 where
   pub contexts : new.contexts ≡ old.contexts
   pub environments : new.environments ≡ old.environments
 
--- the bound on a program's height that a number is: the greatest that there is, if it isn't above 0
-abbrev pub height_by : ℤ → ℕ
-height_by (pos n) = if n == 0 then 18446744073709551615 else n
-height_by (negsuc n) = 18446744073709551615
-
 pub record Compiles (old new : Engine) (call : Call) (reply : Reply) : Type 0 where
-  pub rules : Adds (λ rule. IsProgramWithin call.text.now (height_by call.number) (program_written rule.program)) old.rules new.rules reply.program
+  pub rules : Adds (λ rule. IsProgramBy old.limits call.text.now (program_written rule.program)) old.rules new.rules reply.program
   pub contexts : new.contexts ≡ old.contexts
   pub environments : new.environments ≡ old.environments
   pub answer : new.answer ≡ old.answer
@@ -275,6 +270,19 @@ pub record ForgetsAll (old new : Engine) : Type 0 where
   pub environments : (handle : Handle) → found new.environments handle ≡ None
   pub built : values_of new.built ≡ []
   pub answer : part_of new.answer ≡ values.Nil
+  pub limits : new.limits ≡ old.limits
+
+-- One limit is the number that is given, and the others are what they were, or those for strangers where there were none.
+pub record SetsLimit (old new : Engine) (call : Call) : Type 0 where
+  pub limits : IsSomeAnd (limits_asked old.limits call.kind call.number) (λ limits. new.limits ≡ Some limits)
+  pub keeps : KeepsAll old new
+  pub answer : new.answer ≡ old.answer
+
+-- There are no limits.
+pub record LetsGoOfLimits (old new : Engine) : Type 0 where
+  pub limits : new.limits ≡ None
+  pub keeps : KeepsAll old new
+  pub answer : new.answer ≡ old.answer
 
 -- what a call has done that is done
 abbrev pub Does : Ask → Engine → Engine → Call → Reply → Type 0
@@ -308,6 +316,8 @@ Does is.Name old new call reply = AddsName old new call
 Does is.Answer old new call reply = EndsRun old new reply
 Does is.Refuse old new call reply = EndsRun old new reply
 Does is.Asked old new call reply = LooksAtCall old new reply
+Does is.Limit old new call reply = SetsLimit old new call
+Does is.Unlimited old new call reply = LetsGoOfLimits old new
 
 -- A call waits, and a handle of its run finds nothing.
 abbrev pub IsStale : Engine → Type 0

@@ -1,17 +1,23 @@
 -- What an engine keeps under handles, and what a run finds there.
 use Rattle.std.specs.Prelude.{◌≡◌, ◌≢◌, ◌≤◌, ℕ, ◌==◌, List, [], Option, None, Some, Err, IsUtf8, if◌then◌else◌, option_map}
 use Rattle.std.specs.Option.{option_and_then}
-use Rattle.expr.specs.Texts.{IsRefusedWithin}
+use Rattle.expr.specs.Texts.{IsRefused}
+use Rattle.expr_engine.specs.Codes.{code_of}
+use Rattle.expr_engine.specs.Limiting.{Passes}
 use Rattle.expr_engine.specs.Runs.{MayGive, Pairs, context_of, host_with, named_at, zone_at}
 use Rattle.expr_engine.specs.declared.additions.Additions.{Additions}
 use Rattle.expr_engine.specs.declared.engine.Engine.{Engine}
 use Rattle.expr_engine.specs.declared.rule.Rule.{Rule}
 use Rattle.expr_exchange.specs.Looked.{SameLook}
 use Rattle.expr_exchange.specs.declared.refused.Refused.{Refused}
-use Rattle.expr_exchange.specs.declared.refused.Refused.TheVariants.{Language, Unknown, Misuse, Asks, Differs}
+use Rattle.expr_exchange.specs.declared.refused.Refused.TheVariants.{Language, Unknown, Misuse, Asks, Differs, Stopped}
 use Rattle.expr_kept.specs.Kept.{SameThings, found, next_number}
 use Rattle.expr_kept.specs.declared.Handle.{Handle}
 use Rattle.expr_kept.specs.declared.Kept.{Kept}
+use Rattle.expr_meter.specs.Counting.{Ending, ended}
+use Rattle.expr_meter.specs.Rooms.{Room}
+use Rattle.expr_meter.specs.declared.limits.Limits.{Limits}
+use Rattle.expr_stops.specs.Stops.{CodeComes}
 use Rattle.expr_stops.specs.declared.given.Given.{Given}
 use Rattle.expr_tree.specs.Written.{program_written}
 use Rattle.expr_syntax.specs.Texts.{IsPlaced}
@@ -31,33 +37,42 @@ abbrev pub additions_at : Engine → Handle → Option (Option Additions)
 additions_at engine environment =
     if environment.number == none then Some None else option_map Some (found engine.environments environment)
 
--- what a run finds under three handles
+-- what a run finds under three handles, and the engine's limits
 pub record Asked : Type 0 where
   pub rule : Rule
   pub added : Option Additions
   pub names : Pairs
+  pub limits : Option Limits
 
 abbrev pub asked : Engine → Handle → Handle → Handle → Option Asked
 asked engine program environment context =
     option_and_then (λ rule. option_and_then (λ added. option_map
-    (λ names. record { rule = rule; added = added; names = names })
+    (λ names. record { rule = rule; added = added; names = names; limits = engine.limits })
     (names_at engine context)) (additions_at engine environment)) (found engine.rules program)
 
--- what the program's meaning allows in that environment and that context, where calls of the host's functions answer what it replied
-abbrev pub MayAnswer : Asked → List Given → Answer → Type 0
-MayAnswer q given answer = MayGive (host_with q.added given) (context_of q.names) (program_written q.rule.program) answer
+-- how a run of the program's code may end in that environment and that context, where calls of the host's functions answer what it replied, within the limits, if there
+-- are any
+abbrev pub MayEnd : Asked → List Given → Ending Room → Type 0
+MayEnd q given end = CodeComes q.limits (host_with q.added given) (context_of q.names) (code_of q.rule.code) end
+
+-- An answer of such a run: the program's meaning allows it too.
+pub record MayAnswer (q : Asked) (given : List Given) (answer : Answer) : Type 0 where
+  pub allowed : MayGive (host_with q.added given) (context_of q.names) (program_written q.rule.program) answer
+  pub left : Room
+  pub ends : MayEnd q given (ended answer left)
 
 -- what the run that waits finds under its handles
 abbrev pub asked_again : Engine → Option Asked
 asked_again engine = asked engine engine.waits.program engine.waits.environment engine.waits.context
 
--- A text is refused that deserves it, or memory is.
-abbrev pub RefusesText : ℕ → List ℕ → Refused → Type 0
-RefusesText height text (Language error) = fault_of error ≢ memory → IsRefusedWithin height text (Err (fault_of error))
-RefusesText height text Unknown = ⊥
-RefusesText height text Misuse = ⊥
-RefusesText height text Asks = ⊥
-RefusesText height text Differs = ⊥
+-- A text is refused that deserves it, or that passes a limit, or memory is.
+abbrev pub RefusesText : Option Limits → List ℕ → Refused → Type 0
+RefusesText limits text (Language error) = fault_of error ≢ memory → IsRefused text (Err (fault_of error))
+RefusesText limits text Unknown = ⊥
+RefusesText limits text Misuse = ⊥
+RefusesText limits text Asks = ⊥
+RefusesText limits text Differs = ⊥
+RefusesText limits text (Stopped limit) = Passes limits text limit
 
 -- A fault of syntax is at the text's first fault.
 abbrev pub IsPlacedRefusal : List ℕ → Refused → Type 0
@@ -66,14 +81,16 @@ IsPlacedRefusal text Unknown = Unit {0}
 IsPlacedRefusal text Misuse = Unit {0}
 IsPlacedRefusal text Asks = Unit {0}
 IsPlacedRefusal text Differs = Unit {0}
+IsPlacedRefusal text (Stopped limit) = Unit {0}
 
 -- The same of a text that is handed in, and misused only where it is no text.
-abbrev pub CompileRefuses : ℕ → List ℕ → Refused → Type 0
-CompileRefuses height text (Language error) = RefusesText height text (Language error) × IsPlacedRefusal text (Language error) × IsUtf8 text
-CompileRefuses height text Unknown = ⊥
-CompileRefuses height text Misuse = IsUtf8 text → ⊥
-CompileRefuses height text Asks = ⊥
-CompileRefuses height text Differs = ⊥
+abbrev pub CompileRefuses : Option Limits → List ℕ → Refused → Type 0
+CompileRefuses limits text (Language error) = RefusesText limits text (Language error) × IsPlacedRefusal text (Language error) × IsUtf8 text
+CompileRefuses limits text Unknown = ⊥
+CompileRefuses limits text Misuse = IsUtf8 text → ⊥
+CompileRefuses limits text Asks = ⊥
+CompileRefuses limits text Differs = ⊥
+CompileRefuses limits text (Stopped limit) = Passes limits text limit × IsUtf8 text
 
 -- Every handle finds an environment with the zones, the moment and the names that it found.
 pub record SameAdditions (old new : Kept Additions) : Type 0 where

@@ -3,6 +3,7 @@ pub mod Asks
 pub mod Codes
 pub mod Doings
 pub mod Engines
+pub mod Limiting
 pub mod Promised
 pub mod Runs
 pub mod Served

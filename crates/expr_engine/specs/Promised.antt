@@ -3,6 +3,7 @@ use Rattle.std.specs.Prelude.{◌≡◌, ◌≢◌, [], None, Some, MatchOption,
 use Rattle.expr_engine.specs.Asks.{ask_of, shows_of}
 use Rattle.expr_engine.specs.Doings.{Does, IsMissing, reply_of}
 use Rattle.expr_engine.specs.Engines.{Leaves, NumbersRise, asked}
+use Rattle.expr_engine.specs.Limiting.{LimitsBy, for_strangers}
 use Rattle.expr_engine.specs.Served.{Answers, text_shown}
 use Rattle.expr_engine.specs.Turns.{TurnsBy}
 use Rattle.expr_engine.specs.declared.call.Ask.TheVariants.{Run}
@@ -15,7 +16,7 @@ use Rattle.expr_kept.specs.declared.Handle.{Handle}
 use Rattle.expr_stops.specs.Stops.{asked_of}
 use Rattle.expr_value.specs.declared.value.Value.{Nil}
 
--- Nothing is kept, built or answered.
+-- Nothing is kept, built or answered, and the limits are those for strangers.
 pub record IsNew (engine : Engine) : Type 0 where
   pub rules : (handle : Handle) → found engine.rules handle ≡ None
   pub contexts : (handle : Handle) → found engine.contexts handle ≡ None
@@ -23,6 +24,7 @@ pub record IsNew (engine : Engine) : Type 0 where
   pub built : values_of engine.built ≡ []
   pub part : part_of engine.answer ≡ Nil
   pub waits : asked_of engine.waits.stops ≡ None
+  pub limits : engine.limits ≡ Some for_strangers
 
 -- The clauses of `serve`: of the engine before and after, and of the call as it was asked and as it was answered.
 pub record IsServed (old new : Engine) (call answered : Call) : Type 0 where
@@ -30,6 +32,8 @@ pub record IsServed (old new : Engine) (call answered : Call) : Type 0 where
   pub run : ask_of call.ask ≡ Some Run
       → MatchOption (asked old call.program call.environment call.context) (answered.status ≡ 6) (λ q. Answers q [] answered.status (part_of new.answer))
   pub turns : MatchOption (ask_of call.ask) (new.waits ≡ old.waits) (λ ask. TurnsBy ask old call answered.status new.waits (part_of new.answer))
+  pub limits : MatchOption (ask_of call.ask) (new.limits ≡ old.limits)
+      (λ ask. LimitsBy ask old.limits call (answered.status ≡ 0) (answered.status ≡ 7) new.limits)
   pub refused : answered.status ≢ 0 → Leaves old new
   pub built : answered.status ≢ 0 → values_of new.built ≡ []
   pub unknown : MatchOption (ask_of call.ask) (answered.status ≡ 7) (λ ask. IsMissing ask old call → answered.status ≡ 6)

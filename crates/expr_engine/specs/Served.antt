@@ -1,16 +1,19 @@
 -- What a call answers.
 use Rattle.std.specs.Prelude.{◌≡◌, ◌≢◌, ◌⊎◌, ℕ, List, [], Result, Ok, Err, string_bytes}
-use Rattle.expr_engine.specs.Engines.{Asked, MayAnswer}
+use Rattle.expr_engine.specs.Engines.{Asked, MayAnswer, MayEnd}
 use Rattle.expr_engine.specs.declared.call.Shows.{Shows}
 use Rattle.expr_engine.specs.declared.call.Shows.TheVariants as shows
 use Rattle.expr_engine.specs.declared.engine.Engine.{Engine}
 use Rattle.expr_exchange.specs.Kinds.{bytes_in}
+use Rattle.expr_exchange.specs.Limits.{text_of_limit}
 use Rattle.expr_exchange.specs.Looked.{part_of}
 use Rattle.expr_exchange.specs.Refusals.{status_of}
 use Rattle.expr_exchange.specs.declared.refused.Refused.{Refused}
-use Rattle.expr_exchange.specs.declared.refused.Refused.TheVariants.{Language, Unknown, Misuse, Asks, Differs}
+use Rattle.expr_exchange.specs.declared.refused.Refused.TheVariants.{Language, Unknown, Misuse, Asks, Differs, Stopped}
 use Rattle.expr_exchange.specs.declared.refused.Status.{Status}
 use Rattle.expr_exchange.specs.declared.refused.Status.TheVariants as ends
+use Rattle.expr_meter.specs.Counting.{stops}
+use Rattle.expr_meter.specs.declared.limit.Limit.TheVariants as limits
 use Rattle.expr_stops.specs.declared.given.Given.{Given}
 use Rattle.expr_value.specs.Fault.{fault_of, syntax, literal, evaluation, pattern, memory}
 use Rattle.expr_value.specs.declared.value.Value.{Value}
@@ -27,8 +30,13 @@ number_of ends.Unknown = 6
 number_of ends.Misuse = 7
 number_of ends.Asks = 8
 number_of ends.Differs = 9
+number_of ends.Height = 10
+number_of ends.Patterns = 11
+number_of ends.Steps = 12
+number_of ends.Depth = 13
+number_of ends.Size = 14
 
--- A run that found all three, with these replies, gives the value that is then looked at, or a refusal, or it stops.
+-- A run that found all three, with these replies, gives the value that is then looked at, or a refusal, or it stops for a reply, or at a limit at which one may stop.
 abbrev pub Runs : {A : Type 0} → Asked → List Given → Result A Refused → Value → Type 0
 Runs q given (Ok shown) value = MayAnswer q given (Ok value)
 Runs q given (Err (Language error)) value = fault_of error ≢ memory → MayAnswer q given (Err (fault_of error))
@@ -36,8 +44,10 @@ Runs q given (Err Unknown) value = ⊥
 Runs q given (Err Misuse) value = ⊥
 Runs q given (Err Asks) value = Unit {0}
 Runs q given (Err Differs) value = Unit {0}
+Runs q given (Err (Stopped limit)) value = MayEnd q given (stops limit)
 
--- What the ending of such a run says: its value, or its kind of refusal, is one that the meaning allows.
+-- What the ending of such a run says: its value, or its kind of refusal, is one that the meaning allows and to which a run comes within the limits, or the limit is one
+-- at which a run may stop. The limits of texts are none.
 abbrev pub Says : Asked → List Given → Status → Value → Type 0
 Says q given ends.Done value = MayAnswer q given (Ok value)
 Says q given ends.Syntax value = MayAnswer q given (Err syntax)
@@ -49,6 +59,11 @@ Says q given ends.Unknown value = ⊥
 Says q given ends.Misuse value = ⊥
 Says q given ends.Asks value = Unit {0}
 Says q given ends.Differs value = Unit {0}
+Says q given ends.Height value = ⊥
+Says q given ends.Patterns value = ⊥
+Says q given ends.Steps value = MayEnd q given (stops limits.Steps)
+Says q given ends.Depth value = MayEnd q given (stops limits.Depth)
+Says q given ends.Size value = MayEnd q given (stops limits.Size)
 
 -- the same of the number of an ending
 pub record Answers (q : Asked) (given : List Given) (number : ℕ) (value : Value) : Type 0 where
@@ -66,3 +81,8 @@ abbrev pub text_shown : Shows → Engine → List ℕ
 text_shown shows.Nothing engine = []
 text_shown shows.Said engine = string_bytes engine.said
 text_shown shows.Value engine = bytes_in (part_of engine.answer)
+
+-- A limit that was passed is said in words.
+abbrev pub SaysLimit : Refused → List ℕ → Type 0
+SaysLimit (Stopped limit) text = text ≡ text_of_limit limit
+SaysLimit refused text = Unit {0}

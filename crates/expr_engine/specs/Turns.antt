@@ -10,7 +10,7 @@ use Rattle.expr_engine.specs.declared.engine.Engine.{Engine}
 use Rattle.expr_engine.specs.declared.waiting.Waiting.{Waiting}
 use Rattle.expr_exchange.specs.Built.{values_of}
 use Rattle.expr_exchange.specs.declared.refused.Refused.{Refused}
-use Rattle.expr_exchange.specs.declared.refused.Refused.TheVariants.{Language, Unknown, Misuse, Asks, Differs}
+use Rattle.expr_exchange.specs.declared.refused.Refused.TheVariants.{Language, Unknown, Misuse, Asks, Differs, Stopped}
 use Rattle.expr_kept.specs.declared.Handle.{Handle}
 use Rattle.expr_stops.specs.Stops.{IsNext, IsSame, asked_of, given_of}
 use Rattle.expr_stops.specs.declared.given.Given.{Given}
@@ -28,6 +28,7 @@ Stands q given (Err Unknown) waits = waits ≡ None
 Stands q given (Err Misuse) waits = waits ≡ None
 Stands q given (Err Asks) waits = IsSomeAnd waits (IsNext (named_by q.added) given)
 Stands q given (Err Differs) waits = waits ≡ None
+Stands q given (Err (Stopped limit)) waits = waits ≡ None
 
 -- A run's answer is looked at, and a refusal is passed on.
 abbrev pub Keeps : Result Value Refused → Result (Unit {0}) Refused → Value → Type 0
@@ -73,6 +74,7 @@ Replies Is o old new (Err Unknown) value = new ≡ old
 Replies Is o old new (Err Misuse) value = new ≡ old
 Replies Is o old new (Err Asks) value = IsSomeAnd o (λ q. GoesOn Is q old new (Err Asks) value)
 Replies Is o old new (Err Differs) value = IsSomeAnd o (λ q. GoesOn Is q old new (Err Differs) value)
+Replies Is o old new (Err (Stopped limit)) value = IsSomeAnd o (λ q. GoesOn Is q old new (Err (Stopped limit)) value)
 
 -- The value was built last.
 pub record IsBuiltLast (values : List Value) (v : Value) : Type 0 where

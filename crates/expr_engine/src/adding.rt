@@ -21,6 +21,7 @@ pub fn add_environment(engine: &mut Engine, call: &mut Call<'_>) -> Result<(), R
     ensures contexts { engine.new.contexts ≡ engine.old.contexts }
     ensures answer { engine.new.answer ≡ engine.old.answer }
     ensures waits { engine.new.waits ≡ engine.old.waits }
+    ensures limits { engine.new.limits ≡ engine.old.limits }
 {
     call.environment = engine.environments.put(Additions::new(engine.alloc))?;
     Ok(())
@@ -38,6 +39,7 @@ pub fn zone_by_seconds(engine: &mut Engine, call: &Call<'_>) -> Result<(), Refus
     ensures contexts { engine.new.contexts ≡ engine.old.contexts }
     ensures answer { engine.new.answer ≡ engine.old.answer }
     ensures waits { engine.new.waits ≡ engine.old.waits }
+    ensures limits { engine.new.limits ≡ engine.old.limits }
 {
     engine.knows_environment(call.environment)?;
     engine.add_zone(call.environment, utf8(call.name)?, call.number, None)
@@ -55,6 +57,7 @@ pub fn zone_by_rule(engine: &mut Engine, call: &Call<'_>) -> Result<(), Refused>
     ensures contexts { engine.new.contexts ≡ engine.old.contexts }
     ensures answer { engine.new.answer ≡ engine.old.answer }
     ensures waits { engine.new.waits ≡ engine.old.waits }
+    ensures limits { engine.new.limits ≡ engine.old.limits }
 {
     engine.knows_environment(call.environment)?;
     let rule = utf8(call.text)?;
@@ -73,6 +76,7 @@ pub fn set_now(engine: &mut Engine, call: &Call<'_>) -> Result<(), Refused>
     ensures contexts { engine.new.contexts ≡ engine.old.contexts }
     ensures answer { engine.new.answer ≡ engine.old.answer }
     ensures waits { engine.new.waits ≡ engine.old.waits }
+    ensures limits { engine.new.limits ≡ engine.old.limits }
 {
     engine.knows_environment(call.environment)?;
     let now = moment_of(call.number, call.fraction)?;
@@ -91,6 +95,7 @@ pub fn add_name(engine: &mut Engine, call: &Call<'_>) -> Result<(), Refused>
     ensures contexts { engine.new.contexts ≡ engine.old.contexts }
     ensures answer { engine.new.answer ≡ engine.old.answer }
     ensures waits { engine.new.waits ≡ engine.old.waits }
+    ensures limits { engine.new.limits ≡ engine.old.limits }
 {
     engine.knows_environment(call.environment)?;
     engine.add_name(call.environment, utf8(call.name)?)

@@ -20,6 +20,7 @@ pub fn handed_in(engine: &mut Engine, call: &Call<'_>) -> Result<Value, Refused>
     ensures environments { engine.new.environments ≡ engine.old.environments }
     ensures answer { engine.new.answer ≡ engine.old.answer }
     ensures waits { engine.new.waits ≡ engine.old.waits }
+    ensures limits { engine.new.limits ≡ engine.old.limits }
 {
     match Kind::numbered(call.kind) {
         Some(Kind::Built) => engine.built.pop(),
@@ -39,6 +40,7 @@ pub fn push(engine: &mut Engine, call: &Call<'_>) -> Result<(), Refused>
     ensures environments { engine.new.environments ≡ engine.old.environments }
     ensures answer { engine.new.answer ≡ engine.old.answer }
     ensures waits { engine.new.waits ≡ engine.old.waits }
+    ensures limits { engine.new.limits ≡ engine.old.limits }
 {
     let value = handed_in(engine, call)?;
     engine.built.push(value)
@@ -53,6 +55,7 @@ pub fn make_array(engine: &mut Engine, call: &Call<'_>) -> Result<(), Refused>
     ensures environments { engine.new.environments ≡ engine.old.environments }
     ensures answer { engine.new.answer ≡ engine.old.answer }
     ensures waits { engine.new.waits ≡ engine.old.waits }
+    ensures limits { engine.new.limits ≡ engine.old.limits }
 {
     engine.built.array(call.number)
 }
@@ -66,6 +69,7 @@ pub fn make_map(engine: &mut Engine, call: &Call<'_>) -> Result<(), Refused>
     ensures environments { engine.new.environments ≡ engine.old.environments }
     ensures answer { engine.new.answer ≡ engine.old.answer }
     ensures waits { engine.new.waits ≡ engine.old.waits }
+    ensures limits { engine.new.limits ≡ engine.old.limits }
 {
     engine.built.map(call.number)
 }
@@ -79,6 +83,7 @@ pub fn unbuild(engine: &mut Engine) -> Result<(), Refused>
     ensures environments { engine.new.environments ≡ engine.old.environments }
     ensures answer { engine.new.answer ≡ engine.old.answer }
     ensures waits { engine.new.waits ≡ engine.old.waits }
+    ensures limits { engine.new.limits ≡ engine.old.limits }
 {
     engine.built.clear();
     Ok(())

@@ -13,7 +13,8 @@ pub struct Call<'a> {
     pub ask: u32,
     /// A [`Status`](expr_exchange::Status), answered.
     pub status: u32,
-    /// A [`Kind`](expr_exchange::Kind): of a value that is handed in, or of the value that is answered.
+    /// A [`Kind`](expr_exchange::Kind): of a value that is handed in, or of the value that is answered. Or the number of a
+    /// limit.
     pub kind: u32,
     /// The nanoseconds of a moment past its second.
     pub fraction: u32,
@@ -38,11 +39,11 @@ pub struct Call<'a> {
 /// What may be asked. A host knows these by their numbers, from 0 in the order in which they stand here.
 #[derive(Clone, Copy, Debug, PartialEq, Eq)]
 pub enum Ask {
-    /// The program of `text`, whose tree is no higher than `number`, if that is above 0.
+    /// The program of `text`, if it is within the limits.
     Compile,
     /// The names that a program asks for, each on a line; `number` is how many.
     Names,
-    /// What a program answers in an environment and a context, which is kept until the next answer.
+    /// What a program answers in an environment and a context within the limits, which is kept until the next answer.
     Run,
     /// A new context without names.
     Context,
@@ -85,16 +86,22 @@ pub enum Ask {
     DropProgram,
     DropContext,
     DropEnvironment,
-    /// Lets go of everything.
+    /// Lets go of everything that is kept. The limits stay as they are.
     Clear,
     /// Adds `name` to the functions of an environment that the host answers itself.
     Name,
-    /// Answers the call that waits with the value that was built last, and goes on with its run.
+    /// Answers the call that waits with the value that was built last, and goes on with its run, which has anew all that the
+    /// limits allow.
     Answer,
-    /// Refuses the call that waits with `text`, and goes on with its run.
+    /// Refuses the call that waits with `text`, and goes on with its run, which has anew all that the limits allow.
     Refuse,
     /// Looks at the arguments of the call that waits, an array of copies, and shows the name of its function.
     Asked,
+    /// Sets the limit that `kind` is the number of, as [`limit_numbered`](expr_exchange::limit_numbered) numbers them, to
+    /// `number`, which isn't below 0. Where there are no limits, the others become those for strangers.
+    Limit,
+    /// Lets go of all limits.
+    Unlimited,
 }
 
 /// Which text a call shows.
@@ -156,6 +163,8 @@ impl Ask {
             27 => Some(Ask::Answer),
             28 => Some(Ask::Refuse),
             29 => Some(Ask::Asked),
+            30 => Some(Ask::Limit),
+            31 => Some(Ask::Unlimited),
             _ => None,
         }
     }

@@ -4,18 +4,19 @@ ghost use Rattle.std.specs.Prelude.{◌≡◌, ◌≢◌, ◌≤ℤ◌, [], pos,
 ghost use Rattle.std.specs.Option.{option_copied};
 ghost use Rattle.expr_engine.specs.Adding.{BecomesByRule, BecomesFixed, BecomesNow, GainsName};
 ghost use Rattle.expr_engine.specs.Doings.{Adds, AreSaid, Changes, IsStale};
-ghost use Rattle.expr_engine.specs.Engines.{IsPlacedRefusal, MayAnswer, NumbersRise, RefusesText, SameAdditions, additions_at, asked, asked_again, names_at};
+ghost use Rattle.expr_engine.specs.Engines.{IsPlacedRefusal, MayAnswer, MayEnd, NumbersRise, RefusesText, SameAdditions, additions_at, asked, asked_again, names_at};
+ghost use Rattle.expr_engine.specs.Limiting.{IsProgramBy, for_strangers};
 ghost use Rattle.expr_engine.specs.Runs.{pairs_of};
-ghost use Rattle.expr_engine.specs.Served.{Runs};
+ghost use Rattle.expr_engine.specs.Served.{Runs, SaysLimit};
 ghost use Rattle.expr_engine.specs.Turns.{IsBegun, IsRefusal, IsSameRun, Keeps, Replies, Stands};
 ghost use Rattle.expr_exchange.specs.Built.{values_of};
 ghost use Rattle.expr_exchange.specs.Looked.{part_of, way_of};
 ghost use Rattle.expr_exchange.specs.Refusals.{GivesHost};
 ghost use Rattle.expr_kept.specs.Kept.{SameThings, found, next_number};
 ghost use Rattle.expr_kept.specs.declared.Handle.{Handle};
+ghost use Rattle.expr_meter.specs.Counting.{stops as stops_at};
 ghost use Rattle.expr_stops.specs.Stops.{asked_of, given_of};
 ghost use Rattle.expr_stops.specs.declared.given.Reply.TheVariants as reply;
-ghost use Rattle.expr_syntax.specs.Texts.{IsProgramWithin};
 ghost use Rattle.expr_tree.specs.Written.{program_written};
 ghost use Rattle.expr_value.specs.Names.{put};
 
@@ -23,8 +24,8 @@ use crate::additions::{Additions, LentHost};
 use crate::lent::LentNames;
 use crate::rule::Rule;
 use crate::waiting::Waiting;
-use expr::{Context, Error, Value, spot_of};
-use expr_exchange::{Built, Looked, Refused};
+use expr::{Context, Error, Limits, Outcome, Value, spot_of};
+use expr_exchange::{Built, Looked, Refused, limit_text};
 use expr_kept::{Handle, Kept};
 use expr_stops::{Stops, Turn};
 use jiff::Timestamp;
@@ -41,6 +42,8 @@ pub struct Engine {
     pub answer: Looked,
     pub said: String,
     pub waits: Waiting,
+    /// What texts and runs may take. Without limits they may take all that there is.
+    pub limits: Option<Limits>,
 }
 
 /// The number that no handle has: there is no context, or no environment.
@@ -55,7 +58,7 @@ pub struct Place {
 }
 
 impl Engine {
-    /// An engine that keeps nothing. It takes no memory.
+    /// An engine that keeps nothing, with the limits for strangers. It takes no memory.
     pub fn new(alloc: Global) -> Engine
         ensures rules { (handle : Handle) → found result.rules handle ≡ None }
         ensures contexts { (handle : Handle) → found result.contexts handle ≡ None }
@@ -63,6 +66,7 @@ impl Engine {
         ensures built { values_of result.built ≡ [] }
         ensures part { part_of result.answer ≡ Value.Nil }
         ensures waits { asked_of result.waits.stops ≡ None }
+        ensures limits { result.limits ≡ Some for_strangers }
     {
         Engine {
             alloc,
@@ -73,14 +77,15 @@ impl Engine {
             answer: Looked::new(alloc),
             said: String::new(alloc),
             waits: Waiting::new(alloc),
+            limits: Some(Limits::for_strangers()),
         }
     }
 
-    /// Keeps the program of a text.
-    pub fn compile(&mut self, text: &str, height: usize) -> Result<Handle, Refused>
-        ensures kept { IfOk result (Adds (λ rule. IsProgramWithin text.now height
+    /// Keeps the program of a text, if it is within the limits.
+    pub fn compile(&mut self, text: &str) -> Result<Handle, Refused>
+        ensures kept { IfOk result (Adds (λ rule. IsProgramBy self.old.limits text.now
             (program_written rule.program)) self.old.rules self.new.rules) }
-        ensures refused { IfErr result (RefusesText height text.now) }
+        ensures refused { IfErr result (RefusesText self.old.limits text.now) }
         ensures place { IfErr result (IsPlacedRefusal text.now) }
         ensures err { OnErr result (SameThings self.old.rules self.new.rules) }
         ensures next { OnErr result (next_number self.new.rules ≡ next_number self.old.rules) }
@@ -88,9 +93,12 @@ impl Engine {
         ensures environments { self.new.environments ≡ self.old.environments }
         ensures answer { self.new.answer ≡ self.old.answer }
         ensures waits { self.new.waits ≡ self.old.waits }
+        ensures limits { self.new.limits ≡ self.old.limits }
     {
-        let rule = Rule::compile(self.alloc, text, height)?;
-        Ok(self.rules.put(rule)?)
+        match Rule::compile(self.alloc, text, self.limits)? {
+            Outcome::Answered(rule) => Ok(self.rules.put(rule)?),
+            Outcome::Stopped(limit) => Err(Refused::Stopped(limit)),
+        }
     }
 
     /// The names that a program asks for, each on a line, and how many they are.
@@ -137,7 +145,8 @@ impl Engine {
         }
     }
 
-    /// Runs a program, with the replies that a run has, up to its end or to its next call that the host answers itself.
+    /// Runs a program within the limits, with the replies that a run has, up to its end or to its next call that the host
+    /// answers itself.
     fn turn(
         &self,
         stops: &mut Stops,
@@ -146,7 +155,8 @@ impl Engine {
         context: Handle,
     ) -> Result<Value, Refused>
         ensures ended { MatchOption (asked self.now program environment context)
-            (result ≡ Err Refused.Unknown) (λ q. GivesHost result (MayAnswer q (given_of stops.old))) }
+            (result ≡ Err Refused.Unknown) (λ q. GivesHost result (MayAnswer q (given_of stops.old))
+            (λ limit. MayEnd q (given_of stops.old) (stops_at limit))) }
         ensures stops { asked_of stops.old ≡ None → MatchOption (asked self.now program environment context)
             (result ≡ Err Refused.Unknown)
             (λ q. Stands q (given_of stops.old) result (asked_of stops.new)) }
@@ -157,10 +167,11 @@ impl Engine {
         };
         let host = self.host_of(environment)?;
         let names = self.names_of(context)?;
-        match rule.turn(self.alloc, host, names, stops) {
+        match rule.turn(self.alloc, host, names, stops, self.limits) {
             Turn::Ended(answer) => Ok(answer?),
             Turn::Asks => Err(Refused::Asks),
             Turn::Differs(_) => Err(Refused::Differs),
+            Turn::Stopped(limit) => Err(Refused::Stopped(limit)),
         }
     }
 
@@ -181,6 +192,7 @@ impl Engine {
         ensures rules { self.new.rules ≡ self.old.rules }
         ensures contexts { self.new.contexts ≡ self.old.contexts }
         ensures environments { self.new.environments ≡ self.old.environments }
+        ensures limits { self.new.limits ≡ self.old.limits }
     {
         self.knows_run(program, environment, context)?;
         self.waits = Waiting {
@@ -216,6 +228,7 @@ impl Engine {
         ensures way { OnOk result (way_of self.new.answer ≡ []) }
         ensures err { OnErr result (self.new.answer ≡ self.old.answer) }
         ensures waits { self.new.waits ≡ self.old.waits }
+        ensures limits { self.new.limits ≡ self.old.limits }
         ensures rules { self.new.rules ≡ self.old.rules }
         ensures contexts { self.new.contexts ≡ self.old.contexts }
         ensures environments { self.new.environments ≡ self.old.environments }
@@ -251,6 +264,7 @@ impl Engine {
         ensures rules { self.new.rules ≡ self.old.rules }
         ensures contexts { self.new.contexts ≡ self.old.contexts }
         ensures environments { self.new.environments ≡ self.old.environments }
+        ensures limits { self.new.limits ≡ self.old.limits }
     {
         self.waits.stops.answer(value)?;
         self.go_on()
@@ -268,6 +282,7 @@ impl Engine {
         ensures rules { self.new.rules ≡ self.old.rules }
         ensures contexts { self.new.contexts ≡ self.old.contexts }
         ensures environments { self.new.environments ≡ self.old.environments }
+        ensures limits { self.new.limits ≡ self.old.limits }
     {
         self.waits.stops.refuse(text)?;
         self.go_on()
@@ -287,6 +302,7 @@ impl Engine {
         ensures rules { self.new.rules ≡ self.old.rules }
         ensures contexts { self.new.contexts ≡ self.old.contexts }
         ensures environments { self.new.environments ≡ self.old.environments }
+        ensures limits { self.new.limits ≡ self.old.limits }
     {
         let mut stops = std::mem::replace(&mut self.waits.stops, Stops::new(self.alloc));
         let waits = &self.waits;
@@ -330,6 +346,7 @@ impl Engine {
         ensures answer { self.new.answer ≡ self.old.answer }
         ensures built { self.new.built ≡ self.old.built }
         ensures waits { self.new.waits ≡ self.old.waits }
+        ensures limits { self.new.limits ≡ self.old.limits }
     {
         self.knows_context(context)?;
         let name = String::from_str(self.alloc, name)?;
@@ -362,6 +379,7 @@ impl Engine {
         ensures contexts { self.new.contexts ≡ self.old.contexts }
         ensures answer { self.new.answer ≡ self.old.answer }
         ensures waits { self.new.waits ≡ self.old.waits }
+        ensures limits { self.new.limits ≡ self.old.limits }
     {
         let mut host = Additions::new(self.alloc);
         if !self.environments.swap(environment, &mut host) {
@@ -384,6 +402,7 @@ impl Engine {
         ensures contexts { self.new.contexts ≡ self.old.contexts }
         ensures answer { self.new.answer ≡ self.old.answer }
         ensures waits { self.new.waits ≡ self.old.waits }
+        ensures limits { self.new.limits ≡ self.old.limits }
     {
         let mut host = Additions::new(self.alloc);
         if !self.environments.swap(environment, &mut host) {
@@ -406,6 +425,7 @@ impl Engine {
         ensures contexts { self.new.contexts ≡ self.old.contexts }
         ensures answer { self.new.answer ≡ self.old.answer }
         ensures waits { self.new.waits ≡ self.old.waits }
+        ensures limits { self.new.limits ≡ self.old.limits }
     {
         let mut host = Additions::new(self.alloc);
         if !self.environments.swap(environment, &mut host) {
@@ -416,7 +436,8 @@ impl Engine {
         Ok(())
     }
 
-    /// Lets go of all that is kept, and of its memory. Handles that were given find nothing, and are not given again.
+    /// Lets go of all that is kept, and of its memory. Handles that were given find nothing, and are not given again. The
+    /// limits stay: they are no thing that is kept.
     pub fn clear(&mut self)
         ensures rules { (handle : Handle) → found self.new.rules handle ≡ None }
         ensures contexts { (handle : Handle) → found self.new.contexts handle ≡ None }
@@ -425,6 +446,7 @@ impl Engine {
         ensures built { values_of self.new.built ≡ [] }
         ensures part { part_of self.new.answer ≡ Value.Nil }
         ensures waits { asked_of self.new.waits.stops ≡ None }
+        ensures limits { self.new.limits ≡ self.old.limits }
     {
         let alloc = self.alloc;
         self.rules.clear(alloc);
@@ -444,8 +466,10 @@ impl Engine {
         ensures answer { self.new.answer ≡ self.old.answer }
         ensures built { self.new.built ≡ self.old.built }
         ensures waits { self.new.waits ≡ self.old.waits }
+        ensures limits { self.new.limits ≡ self.old.limits }
         ensures unknown { refused.now ≡ Refused.Unknown → IsOk result }
         ensures misuse { refused.now ≡ Refused.Misuse → IsOk result }
+        ensures limit { OnOk result (SaysLimit refused.now (string_bytes self.new.said)) }
     {
         let alloc = self.alloc;
         self.said = String::new(alloc);
@@ -464,6 +488,10 @@ impl Engine {
             }
             Refused::Language(error) => {
                 self.said = error.to_string(alloc)?;
+                Ok(None)
+            }
+            Refused::Stopped(limit) => {
+                self.said = String::from_str(alloc, limit_text(*limit))?;
                 Ok(None)
             }
             Refused::Unknown | Refused::Misuse | Refused::Asks | Refused::Differs => Ok(None),

@@ -21,6 +21,7 @@ pub fn new_context(engine: &mut Engine, call: &mut Call<'_>) -> Result<(), Refus
     ensures environments { engine.new.environments ≡ engine.old.environments }
     ensures answer { engine.new.answer ≡ engine.old.answer }
     ensures waits { engine.new.waits ≡ engine.old.waits }
+    ensures limits { engine.new.limits ≡ engine.old.limits }
 {
     call.context = engine.contexts.put(Context::new(engine.alloc))?;
     Ok(())
@@ -36,6 +37,7 @@ pub fn built_context(engine: &mut Engine, call: &mut Call<'_>) -> Result<(), Ref
     ensures environments { engine.new.environments ≡ engine.old.environments }
     ensures answer { engine.new.answer ≡ engine.old.answer }
     ensures waits { engine.new.waits ≡ engine.old.waits }
+    ensures limits { engine.new.limits ≡ engine.old.limits }
 {
     let context = engine.built.context()?;
     call.context = engine.contexts.put(context)?;
@@ -53,6 +55,7 @@ pub fn set(engine: &mut Engine, call: &Call<'_>) -> Result<(), Refused>
     ensures environments { engine.new.environments ≡ engine.old.environments }
     ensures answer { engine.new.answer ≡ engine.old.answer }
     ensures waits { engine.new.waits ≡ engine.old.waits }
+    ensures limits { engine.new.limits ≡ engine.old.limits }
 {
     engine.knows_context(call.context)?;
     let name = utf8(call.name)?;

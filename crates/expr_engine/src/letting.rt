@@ -20,6 +20,7 @@ pub fn drop_program(engine: &mut Engine, call: &Call<'_>) -> Result<(), Refused>
     ensures contexts { engine.new.contexts ≡ engine.old.contexts }
     ensures environments { engine.new.environments ≡ engine.old.environments }
     ensures waits { engine.new.waits ≡ engine.old.waits }
+    ensures limits { engine.new.limits ≡ engine.old.limits }
 {
     let is_known = engine.rules.remove(call.program);
     known(is_known)
@@ -36,6 +37,7 @@ pub fn drop_context(engine: &mut Engine, call: &Call<'_>) -> Result<(), Refused>
     ensures rules { engine.new.rules ≡ engine.old.rules }
     ensures environments { engine.new.environments ≡ engine.old.environments }
     ensures waits { engine.new.waits ≡ engine.old.waits }
+    ensures limits { engine.new.limits ≡ engine.old.limits }
 {
     let is_known = engine.contexts.remove(call.context);
     known(is_known)
@@ -54,6 +56,7 @@ pub fn drop_environment(engine: &mut Engine, call: &Call<'_>) -> Result<(), Refu
     ensures rules { engine.new.rules ≡ engine.old.rules }
     ensures contexts { engine.new.contexts ≡ engine.old.contexts }
     ensures waits { engine.new.waits ≡ engine.old.waits }
+    ensures limits { engine.new.limits ≡ engine.old.limits }
 {
     let is_known = engine.environments.remove(call.environment);
     known(is_known)
@@ -70,12 +73,13 @@ fn known(is_known: bool) -> Result<(), Refused>
     }
 }
 
-/// Lets go of all that is kept.
+/// Lets go of all that is kept. The limits stay.
 pub fn clear(engine: &mut Engine) -> Result<(), Refused>
     ensures done { OnOk result (ForgetsAll engine.old engine.new) }
     ensures numbers { NumbersRise engine.old engine.new }
     ensures ok { IsOk result }
     ensures waits { asked_of engine.new.waits.stops ≡ None }
+    ensures limits { engine.new.limits ≡ engine.old.limits }
 {
     engine.clear();
     Ok(())

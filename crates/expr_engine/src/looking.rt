@@ -33,6 +33,7 @@ pub fn look(engine: &mut Engine, call: &mut Call<'_>) -> Result<(), Refused>
     ensures contexts { engine.new.contexts ≡ engine.old.contexts }
     ensures environments { engine.new.environments ≡ engine.old.environments }
     ensures waits { engine.new.waits ≡ engine.old.waits }
+    ensures limits { engine.new.limits ≡ engine.old.limits }
 {
     describe(engine.answer.part(), call);
     Ok(())
@@ -47,6 +48,7 @@ pub fn look_down(engine: &mut Engine, call: &mut Call<'_>) -> Result<(), Refused
     ensures contexts { engine.new.contexts ≡ engine.old.contexts }
     ensures environments { engine.new.environments ≡ engine.old.environments }
     ensures waits { engine.new.waits ≡ engine.old.waits }
+    ensures limits { engine.new.limits ≡ engine.old.limits }
 {
     engine.answer.go_down(call.number)?;
     describe(engine.answer.part(), call);
@@ -62,6 +64,7 @@ pub fn look_up(engine: &mut Engine, call: &mut Call<'_>) -> Result<(), Refused>
     ensures contexts { engine.new.contexts ≡ engine.old.contexts }
     ensures environments { engine.new.environments ≡ engine.old.environments }
     ensures waits { engine.new.waits ≡ engine.old.waits }
+    ensures limits { engine.new.limits ≡ engine.old.limits }
 {
     engine.answer.go_up()?;
     describe(engine.answer.part(), call);
@@ -77,6 +80,7 @@ pub fn show_key(engine: &mut Engine, call: &mut Call<'_>) -> Result<(), Refused>
     ensures contexts { engine.new.contexts ≡ engine.old.contexts }
     ensures environments { engine.new.environments ≡ engine.old.environments }
     ensures waits { engine.new.waits ≡ engine.old.waits }
+    ensures limits { engine.new.limits ≡ engine.old.limits }
 {
     let key = key_of(engine.alloc, engine.answer.part(), call.number)?;
     describe(&key, call);
@@ -103,6 +107,7 @@ pub fn say_shown(engine: &mut Engine) -> Result<(), Refused>
     ensures contexts { engine.new.contexts ≡ engine.old.contexts }
     ensures environments { engine.new.environments ≡ engine.old.environments }
     ensures waits { engine.new.waits ≡ engine.old.waits }
+    ensures limits { engine.new.limits ≡ engine.old.limits }
 {
     engine.said = engine.answer.part().to_string(engine.alloc)?;
     Ok(())
@@ -117,6 +122,7 @@ pub fn say_text(engine: &mut Engine) -> Result<(), Refused>
     ensures contexts { engine.new.contexts ≡ engine.old.contexts }
     ensures environments { engine.new.environments ≡ engine.old.environments }
     ensures waits { engine.new.waits ≡ engine.old.waits }
+    ensures limits { engine.new.limits ≡ engine.old.limits }
 {
     engine.said = engine.answer.part().string_text(engine.alloc)?;
     Ok(())
@@ -131,6 +137,7 @@ pub fn say_json(engine: &mut Engine) -> Result<(), Refused>
     ensures contexts { engine.new.contexts ≡ engine.old.contexts }
     ensures environments { engine.new.environments ≡ engine.old.environments }
     ensures waits { engine.new.waits ≡ engine.old.waits }
+    ensures limits { engine.new.limits ≡ engine.old.limits }
 {
     engine.said = to_json(engine.alloc, engine.answer.part())?.into_string();
     Ok(())

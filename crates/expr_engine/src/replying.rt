@@ -24,6 +24,7 @@ pub fn answer_call(engine: &mut Engine, call: &mut Call<'_>) -> Result<(), Refus
     ensures rules { engine.new.rules ≡ engine.old.rules }
     ensures contexts { engine.new.contexts ≡ engine.old.contexts }
     ensures environments { engine.new.environments ≡ engine.old.environments }
+    ensures limits { engine.new.limits ≡ engine.old.limits }
 {
     engine.knows_waiting()?;
     let value = engine.built.pop()?;
@@ -43,6 +44,7 @@ pub fn refuse_call(engine: &mut Engine, call: &mut Call<'_>) -> Result<(), Refus
     ensures rules { engine.new.rules ≡ engine.old.rules }
     ensures contexts { engine.new.contexts ≡ engine.old.contexts }
     ensures environments { engine.new.environments ≡ engine.old.environments }
+    ensures limits { engine.new.limits ≡ engine.old.limits }
 {
     engine.knows_waiting()?;
     let text = utf8(call.text)?;
@@ -60,6 +62,7 @@ pub fn look_asked(engine: &mut Engine, call: &mut Call<'_>) -> Result<(), Refuse
     ensures rules { engine.new.rules ≡ engine.old.rules }
     ensures contexts { engine.new.contexts ≡ engine.old.contexts }
     ensures environments { engine.new.environments ≡ engine.old.environments }
+    ensures limits { engine.new.limits ≡ engine.old.limits }
 {
     let Some(stop) = engine.waits.stops.asked() else {
         return Err(Refused::Misuse);

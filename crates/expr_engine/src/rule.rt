@@ -1,14 +1,15 @@
 //! A program that is kept, and its code.
 ghost use Rattle.expr_code.specs.Codes.{IsCode};
 ghost use Rattle.expr_engine.specs.Codes.{code_of};
+ghost use Rattle.expr_engine.specs.Limiting.{IsCompiledBy};
+ghost use Rattle.expr_syntax.specs.Texts.{IsPlaced};
 ghost use Rattle.expr_tree.specs.Written.{program_written};
 
 use crate::additions::LentHost;
 use crate::lent::LentNames;
-use expr::{Code, KeptCode, Program, Result, Value, compile_within, execution_answers_programs};
-use expr_machine::Machine;
+use expr::{Code, KeptCode, Limits, Outcome, Program, Result, Value, compile, compile_limited};
 use expr_meaning::Functions;
-use expr_stops::{Stops, Turn};
+use expr_stops::{Stops, Turn, execute_in};
 use std::alloc::Global;
 
 /// A program that is kept, and its code.
@@ -20,31 +21,34 @@ pub struct Rule {
 }
 
 impl Rule {
-    ghost use Rattle.std.specs.Prelude.{◌≡◌, ◌≢◌, Err, IfOk, IfErr, None, string_bytes};
+    ghost use Rattle.std.specs.Prelude.{◌≡◌, IfOk, None, string_bytes};
     ghost use Rattle.std.specs.Option.{option_copied};
-    ghost use Rattle.expr.specs.Texts.{IsRefusedWithin};
+    ghost use Rattle.expr.specs.Limited.{MayGive as GivesWithin};
+    ghost use Rattle.expr_engine.specs.Limiting.{IsCompiledBy};
     ghost use Rattle.expr_engine.specs.Doings.{AreSaid};
     ghost use Rattle.expr_engine.specs.Runs.{MayGive, context_of, host_with, named_by, pairs_of};
-    ghost use Rattle.expr_stops.specs.Stops.{IfEnded, StopsWell, asked_of, given_of};
-    ghost use Rattle.expr_syntax.specs.Texts.{IsPlaced, IsProgramWithin};
+    ghost use Rattle.expr_limited.specs.Outcomes.{Ends};
+    ghost use Rattle.expr_stops.specs.Stops.{CodeComes, EndsTurn, IfEnded, StopsWell, asked_of, given_of};
+    ghost use Rattle.expr_syntax.specs.Texts.{IsPlaced};
     ghost use Rattle.expr_tree.specs.Written.{program_written};
     ghost use Rattle.expr_value.specs.Answers.{Gives};
-    ghost use Rattle.expr_value.specs.Fault.{fault_of, memory};
 
-    /// The program of a text, whose tree is no higher than a bound.
+    /// The program of a text within limits, or where there are none.
     ///
     /// # Errors
     ///
-    /// What `compile_within` refuses.
-    pub fn compile(alloc: Global, text: &str, height: usize) -> Result<Rule>
-        ensures program { IfOk result (λ r. IsProgramWithin text.now height (program_written r.program)) }
-        ensures refused { IfErr result
-            (λ e. fault_of e ≢ memory → IsRefusedWithin height text.now (Err (fault_of e))) }
+    /// What `compile` refuses. That a limit is passed is no error, but [`Outcome::Stopped`].
+    pub fn compile(alloc: Global, text: &str, limits: Option<Limits>) -> Result<Outcome<Rule>>
+        ensures answer { IsCompiledBy limits text.now (λ rule. program_written rule.program) result }
         ensures place { IsPlaced text.now result }
     {
-        let program = compile_within(alloc, text, height)?;
-        let code = Code::lower(alloc, &program)?.keep(alloc)?;
-        Ok(Rule { program, code })
+        match program_of(alloc, text, limits)? {
+            Outcome::Answered(program) => {
+                let code = Code::lower(alloc, &program)?.keep(alloc)?;
+                Ok(Outcome::Answered(Rule { program, code }))
+            }
+            Outcome::Stopped(limit) => Ok(Outcome::Stopped(limit)),
+        }
     }
 
     /// The names that the program asks for, each on a line, and how many they are.
@@ -55,32 +59,42 @@ impl Rule {
         Ok((names.join(alloc, "\n")?, names.len()))
     }
 
-    /// What the program answers.
+    /// What the program answers within limits, or where there are none.
     ///
     /// # Errors
     ///
     /// The first refusal in the order of evaluation: `ExprError`, `RegexError`, or `MemoryError` where a growth is refused.
-    pub fn run<H: Functions>(&self, alloc: Global, host: &H, names: LentNames<'_>) -> Result<Value>
-        ensures { Gives result (MayGive (H.host host.now)
+    /// That a limit is passed is no error, but [`Outcome::Stopped`].
+    pub fn run<H: Functions>(
+        &self,
+        alloc: Global,
+        host: &H,
+        names: LentNames<'_>,
+        limits: Option<Limits>,
+    ) -> Result<Outcome<Value>>
+        ensures answer { GivesWithin result (MayGive (H.host host.now)
             (context_of (pairs_of (option_copied names.entry.names))) (program_written self.now.program)) }
+        ensures ends { Ends result (CodeComes limits (H.host host.now)
+            (context_of (pairs_of (option_copied names.entry.names))) (code_of self.now.code)) }
     {
-        execution_answers_programs::<H>();
-        let machine = Machine {
-            alloc,
-            host,
-            provider: names,
-        };
-        machine.execute_once(&self.code)
+        execute_in(alloc, host, &self.code, names, limits)
     }
 
-    /// Runs the program, with the replies that a run has, up to its end or to its next call that the host answers itself.
+    /// Runs the program within limits, with the replies that a run has, up to its end or to its next call that the host
+    /// answers itself.
     pub fn turn(
         &self,
         alloc: Global,
         host: LentHost<'_>,
         names: LentNames<'_>,
         stops: &mut Stops,
+        limits: Option<Limits>,
     ) -> Turn
+        // It ends or stops at a limit as a run of the program's code does that counts within the limits, if there are any.
+        ensures ends { EndsTurn result (CodeComes limits
+            (host_with (option_copied host.entry.added) (given_of stops.old))
+            (context_of (pairs_of (option_copied names.entry.names))) (code_of self.now.code)) }
+        // An answer is one that the program's meaning allows.
         ensures ended { IfEnded result (λ r. Gives r (MayGive
             (host_with (option_copied host.entry.added) (given_of stops.old))
             (context_of (pairs_of (option_copied names.entry.names))) (program_written self.now.program))) }
@@ -89,8 +103,19 @@ impl Rule {
         ensures given { given_of stops.new ≡ given_of stops.old }
     {
         match host.added {
-            Some(added) => stops.execute(&host, added.names(), &self.code, names),
-            None => Turn::Ended(self.run(alloc, &host, names)),
+            Some(added) => stops.execute(&host, added.names(), &self.code, names, limits),
+            None => Turn::of(self.run(alloc, &host, names, limits)),
         }
+    }
+}
+
+/// The program of a text within limits, or where there are none.
+fn program_of(alloc: Global, text: &str, limits: Option<Limits>) -> Result<Outcome<Program>>
+    ensures answer { IsCompiledBy limits text.now program_written result }
+    ensures place { IsPlaced text.now result }
+{
+    match limits {
+        Some(limits) => compile_limited(alloc, text, &limits),
+        None => Ok(Outcome::Answered(compile(alloc, text)?)),
     }
 }

@@ -1,6 +1,6 @@
 //! Asks about programs.
 ghost use Rattle.std.specs.Prelude.{◌≡◌, [], Err, None, IfErr, IfOk, IsUtf8, MatchOption, OnErr, OnOk};
-ghost use Rattle.expr_engine.specs.Doings.{Compiles, RunsOnce, SaysNames, height_by, reply_of};
+ghost use Rattle.expr_engine.specs.Doings.{Compiles, RunsOnce, SaysNames, reply_of};
 ghost use Rattle.expr_engine.specs.Engines.{CompileRefuses, NumbersRise, asked};
 ghost use Rattle.expr_engine.specs.Served.{Runs};
 ghost use Rattle.expr_engine.specs.Turns.{IsBegun};
@@ -12,30 +12,21 @@ use crate::engine::Engine;
 use crate::looking::describe;
 use expr_exchange::Refused;
 
-/// Keeps the program of a text.
+/// Keeps the program of a text, if it is within the limits.
 pub fn compile(engine: &mut Engine, call: &mut Call<'_>) -> Result<(), Refused>
     ensures done { OnOk result (Compiles engine.old engine.new call.old (reply_of call.new)) }
-    ensures refused { IfErr result (CompileRefuses (height_by call.old.number) call.old.text.now) }
+    ensures refused { IfErr result (CompileRefuses engine.old.limits call.old.text.now) }
     ensures err { OnErr result (SameThings engine.old.rules engine.new.rules) }
     ensures numbers { NumbersRise engine.old engine.new }
     ensures answer { engine.new.answer ≡ engine.old.answer }
     ensures contexts { engine.new.contexts ≡ engine.old.contexts }
     ensures environments { engine.new.environments ≡ engine.old.environments }
     ensures waits { engine.new.waits ≡ engine.old.waits }
+    ensures limits { engine.new.limits ≡ engine.old.limits }
 {
     let text = utf8(call.text)?;
-    call.program = engine.compile(text, height_of(call.number))?;
+    call.program = engine.compile(text)?;
     Ok(())
-}
-
-/// The bound on a program's height that a number is: the greatest that there is, if it isn't above 0.
-fn height_of(number: i64) -> usize
-    ensures { result ≡ height_by number }
-{
-    match usize::try_from(number) {
-        Ok(height) if height > 0 => height,
-        _ => usize::MAX,
-    }
 }
 
 /// Says the names that a program asks for.
@@ -48,6 +39,7 @@ pub fn names(engine: &mut Engine, call: &mut Call<'_>) -> Result<(), Refused>
     ensures contexts { engine.new.contexts ≡ engine.old.contexts }
     ensures environments { engine.new.environments ≡ engine.old.environments }
     ensures waits { engine.new.waits ≡ engine.old.waits }
+    ensures limits { engine.new.limits ≡ engine.old.limits }
 {
     let (names, count) = engine.names(call.program)?;
     call.number = i64::try_from(count).unwrap_or(0);
@@ -55,7 +47,7 @@ pub fn names(engine: &mut Engine, call: &mut Call<'_>) -> Result<(), Refused>
     Ok(())
 }
 
-/// Keeps what a program answers in an environment and a context.
+/// Keeps what a program answers in an environment and a context, within the limits.
 pub fn run(engine: &mut Engine, call: &mut Call<'_>) -> Result<(), Refused>
     ensures done { OnOk result (RunsOnce engine.old engine.new call.old (reply_of call.new)) }
     ensures unknown { asked engine.old call.old.program call.old.environment call.old.context ≡ None
@@ -71,6 +63,7 @@ pub fn run(engine: &mut Engine, call: &mut Call<'_>) -> Result<(), Refused>
     ensures rules { engine.new.rules ≡ engine.old.rules }
     ensures contexts { engine.new.contexts ≡ engine.old.contexts }
     ensures environments { engine.new.environments ≡ engine.old.environments }
+    ensures limits { engine.new.limits ≡ engine.old.limits }
 {
     engine.run(call.program, call.environment, call.context)?;
     describe(engine.answer.part(), call);

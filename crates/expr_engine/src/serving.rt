@@ -1,8 +1,9 @@
 //! The one call: an engine does what it is asked to.
-ghost use Rattle.std.specs.Prelude.{◌≡◌, ◌≢◌, ◌⊎◌, [], length, Err, MatchOption, OnErr, OnOk, Some};
+ghost use Rattle.std.specs.Prelude.{◌≡◌, ◌≢◌, ◌⊎◌, [], length, Err, MatchOption, Ok, OnErr, OnOk, Some};
 ghost use Rattle.expr_engine.specs.Asks.{ask_of, shows_of};
 ghost use Rattle.expr_engine.specs.Doings.{Does, IsMissing, reply_of};
 ghost use Rattle.expr_engine.specs.Engines.{Leaves, NumbersRise, asked};
+ghost use Rattle.expr_engine.specs.Limiting.{LimitsBy};
 ghost use Rattle.expr_engine.specs.Served.{Answers, Ends, Runs, number_of, text_shown};
 ghost use Rattle.expr_engine.specs.Turns.{Turns, TurnsBy};
 ghost use Rattle.expr_exchange.specs.Built.{values_of};
@@ -15,6 +16,7 @@ use crate::call::{Ask, Call, Shows};
 use crate::engine::Engine;
 use crate::filling::{built_context, new_context, set};
 use crate::letting::{clear, drop_context, drop_environment, drop_program};
+use crate::limiting::{let_go_of_limits, set_limit};
 use crate::looking::{look, look_down, look_up, say_json, say_shown, say_text, show_key};
 use crate::replying::{answer_call, look_asked, refuse_call};
 use crate::running::{compile, names, run};
@@ -35,6 +37,10 @@ pub fn serve(engine: &mut Engine, call: &mut Call<'_>)
     ensures turns { MatchOption (ask_of call.old.ask) (engine.new.waits ≡ engine.old.waits)
         (λ ask. TurnsBy ask engine.old call.old call.new.status engine.new.waits
         (part_of engine.new.answer)) }
+    // The limits are those before, but where a call sets one or lets go of all.
+    ensures limits { MatchOption (ask_of call.old.ask) (engine.new.limits ≡ engine.old.limits)
+        (λ ask. LimitsBy ask engine.old.limits call.old (call.new.status ≡ 0) (call.new.status ≡ 7)
+        engine.new.limits) }
     ensures refused { call.new.status ≢ 0 → Leaves engine.old engine.new }
     ensures built { call.new.status ≢ 0 → values_of engine.new.built ≡ [] }
     // A handle that is out of date, or was never given, is UNKNOWN, and nothing else is.
@@ -63,6 +69,8 @@ fn act(engine: &mut Engine, call: &mut Call<'_>, ask: Ask) -> Result<(), Refused
         (asked engine.old call.old.program call.old.environment call.old.context)
         (result ≡ Err Refused.Unknown) (λ q. Runs q [] result (part_of engine.new.answer)) }
     ensures turns { Turns ask engine.old call.old result engine.new.waits (part_of engine.new.answer) }
+    ensures limits { LimitsBy ask engine.old.limits call.old (result ≡ Ok tt) (result ≡ Err Refused.Misuse)
+        engine.new.limits }
     ensures refused { OnErr result (Leaves engine.old engine.new) }
     ensures unknown { IsMissing ask engine.old call.old → result ≡ Err Refused.Unknown }
     ensures known { result ≡ Err Refused.Unknown → IsMissing ask engine.old call.old }
@@ -99,6 +107,8 @@ fn act(engine: &mut Engine, call: &mut Call<'_>, ask: Ask) -> Result<(), Refused
         Ask::Answer => answer_call(engine, call),
         Ask::Refuse => refuse_call(engine, call),
         Ask::Asked => look_asked(engine, call),
+        Ask::Limit => set_limit(engine, call),
+        Ask::Unlimited => let_go_of_limits(engine),
     }
 }
 
@@ -110,6 +120,7 @@ fn finish(engine: &mut Engine, call: &mut Call<'_>, shows: Shows, done: Result<(
     ensures contexts { engine.new.contexts ≡ engine.old.contexts }
     ensures environments { engine.new.environments ≡ engine.old.environments }
     ensures waits { engine.new.waits ≡ engine.old.waits }
+    ensures limits { engine.new.limits ≡ engine.old.limits }
     ensures built { OnErr done (values_of engine.new.built ≡ []) }
     ensures reply { reply_of call.new ≡ reply_of call.old }
     ensures ended { Ends done call.new.status }
@@ -165,6 +176,11 @@ fn number(status: Status) -> u32
         Status::Misuse => 7,
         Status::Asks => 8,
         Status::Differs => 9,
+        Status::Height => 10,
+        Status::Patterns => 11,
+        Status::Steps => 12,
+        Status::Depth => 13,
+        Status::Size => 14,
     }
 }
 
@@ -175,6 +191,7 @@ fn refuse(engine: &mut Engine, refused: &Refused, call: &mut Call<'_>) -> Status
     ensures environments { engine.new.environments ≡ engine.old.environments }
     ensures answer { engine.new.answer ≡ engine.old.answer }
     ensures waits { engine.new.waits ≡ engine.old.waits }
+    ensures limits { engine.new.limits ≡ engine.old.limits }
     ensures built { values_of engine.new.built ≡ [] }
     ensures reply { reply_of call.new ≡ reply_of call.old }
     ensures status { (result ≡ status_of refused.now) ⊎ (result ≡ Status.Memory) }

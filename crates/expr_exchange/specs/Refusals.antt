@@ -1,9 +1,11 @@
 -- How calls end, and what they give.
 use Rattle.std.specs.Prelude.{◌≡◌, ◌≢◌, Option, None, Result, Ok, Err}
 use Rattle.expr_exchange.specs.declared.refused.Refused.{Refused}
-use Rattle.expr_exchange.specs.declared.refused.Refused.TheVariants.{Language, Unknown, Misuse, Asks, Differs}
+use Rattle.expr_exchange.specs.declared.refused.Refused.TheVariants.{Language, Unknown, Misuse, Asks, Differs, Stopped}
 use Rattle.expr_exchange.specs.declared.refused.Status.{Status}
 use Rattle.expr_exchange.specs.declared.refused.Status.TheVariants as ends
+use Rattle.expr_meter.specs.declared.limit.Limit.{Limit}
+use Rattle.expr_meter.specs.declared.limit.Limit.TheVariants as limits
 use Rattle.expr_value.specs.Fault.{Fault, fault_of, syntax, literal, evaluation, pattern, memory}
 
 -- how a call ends by the kind of a refusal
@@ -14,21 +16,31 @@ ends_by evaluation = ends.Evaluation
 ends_by pattern = ends.Pattern
 ends_by memory = ends.Memory
 
+-- how a call ends by the limit that is passed
+abbrev pub ends_at : Limit → Status
+ends_at limits.Height = ends.Height
+ends_at limits.Patterns = ends.Patterns
+ends_at limits.Steps = ends.Steps
+ends_at limits.Depth = ends.Depth
+ends_at limits.Size = ends.Size
+
 abbrev pub status_of : Refused → Status
 status_of (Language error) = ends_by (fault_of error)
 status_of Unknown = ends.Unknown
 status_of Misuse = ends.Misuse
 status_of Asks = ends.Asks
 status_of Differs = ends.Differs
+status_of (Stopped limit) = ends_at limit
 
--- The language gives one of these answers, or refuses for want of memory, or the run stops; nothing else is refused.
-abbrev pub GivesHost : {A : Type 0} → Result A Refused → (Result A Fault → Type 0) → Type 0
-GivesHost (Ok v) allowed = allowed (Ok v)
-GivesHost (Err (Language error)) allowed = fault_of error ≢ memory → allowed (Err (fault_of error))
-GivesHost (Err Unknown) allowed = ⊥
-GivesHost (Err Misuse) allowed = ⊥
-GivesHost (Err Asks) allowed = Unit {0}
-GivesHost (Err Differs) allowed = Unit {0}
+-- The language gives one of these answers, or refuses for want of memory, or the run stops for a reply or at such a limit; nothing else is refused.
+abbrev pub GivesHost : {A : Type 0} → Result A Refused → (Result A Fault → Type 0) → (Limit → Type 0) → Type 0
+GivesHost (Ok v) allowed passed = allowed (Ok v)
+GivesHost (Err (Language error)) allowed passed = fault_of error ≢ memory → allowed (Err (fault_of error))
+GivesHost (Err Unknown) allowed passed = ⊥
+GivesHost (Err Misuse) allowed passed = ⊥
+GivesHost (Err Asks) allowed passed = Unit {0}
+GivesHost (Err Differs) allowed passed = Unit {0}
+GivesHost (Err (Stopped limit)) allowed passed = passed limit
 
 -- A refusal for want of memory.
 abbrev pub IsForMemory : Refused → Type 0
@@ -37,6 +49,7 @@ IsForMemory Unknown = ⊥
 IsForMemory Misuse = ⊥
 IsForMemory Asks = ⊥
 IsForMemory Differs = ⊥
+IsForMemory (Stopped limit) = ⊥
 
 -- A refusal of what isn't there, or for want of memory.
 abbrev pub NotThere : {A : Type 0} → Option A → Refused → Type 0
@@ -45,6 +58,7 @@ NotThere sought Unknown = ⊥
 NotThere sought Misuse = sought ≡ None
 NotThere sought Asks = ⊥
 NotThere sought Differs = ⊥
+NotThere sought (Stopped limit) = ⊥
 
 -- A refusal of what stands for nothing, or for want of memory.
 abbrev pub NotMeant : Type 0 → Refused → Type 0
@@ -53,3 +67,4 @@ NotMeant Means Unknown = ⊥
 NotMeant Means Misuse = Means → ⊥
 NotMeant Means Asks = ⊥
 NotMeant Means Differs = ⊥
+NotMeant Means (Stopped limit) = ⊥

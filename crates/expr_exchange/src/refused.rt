@@ -4,6 +4,7 @@ ghost use Rattle.expr_exchange.specs.Refusals.{status_of};
 ghost use Rattle.expr_exchange.specs.declared.refused.Refused.TheVariants.{Language};
 ghost use Rattle.expr_value.specs.declared.error.Error.TheVariants.{MemoryError};
 
+use expr_meter::Limit;
 use expr_value::Error;
 use std::alloc::{AllocError, AllocFailed};
 
@@ -24,6 +25,16 @@ pub enum Status {
     Asks,
     /// A run came to another call than the one that was replied to.
     Differs,
+    /// A text's tree is higher than the limit.
+    Height,
+    /// A text's literal patterns weigh more than the limit.
+    Patterns,
+    /// A run takes more steps than the limit.
+    Steps,
+    /// A run makes a value that is deeper than the limit.
+    Depth,
+    /// A run holds more at once than the limit.
+    Size,
 }
 
 /// Why a host gets no answer.
@@ -39,6 +50,8 @@ pub enum Refused {
     Asks,
     /// A run came to another call than the one that was replied to.
     Differs,
+    /// A text or a run would have passed this limit.
+    Stopped(Limit),
 }
 
 impl Refused {
@@ -56,6 +69,11 @@ impl Refused {
             Refused::Misuse => Status::Misuse,
             Refused::Asks => Status::Asks,
             Refused::Differs => Status::Differs,
+            Refused::Stopped(Limit::Height) => Status::Height,
+            Refused::Stopped(Limit::Patterns) => Status::Patterns,
+            Refused::Stopped(Limit::Steps) => Status::Steps,
+            Refused::Stopped(Limit::Depth) => Status::Depth,
+            Refused::Stopped(Limit::Size) => Status::Size,
         }
     }
 }

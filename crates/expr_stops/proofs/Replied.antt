@@ -1,16 +1,25 @@
 -- What a host answers that answers from replies.
-use Rattle.std.proofs.Common.{◌≡◌, ◌≢◌, ◌||◌, ℕ, Bool, List, MatchBool, OnOk, Result, Ok, Err, Some, false, slice_get, subst, sym, true}
+use Rattle.std.proofs.Common.{◌≡◌, ◌≢◌, ◌||◌, ℕ, Bool, IfErr, IsErrAnd, List, MatchBool, OnOk, Option, None, Result, Ok, Err, Some, false, slice_get, subst, sym, true}
+use Rattle.expr_code.specs.Machine.{CodeAnswers, Op}
+use Rattle.expr_costs.specs.Costs.{costs_in}
+use Rattle.expr_limited.specs.Outcomes.{Ends}
 use Rattle.expr_meaning.specs.Host.{Host}
 use Rattle.expr_meaning.specs.Refusals.{NeverRefusesWith}
-use Rattle.expr_stops.specs.Stops.{IfEnded, IsReply, answer_of, answered_by, is_named, is_to}
+use Rattle.expr_meter.proofs.Forgotten.{code_forgets}
+use Rattle.expr_meter.specs.Counting.{Ending, ended}
+use Rattle.expr_meter.specs.Rooms.{Room, rooms, unlimited, within}
+use Rattle.expr_meter.specs.declared.limits.Limits.{Limits}
+use Rattle.expr_meter.specs.declared.outcome.Outcome.{Outcome}
+use Rattle.expr_steps.specs.Context.{Context}
+use Rattle.expr_stops.specs.Stops.{CodeComes, ComesTo, EndsTurn, IfEnded, IsAsItWent, IsReply, answer_of, answered_by, is_named, is_to}
 use Rattle.expr_stops.specs.declared.given.Given.{Given}
 use Rattle.expr_stops.specs.declared.given.Reply.{Reply}
 use Rattle.expr_stops.specs.declared.given.Reply.TheVariants as reply
 use Rattle.expr_stops.specs.declared.names.StopNames.{StopNames}
 use Rattle.expr_stops.specs.declared.stops.Turn.{Turn}
-use Rattle.expr_stops.specs.declared.stops.Turn.TheVariants.{Ended, Asks, Differs}
-use Rattle.expr_value.specs.Answers.{Gives, Is}
-use Rattle.expr_value.specs.Fault.{Fault, evaluation}
+use Rattle.expr_stops.specs.declared.stops.Turn.TheVariants.{Ended, Asks, Differs, Stopped}
+use Rattle.expr_value.specs.Answers.{Answer, Gives, Is}
+use Rattle.expr_value.specs.Fault.{Fault, evaluation, fault_of}
 use Rattle.expr_value.specs.declared.error.Error.{Error}
 use Rattle.expr_value.specs.declared.value.Value.{Value}
 
@@ -44,11 +53,39 @@ never_by host given f other never key vs false added p = never key vs added p
 pub answered_never : (host : Host) (named : List ℕ → Bool) (given : List Given) (f : Fault) → f ≢ evaluation → NeverRefusesWith host f → NeverRefusesWith (answered_by host named given) f
 answered_never host named given f other never key vs added p = never_by host given f other never key vs (named key) added p
 
--- what is said of a result is said of a run that ended with it
-pub ended : (t : Turn) (r : Result Value Error) (P : Result Value Error → Type 0) → IfEnded t (λ x. x ≡ r) → P r → IfEnded t P
-ended (Ended x) r P is p = subst P (sym is) p
-ended Asks r P is p = tt
-ended (Differs stop) r P is p = tt
+-- how a run went is how its turn ended
+pub turned : (went : Result (Outcome Value) Error) (t : Turn) (allowed : Ending Room → Type 0) → Ends went allowed → IsAsItWent went t → EndsTurn t allowed
+turned went (Ended (Ok v)) allowed ends is = subst (λ w. Ends w allowed) is ends
+turned went (Ended (Err e)) allowed ends is = subst (λ w. Ends w allowed) is ends
+turned went Asks allowed ends is = tt
+turned went (Differs stop) allowed ends is = tt
+turned went (Stopped limit) allowed ends is = subst (λ w. Ends w allowed) is ends
+
+-- and what is said of its refusal is said of the turn's
+pub refused_as : (went : Result (Outcome Value) Error) (t : Turn) (P : Error → Type 0) → IfErr went P → IsAsItWent went t → IfEnded t (λ r. IfErr r P)
+refused_as went (Ended (Ok v)) P p is = tt
+refused_as went (Ended (Err e)) P p is = subst (λ w. IfErr w P) is p
+refused_as went Asks P p is = tt
+refused_as went (Differs stop) P p is = tt
+refused_as went (Stopped limit) P p is = tt
+
+-- a result that is refused as another is comes to what that does
+pub refused_so : (e : Error) (allowed : Answer → Type 0) (w : Result (Outcome Value) Error) → Gives {A = Value} (Err e) allowed → IsErrAnd w (λ x. x ≡ e) → Ends w (ComesTo allowed)
+refused_so e allowed (Ok o) p is = absurd is
+refused_so e allowed (Err x) p is = subst (λ y. Ends (Err y) (ComesTo allowed)) (sym is) p
+
+-- what code comes to, within limits too, it may answer
+pub comes_answers : (limits : Option Limits) (host : Host) (ctx : Context) (code : List (List Op)) (answer : Answer) (left : Room) → CodeComes limits host ctx code (ended answer left) → CodeAnswers host ctx code answer
+comes_answers (Some limits) host ctx code answer left p = code_forgets rooms (costs_in host) host ctx code (within limits.steps limits.size limits.depth) answer left p
+comes_answers None host ctx code (Ok v) left p = p
+comes_answers None host ctx code (Err e) left p = p
+
+pub answers_by : (limits : Option Limits) (host : Host) (ctx : Context) (code : List (List Op)) (t : Turn) → EndsTurn t (CodeComes limits host ctx code) → IfEnded t (λ r. Gives r (CodeAnswers host ctx code))
+answers_by limits host ctx code (Ended (Ok v)) p = comes_answers limits host ctx code (Ok v) p.0 p.1
+answers_by limits host ctx code (Ended (Err e)) p = λ m. comes_answers limits host ctx code (Err (fault_of e)) unlimited (p m)
+answers_by limits host ctx code Asks p = tt
+answers_by limits host ctx code (Differs stop) p = tt
+answers_by limits host ctx code (Stopped limit) p = tt
 
 -- the same host from the same parts
 pub same_replay : {S : Type 0} (host_of : S → Host) (P : Host → Type 0) (s t : S) (names others : StopNames) (given more : List Given) → s ≡ t → names ≡ others → given ≡ more

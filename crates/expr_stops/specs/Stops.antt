@@ -1,9 +1,18 @@
 -- What calls of a host's functions answer that a run stops at, and how such a run goes.
-use Rattle.std.specs.Prelude.{◌≡◌, ◌&&◌, ◌||◌, ◌++◌, ◌∷◌, [], ℕ, Bool, true, false, List, MatchBool, Ok, Err, Option, None, Some, IsSomeAnd, Result, String, bytes_eq, length, slice_get, string_bytes}
+use Rattle.std.specs.Prelude.{◌≡◌, ◌≢◌, ◌&&◌, ◌||◌, ◌++◌, ◌∷◌, [], ℕ, Bool, true, false, List, MatchBool, Ok, Err, Option, None, Some, IsSomeAnd, Result, String, bytes_eq, length, slice_get, string_bytes}
 use Rattle.std.specs.Cmp.Lexicographic.{pointwise}
 use Rattle.std.specs.declared.alloc.Global.{Global}
 use Rattle.std.specs.HashSet.{contains_text}
+use Rattle.expr_code.specs.Machine.{CodeAnswers, Op}
+use Rattle.expr_costs.specs.Costs.{costs_in}
 use Rattle.expr_meaning.specs.Host.{Host}
+use Rattle.expr_meter.specs.Counting.{Ending, gives, refuses, stops as stops_at}
+use Rattle.expr_meter.specs.Counts.{CodeCounts}
+use Rattle.expr_meter.specs.Rooms.{Room, rooms, within}
+use Rattle.expr_meter.specs.declared.limits.Limits.{Limits}
+use Rattle.expr_meter.specs.declared.outcome.Outcome.{Outcome}
+use Rattle.expr_meter.specs.declared.outcome.Outcome.TheVariants as outcome
+use Rattle.expr_steps.specs.Context.{Context}
 use Rattle.expr_stops.specs.declared.given.Given.{Given}
 use Rattle.expr_stops.specs.declared.given.Reply.{Reply}
 use Rattle.expr_stops.specs.declared.given.Reply.TheVariants as reply
@@ -11,9 +20,9 @@ use Rattle.expr_stops.specs.declared.names.StopNames.{StopNames}
 use Rattle.expr_stops.specs.declared.replay.Stop.{Stop}
 use Rattle.expr_stops.specs.declared.stops.Stops.{Stops}
 use Rattle.expr_stops.specs.declared.stops.Turn.{Turn}
-use Rattle.expr_stops.specs.declared.stops.Turn.TheVariants.{Ended, Asks, Differs}
+use Rattle.expr_stops.specs.declared.stops.Turn.TheVariants.{Ended, Asks, Differs, Stopped}
 use Rattle.expr_value.specs.Answers.{Answer}
-use Rattle.expr_value.specs.Fault.{evaluation}
+use Rattle.expr_value.specs.Fault.{evaluation, fault_of, memory}
 use Rattle.expr_value.specs.Values.{equals}
 use Rattle.expr_value.specs.declared.error.Error.{Error}
 use Rattle.expr_value.specs.declared.value.Value.{Value}
@@ -61,6 +70,34 @@ abbrev pub IfEnded : Turn → (Result Value Error → Type 0) → Type 0
 IfEnded (Ended r) P = P r
 IfEnded Asks P = Unit {0}
 IfEnded (Differs stop) P = Unit {0}
+IfEnded (Stopped limit) P = Unit {0}
+
+-- It comes to one of these answers, and passes no limit.
+abbrev pub ComesTo : (Answer → Type 0) → Ending Room → Type 0
+ComesTo allowed (gives v left) = allowed (Ok v)
+ComesTo allowed (refuses e) = allowed (Err e)
+ComesTo allowed (stops_at limit) = ⊥
+
+-- What a run of code may come to: within limits what one does that counts, and where there are none one of its answers.
+abbrev pub CodeComes : Option Limits → Host → Context → List (List Op) → Ending Room → Type 0
+CodeComes (Some limits) host ctx code end = CodeCounts rooms (costs_in host) host ctx code (within limits.steps limits.size limits.depth) end
+CodeComes None host ctx code end = ComesTo (CodeAnswers host ctx code) end
+
+-- A run that ended gives or is refused what such a run does, or it is refused for want of memory; one that stopped at a limit does so where such a run does.
+abbrev pub EndsTurn : Turn → (Ending Room → Type 0) → Type 0
+EndsTurn (Ended (Ok v)) allowed = (left : Room) × allowed (gives v left)
+EndsTurn (Ended (Err e)) allowed = fault_of e ≢ memory → allowed (refuses (fault_of e))
+EndsTurn Asks allowed = Unit {0}
+EndsTurn (Differs stop) allowed = Unit {0}
+EndsTurn (Stopped limit) allowed = allowed (stops_at limit)
+
+-- It ended or stopped at a limit as it went.
+abbrev pub IsAsItWent : Result (Outcome Value) Error → Turn → Type 0
+IsAsItWent went (Ended (Ok v)) = went ≡ Ok (outcome.Answered v)
+IsAsItWent went (Ended (Err e)) = went ≡ Err e
+IsAsItWent went Asks = Unit {0}
+IsAsItWent went (Differs stop) = Unit {0}
+IsAsItWent went (Stopped limit) = went ≡ Ok (outcome.Stopped limit)
 
 -- The reply at the place of this call, which is of a registered name, was given to another.
 pub record IsOther (named : List ℕ → Bool) (given : List Given) (stop : Stop) : Type 0 where
@@ -79,6 +116,7 @@ abbrev pub StopsWell : (List ℕ → Bool) → List Given → Turn → Option St
 StopsWell named given (Ended r) asked = asked ≡ None
 StopsWell named given Asks asked = IsSomeAnd asked (IsNext named given)
 StopsWell named given (Differs stop) asked = (asked ≡ None) × IsOther named given stop
+StopsWell named given (Stopped limit) asked = asked ≡ None
 
 -- Nothing was replied, and the same call waits.
 pub record IsSame (old new : Stops) : Type 0 where

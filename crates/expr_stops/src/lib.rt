@@ -2,6 +2,7 @@
 #![tactic(auto)]
 
 mod given;
+mod limited;
 mod names;
 mod playing;
 mod replay;
@@ -9,6 +10,7 @@ mod stops;
 
 pub use expr_meaning::ExprCall;
 pub use given::{Given, Reply};
+pub use limited::execute_in;
 pub use names::StopNames;
 pub use replay::Stop;
 pub use stops::{Stops, Turn};

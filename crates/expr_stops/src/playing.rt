@@ -1,6 +1,6 @@
 //! One run in a host that answers from replies.
-ghost use Rattle.std.specs.Prelude.{◌≢◌, ℕ, List, IfErr};
-ghost use Rattle.expr_code.specs.Machine.{CodeAnswers};
+ghost use Rattle.std.specs.Prelude.{◌≡◌, ◌≢◌, ℕ, List, IfErr, None};
+ghost use Rattle.expr_limited.specs.Outcomes.{Ends};
 ghost use Rattle.expr_lowering.specs.Blocks.{CodeKeeps, blocks_of};
 ghost use Rattle.expr_lowering.specs.Kept.{ProgramKeeps};
 ghost use Rattle.expr_machine.specs.Texts.{text_of};
@@ -8,27 +8,28 @@ ghost use Rattle.expr_meaning.specs.Allows.{AllowsBlock};
 ghost use Rattle.expr_meaning.specs.Independence.{AgreeAt};
 ghost use Rattle.expr_meaning.specs.Refusals.{NeverRefusesWith};
 ghost use Rattle.expr_steps.specs.Context.{Context};
-ghost use Rattle.expr_stops.specs.Stops.{answered_by, is_named};
+ghost use Rattle.expr_stops.specs.Stops.{CodeComes, ComesTo, answered_by, is_named};
 ghost use Rattle.expr_tree.specs.Names.{AreNamesOf};
 ghost use Rattle.expr_tree.specs.Written.{program_written};
-ghost use Rattle.expr_value.specs.Answers.{Gives};
 ghost use Rattle.expr_value.specs.Fault.{fault_of, pattern as bad_pattern};
 
 use crate::given::Given;
+use crate::limited::execute_in;
 use crate::names::StopNames;
 use crate::replay::{Replay, Stop};
 use expr_lowering::{Code, Holder};
 use expr_machine::Machine;
 use expr_meaning::Functions;
+use expr_meter::{Limits, Outcome};
 use expr_pattern::Pattern;
 use expr_tree::node::Program;
 use expr_value::{ContextProvider, Result, Value};
 use std::alloc::Global;
 
-/// What one run came to: its answer, and the call that it stopped at.
+/// What one run came to: its answer, or the limit that it would have passed, and the call that it stopped at.
 #[derive(Drop)]
 pub struct Played {
-    pub answer: Result<Value>,
+    pub went: Result<Outcome<Value>>,
     pub stop: Option<Stop>,
 }
 
@@ -41,24 +42,24 @@ pub fn play<'a, H: Functions>(
     program: &Program,
     ctx: &dyn ContextProvider,
 ) -> Played
-    ensures answer { Gives result.answer (AllowsBlock
+    ensures answer { Ends result.went (ComesTo (AllowsBlock
         (answered_by (H.host host.now) (is_named names.now) given.now)
-        (context ctx.now) (program_written program.now)) }
-    ensures independent { Gives result.answer
+        (context ctx.now) (program_written program.now))) }
+    ensures independent { Ends result.went (ComesTo
         (λ a. (other : Context) (keys : List (List ℕ)) → AreNamesOf keys (program_written program.now)
         → AgreeAt keys (program_written program.now) (context ctx.now) other
         → AllowsBlock (answered_by (H.host host.now) (is_named names.now) given.now)
-        other (program_written program.now) a) }
+        other (program_written program.now) a)) }
     ensures pattern { NeverRefusesWith (H.host host.now) bad_pattern → ProgramKeeps program.now
-        → IfErr result.answer (λ e. fault_of e ≢ bad_pattern) }
+        → IfErr result.went (λ e. fault_of e ≢ bad_pattern) }
 {
     let replay = Replay::new(host, names, given);
-    let answer = run_in(alloc, &replay, program, ctx);
+    let went = run_in(alloc, &replay, program, ctx);
     let stop = replay.take_stop();
-    Played { answer, stop }
+    Played { went, stop }
 }
 
-/// Runs code on replies.
+/// Runs code on replies, within limits or where there are none.
 pub fn play_code<
     'a,
     H: Functions,
@@ -73,17 +74,18 @@ pub fn play_code<
     given: &'a [Given],
     code: &Code<L, N, K>,
     provider: P,
+    limits: Option<Limits>,
 ) -> Played
-    ensures answer { Gives result.answer (CodeAnswers
+    ensures ends { Ends result.went (CodeComes limits
         (answered_by (H.host host.now) (is_named names.now) given.now)
         (P.context provider) (blocks_of L.held (text_of N.held) code.now)) }
-    ensures pattern { NeverRefusesWith (H.host host.now) bad_pattern → CodeKeeps L.held K.held code.now
-        → IfErr result.answer (λ e. fault_of e ≢ bad_pattern) }
+    ensures pattern { limits ≡ None → NeverRefusesWith (H.host host.now) bad_pattern
+        → CodeKeeps L.held K.held code.now → IfErr result.went (λ e. fault_of e ≢ bad_pattern) }
 {
     let replay = Replay::new(host, names, given);
-    let answer = execute_in(alloc, &replay, code, provider);
+    let went = execute_in(alloc, &replay, code, provider, limits);
     let stop = replay.take_stop();
-    Played { answer, stop }
+    Played { went, stop }
 }
 
 /// What a program answers in a host and a context.
@@ -92,13 +94,13 @@ fn run_in<H: Functions>(
     host: &H,
     program: &Program,
     ctx: &dyn ContextProvider,
-) -> Result<Value>
-    ensures answer { Gives result (AllowsBlock (H.host host.now) (context ctx.now)
-        (program_written program.now)) }
-    ensures independent { Gives result
+) -> Result<Outcome<Value>>
+    ensures answer { Ends result (ComesTo (AllowsBlock (H.host host.now) (context ctx.now)
+        (program_written program.now))) }
+    ensures independent { Ends result (ComesTo
         (λ a. (other : Context) (keys : List (List ℕ)) → AreNamesOf keys (program_written program.now)
         → AgreeAt keys (program_written program.now) (context ctx.now) other
-        → AllowsBlock (H.host host.now) other (program_written program.now) a) }
+        → AllowsBlock (H.host host.now) other (program_written program.now) a)) }
     ensures pattern { NeverRefusesWith (H.host host.now) bad_pattern → ProgramKeeps program.now
         → IfErr result (λ e. fault_of e ≢ bad_pattern) }
 {
@@ -107,26 +109,5 @@ fn run_in<H: Functions>(
         host,
         provider: ctx,
     };
-    machine.answer_program(program)
-}
-
-/// What code answers in a host, among the names of a provider.
-fn execute_in<
-    H: Functions,
-    P: ContextProvider + Drop,
-    L: Holder<Value>,
-    N: Holder<String>,
-    K: Holder<Pattern>,
->(alloc: Global, host: &H, code: &Code<L, N, K>, provider: P) -> Result<Value>
-    ensures answer { Gives result (CodeAnswers (H.host host.now) (P.context provider)
-        (blocks_of L.held (text_of N.held) code.now)) }
-    ensures pattern { NeverRefusesWith (H.host host.now) bad_pattern → CodeKeeps L.held K.held code.now
-        → IfErr result (λ e. fault_of e ≢ bad_pattern) }
-{
-    let machine = Machine {
-        alloc,
-        host,
-        provider,
-    };
-    machine.execute_once(code)
+    Ok(Outcome::Answered(machine.answer_program(program)?))
 }

@@ -1,5 +1,5 @@
 //! Runs that stop at a host's functions.
-ghost use Rattle.std.specs.Prelude.{◌≡◌, ◌≢◌, ◌∷◌, ◌++◌, [], ℕ, List, IfErr, None, OnErr, OnOk, Some, true, option_map};
+ghost use Rattle.std.specs.Prelude.{◌≡◌, ◌≢◌, ◌∷◌, ◌++◌, [], ℕ, Bool, List, IfErr, None, OnErr, OnOk, Some, true, option_map};
 ghost use Rattle.std.specs.Option.{option_copied};
 ghost use Rattle.expr_code.specs.Machine.{CodeAnswers};
 ghost use Rattle.expr_lowering.specs.Blocks.{CodeKeeps, blocks_of};
@@ -9,7 +9,7 @@ ghost use Rattle.expr_meaning.specs.Allows.{AllowsBlock};
 ghost use Rattle.expr_meaning.specs.Independence.{AgreeAt};
 ghost use Rattle.expr_meaning.specs.Refusals.{NeverRefusesWith};
 ghost use Rattle.expr_steps.specs.Context.{Context};
-ghost use Rattle.expr_stops.specs.Stops.{IfEnded, IsRefused, IsReplied, IsSame, StopsWell, answered_by, asked_of, given_of, is_named};
+ghost use Rattle.expr_stops.specs.Stops.{CodeComes, ComesTo, EndsTurn, IfEnded, IsAsItWent, IsRefused, IsReplied, IsSame, StopsWell, answered_by, asked_of, given_of, is_named};
 ghost use Rattle.expr_stops.specs.declared.given.Given.{Given};
 ghost use Rattle.expr_stops.specs.declared.given.Reply.{Reply};
 ghost use Rattle.expr_tree.specs.Names.{AreNamesOf};
@@ -23,6 +23,7 @@ use crate::playing::{Played, play, play_code};
 use crate::replay::Stop;
 use expr_lowering::{Code, Holder};
 use expr_meaning::Functions;
+use expr_meter::{Limit, Limits, Outcome};
 use expr_pattern::Pattern;
 use expr_tree::node::Program;
 use expr_value::{ContextProvider, Error, Result, Value, refusal};
@@ -37,6 +38,22 @@ pub enum Turn {
     Asks,
     /// It stopped at a call of the host's that isn't the one to which the reply at its place was given.
     Differs(Stop),
+    /// It would have passed this limit.
+    Stopped(Limit),
+}
+
+impl Turn {
+    /// How a run went that stopped at no call.
+    pub fn of(went: Result<Outcome<Value>>) -> Turn
+        ensures went { IsAsItWent went result }
+        ensures stops { (named : List ℕ → Bool) (given : List Given) → StopsWell named given result None }
+    {
+        match went {
+            Ok(Outcome::Answered(value)) => Turn::Ended(Ok(value)),
+            Ok(Outcome::Stopped(limit)) => Turn::Stopped(limit),
+            Err(error) => Turn::Ended(Err(error)),
+        }
+    }
 }
 
 /// A program's run that stops at the host's functions: what the host has answered, in the order of the calls, and the call
@@ -71,12 +88,13 @@ impl Stops {
         program: &Program,
         ctx: &dyn ContextProvider,
     ) -> Turn
-        // An answer is one that the program's meaning allows where these names answer what the host answered.
-        ensures ended { IfEnded result (λ r. Gives r (AllowsBlock
+        // An answer is one that the program's meaning allows where these names answer what the host answered. There are no
+        // limits, so that it stops at none.
+        ensures ended { EndsTurn result (ComesTo (AllowsBlock
             (answered_by (H.host host.now) (is_named names.now) (given_of self.old))
             (context ctx.now) (program_written program.now))) }
         // The answer is allowed in each context that agrees with this one at the program's names.
-        ensures independent { IfEnded result (λ r. Gives r
+        ensures independent { EndsTurn result (ComesTo
             (λ a. (other : Context) (keys : List (List ℕ)) → AreNamesOf keys (program_written program.now)
             → AgreeAt keys (program_written program.now) (context ctx.now) other
             → AllowsBlock (answered_by (H.host host.now) (is_named names.now) (given_of self.old))
@@ -91,39 +109,54 @@ impl Stops {
         self.turn(names, played)
     }
 
-    /// Runs code up to its next call of a registered name, among the names of a provider of any type.
+    /// Runs code up to its next call of a registered name, among the names of a provider of any type, within limits or
+    /// where there are none. Each turn has all that the limits allow.
     pub fn execute<
         H: Functions,
         P: ContextProvider + Drop,
         L: Holder<Value>,
         N: Holder<String>,
         K: Holder<Pattern>,
-    >(&mut self, host: &H, names: &StopNames, code: &Code<L, N, K>, provider: P) -> Turn
+    >(
+        &mut self,
+        host: &H,
+        names: &StopNames,
+        code: &Code<L, N, K>,
+        provider: P,
+        limits: Option<Limits>,
+    ) -> Turn
+        // It ends or stops at a limit as a run of the code does that counts within these limits, or as one that counts
+        // nothing where there are none.
+        ensures ends { EndsTurn result (CodeComes limits
+            (answered_by (H.host host.now) (is_named names.now) (given_of self.old))
+            (P.context provider) (blocks_of L.held (text_of N.held) code.now)) }
+        // An answer is one that the code may give where there are no limits.
         ensures ended { IfEnded result (λ r. Gives r (CodeAnswers
             (answered_by (H.host host.now) (is_named names.now) (given_of self.old))
             (P.context provider) (blocks_of L.held (text_of N.held) code.now))) }
-        ensures pattern { NeverRefusesWith (H.host host.now) bad_pattern → CodeKeeps L.held K.held code.now
+        ensures pattern { limits ≡ None → NeverRefusesWith (H.host host.now) bad_pattern
+            → CodeKeeps L.held K.held code.now
             → IfEnded result (λ r. IfErr r (λ e. fault_of e ≢ bad_pattern)) }
         ensures stops { StopsWell (is_named names.now) (given_of self.old) result (asked_of self.new) }
         ensures given { given_of self.new ≡ given_of self.old }
     {
-        let played = play_code(self.alloc, host, names, &self.given, code, provider);
+        let played = play_code(self.alloc, host, names, &self.given, code, provider, limits);
         self.turn(names, played)
     }
 
     /// How a run went that came to this.
     fn turn(&mut self, names: &StopNames, played: Played) -> Turn
-        ensures ended { IfEnded result (λ r. r ≡ played.answer) }
+        ensures went { IsAsItWent played.went result }
         ensures stops { StopsWell (is_named names.now) (given_of self.old) result (asked_of self.new) }
         ensures given { given_of self.new ≡ given_of self.old }
     {
         self.asked = None;
-        let Played { answer, stop } = played;
+        let Played { went, stop } = played;
         let Some(stop) = stop else {
-            return Turn::Ended(answer);
+            return Turn::of(went);
         };
         if !names.has(&stop.call.ident) {
-            return Turn::Ended(answer);
+            return Turn::of(went);
         }
         if stop.place == self.given.len() {
             self.asked = Some(stop);
@@ -131,7 +164,7 @@ impl Stops {
         }
         match self.given.get(stop.place) {
             Some(given) if !given.is_to(&stop.call) => Turn::Differs(stop),
-            _ => Turn::Ended(answer),
+            _ => Turn::of(went),
         }
     }
 

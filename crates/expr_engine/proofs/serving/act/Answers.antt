@@ -1,8 +1,10 @@
-use Rattle.std.proofs.Common.{subst, sym}
-use Rattle.expr_engine.specs.Doings.{IsMissing, height_by}
+use Rattle.std.proofs.Common.{◌≡◌, Ok, Err, subst, sym}
+use Rattle.expr_engine.specs.Doings.{IsMissing}
 use Rattle.expr_engine.specs.Engines.{Leaves}
+use Rattle.expr_engine.specs.Limiting.{LimitsBy}
 use Rattle.expr_engine.specs.Turns.{Turns}
 use Rattle.expr_exchange.specs.Looked.{part_of}
+use Rattle.expr_exchange.specs.declared.refused.Refused.TheVariants.{Misuse}
 use Rattle.expr_engine.proofs.Ended.{always_ok, compile_never_unknown, never_unknown, ok_never_unknown}
 use Rattle.expr_engine.proofs.Unchanged.{left_answer, left_contexts, left_environments, left_look, left_rules, left_same, numbers_by_contexts, numbers_by_environments, numbers_by_rules, numbers_kept}
 use Rattle.expr_engine.proofs.serving.act.Goals as goal
@@ -11,7 +13,7 @@ pub returns-in-Compile-clause-refused : goal.returns-in-Compile-clause-refused
 returns-in-Compile-clause-refused c = left_rules c.args.engine.now c.compile.new.engine c.compile.result c.compile.ensures.err c.compile.ensures.contexts c.compile.ensures.environments c.compile.ensures.answer
 
 pub returns-in-Compile-clause-known : goal.returns-in-Compile-clause-known
-returns-in-Compile-clause-known c = λ e. absurd (compile_never_unknown (height_by c.args.call.now.number) c.args.call.now.text.now c.compile.result c.compile.ensures.refused e)
+returns-in-Compile-clause-known c = λ e. absurd (compile_never_unknown c.args.engine.now.limits c.args.call.now.text.now c.compile.result c.compile.ensures.refused e)
 
 pub returns-in-Names-clause-refused : goal.returns-in-Names-clause-refused
 returns-in-Names-clause-refused c = left_same c.args.engine.now c.names.new.engine c.names.result c.names.ensures.rules c.names.ensures.contexts c.names.ensures.environments c.names.ensures.answer
@@ -375,3 +377,120 @@ returns-in-Refuse-clause-turns c = subst (λ a. Turns a c.args.engine.now c.args
 
 pub returns-in-Asked-clause-turns : goal.returns-in-Asked-clause-turns
 returns-in-Asked-clause-turns c = subst (λ a. Turns a c.args.engine.now c.args.call.now c.look_asked.result c.look_asked.new.engine.waits (part_of c.look_asked.new.engine.answer)) (sym c.in-Asked.is) c.look_asked.ensures.waits
+
+pub returns-in-Compile-clause-limits : goal.returns-in-Compile-clause-limits
+returns-in-Compile-clause-limits c = subst (λ a. LimitsBy a c.args.engine.now.limits c.args.call.now (c.compile.result ≡ Ok tt) (c.compile.result ≡ Err Misuse) c.compile.new.engine.limits) (sym c.in-Compile.is) c.compile.ensures.limits
+
+pub returns-in-Names-clause-limits : goal.returns-in-Names-clause-limits
+returns-in-Names-clause-limits c = subst (λ a. LimitsBy a c.args.engine.now.limits c.args.call.now (c.names.result ≡ Ok tt) (c.names.result ≡ Err Misuse) c.names.new.engine.limits) (sym c.in-Names.is) c.names.ensures.limits
+
+pub returns-in-Run-clause-limits : goal.returns-in-Run-clause-limits
+returns-in-Run-clause-limits c = subst (λ a. LimitsBy a c.args.engine.now.limits c.args.call.now (c.run.result ≡ Ok tt) (c.run.result ≡ Err Misuse) c.run.new.engine.limits) (sym c.in-Run.is) c.run.ensures.limits
+
+pub returns-in-Context-clause-limits : goal.returns-in-Context-clause-limits
+returns-in-Context-clause-limits c = subst (λ a. LimitsBy a c.args.engine.now.limits c.args.call.now (c.new_context.result ≡ Ok tt) (c.new_context.result ≡ Err Misuse) c.new_context.new.engine.limits) (sym c.in-Context.is) c.new_context.ensures.limits
+
+pub returns-in-ContextOf-clause-limits : goal.returns-in-ContextOf-clause-limits
+returns-in-ContextOf-clause-limits c = subst (λ a. LimitsBy a c.args.engine.now.limits c.args.call.now (c.built_context.result ≡ Ok tt) (c.built_context.result ≡ Err Misuse) c.built_context.new.engine.limits) (sym c.in-ContextOf.is) c.built_context.ensures.limits
+
+pub returns-in-Set-clause-limits : goal.returns-in-Set-clause-limits
+returns-in-Set-clause-limits c = subst (λ a. LimitsBy a c.args.engine.now.limits c.args.call.now (c.set.result ≡ Ok tt) (c.set.result ≡ Err Misuse) c.set.new.engine.limits) (sym c.in-Set.is) c.set.ensures.limits
+
+pub returns-in-Push-clause-limits : goal.returns-in-Push-clause-limits
+returns-in-Push-clause-limits c = subst (λ a. LimitsBy a c.args.engine.now.limits c.args.call.now (c.push.result ≡ Ok tt) (c.push.result ≡ Err Misuse) c.push.new.engine.limits) (sym c.in-Push.is) c.push.ensures.limits
+
+pub returns-in-Array-clause-limits : goal.returns-in-Array-clause-limits
+returns-in-Array-clause-limits c = subst (λ a. LimitsBy a c.args.engine.now.limits c.args.call.now (c.make_array.result ≡ Ok tt) (c.make_array.result ≡ Err Misuse) c.make_array.new.engine.limits) (sym c.in-Array.is) c.make_array.ensures.limits
+
+pub returns-in-Map-clause-limits : goal.returns-in-Map-clause-limits
+returns-in-Map-clause-limits c = subst (λ a. LimitsBy a c.args.engine.now.limits c.args.call.now (c.make_map.result ≡ Ok tt) (c.make_map.result ≡ Err Misuse) c.make_map.new.engine.limits) (sym c.in-Map.is) c.make_map.ensures.limits
+
+pub returns-in-Unbuild-clause-limits : goal.returns-in-Unbuild-clause-limits
+returns-in-Unbuild-clause-limits c = subst (λ a. LimitsBy a c.args.engine.now.limits c.args.call.now (c.unbuild.result ≡ Ok tt) (c.unbuild.result ≡ Err Misuse) c.unbuild.new.engine.limits) (sym c.in-Unbuild.is) c.unbuild.ensures.limits
+
+pub returns-in-Look-clause-limits : goal.returns-in-Look-clause-limits
+returns-in-Look-clause-limits c = subst (λ a. LimitsBy a c.args.engine.now.limits c.args.call.now (c.look.result ≡ Ok tt) (c.look.result ≡ Err Misuse) c.look.new.engine.limits) (sym c.in-Look.is) c.look.ensures.limits
+
+pub returns-in-Down-clause-limits : goal.returns-in-Down-clause-limits
+returns-in-Down-clause-limits c = subst (λ a. LimitsBy a c.args.engine.now.limits c.args.call.now (c.look_down.result ≡ Ok tt) (c.look_down.result ≡ Err Misuse) c.look_down.new.engine.limits) (sym c.in-Down.is) c.look_down.ensures.limits
+
+pub returns-in-Up-clause-limits : goal.returns-in-Up-clause-limits
+returns-in-Up-clause-limits c = subst (λ a. LimitsBy a c.args.engine.now.limits c.args.call.now (c.look_up.result ≡ Ok tt) (c.look_up.result ≡ Err Misuse) c.look_up.new.engine.limits) (sym c.in-Up.is) c.look_up.ensures.limits
+
+pub returns-in-Key-clause-limits : goal.returns-in-Key-clause-limits
+returns-in-Key-clause-limits c = subst (λ a. LimitsBy a c.args.engine.now.limits c.args.call.now (c.show_key.result ≡ Ok tt) (c.show_key.result ≡ Err Misuse) c.show_key.new.engine.limits) (sym c.in-Key.is) c.show_key.ensures.limits
+
+pub returns-in-Shown-clause-limits : goal.returns-in-Shown-clause-limits
+returns-in-Shown-clause-limits c = subst (λ a. LimitsBy a c.args.engine.now.limits c.args.call.now (c.say_shown.result ≡ Ok tt) (c.say_shown.result ≡ Err Misuse) c.say_shown.new.engine.limits) (sym c.in-Shown.is) c.say_shown.ensures.limits
+
+pub returns-in-Text-clause-limits : goal.returns-in-Text-clause-limits
+returns-in-Text-clause-limits c = subst (λ a. LimitsBy a c.args.engine.now.limits c.args.call.now (c.say_text.result ≡ Ok tt) (c.say_text.result ≡ Err Misuse) c.say_text.new.engine.limits) (sym c.in-Text.is) c.say_text.ensures.limits
+
+pub returns-in-Json-clause-limits : goal.returns-in-Json-clause-limits
+returns-in-Json-clause-limits c = subst (λ a. LimitsBy a c.args.engine.now.limits c.args.call.now (c.say_json.result ≡ Ok tt) (c.say_json.result ≡ Err Misuse) c.say_json.new.engine.limits) (sym c.in-Json.is) c.say_json.ensures.limits
+
+pub returns-in-Environment-clause-limits : goal.returns-in-Environment-clause-limits
+returns-in-Environment-clause-limits c = subst (λ a. LimitsBy a c.args.engine.now.limits c.args.call.now (c.add_environment.result ≡ Ok tt) (c.add_environment.result ≡ Err Misuse) c.add_environment.new.engine.limits) (sym c.in-Environment.is) c.add_environment.ensures.limits
+
+pub returns-in-FixedZone-clause-limits : goal.returns-in-FixedZone-clause-limits
+returns-in-FixedZone-clause-limits c = subst (λ a. LimitsBy a c.args.engine.now.limits c.args.call.now (c.zone_by_seconds.result ≡ Ok tt) (c.zone_by_seconds.result ≡ Err Misuse) c.zone_by_seconds.new.engine.limits) (sym c.in-FixedZone.is) c.zone_by_seconds.ensures.limits
+
+pub returns-in-ZoneRule-clause-limits : goal.returns-in-ZoneRule-clause-limits
+returns-in-ZoneRule-clause-limits c = subst (λ a. LimitsBy a c.args.engine.now.limits c.args.call.now (c.zone_by_rule.result ≡ Ok tt) (c.zone_by_rule.result ≡ Err Misuse) c.zone_by_rule.new.engine.limits) (sym c.in-ZoneRule.is) c.zone_by_rule.ensures.limits
+
+pub returns-in-Now-clause-limits : goal.returns-in-Now-clause-limits
+returns-in-Now-clause-limits c = subst (λ a. LimitsBy a c.args.engine.now.limits c.args.call.now (c.set_now.result ≡ Ok tt) (c.set_now.result ≡ Err Misuse) c.set_now.new.engine.limits) (sym c.in-Now.is) c.set_now.ensures.limits
+
+pub returns-in-DropProgram-clause-limits : goal.returns-in-DropProgram-clause-limits
+returns-in-DropProgram-clause-limits c = subst (λ a. LimitsBy a c.args.engine.now.limits c.args.call.now (c.drop_program.result ≡ Ok tt) (c.drop_program.result ≡ Err Misuse) c.drop_program.new.engine.limits) (sym c.in-DropProgram.is) c.drop_program.ensures.limits
+
+pub returns-in-DropContext-clause-limits : goal.returns-in-DropContext-clause-limits
+returns-in-DropContext-clause-limits c = subst (λ a. LimitsBy a c.args.engine.now.limits c.args.call.now (c.drop_context.result ≡ Ok tt) (c.drop_context.result ≡ Err Misuse) c.drop_context.new.engine.limits) (sym c.in-DropContext.is) c.drop_context.ensures.limits
+
+pub returns-in-DropEnvironment-clause-limits : goal.returns-in-DropEnvironment-clause-limits
+returns-in-DropEnvironment-clause-limits c = subst (λ a. LimitsBy a c.args.engine.now.limits c.args.call.now (c.drop_environment.result ≡ Ok tt) (c.drop_environment.result ≡ Err Misuse) c.drop_environment.new.engine.limits) (sym c.in-DropEnvironment.is) c.drop_environment.ensures.limits
+
+pub returns-in-Clear-clause-limits : goal.returns-in-Clear-clause-limits
+returns-in-Clear-clause-limits c = subst (λ a. LimitsBy a c.args.engine.now.limits c.args.call.now (c.clear.result ≡ Ok tt) (c.clear.result ≡ Err Misuse) c.clear.new.engine.limits) (sym c.in-Clear.is) c.clear.ensures.limits
+
+pub returns-in-Name-clause-limits : goal.returns-in-Name-clause-limits
+returns-in-Name-clause-limits c = subst (λ a. LimitsBy a c.args.engine.now.limits c.args.call.now (c.add_name.result ≡ Ok tt) (c.add_name.result ≡ Err Misuse) c.add_name.new.engine.limits) (sym c.in-Name.is) c.add_name.ensures.limits
+
+pub returns-in-Answer-clause-limits : goal.returns-in-Answer-clause-limits
+returns-in-Answer-clause-limits c = subst (λ a. LimitsBy a c.args.engine.now.limits c.args.call.now (c.answer_call.result ≡ Ok tt) (c.answer_call.result ≡ Err Misuse) c.answer_call.new.engine.limits) (sym c.in-Answer.is) c.answer_call.ensures.limits
+
+pub returns-in-Refuse-clause-limits : goal.returns-in-Refuse-clause-limits
+returns-in-Refuse-clause-limits c = subst (λ a. LimitsBy a c.args.engine.now.limits c.args.call.now (c.refuse_call.result ≡ Ok tt) (c.refuse_call.result ≡ Err Misuse) c.refuse_call.new.engine.limits) (sym c.in-Refuse.is) c.refuse_call.ensures.limits
+
+pub returns-in-Asked-clause-limits : goal.returns-in-Asked-clause-limits
+returns-in-Asked-clause-limits c = subst (λ a. LimitsBy a c.args.engine.now.limits c.args.call.now (c.look_asked.result ≡ Ok tt) (c.look_asked.result ≡ Err Misuse) c.look_asked.new.engine.limits) (sym c.in-Asked.is) c.look_asked.ensures.limits
+
+pub returns-in-Limit-clause-limits : goal.returns-in-Limit-clause-limits
+returns-in-Limit-clause-limits c = subst (λ a. LimitsBy a c.args.engine.now.limits c.args.call.now (c.set_limit.result ≡ Ok tt) (c.set_limit.result ≡ Err Misuse) c.set_limit.new.engine.limits) (sym c.in-Limit.is) c.set_limit.ensures.set
+
+pub returns-in-Limit-clause-turns : goal.returns-in-Limit-clause-turns
+returns-in-Limit-clause-turns c = subst (λ a. Turns a c.args.engine.now c.args.call.now c.set_limit.result c.set_limit.new.engine.waits (part_of c.set_limit.new.engine.answer)) (sym c.in-Limit.is) c.set_limit.ensures.waits
+
+pub returns-in-Limit-clause-refused : goal.returns-in-Limit-clause-refused
+returns-in-Limit-clause-refused c = left_same c.args.engine.now c.set_limit.new.engine c.set_limit.result c.set_limit.ensures.rules c.set_limit.ensures.contexts c.set_limit.ensures.environments c.set_limit.ensures.answer
+
+pub returns-in-Limit-clause-numbers : goal.returns-in-Limit-clause-numbers
+returns-in-Limit-clause-numbers c = numbers_kept c.set_limit.ensures.rules c.set_limit.ensures.contexts c.set_limit.ensures.environments
+
+pub returns-in-Unlimited-clause-limits : goal.returns-in-Unlimited-clause-limits
+returns-in-Unlimited-clause-limits c = subst (λ a. LimitsBy a c.args.engine.now.limits c.args.call.now (c.let_go_of_limits.result ≡ Ok tt) (c.let_go_of_limits.result ≡ Err Misuse) c.let_go_of_limits.new.engine.limits) (sym c.in-Unlimited.is) (c.let_go_of_limits.ensures.ok, c.let_go_of_limits.ensures.none)
+
+pub returns-in-Unlimited-clause-turns : goal.returns-in-Unlimited-clause-turns
+returns-in-Unlimited-clause-turns c = subst (λ a. Turns a c.args.engine.now c.args.call.now c.let_go_of_limits.result c.let_go_of_limits.new.engine.waits (part_of c.let_go_of_limits.new.engine.answer)) (sym c.in-Unlimited.is) c.let_go_of_limits.ensures.waits
+
+pub returns-in-Unlimited-clause-refused : goal.returns-in-Unlimited-clause-refused
+returns-in-Unlimited-clause-refused c = left_same c.args.engine.now c.let_go_of_limits.new.engine c.let_go_of_limits.result c.let_go_of_limits.ensures.rules c.let_go_of_limits.ensures.contexts c.let_go_of_limits.ensures.environments c.let_go_of_limits.ensures.answer
+
+pub returns-in-Unlimited-clause-numbers : goal.returns-in-Unlimited-clause-numbers
+returns-in-Unlimited-clause-numbers c = numbers_kept c.let_go_of_limits.ensures.rules c.let_go_of_limits.ensures.contexts c.let_go_of_limits.ensures.environments
+
+pub returns-in-Limit-clause-known : goal.returns-in-Limit-clause-known
+returns-in-Limit-clause-known c = λ e. absurd (never_unknown c.set_limit.result c.set_limit.ensures.found e)
+
+pub returns-in-Unlimited-clause-known : goal.returns-in-Unlimited-clause-known
+returns-in-Unlimited-clause-known c = λ e. absurd (never_unknown c.let_go_of_limits.result c.let_go_of_limits.ensures.found e)

@@ -2,11 +2,12 @@ use Rattle.std.proofs.Common.{◌≡◌, [], MatchOption, length, subst, sym}
 use Rattle.expr_engine.specs.Asks.{ask_of, shows_of}
 use Rattle.expr_engine.specs.Doings.{Does, IsMissing, reply_of}
 use Rattle.expr_engine.specs.Engines.{asked}
+use Rattle.expr_engine.specs.Limiting.{LimitsBy}
 use Rattle.expr_engine.specs.Served.{Answers, text_shown}
 use Rattle.expr_engine.specs.Turns.{TurnsBy}
 use Rattle.expr_engine.specs.declared.call.Ask.TheVariants.{Run}
 use Rattle.expr_exchange.specs.Looked.{part_of}
-use Rattle.expr_engine.proofs.Ended.{asked_for, does_by, done_by, refused_by, served_by, turns_on}
+use Rattle.expr_engine.proofs.Ended.{asked_for, does_by, done_by, limits_by, refused_by, served_by, turns_on}
 use Rattle.expr_engine.proofs.Unchanged.{leaves_after, rise_after}
 use Rattle.expr_engine.proofs.serving.serve.Goals as goal
 
@@ -34,6 +35,14 @@ returns-in-Some-clause-turns c =
       ends = c.finish.ensures.ended;
       turns = turns_on c.in-Some.ask c.args.engine.now c.args.call.now c.act-done.result c.act-done.new.engine new c.act-done.ensures.turns c.finish.ensures.waits c.finish.ensures.answer;
     })
+
+pub returns-in-Some-clause-limits : goal.returns-in-Some-clause-limits
+returns-in-Some-clause-limits c =
+    let old = c.args.engine.now.limits in
+    let new = c.finish.new.engine.limits in
+    let status = c.finish.new.call.status in
+    asked_for (new ≡ old) (ask_of c.args.call.now.ask) c.in-Some.ask (λ ask. LimitsBy ask old c.args.call.now (status ≡ 0) (status ≡ 7) new) (sym c.in-Some.ensures)
+    (limits_by c.in-Some.ask old c.args.call.now c.act-done.result status c.act-done.new.engine.limits new c.finish.ensures.ended c.finish.ensures.misuse c.act-done.ensures.limits c.finish.ensures.limits)
 
 pub returns-in-Some-clause-refused : goal.returns-in-Some-clause-refused
 returns-in-Some-clause-refused c = λ n.

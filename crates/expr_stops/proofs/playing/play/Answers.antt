@@ -1,13 +1,13 @@
 use Rattle.std.proofs.Common.{ℕ, List, subst, sym}
+use Rattle.expr_limited.specs.Outcomes.{Ends}
 use Rattle.expr_meaning.specs.Allows.{AllowsBlock}
 use Rattle.expr_meaning.specs.Independence.{AgreeAt}
 use Rattle.expr_meaning.specs.Refusals.{NeverRefusesWith}
 use Rattle.expr_steps.specs.Context.{Context}
-use Rattle.expr_stops.specs.Stops.{is_named}
+use Rattle.expr_stops.specs.Stops.{ComesTo, is_named}
 use Rattle.expr_stops.proofs.Replied.{answered_never, same_replay}
 use Rattle.expr_tree.specs.Names.{AreNamesOf}
 use Rattle.expr_tree.specs.Written.{program_written}
-use Rattle.expr_value.specs.Answers.{Gives}
 use Rattle.expr_value.specs.Fault.{pattern}
 use Rattle.expr_stops.proofs.playing.play.Goals as goal
 
@@ -16,11 +16,11 @@ returns-clause-independent g c =
     let asked = goal.ContextProvider-dyn g c.args.ctx.now in
     let base : Context = asked.context c.args.ctx.now.1 in
     let b = program_written c.args.program.now in
-    same_replay (g.H.Functions.host) (λ h. Gives c.run_in-answer.result (
+    same_replay (g.H.Functions.host) (λ h. Ends c.run_in-went.result (ComesTo (
     λ a. (other : Context) (keys : List (List ℕ)) → AreNamesOf keys b → AgreeAt keys b base other → AllowsBlock h other b a
-    )) _ _ _ _ _ _ c.new-replay.ensures.host c.new-replay.ensures.names c.new-replay.ensures.given c.run_in-answer.ensures.independent
+    ))) _ _ _ _ _ _ c.new-replay.ensures.host c.new-replay.ensures.names c.new-replay.ensures.given c.run_in-went.ensures.independent
 
 pub returns-clause-pattern : goal.returns-clause-pattern
 returns-clause-pattern g c = λ never keeps.
-    c.run_in-answer.ensures.pattern (answered_never (g.H.Functions.host c.new-replay.result.host.now) (is_named c.new-replay.result.names.now) c.new-replay.result.given.now pattern (λ e. cc)
+    c.run_in-went.ensures.pattern (answered_never (g.H.Functions.host c.new-replay.result.host.now) (is_named c.new-replay.result.names.now) c.new-replay.result.given.now pattern (λ e. cc)
     (subst (λ h. NeverRefusesWith (g.H.Functions.host h) pattern) (sym c.new-replay.ensures.host) never)) keeps

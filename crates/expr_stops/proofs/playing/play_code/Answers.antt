@@ -1,21 +1,20 @@
 use Rattle.std.proofs.Common.{subst, sym}
-use Rattle.expr_code.specs.Machine.{CodeAnswers}
+use Rattle.expr_limited.specs.Outcomes.{Ends}
 use Rattle.expr_lowering.specs.Blocks.{blocks_of}
 use Rattle.expr_machine.specs.Texts.{text_of}
 use Rattle.expr_meaning.specs.Refusals.{NeverRefusesWith}
-use Rattle.expr_stops.specs.Stops.{is_named}
+use Rattle.expr_stops.specs.Stops.{CodeComes, is_named}
 use Rattle.expr_stops.proofs.Replied.{answered_never, same_replay}
-use Rattle.expr_value.specs.Answers.{Gives}
 use Rattle.expr_value.specs.Fault.{pattern}
 use Rattle.expr_stops.proofs.playing.play_code.Goals as goal
 
-pub returns-clause-answer : goal.returns-clause-answer
-returns-clause-answer g c =
-    same_replay (g.H.Functions.host) (λ h. Gives c.execute_in-answer.result (
-    CodeAnswers h (g.P.ContextProvider.context c.args.provider) (blocks_of g.L.Holder.held (text_of g.N.Holder.held) c.args.code.now)
-    )) _ _ _ _ _ _ c.new-replay.ensures.host c.new-replay.ensures.names c.new-replay.ensures.given c.execute_in-answer.ensures.answer
+pub returns-clause-ends : goal.returns-clause-ends
+returns-clause-ends g c =
+    same_replay (g.H.Functions.host) (λ h. Ends c.execute_in-went.result (
+    CodeComes c.args.limits h (g.P.ContextProvider.context c.args.provider) (blocks_of g.L.Holder.held (text_of g.N.Holder.held) c.args.code.now)
+    )) _ _ _ _ _ _ c.new-replay.ensures.host c.new-replay.ensures.names c.new-replay.ensures.given c.execute_in-went.ensures.ends
 
 pub returns-clause-pattern : goal.returns-clause-pattern
-returns-clause-pattern g c = λ never keeps.
-    c.execute_in-answer.ensures.pattern (answered_never (g.H.Functions.host c.new-replay.result.host.now) (is_named c.new-replay.result.names.now) c.new-replay.result.given.now pattern (λ e. cc)
+returns-clause-pattern g c = λ none never keeps.
+    c.execute_in-went.ensures.pattern none (answered_never (g.H.Functions.host c.new-replay.result.host.now) (is_named c.new-replay.result.names.now) c.new-replay.result.given.now pattern (λ e. cc)
     (subst (λ h. NeverRefusesWith (g.H.Functions.host h) pattern) (sym c.new-replay.ensures.host) never)) keeps

@@ -6,5 +6,5 @@ use Rattle.expr_engine.proofs.rule.Rule.compile.Goals as goal
 
 pub invariant_of-result : goal.invariant_of-result
 invariant_of-result c = record {
-  lowered = merely (subst (IsCode (program_written c.in_ok-program.program)) (sym c.in_ok-code.ensures.blocks) c.in_ok-lower.ensures.code);
+  lowered = merely (subst (IsCode (program_written c.in-Answered.program)) (sym c.in_ok-code-in-Answered.ensures.blocks) c.in_ok-lower-in-Answered.ensures.code);
 }

@@ -1,6 +1,17 @@
-use Rattle.expr_engine.proofs.Given.{gives_merely}
+use Rattle.std.proofs.Common.{List}
+use Rattle.std.specs.Option.{option_copied}
+use Rattle.expr_code.specs.Machine.{Op}
+use Rattle.expr_engine.specs.Codes.{code_of}
+use Rattle.expr_engine.specs.Runs.{context_of, pairs_of}
+use Rattle.expr_engine.proofs.Given.{given_within}
+use Rattle.expr_meaning.specs.Host.{Host}
+use Rattle.expr_value.specs.Context.{Context}
+use Rattle.expr_tree.specs.Written.{program_written}
 use Rattle.expr_engine.proofs.rule.Rule.run.Goals as goal
 
-pub returns : goal.returns
-returns g c =
-    gives_merely c.execute_once.result _ c.args.self.now.lowered (λ is. c.execution_answers_programs.ensures _ _ _ _ _ is c.execute_once.ensures.answer)
+pub returns-clause-answer : goal.returns-clause-answer
+returns-clause-answer g c =
+    let host : Host = g.H.Functions.host c.args.host.now in
+    let ctx : Context = context_of (pairs_of (option_copied c.args.names.names)) in
+    let code : List (List Op) = code_of c.args.self.now.code in
+    given_within c.args.limits host ctx (program_written c.args.self.now.program) code c.execute_in.result c.args.self.now.lowered c.execute_in.ensures.ends

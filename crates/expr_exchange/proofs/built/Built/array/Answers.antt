@@ -2,7 +2,7 @@ use Rattle.std.proofs.Common.{Result, Ok, Err, IfErr}
 use Rattle.expr_exchange.specs.Built.{HasLast, values_of}
 use Rattle.expr_exchange.specs.Refusals.{IsForMemory, NotMeant}
 use Rattle.expr_exchange.specs.declared.refused.Refused.{Refused}
-use Rattle.expr_exchange.specs.declared.refused.Refused.TheVariants.{Language, Unknown, Misuse, Asks, Differs}
+use Rattle.expr_exchange.specs.declared.refused.Refused.TheVariants.{Language, Unknown, Misuse, Asks, Differs, Stopped}
 use Rattle.expr_exchange.proofs.built.Built.array.Goals as goal
 
 -- what is refused for want of memory alone may stand for something
@@ -13,6 +13,7 @@ for_memory Means (Err Unknown) m = absurd m
 for_memory Means (Err Misuse) m = absurd m
 for_memory Means (Err Asks) m = absurd m
 for_memory Means (Err Differs) m = absurd m
+for_memory Means (Err (Stopped limit)) m = absurd m
 
 pub returns-clause-refused : goal.returns-clause-refused
 returns-clause-refused c = for_memory (HasLast c.args.count (values_of c.args.self.now)) c.push.result c.push.ensures.refused

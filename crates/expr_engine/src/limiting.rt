@@ -1,0 +1,77 @@
+//! Asks about limits.
+ghost use Rattle.std.specs.Prelude.{◌≡◌, ◌≢◌, Err, IfErr, MatchOption, None, Ok, OnOk, Some};
+ghost use Rattle.expr_engine.specs.Doings.{LetsGoOfLimits, SetsLimit};
+ghost use Rattle.expr_engine.specs.Limiting.{limits_asked, with_limit};
+
+use crate::call::Call;
+use crate::engine::Engine;
+use expr::{Limit, Limits};
+use expr_exchange::{Refused, limit_numbered};
+
+/// Sets the limit of a number, and the others to those for strangers where there are none.
+pub fn set_limit(engine: &mut Engine, call: &Call<'_>) -> Result<(), Refused>
+    ensures done { OnOk result (SetsLimit engine.old engine.new call.now) }
+    ensures set { MatchOption (limits_asked engine.old.limits call.now.kind call.now.number)
+        ((result ≡ Err Refused.Misuse) × (engine.new.limits ≡ engine.old.limits))
+        (λ limits. (result ≡ Ok tt) × (engine.new.limits ≡ Some limits)) }
+    ensures found { IfErr result (λ e. e ≢ Refused.Unknown) }
+    ensures rules { engine.new.rules ≡ engine.old.rules }
+    ensures contexts { engine.new.contexts ≡ engine.old.contexts }
+    ensures environments { engine.new.environments ≡ engine.old.environments }
+    ensures answer { engine.new.answer ≡ engine.old.answer }
+    ensures waits { engine.new.waits ≡ engine.old.waits }
+{
+    let Some(limit) = limit_numbered(call.kind) else {
+        return Err(Refused::Misuse);
+    };
+    let Ok(number) = u64::try_from(call.number) else {
+        return Err(Refused::Misuse);
+    };
+    let limits = engine.limits.unwrap_or(Limits::for_strangers());
+    engine.limits = Some(changed(limits, limit, number));
+    Ok(())
+}
+
+/// Limits of which one is another number.
+fn changed(limits: Limits, limit: Limit, number: u64) -> Limits
+    ensures { result ≡ with_limit limit number limits }
+{
+    match limit {
+        Limit::Height => Limits {
+            height: number as usize,
+            ..limits
+        },
+        Limit::Patterns => Limits {
+            patterns: number,
+            ..limits
+        },
+        Limit::Steps => Limits {
+            steps: number,
+            ..limits
+        },
+        Limit::Depth => Limits {
+            depth: number as usize,
+            ..limits
+        },
+        Limit::Size => Limits {
+            size: number,
+            ..limits
+        },
+    }
+}
+
+/// Lets go of all limits.
+pub fn let_go_of_limits(engine: &mut Engine) -> Result<(), Refused>
+    ensures done { OnOk result (LetsGoOfLimits engine.old engine.new) }
+    ensures ok { result ≡ Ok tt }
+    ensures found { IfErr result (λ e. e ≢ Refused.Unknown) }
+    ensures none { engine.new.limits ≡ None }
+    ensures rules { engine.new.rules ≡ engine.old.rules }
+    ensures contexts { engine.new.contexts ≡ engine.old.contexts }
+    ensures environments { engine.new.environments ≡ engine.old.environments }
+    ensures answer { engine.new.answer ≡ engine.old.answer }
+    ensures waits { engine.new.waits ≡ engine.old.waits }
+{
+    engine.limits = None;
+    Ok(())
+}

@@ -1,0 +1,52 @@
+//! Code within limits, or where there are none.
+ghost use Rattle.std.specs.Prelude.{◌≡◌, ◌≢◌, IfErr, None};
+ghost use Rattle.expr_limited.specs.Outcomes.{Ends};
+ghost use Rattle.expr_lowering.specs.Blocks.{CodeKeeps, blocks_of};
+ghost use Rattle.expr_machine.specs.Texts.{text_of};
+ghost use Rattle.expr_meaning.specs.Refusals.{NeverRefusesWith};
+ghost use Rattle.expr_stops.specs.Stops.{CodeComes};
+ghost use Rattle.expr_value.specs.Fault.{fault_of, pattern as bad_pattern};
+
+use expr_limited::execute_limited;
+use expr_lowering::{Code, Holder};
+use expr_machine::Machine;
+use expr_meaning::Functions;
+use expr_meter::{Limits, Outcome};
+use expr_pattern::Pattern;
+use expr_value::{ContextProvider, Result, Value};
+use std::alloc::Global;
+
+/// What code answers in a host within limits, or where there are none, among the names of a provider.
+///
+/// # Errors
+///
+/// The first refusal of an instruction: `ExprError`, or `MemoryError` where a growth is refused. That a limit is passed is
+/// no error, but [`Outcome::Stopped`].
+pub fn execute_in<
+    H: Functions,
+    P: ContextProvider + Drop,
+    L: Holder<Value>,
+    N: Holder<String>,
+    K: Holder<Pattern>,
+>(
+    alloc: Global,
+    host: &H,
+    code: &Code<L, N, K>,
+    provider: P,
+    limits: Option<Limits>,
+) -> Result<Outcome<Value>>
+    ensures ends { Ends result (CodeComes limits (H.host host.now) (P.context provider)
+        (blocks_of L.held (text_of N.held) code.now)) }
+    ensures pattern { limits ≡ None → NeverRefusesWith (H.host host.now) bad_pattern
+        → CodeKeeps L.held K.held code.now → IfErr result (λ e. fault_of e ≢ bad_pattern) }
+{
+    let machine = Machine {
+        alloc,
+        host,
+        provider,
+    };
+    match limits {
+        Some(limits) => execute_limited(&machine, code, &limits),
+        None => Ok(Outcome::Answered(machine.execute_once(code)?)),
+    }
+}
