@@ -30,7 +30,8 @@ void expr_c_call(void *at, call *call);
 /* As `Ask` of call.rt. */
 enum ask {
     COMPILE, NAMES, RUN, CONTEXT, CONTEXT_OF, SET, PUSH, ARRAY, MAP, UNBUILD, LOOK, DOWN, UP, KEY, SHOWN, TEXT, JSON, SAID,
-    ENVIRONMENT, FIXED_ZONE, ZONE_RULE, NOW, DROP_PROGRAM, DROP_CONTEXT, DROP_ENVIRONMENT, CLEAR, NAME, ANSWER, REFUSE, ASKED
+    ENVIRONMENT, FIXED_ZONE, ZONE_RULE, NOW, DROP_PROGRAM, DROP_CONTEXT, DROP_ENVIRONMENT, CLEAR, NAME, ANSWER, REFUSE, ASKED,
+    LIMIT, UNLIMITED
 };
 /* As `Kind` of call.rt, behind those of expr_kind. */
 enum { KIND_JSON = EXPR_KEYED_MAP + 1, KIND_BUILT, KIND_LOOKED };
@@ -140,18 +141,42 @@ const char *expr_message(expr_engine *engine) {
 
 const char *expr_status_word(expr_status status) {
     static const char *const words[] = {"ok",        "syntax",         "literal", "evaluation", "pattern",
-                                        "no memory", "unknown handle", "misuse",  "asks",       "differs"};
+                                        "no memory", "unknown handle", "misuse",  "asks",       "differs",
+                                        "height limit", "patterns limit", "steps limit", "depth limit", "size limit"};
     return (unsigned)status < sizeof words / sizeof *words ? words[status] : "?";
 }
 
+/* --- limits --- */
+
+static expr_status limited(expr_engine *engine, uint32_t kind, int64_t number) {
+    call *c = begun(engine, LIMIT);
+    c->kind = kind;
+    c->number = number;
+    return asked(engine);
+}
+
+expr_status expr_set_limits(expr_engine *engine, const expr_limits *limits) {
+    if (!engine || !limits) return EXPR_MISUSE;
+    /* as `Limit` of crates/expr_meter/src/limit.rt */
+    const int64_t numbers[] = {limits->height, limits->patterns, limits->steps, limits->depth, limits->size};
+    const uint32_t count = sizeof numbers / sizeof *numbers;
+    /* what the engine refuses is asked first, so that all are set or none */
+    for (uint32_t kind = 0; kind < count; kind++) {
+        if (numbers[kind] < 0) return limited(engine, kind, numbers[kind]);
+    }
+    expr_status status = EXPR_OK;
+    for (uint32_t kind = 0; kind < count && status == EXPR_OK; kind++) status = limited(engine, kind, numbers[kind]);
+    return status;
+}
+
+expr_status expr_set_unlimited(expr_engine *engine) { return asked_alone(engine, UNLIMITED); }
+
 /* --- programs --- */
 
-expr_status expr_compile(expr_engine *engine, const char *text, size_t length, size_t height, expr_program *program,
-                         expr_place *place) {
+expr_status expr_compile(expr_engine *engine, const char *text, size_t length, expr_program *program, expr_place *place) {
     if (!engine || !program) return EXPR_MISUSE;
     call *c = begun(engine, COMPILE);
     set_text(engine, text, length);
-    c->number = height > INT64_MAX ? INT64_MAX : (int64_t)height;
     c->place = c->line = c->column = 0;
     expr_status status = asked(engine);
     *program = status == EXPR_OK ? (expr_program){c->program.place, c->program.number} : (expr_program){0, UINT64_MAX};
@@ -342,7 +367,7 @@ expr_status expr_eval(expr_engine *engine, const char *text, size_t length, expr
                       expr_context context, expr_answer *answer) {
     expr_program program;
     if (answer) *answer = (expr_answer){EXPR_NIL, 0, 0, NULL};
-    expr_status status = expr_compile(engine, text, length, 0, &program, NULL);
+    expr_status status = expr_compile(engine, text, length, &program, NULL);
     if (status != EXPR_OK) return status;
     status = expr_run(engine, program, environment, context, answer);
     expr_drop_program(engine, program); /* what is said and the text of the answer stay */

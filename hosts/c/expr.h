@@ -4,7 +4,7 @@
  *     expr_program rule;
  *     expr_context order;
  *     expr_answer answer;
- *     if (expr_compile(engine, "price * count > 100", EXPR_Z, 500, &rule, NULL) != EXPR_OK) ..
+ *     if (expr_compile(engine, "price * count > 100", EXPR_Z, &rule, NULL) != EXPR_OK) ..
  *     expr_context_new(engine, &order);
  *     expr_set_integer(engine, order, "price", EXPR_Z, 60);
  *     expr_set_integer(engine, order, "count", EXPR_Z, 2);
@@ -28,7 +28,24 @@
  * it is kept, and may be one that the engine said. A null pointer stands for the empty text.
  *
  * Refusals. A call that is refused leaves the programs, contexts, environments and the answer as they were. It lets go of
- * what was being built (see expr_push_nil). expr_message has the reason. */
+ * what was being built (see expr_push_nil). expr_message has the reason.
+ *
+ * Limits. An engine has limits, at first those for the texts of strangers: how high the tree of a text may be and what its
+ * literal patterns may weigh, for each compile; how many steps a run may take, how deep the values may be that it makes and
+ * how much it may hold at once, for each run. A call that would pass one ends with a status of that limit's own, none of
+ * the language's refusals (EXPR_IS_LIMIT), and leaves what a refused call leaves. expr_set_limits sets others,
+ * expr_set_unlimited none. So a stranger's text has no more time, memory and stack than its limits give: where it stops, and
+ * that every other ending is one that the text may have, is proved of the engine; that time, memory and stack follow what
+ * is counted is measured.
+ *
+ * What strangers can still do, and a host bounds itself:
+ *   - write long texts. Reading one takes time and memory by its length, as measured up to 420 nanoseconds and 190 bytes
+ *     a byte;
+ *   - call functions of the host, where it has some. Each reply begins the run anew, with all the steps of the limit, so
+ *     a host counts its replies, and refuses or leaves a run that asks too often; and what its functions do is its own;
+ *   - choose the keys of a JSON object that the host reads for them so that all have one hash, which is slow where there are
+ *     many, and nest it, up to 127 levels. What stands in a context counts towards no limit until a program makes
+ *     something of it: values that a host builds as deep as it is told to take stack by their depth. */
 #ifndef EXPR_H
 #define EXPR_H
 #include <stddef.h>
@@ -53,15 +70,23 @@ typedef struct { size_t place; uint64_t number; } expr_environment;
 typedef enum {
     EXPR_OK,
     EXPR_SYNTAX,     /* the text is none of the language: see expr_place */
-    EXPR_LITERAL,    /* a number of 2^63 or more, or a text that nests deeper than was allowed */
+    EXPR_LITERAL,    /* a number of 2^63 or more */
     EXPR_EVALUATION, /* a name, field or function that isn't there, a wrong kind, a remainder by zero, a division */
     EXPR_PATTERN,    /* a pattern that doesn't build */
     EXPR_MEMORY,     /* a growth was refused */
     EXPR_UNKNOWN,    /* a handle that finds nothing */
     EXPR_MISUSE,     /* what is asked stands for nothing: bytes that are not UTF-8, an item that isn't there */
     EXPR_ASKS,       /* a run waits for the host's reply: see expr_add_name */
-    EXPR_DIFFERS     /* a run came to another call than the one that was replied to: see expr_add_name */
+    EXPR_DIFFERS,    /* a run came to another call than the one that was replied to: see expr_add_name */
+    EXPR_LIMIT_HEIGHT,   /* the tree of a text is higher than the limit: see expr_set_limits */
+    EXPR_LIMIT_PATTERNS, /* the literal patterns of a text weigh more than the limit */
+    EXPR_LIMIT_STEPS,    /* a run takes more steps than the limit */
+    EXPR_LIMIT_DEPTH,    /* a run makes a value that is deeper than the limit */
+    EXPR_LIMIT_SIZE      /* a run holds more at once than the limit */
 } expr_status;
+
+/* Whether a call ended at a limit, and so is neither done nor refused by the language. */
+#define EXPR_IS_LIMIT(status) ((unsigned)(status) - EXPR_LIMIT_HEIGHT <= (unsigned)(EXPR_LIMIT_SIZE - EXPR_LIMIT_HEIGHT))
 
 /* What kind of value. */
 typedef enum {
@@ -95,25 +120,52 @@ typedef struct {
     const char *text;
 } expr_answer;
 
-/* An engine, or null where there is no memory. */
+/* What compiles and runs may take. docs/LIMITS.md says what counts. */
+typedef struct {
+    int64_t height;   /* how high the tree of a text may be: the most trees one inside another */
+    int64_t patterns; /* what the literal patterns of a text may weigh together */
+    int64_t steps;    /* how many steps a run may take: an instruction is one, an item that is looked at, 16 bytes of a text */
+    int64_t depth;    /* how deep the values may be that a run makes: an array or a map is one level above its parts */
+    int64_t size;     /* what the values may weigh that a run holds at once: an item is 1, and so are 16 bytes */
+} expr_limits;
+
+/* The limits for the texts of strangers, which an engine has at first. A host that wants others changes a copy. */
+#define EXPR_LIMITS_FOR_STRANGERS ((expr_limits){100, 100000, 1000000, 1000, 1000000})
+
+/* An engine within the limits for strangers, or null where there is no memory. */
 expr_engine *expr_open(void);
 /* Frees the engine and all that it keeps. Null is passed over. */
 void expr_close(expr_engine *engine);
-/* Lets go of all programs, contexts and environments, and of the answer. */
+/* Lets go of all programs, contexts and environments, and of the answer. The limits stay. */
 expr_status expr_clear(expr_engine *engine);
 /* Why the last call was refused: a line, or for EXPR_SYNTAX the line of the text and a caret under the place, on two. It
  * is there until the next call on the engine. Never null. */
 const char *expr_message(expr_engine *engine);
-/* A word for a status. */
+/* A word or two for a status. */
 const char *expr_status_word(expr_status status);
+
+/* --- limits ---
+ *
+ *     expr_limits limits = EXPR_LIMITS_FOR_STRANGERS;
+ *     limits.steps = 10000;
+ *     expr_set_limits(engine, &limits);
+ *
+ * The engine keeps them until others are set. Each compile takes height and patterns, each run the other three, and each
+ * reply (see expr_add_name) these three anew. A program that was compiled within other limits runs within those that are
+ * set when it runs, but is as high as it is: compile the texts of strangers within a height. What was compiled, built or
+ * answered before stays, and so does a call that waits for a reply. */
+
+/* Sets all limits. Where one is below 0 it is EXPR_MISUSE, and so it is where `limits` is null; then none is changed. A limit
+ * of 0 isn't lifted: it stops whatever counts. */
+expr_status expr_set_limits(expr_engine *engine, const expr_limits *limits);
+/* Sets no limits, for texts that a host trusts: then a run takes the time, memory and stack that its text asks for. */
+expr_status expr_set_unlimited(expr_engine *engine);
 
 /* --- programs --- */
 
-/* The program of a text, whose tree may be no higher than `height`, if that isn't 0. Predicates inside predicates take
- * stack by depth, so give a height for the texts of strangers: 500 does for 8 MB. `place` may be null. Where the text is
- * refused, `program` is a handle that finds nothing. */
-expr_status expr_compile(expr_engine *engine, const char *text, size_t length, size_t height, expr_program *program,
-                         expr_place *place);
+/* The program of a text, within the limits height and patterns. `place` may be null. Where the text is refused or stops at a
+ * limit, `program` is a handle that finds nothing. */
+expr_status expr_compile(expr_engine *engine, const char *text, size_t length, expr_program *program, expr_place *place);
 /* The names that a program asks for, each on a line, and how many they are. The text is there until the next call on the
  * engine. Both pointers may be null. */
 expr_status expr_names(expr_engine *engine, expr_program program, size_t *count, const char **names);
@@ -184,8 +236,8 @@ expr_status expr_unbuild(expr_engine *engine);
 
 /* --- answers --- */
 
-/* What a program answers in an environment and a context. The answer is kept until the next, and is looked at as a whole.
- * `answer` may be null. */
+/* What a program answers in an environment and a context, within the limits steps, depth and size. The answer is kept until
+ * the next, and is looked at as a whole. `answer` may be null. */
 expr_status expr_run(expr_engine *engine, expr_program program, expr_environment environment, expr_context context,
                      expr_answer *answer);
 /* A compile, a run and a drop in one. Where the text calls a function that the host answers itself, compile and run it in
@@ -247,9 +299,10 @@ expr_status expr_drop_environment(expr_engine *engine, expr_environment environm
  *         }
  *     }
  *
- * A run begins anew after each reply, with the replies that it has, so that one with n calls is run n + 1 times. What it
- * depends on should be the same each time: its context, and its environment's zones, moment and names. Where a call isn't
- * the one that was replied to at its place, by its name and its arguments, the run ends with EXPR_DIFFERS.
+ * A run begins anew after each reply, with the replies that it has and within the limits as they are then, so that one with
+ * n calls is run n + 1 times, and may take n + 1 times the steps: bound n where strangers write the texts. What it depends
+ * on should be the same each time: its context, and its environment's zones, moment and names. Where a call isn't the one
+ * that was replied to at its place, by its name and its arguments, the run ends with EXPR_DIFFERS.
  *
  * An engine waits for one reply at a time: expr_run and expr_eval begin another run, and expr_clear forgets it. All other
  * calls may be made meanwhile. */

@@ -27,7 +27,7 @@ int main(int count, char **words) {
     expr_environment shop;
     expr_context context;
     expr_answer answer;
-    expr_status status = expr_compile(engine, rule, EXPR_Z, 500, &program, NULL);
+    expr_status status = expr_compile(engine, rule, EXPR_Z, &program, NULL);
     if (status == EXPR_OK) status = expr_environment_new(engine, &shop);
     if (status == EXPR_OK) status = expr_add_name(engine, shop, "price", EXPR_Z);
     if (status == EXPR_OK) status = expr_context_json(engine, order, EXPR_Z, &context);

@@ -1,4 +1,5 @@
-/* Random texts and handles: fuzz COUNT SEED. Prints how each call ended, and fails on an ending that must not be. */
+/* Random texts, handles, limits and calls of the border: fuzz COUNT SEED. Prints how each call ended, and fails on an ending
+ * that must not be. */
 #include "expr.h"
 #include <stdio.h>
 #include <stdlib.h>
@@ -25,11 +26,13 @@ static const char *const WELL[] = {
 #define FAIL(what) do { printf("fuzz.c:%d: %s\n", __LINE__, what); exit(1); } while (0)
 
 static expr_engine *engine;
-static unsigned long endings[3][EXPR_DIFFERS + 1];
+static unsigned long endings[4][EXPR_LIMIT_SIZE + 1];
 static unsigned long long bytes;
 static expr_program programs[16];
 static expr_context contexts[16];
 static expr_environment host;
+static expr_limits limits = EXPR_LIMITS_FOR_STRANGERS;
+static int is_unlimited;
 
 /* A text: bytes, an expression, a damaged one, or tokens. It ends where its block ends, so that a read beyond is seen. */
 static char *any_text(size_t *length) {
@@ -63,10 +66,15 @@ static void compile_any(uint32_t at) {
     size_t length;
     char *text = any_text(&length);
     expr_place place;
-    expr_drop_program(engine, programs[at]);
-    expr_status status = expr_compile(engine, text, length, next(3) ? 60 : 0, &programs[at], &place);
+    expr_program program;
+    expr_status status = expr_compile(engine, text, length, &program, &place);
     free(text);
-    if (status > EXPR_MISUSE || status == EXPR_UNKNOWN || status == EXPR_MEMORY) FAIL("compile");
+    if (status == EXPR_OK || next(8) == 0) { /* mostly there are programs to run */
+        expr_drop_program(engine, programs[at]);
+        programs[at] = program;
+    }
+    int is_stopped = status == EXPR_LIMIT_HEIGHT || status == EXPR_LIMIT_PATTERNS;
+    if (is_stopped ? is_unlimited : status > EXPR_MISUSE || status == EXPR_UNKNOWN || status == EXPR_MEMORY) FAIL("compile");
     if (status == EXPR_SYNTAX && (place.byte > length || place.line < 1 || place.column < 1)) FAIL("place");
     bytes += strlen(expr_message(engine));
     endings[0][status]++;
@@ -87,6 +95,39 @@ static void fill_any(uint32_t at) {
     if (next(8) == 0) expr_unbuild(engine);
 }
 
+/* A number of a limit: none, few, many, or what strangers have; or one that is none. */
+static int64_t any_number(int64_t of_strangers) {
+    switch (next(6)) {
+    case 0: return 0;
+    case 1: return next(20);
+    case 2: return next(2000);
+    case 3: return next(40) ? INT64_MAX : -1 - (int64_t)next(9);
+    default: return of_strangers;
+    }
+}
+
+/* Sets what is noted. */
+static void limit(void) {
+    if ((is_unlimited ? expr_set_unlimited(engine) : expr_set_limits(engine, &limits)) != EXPR_OK) FAIL("limits");
+}
+
+static void limit_any(void) {
+    expr_limits other = {any_number(100), any_number(100000), any_number(1000000), any_number(1000), any_number(1000000)};
+    int is_misuse = other.height < 0 || other.patterns < 0 || other.steps < 0 || other.depth < 0 || other.size < 0;
+    if (expr_set_limits(engine, &other) != (is_misuse ? EXPR_MISUSE : EXPR_OK)) FAIL("limits");
+    if (!is_misuse) {
+        limits = other;
+        is_unlimited = next(8) == 0;
+    }
+    limit();
+}
+
+/* How a run may end; one that ends waits for nothing. */
+static void ended(expr_status status, const char *what) {
+    if (EXPR_IS_LIMIT(status) && (is_unlimited || status < EXPR_LIMIT_STEPS)) FAIL(what);
+    if (EXPR_IS_LIMIT(status) && expr_asked(engine, NULL, NULL) != EXPR_MISUSE) FAIL("a run that stopped waits");
+}
+
 /* Replies to calls, or to none, and changes what the run depends on. */
 static void reply_any(void) {
     expr_answer part;
@@ -100,7 +141,22 @@ static void reply_any(void) {
         if (next(4)) expr_push_integer(engine, next(9));
         status = next(5) ? expr_reply(engine, &part) : expr_refuse(engine, "\xc3\xa9", next(3), &part);
         endings[2][status]++;
+        ended(status, "reply");
     }
+}
+
+/* A run that didn't stop within limits ends without any as it did: the two are loops of their own. */
+static void run_again(expr_program program, expr_environment environment, expr_context context, expr_status status) {
+    size_t length, again;
+    const char *shown = expr_shown(engine, &length);
+    char *before = malloc(length + 1);
+    memcpy(before, shown, length + 1);
+    expr_set_unlimited(engine);
+    expr_status other = expr_run(engine, program, environment, context, NULL);
+    shown = expr_shown(engine, &again);
+    if (other != status || again != length || memcmp(shown, before, length)) FAIL("without limits it ends otherwise");
+    free(before);
+    limit();
 }
 
 /* Runs a handle of some sort: kept, dropped, forged, of another kind. */
@@ -111,9 +167,12 @@ static void run_any(uint32_t turn) {
     if (next(16) == 0) program = (expr_program){SIZE_MAX - next(3), UINT64_MAX - next(3)};
     if (next(16) == 0) context = (expr_context){program.place, program.number};
     expr_answer answer;
-    expr_status status = expr_run(engine, program, next(4) ? host : EXPR_NO_ENVIRONMENT, context, &answer);
-    if (status == EXPR_MISUSE || status > EXPR_ASKS) FAIL("run"); /* memory is refused to ranges without an end */
+    expr_environment environment = next(4) ? host : EXPR_NO_ENVIRONMENT;
+    expr_status status = expr_run(engine, program, environment, context, &answer);
+    if (status == EXPR_MISUSE || status == EXPR_DIFFERS) FAIL("run"); /* memory is refused to ranges without an end */
     endings[1][status]++;
+    ended(status, "run");
+    if (!EXPR_IS_LIMIT(status) && next(4) == 0) run_again(program, environment, context, status);
     if (next(2)) reply_any();
     size_t names;
     status = expr_names(engine, program, &names, NULL);
@@ -138,6 +197,57 @@ static void look_any(void) {
     if (expr_json(engine, &said)) bytes += said;
 }
 
+/* The border behind expr.h, as expr.c has it. */
+typedef struct { size_t place; uint64_t number; } handle;
+typedef struct {
+    uint32_t ask, status, kind, fraction;
+    handle program, context, environment;
+    int64_t number;
+    size_t place, line, column, length;
+    const uint8_t *name;
+    size_t name_length;
+    const uint8_t *text;
+    size_t text_length;
+    uint8_t *room;
+    size_t room_length;
+} call;
+size_t expr_c_size(void);
+void expr_c_open(void *at);
+void expr_c_call(void *at, call *call);
+enum { CLEAR = 25, LIMIT = 30, UNLIMITED };
+
+/* One call of the border, whose numbers are forged: what is asked, kinds, handles, and the limits among them. */
+static void forge_any(void *forged) {
+    static const int64_t NUMBERS[] = {0, 1, 2, 100, 100000, -1, INT64_MIN, INT64_MAX};
+    /* handles that were given stay in it, and so do others */
+    static call c = {.program = {0, UINT64_MAX}, .context = {0, UINT64_MAX}, .environment = {0, UINT64_MAX}};
+    uint8_t room[64];
+    size_t length;
+    char *text = any_text(&length);
+    c.ask = next(50) ? next(UNLIMITED + 3) : UINT32_MAX - next(9);
+    if (c.ask == CLEAR && next(50)) c.ask = LIMIT;
+    c.status = next(99);
+    c.kind = next(3) ? next(16) : UINT32_MAX - next(9);
+    c.fraction = next(9) ? 0 : UINT32_MAX - next(9);
+    c.number = next(3) ? NUMBERS[next(8)] : next(50);
+    handle *any[] = {&c.program, &c.context, &c.environment};
+    if (next(9) == 0) *any[next(3)] = (handle){next(9), next(99)};
+    if (next(9) == 0) *any[next(3)] = (handle){SIZE_MAX - next(3), UINT64_MAX - next(3)};
+    c.name = c.text = (const uint8_t *)text;
+    c.name_length = next(2) ? length : next((uint32_t)length + 1);
+    c.text_length = length;
+    c.room = room;
+    c.room_length = next(sizeof room + 1);
+    int is_limit = c.ask == LIMIT && c.kind < 5 && c.number >= 0;
+    expr_c_call(forged, &c);
+    if (c.status > EXPR_LIMIT_SIZE) FAIL("no status");
+    if (c.ask == LIMIT && c.status != (is_limit ? EXPR_OK : EXPR_MISUSE)) FAIL("a limit");
+    if (c.ask == UNLIMITED && c.status != EXPR_OK) FAIL("no limits");
+    if (c.ask > UNLIMITED && c.status != EXPR_MISUSE) FAIL("nothing is asked");
+    endings[3][c.status]++;
+    free(text);
+}
+
 static int has_host(void) {
     return expr_environment_new(engine, &host) == EXPR_OK && expr_add_name(engine, host, "asks", EXPR_Z) == EXPR_OK;
 }
@@ -146,8 +256,10 @@ int main(int count, char **words) {
     uint32_t turns = count > 1 ? (uint32_t)atol(words[1]) : 100000;
     state = count > 2 ? strtoull(words[2], NULL, 10) : 1;
     engine = expr_open();
-    if (!engine) return 9;
+    void *forged = malloc(expr_c_size());
+    if (!engine || !forged) return 9;
     if (!has_host()) return 9;
+    expr_c_open(forged);
     memset(programs, 0xff, sizeof programs);
     memset(contexts, 0xff, sizeof contexts);
     for (uint32_t turn = 0; turn < turns; turn++) {
@@ -155,14 +267,19 @@ int main(int count, char **words) {
         if (next(4) == 0) fill_any(next(16));
         run_any(turn);
         look_any();
+        if (next(8) == 0) limit_any();
+        forge_any(forged);
         if (next(20000) == 0 && (expr_clear(engine) != EXPR_OK || !has_host())) FAIL("clear");
     }
-    static const char *const CALLS[] = {"compile", "run", "reply"};
-    for (int i = 0; i < 3; i++) {
+    static const char *const CALLS[] = {"compile", "run", "reply", "forged"};
+    for (int i = 0; i < 4; i++) {
         printf("fuzz: %s:", CALLS[i]);
-        for (int s = 0; s <= EXPR_DIFFERS; s++) printf(" %s %lu%s", expr_status_word((expr_status)s), endings[i][s], s < EXPR_DIFFERS ? "," : "\n");
+        for (int s = 0; s <= EXPR_LIMIT_SIZE; s++) printf(" %s %lu%s", expr_status_word((expr_status)s), endings[i][s], s < EXPR_LIMIT_SIZE ? "," : "\n");
     }
     printf("fuzz: %llu bytes of text\n", bytes);
+    call clear = {.ask = CLEAR, .name = (const uint8_t *)"", .text = (const uint8_t *)"", .room = (uint8_t[1]){0}};
+    expr_c_call(forged, &clear);
+    free(forged);
     expr_close(engine);
     return 0;
 }

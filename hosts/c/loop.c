@@ -1,5 +1,5 @@
 /* loop WAY COUNT TEXT [NAME=NUMBER].. : so many times compiles TEXT (compile), runs its program among the names (run), does
- * both (eval), or asks the least that there is (ask). */
+ * both (eval), or asks the least that there is (ask); within the limits for strangers, or within none if UNLIMITED is set. */
 #include "expr.h"
 #include <stdio.h>
 #include <stdlib.h>
@@ -14,7 +14,7 @@ static int turn(char way, const char *text, size_t length) {
     expr_program one;
     expr_answer answer;
     switch (way) {
-    case 'c': return expr_compile(engine, text, length, 0, &one, NULL) || expr_drop_program(engine, one);
+    case 'c': return expr_compile(engine, text, length, &one, NULL) || expr_drop_program(engine, one);
     case 'r': return expr_run(engine, program, EXPR_NO_ENVIRONMENT, context, &answer);
     case 'e': return expr_eval(engine, text, length, EXPR_NO_ENVIRONMENT, context, &answer);
     default: return expr_drop_program(engine, (expr_program){0, UINT64_MAX}) != EXPR_UNKNOWN;
@@ -27,7 +27,8 @@ int main(int count, char **words) {
     const char *text = words[3];
     size_t length = strlen(text);
     engine = expr_open();
-    if (expr_compile(engine, text, length, 0, &program, NULL) || expr_context_new(engine, &context)) return 3;
+    if (getenv("UNLIMITED")) expr_set_unlimited(engine);
+    if (expr_compile(engine, text, length, &program, NULL) || expr_context_new(engine, &context)) return 3;
     for (int i = 4; i < count; i++) {
         char *number = strchr(words[i], '=');
         if (number) expr_set_integer(engine, context, words[i], (size_t)(number - words[i]), atol(number + 1));

@@ -33,6 +33,13 @@ static int ok(expr_status status) {
     return status == EXPR_OK;
 }
 
+/* A run that stops at a limit, unless memory is refused. */
+static void stop(expr_engine *engine, const char *text, expr_status limit) {
+    expr_status status = expr_eval(engine, text, EXPR_Z, EXPR_NO_ENVIRONMENT, EXPR_NO_CONTEXT, NULL);
+    if (status != limit) ok(status == EXPR_OK ? EXPR_MISUSE : status);
+    expr_message(engine);
+}
+
 static void build(expr_engine *engine, expr_context context) {
     int all = ok(expr_push_string(engine, "a text that is longer than a word", EXPR_Z)) && ok(expr_push_integer(engine, 3)) &&
               ok(expr_make_array(engine, 2)) && ok(expr_push_string(engine, "k", 1)) && ok(expr_push_nil(engine)) &&
@@ -45,7 +52,7 @@ static void build(expr_engine *engine, expr_context context) {
 static void reply(expr_engine *engine, expr_environment host) {
     expr_program program;
     const char *name, *text = "map([\"a long text of a record\", \"b\"], {f(#) + \"!\"})";
-    if (!ok(expr_add_name(engine, host, "f", EXPR_Z)) || !ok(expr_compile(engine, text, EXPR_Z, 0, &program, NULL))) return;
+    if (!ok(expr_add_name(engine, host, "f", EXPR_Z)) || !ok(expr_compile(engine, text, EXPR_Z, &program, NULL))) return;
     expr_status status = expr_run(engine, program, host, EXPR_NO_CONTEXT, NULL);
     while (status == EXPR_ASKS) {
         if (!ok(expr_asked(engine, &name, NULL)) || !ok(expr_down(engine, 0, NULL)) || !ok(expr_push_looked(engine))) break;
@@ -61,9 +68,11 @@ static void work(expr_engine *engine) {
     expr_context context;
     expr_environment host;
     expr_answer answer;
+    expr_limits limits = {20, 5000, 5000, 5, 400};
     size_t count;
     const char *text = "map(filter(xs, # > 1), {\"n\": #, \"t\": string(#) + \"!\"})[0].t matches \"[0-9]+!\" ? built ?? 1 : 2";
-    int has_rule = ok(expr_compile(engine, text, EXPR_Z, 500, &rule, NULL));
+    if (expr_set_limits(engine, &limits) != EXPR_OK) FAIL("limits take no memory");
+    int has_rule = ok(expr_compile(engine, text, EXPR_Z, &rule, NULL));
     int has_context = ok(expr_context_json(engine, "{\"xs\": [1, 2, 3], \"built\": null}", EXPR_Z, &context));
     int has_host = ok(expr_environment_new(engine, &host)) && ok(expr_add_fixed_zone(engine, host, "Here", EXPR_Z, 3600)) &&
                    ok(expr_add_zone_rule(engine, host, "There", EXPR_Z, "EST5EDT,M3.2.0,M11.1.0", EXPR_Z)) &&
@@ -81,7 +90,11 @@ static void work(expr_engine *engine) {
         expr_json(engine, NULL);
     }
     ok(expr_eval(engine, "repeat(\"long\", 100)", EXPR_Z, EXPR_NO_ENVIRONMENT, EXPR_NO_CONTEXT, &answer));
-    expr_message(engine);
+    stop(engine, "map(1..300, {string(#) + \"!\"})", EXPR_LIMIT_SIZE);
+    stop(engine, "reduce(1..9, [#acc], 0)", EXPR_LIMIT_DEPTH);
+    stop(engine, "all(1..50, {all(1..50, {[#] != [0]})})", EXPR_LIMIT_STEPS);
+    stop(engine, "\"a\" matches \"\\\\w{9}\"", EXPR_LIMIT_PATTERNS);
+    stop(engine, "[[[[[[[[[[[[[[[[[[[[[[[1]]]]]]]]]]]]]]]]]]]]]]]", EXPR_LIMIT_HEIGHT);
     if (has_rule && expr_drop_program(engine, rule) != EXPR_OK) FAIL("drop");
     if (has_context && expr_drop_context(engine, context) != EXPR_OK) FAIL("drop");
 }

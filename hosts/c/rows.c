@@ -1,7 +1,8 @@
 /* Answers the rows of crates/expr_bench and compares: rows STDIN STDOUT. A row is an expression, and behind it names, each
  * as a tab and NAME=CODE; in both files a backslash, newline, carriage return and tab are written \\ \n \r \t. The names'
  * values come from the engine by expr_set_looked. Each answer is also read item by item, built anew and handed in again,
- * and must then print the same, unless a moment or a zone is in it, whose place no host hands in. */
+ * and must then print the same, unless a moment or a zone is in it, whose place no host hands in. A row that stops at one of
+ * the limits for strangers is answered once more without limits, and they are counted. */
 #include "expr.h"
 #include <stdio.h>
 #include <stdlib.h>
@@ -64,6 +65,19 @@ static int copied(expr_engine *engine) {
     return (part.kind == EXPR_ARRAY ? expr_make_array(engine, count) : expr_make_map(engine, count)) == EXPR_OK;
 }
 
+static size_t read_back, rows, wrong, stopped;
+
+/* What a text comes to within the limits for strangers, or without limits where it stops there. */
+static expr_status evaluated(expr_engine *engine, const char *text, size_t length, expr_context context) {
+    expr_status status = expr_eval(engine, text, length, ALONE, context, NULL);
+    if (!EXPR_IS_LIMIT(status)) return status;
+    stopped++;
+    expr_set_unlimited(engine);
+    status = expr_eval(engine, text, length, ALONE, context, NULL);
+    expr_set_limits(engine, &EXPR_LIMITS_FOR_STRANGERS);
+    return status;
+}
+
 /* The context of the names behind a row's expression, or how the first of them is refused. */
 static expr_status bound(expr_engine *engine, char *names, expr_context context) {
     while (names && *names) {
@@ -72,15 +86,13 @@ static expr_status bound(expr_engine *engine, char *names, expr_context context)
         if (!code) return EXPR_MISUSE;
         size_t name_length = unescaped(names, (size_t)(code - names));
         size_t code_length = unescaped(code + 1, length - (size_t)(code + 1 - names));
-        expr_status status = expr_eval(engine, code + 1, code_length, ALONE, EXPR_NO_CONTEXT, NULL);
+        expr_status status = evaluated(engine, code + 1, code_length, EXPR_NO_CONTEXT);
         if (status == EXPR_OK) status = expr_set_looked(engine, context, names, name_length);
         if (status != EXPR_OK) return status;
         names = end ? end + 1 : NULL;
     }
     return EXPR_OK;
 }
-
-static size_t read_back, rows, wrong;
 
 /* Compares what is looked at, printed, with a line. */
 static int is_shown(expr_engine *engine, const char *line, size_t length) {
@@ -96,7 +108,7 @@ static void check(expr_engine *engine, char *row, char *line, size_t number) {
     size_t length = unescaped(row, names ? (size_t)(names - row) : strlen(row));
     expr_context_new(engine, &context);
     expr_status status = bound(engine, names ? names + 1 : NULL, context);
-    if (status == EXPR_OK) status = expr_eval(engine, row, length, ALONE, context, NULL);
+    if (status == EXPR_OK) status = evaluated(engine, row, length, context);
     size_t wanted = unescaped(line, strlen(line));
     rows++;
     if (status == EXPR_OK ? !is_shown(engine, line, wanted) : strncmp(line, WORDS[status], wanted + 1) != 0) {
@@ -106,7 +118,7 @@ static void check(expr_engine *engine, char *row, char *line, size_t number) {
         expr_context_new(engine, &again);
         expr_set_built(engine, again, "again", EXPR_Z);
         read_back++;
-        if (expr_eval(engine, "again", EXPR_Z, ALONE, again, NULL) != EXPR_OK || !is_shown(engine, line, wanted)) {
+        if (evaluated(engine, "again", EXPR_Z, again) != EXPR_OK || !is_shown(engine, line, wanted)) {
             printf("row %zu: %.60s, handed in again, is %.60s\n", number, line, expr_shown(engine, NULL));
             wrong++;
         }
@@ -133,6 +145,7 @@ int main(int count, char **words) {
     free(line);
     fclose(texts);
     fclose(answers);
-    printf("rows: %zu answered, %zu of them read and handed in again, %zu wrong\n", rows, read_back, wrong);
+    printf("rows: %zu answered, %zu of them read and handed in again, %zu stopped at a limit, %zu wrong\n", rows, read_back,
+           stopped, wrong);
     return wrong || !rows;
 }

@@ -7,7 +7,7 @@ int main(int count, char **words) {
     expr_engine *engine = expr_open();
     expr_program program;
     expr_place place;
-    expr_status status = expr_compile(engine, rule, EXPR_Z, 500, &program, &place);
+    expr_status status = expr_compile(engine, rule, EXPR_Z, &program, &place);
     if (status != EXPR_OK) {
         printf("%s at line %zu, column %zu\n%s\n", expr_status_word(status), place.line, place.column, expr_message(engine));
         expr_close(engine);

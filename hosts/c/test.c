@@ -11,7 +11,7 @@ static int programs(expr_engine *engine) {
     expr_answer answer;
     size_t count;
     const char *names;
-    CHECK(expr_compile(engine, "price * count > 100", EXPR_Z, 0, &rule, NULL) == EXPR_OK);
+    CHECK(expr_compile(engine, "price * count > 100", EXPR_Z, &rule, NULL) == EXPR_OK);
     CHECK(expr_names(engine, rule, &count, &names) == EXPR_OK && count == 2 && !strcmp(names, "count\nprice"));
     CHECK(expr_context_new(engine, &order) == EXPR_OK);
     CHECK(expr_run(engine, rule, EXPR_NO_ENVIRONMENT, order, &answer) == EXPR_EVALUATION && *expr_message(engine));
@@ -92,22 +92,21 @@ static int refusals(expr_engine *engine) {
     expr_place place;
     CHECK(expr_context_json(engine, "{\"a\": [1, {\"b\": null}]}", EXPR_Z, &order) == EXPR_OK);
     CHECK(expr_eval(engine, "a[1].b ?? a[0]", EXPR_Z, EXPR_NO_ENVIRONMENT, order, &answer) == EXPR_OK && answer.number == 1);
-    CHECK(expr_compile(engine, "1 +\n  * 2", EXPR_Z, 0, &stale, &place) == EXPR_SYNTAX);
+    CHECK(expr_compile(engine, "1 +\n  * 2", EXPR_Z, &stale, &place) == EXPR_SYNTAX);
     CHECK(place.byte == 6 && place.line == 2 && place.column == 3 && !strcmp(expr_message(engine), "  * 2\n  ^"));
     CHECK(expr_run(engine, stale, EXPR_NO_ENVIRONMENT, order, &answer) == EXPR_UNKNOWN);
-    CHECK(expr_compile(engine, "9223372036854775808", EXPR_Z, 0, &stale, &place) == EXPR_LITERAL);
-    CHECK(expr_compile(engine, "((1))", EXPR_Z, 2, &stale, &place) == EXPR_LITERAL);
-    CHECK(expr_compile(engine, "\xff", 1, 0, &stale, &place) == EXPR_MISUSE);
-    CHECK(expr_compile(engine, NULL, 5, 0, &stale, &place) == EXPR_SYNTAX);
+    CHECK(expr_compile(engine, "9223372036854775808", EXPR_Z, &stale, &place) == EXPR_LITERAL);
+    CHECK(expr_compile(engine, "\xff", 1, &stale, &place) == EXPR_MISUSE);
+    CHECK(expr_compile(engine, NULL, 5, &stale, &place) == EXPR_SYNTAX);
     CHECK(expr_eval(engine, "\"a\" matches \"(\"", EXPR_Z, ALONE, &answer) == EXPR_PATTERN);
     CHECK(expr_set_json(engine, order, "x", EXPR_Z, "{", EXPR_Z) == EXPR_EVALUATION);
     CHECK(expr_context_json(engine, "[1]", EXPR_Z, &order) == EXPR_EVALUATION);
     CHECK(expr_set_integer(engine, order, "x", EXPR_Z, 1) == EXPR_UNKNOWN);
-    CHECK(expr_compile(NULL, "1", EXPR_Z, 0, &stale, NULL) == EXPR_MISUSE);
+    CHECK(expr_compile(NULL, "1", EXPR_Z, &stale, NULL) == EXPR_MISUSE);
     /* handles that are out of date, even where their place is taken again */
-    CHECK(expr_compile(engine, "2", EXPR_Z, 0, &rule, NULL) == EXPR_OK);
+    CHECK(expr_compile(engine, "2", EXPR_Z, &rule, NULL) == EXPR_OK);
     CHECK(expr_drop_program(engine, rule) == EXPR_OK && expr_drop_program(engine, rule) == EXPR_UNKNOWN);
-    CHECK(expr_compile(engine, "1", EXPR_Z, 0, &stale, NULL) == EXPR_OK);
+    CHECK(expr_compile(engine, "1", EXPR_Z, &stale, NULL) == EXPR_OK);
     CHECK(stale.place == rule.place && stale.number != rule.number);
     CHECK(expr_run(engine, rule, ALONE, &answer) == EXPR_UNKNOWN);
     CHECK(expr_run(engine, stale, ALONE, &answer) == EXPR_OK && answer.number == 1);
@@ -179,19 +178,19 @@ static int functions(expr_engine *engine) {
     CHECK(expr_add_name(engine, host, "double", EXPR_Z) == EXPR_OK && expr_add_name(engine, host, "next", 4) == EXPR_OK);
     CHECK(expr_add_name(engine, host, "fails", EXPR_Z) == EXPR_OK && expr_add_name(engine, host, "fails", EXPR_Z) == EXPR_OK);
     for (size_t i = 0; i < sizeof rows / sizeof *rows; i++) {
-        CHECK(expr_compile(engine, rows[i].text, EXPR_Z, 0, &program, NULL) == EXPR_OK);
+        CHECK(expr_compile(engine, rows[i].text, EXPR_Z, &program, NULL) == EXPR_OK);
         CHECK(replied(engine, expr_run(engine, program, host, context, &answer), &answer, &calls) == EXPR_OK);
         CHECK(calls == rows[i].calls && !strcmp(expr_shown(engine, NULL), rows[i].shown));
         CHECK(expr_asked(engine, NULL, NULL) == EXPR_MISUSE && expr_drop_program(engine, program) == EXPR_OK);
     }
     /* a function that refuses */
-    CHECK(expr_compile(engine, "next() + fails([x, \"y\"])", EXPR_Z, 0, &program, NULL) == EXPR_OK);
+    CHECK(expr_compile(engine, "next() + fails([x, \"y\"])", EXPR_Z, &program, NULL) == EXPR_OK);
     CHECK(replied(engine, expr_run(engine, program, host, context, &answer), &answer, &calls) == EXPR_EVALUATION);
     CHECK(calls == 2 && !strcmp(expr_message(engine), "no such thing"));
     CHECK(expr_push_nil(engine) == EXPR_OK && expr_reply(engine, &answer) == EXPR_MISUSE);
     /* a function of the language gives way */
     CHECK(expr_add_name(engine, host, "len", EXPR_Z) == EXPR_OK);
-    CHECK(expr_compile(engine, "len([1, \"b\"])", EXPR_Z, 0, &program, NULL) == EXPR_OK);
+    CHECK(expr_compile(engine, "len([1, \"b\"])", EXPR_Z, &program, NULL) == EXPR_OK);
     CHECK(expr_run(engine, program, EXPR_NO_ENVIRONMENT, context, &answer) == EXPR_OK && answer.number == 2);
     CHECK(expr_run(engine, program, host, context, &answer) == EXPR_ASKS && answer.kind == EXPR_NIL);
     const char *name;
@@ -213,11 +212,11 @@ static int waiting(expr_engine *engine) {
     CHECK(expr_add_name(engine, (expr_environment){99, 99}, "f", EXPR_Z) == EXPR_UNKNOWN);
     CHECK(expr_add_name(engine, host, "\xff", 1) == EXPR_MISUSE);
     CHECK(expr_context_new(engine, &context) == EXPR_OK && expr_set_integer(engine, context, "x", EXPR_Z, 1) == EXPR_OK);
-    CHECK(expr_compile(engine, "f(x) + f(2)", EXPR_Z, 0, &program, NULL) == EXPR_OK);
+    CHECK(expr_compile(engine, "f(x) + f(2)", EXPR_Z, &program, NULL) == EXPR_OK);
     CHECK(expr_run(engine, program, host, context, &answer) == EXPR_ASKS);
     CHECK(expr_reply(engine, &answer) == EXPR_MISUSE); /* nothing was built */
     CHECK(expr_refuse(engine, "\xff", 1, &answer) == EXPR_MISUSE);
-    CHECK(expr_compile(engine, "7", EXPR_Z, 0, &other, NULL) == EXPR_OK && expr_clear(NULL) == EXPR_MISUSE);
+    CHECK(expr_compile(engine, "7", EXPR_Z, &other, NULL) == EXPR_OK && expr_clear(NULL) == EXPR_MISUSE);
     CHECK(expr_run(engine, (expr_program){99, 99}, host, context, &answer) == EXPR_UNKNOWN);
     CHECK(expr_push_integer(engine, 20) == EXPR_OK && expr_reply(engine, &answer) == EXPR_ASKS);
     CHECK(expr_asked(engine, &name, &answer) == EXPR_OK && !strcmp(name, "f") && !strcmp(expr_shown(engine, NULL), "[2]"));

@@ -7,6 +7,14 @@
     >>> expr.eval("map(1..3, # * 2)")
     [2, 4, 6]
 
+What a text may take is limited, by those limits for texts of strangers where no others are said, and by none only by name:
+
+    >>> expr.eval("len(1..2000000)")
+    Traceback (most recent call last):
+    expr.LimitError: ...
+    >>> expr.eval("len(1..2000000)", limits=expr.UNLIMITED)
+    2000000
+
 The library is sought where EXPR_SO says, beside this file, in ../out/lib, and where the system has its libraries. Each
 thread has an engine of its own; a program that another thread runs is compiled there anew.
 
@@ -17,20 +25,24 @@ cut off, of moments too. A moment before the year 1 is an OverflowError, as Pyth
 """
 
 import ctypes
+import dataclasses
 import datetime
 import os
 import threading
 
-__all__ = ["compile", "eval", "Context", "Environment", "Error", "Month", "Program", "Syntax", "Weekday"]
+__all__ = ["compile", "eval", "Context", "Environment", "Error", "LimitError", "Limits", "Month", "Program", "Syntax"]
+__all__ += ["UNLIMITED", "Weekday"]
 
-_OK, _SYNTAX, _ASKS = 0, 1, 8
+_OK, _SYNTAX, _ASKS, _LIMITS = 0, 1, 8, 10
 _STATUS = ["ok", "syntax", "literal", "evaluation", "pattern", "memory", "unknown", "misuse", "asks", "differs"]
+_STATUS += ["height", "patterns", "steps", "depth", "size"]
 (_NIL, _BOOL, _INTEGER, _STRING, _BYTES, _DURATION, _DATETIME, _TIMEZONE, _MONTH, _WEEKDAY, _ARRAY, _MAP, _KEYED_MAP) = range(13)
 _EPOCH = datetime.datetime(1970, 1, 1, tzinfo=datetime.timezone.utc)
 
 
 class Error(Exception):
-    """A refusal; `kind` is "literal", "evaluation", "pattern", "memory", "unknown", "misuse" or "differs"."""
+    """A refusal; `kind` is "literal", "evaluation", "pattern", "memory", "unknown", "misuse", "differs" or, of a LimitError,
+    "limit"."""
 
     def __init__(self, kind, message):
         super().__init__(message or kind)
@@ -43,6 +55,60 @@ class Syntax(Error):
     def __init__(self, message, byte, line, column):
         super().__init__("syntax", f"line {line}, column {column}\n{message}")
         self.byte, self.line, self.column = byte, line, column
+
+
+class LimitError(Error):
+    """A program would have passed one of its limits; `limit` is the name of that, as Limits has it.
+
+    That is no refusal of the language: with higher limits the program might answer."""
+
+    def __init__(self, limit, message):
+        super().__init__("limit", message)
+        self.limit = limit
+
+
+@dataclasses.dataclass(frozen=True)
+class Limits:
+    """What the program of a text may take, when it is compiled and each time that it runs; docs/LIMITS.md says what counts.
+
+    What isn't said is as for the texts of strangers.
+
+    >>> few = Limits(steps=10000)
+    >>> eval("all(1..1000, {all(1..1000, {true})})", limits=few)
+    Traceback (most recent call last):
+    expr.LimitError: ...
+    """
+
+    height: int = 100
+    """How high the tree of a text may be: the greatest number of trees one inside another."""
+    patterns: int = 100_000
+    """What the literal patterns of a text may weigh together."""
+    steps: int = 1_000_000
+    """How many steps a run may take. An instruction is one, and so is an item that is looked at and 16 bytes of a text."""
+    depth: int = 1_000
+    """How deep the values that a run makes may be: an array or a map is one level above its parts."""
+    size: int = 1_000_000
+    """What the values that a run holds at once may weigh. An item is 1, and so are 16 bytes of a text."""
+    calls: int = 100
+    """How many calls of functions of the host a run may make. Since a run begins anew after each, with all its steps, one that
+    makes n calls may take n + 1 times `steps`, and where the functions run programs themselves, as many as
+    (n + 1) * (n + 2) / 2 times."""
+
+    def __post_init__(self):
+        for name, number in dataclasses.asdict(self).items():
+            if not isinstance(number, int):
+                raise TypeError(f"the limit {name} is a whole number")
+            if not 0 <= number < 2**63:
+                raise ValueError(f"the limit {name} is from 0 to 2**63 - 1")
+
+
+class _Unlimited:
+    def __repr__(self):
+        return "UNLIMITED"
+
+
+UNLIMITED = _Unlimited()
+"""In place of Limits: none, for texts that are trusted."""
 
 
 class Month(int):
@@ -65,6 +131,10 @@ class _Place(ctypes.Structure):
     _fields_ = [("byte", ctypes.c_size_t), ("line", ctypes.c_size_t), ("column", ctypes.c_size_t)]
 
 
+class _Limits(ctypes.Structure):
+    _fields_ = [(name, ctypes.c_int64) for name in ("height", "patterns", "steps", "depth", "size")]
+
+
 _NONE = _Handle(0, 2**64 - 1)
 
 
@@ -76,7 +146,9 @@ def _load():
     pointer, size, text, whole = ctypes.c_void_p, ctypes.c_size_t, ctypes.c_char_p, ctypes.c_int64
     answer, handle = ctypes.POINTER(_Answer), ctypes.POINTER(_Handle)
     takes = {
-        "compile": [text, size, size, handle, ctypes.POINTER(_Place)],
+        "compile": [text, size, handle, ctypes.POINTER(_Place)],
+        "set_limits": [ctypes.POINTER(_Limits)],
+        "set_unlimited": [],
         "names": [_Handle, ctypes.POINTER(size), ctypes.POINTER(text)],
         "run": [_Handle, _Handle, _Handle, answer],
         "look": [answer],
@@ -142,6 +214,7 @@ class _Engine:
         self.close = _LIBRARY.expr_close
         self.left = []
         self.runs = 0
+        self.limits = Limits()
 
     def __del__(self):
         if getattr(self, "at", None):
@@ -158,8 +231,21 @@ class _Engine:
             if status == _SYNTAX:
                 place = words[-1]._obj
                 raise Syntax(message, place.byte, place.line, place.column)
+            if status >= _LIMITS:
+                raise LimitError(_STATUS[status], message)
             raise Error(_STATUS[status], message)
         return status
+
+    def limit(self, limits):
+        """Has the engine take these limits, or none, in what it compiles and runs from now on."""
+        if limits == self.limits:
+            return
+        if limits is UNLIMITED:
+            self.ask("set_unlimited")
+        else:
+            numbers = [getattr(limits, name) for name, _ in _Limits._fields_]
+            self.ask("set_limits", ctypes.byref(_Limits(*numbers)))
+        self.limits = limits
 
     def run(self, *handles):
         """Begins a run: its answer, or the call that it waits for."""
@@ -300,18 +386,21 @@ class _Kept:
 
 
 class Program(_Kept):
-    """A program, which `compile` makes."""
+    """A program, which `compile` makes, and which runs within the limits with which it was compiled."""
 
     _drop = "drop_program"
 
-    def __init__(self, text, height=0):
+    def __init__(self, text, limits=Limits()):
         super().__init__()
-        self.text, self.height = text, height
+        if not isinstance(limits, (Limits, _Unlimited)):
+            raise TypeError("limits are Limits or UNLIMITED")
+        self.text, self.limits = text, limits
         self._handle(_engine())
 
     def _make(self, engine):
         handle, place, text = _Handle(), _Place(), self.text.encode()
-        engine.ask("compile", text, len(text), self.height, ctypes.byref(handle), ctypes.byref(place))
+        engine.limit(self.limits)
+        engine.ask("compile", text, len(text), ctypes.byref(handle), ctypes.byref(place))
         return handle
 
     @property
@@ -328,8 +417,11 @@ class Program(_Kept):
             context = Context(context)
         turn = self._begin(engine, context, environment, replies)
         while isinstance(turn, _Call):
+            if self.limits is not UNLIMITED and len(replies) >= self.limits.calls:
+                raise LimitError("calls", "the run calls the host more often than the limit of calls")
             replies.append(environment._call(turn))
             if engine.runs == turn.run:
+                engine.limit(self.limits)  # a function may have compiled another program
                 turn = engine.reply(replies[-1])
             else:  # a function has run programs itself, so the engine waits for this run no longer
                 turn = self._begin(engine, context, environment, replies)
@@ -339,7 +431,9 @@ class Program(_Kept):
         """Begins a run that has these replies."""
         context = _NONE if context is None else context._handle(engine)
         environment = _NONE if environment is None else environment._handle(engine)
-        turn = engine.run(self._handle(engine), environment, context)
+        program = self._handle(engine)
+        engine.limit(self.limits)
+        turn = engine.run(program, environment, context)
         for reply in replies:
             if isinstance(turn, _Call):
                 turn = engine.reply(reply)
@@ -378,8 +472,8 @@ class Environment(_Kept):
     """What a host adds to the language: functions, zones, and the moment that is now.
 
     A function takes the arguments of a call and answers its value; an Error that it raises is the refusal of the call, and
-    any other exception ends the run and goes to the caller. A run begins anew with each answer, so a program that makes n
-    calls is run n + 1 times, and each call is made once.
+    any other exception ends the run and goes to the caller, a LimitError too. A run begins anew with each answer, so a
+    program that makes n calls is run n + 1 times, and each call is made once; the limit `calls` bounds n.
 
     >>> prices = {"pen": 150}
     >>> shop = Environment(functions={"price": prices.get})
@@ -405,6 +499,8 @@ class Environment(_Kept):
     def _call(self, call):
         try:
             return self.functions[call.name](*call.arguments)
+        except LimitError:
+            raise
         except Error as refusal:
             return refusal
 
@@ -426,11 +522,11 @@ class Environment(_Kept):
         return handle
 
 
-def compile(text, height=0):
-    """The program of a text, whose tree is no higher than `height`, if that isn't 0."""
-    return Program(text, height)
+def compile(text, limits=Limits()):
+    """The program of a text, within limits, which hold for each run of it too: those for strangers, others, or UNLIMITED."""
+    return Program(text, limits)
 
 
-def eval(text, context=None, environment=None):
-    """What a text answers."""
-    return compile(text).run(context, environment)
+def eval(text, context=None, environment=None, limits=Limits()):
+    """What a text answers within limits: those for strangers, others, or UNLIMITED."""
+    return compile(text, limits).run(context, environment)

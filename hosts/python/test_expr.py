@@ -49,6 +49,71 @@ class Calls(unittest.TestCase):
                 expr.eval(text)
             self.assertEqual(refused.exception.kind, kind)
 
+    def stops(self, limit, text, context=None, environment=None, limits=expr.Limits()):
+        with self.assertRaises(expr.LimitError) as stopped:
+            expr.eval(text, context, environment, limits)
+        self.assertEqual((stopped.exception.kind, stopped.exception.limit), ("limit", limit))
+        self.assertNotEqual(str(stopped.exception), "")
+
+    def test_texts_of_strangers(self):
+        for text, limit in [
+            ("len(1..100000000)", "steps"),
+            ("len(repeat(repeat('a', 1000000), 1000000))", "steps"),
+            ("len(reduce(1..10000, [#acc], 0))", "steps"),
+            ("all(1..300000, {all(1..300000, {true})})", "steps"),
+            ("(" * 200 + "1" + ")" * 200, "height"),
+            (r"'a' matches '\\w{20}' or " * 400 + "true", "patterns"),
+        ]:
+            self.stops(limit, text)
+            self.stops(limit, text, environment=expr.Environment())
+        wide = expr.Limits(steps=2**63 - 1)
+        self.stops("size", "len(1..100000000)", limits=wide)
+        self.stops("depth", "len(reduce(1..10000, [#acc], 0))", limits=wide)
+        self.assertEqual(expr.eval("1 + 1"), 2)
+
+    def test_limits(self):
+        few = expr.Limits(steps=1000)
+        limited, usual = expr.compile("all(1..1000, {# > x})", few), expr.compile("all(1..1000, {# > x})")
+        for _ in range(3):
+            with self.assertRaises(expr.LimitError):
+                limited.run({"x": 0})
+            self.assertIs(usual.run({"x": 0}), True)
+        for limits, text, limit in [
+            (lambda number: expr.Limits(height=number), "((1))", "height"),
+            (lambda number: expr.Limits(patterns=number), "'a' matches 'b'", "patterns"),
+            (lambda number: expr.Limits(depth=number), "[[1]]", "depth"),
+        ]:
+            least = {"height": 3, "patterns": 12, "depth": 2}[limit]
+            self.stops(limit, text, limits=limits(least - 1))
+            expr.eval(text, limits=limits(least))
+        self.assertEqual(expr.eval("len(1..2000000)", limits=expr.UNLIMITED), 2000000)
+        self.assertEqual(expr.compile("len(1..2000000)", expr.UNLIMITED).run(), 2000000)
+        self.stops("steps", "len(1..2000000)")
+        self.stops("steps", "1", limits=expr.Limits(steps=0))
+        for wrong in [{"steps": -1}, {"size": 2**63}]:
+            with self.assertRaises(ValueError):
+                expr.Limits(**wrong)
+        for wrong in [None, 500]:
+            with self.assertRaises(TypeError):
+                expr.compile("1", wrong)
+        with self.assertRaises(TypeError):
+            expr.Limits(steps=1.5)
+
+    def test_limits_of_calls(self):
+        inner = expr.compile("all(1..n, {# > 0})", expr.Limits(steps=1000))
+        host = expr.Environment(functions={"double": lambda number: number * 2, "slow": lambda number: inner.run({"n": number})})
+        host.add_function("compiles", lambda: len(expr.compile("1", expr.UNLIMITED).text))
+        self.assertEqual(expr.eval("len(map(1..100, double(#)))", environment=host), 100)
+        self.stops("calls", "len(map(1..101, double(#)))", environment=host)
+        self.assertEqual(expr.eval("len(map(1..101, double(#)))", environment=host, limits=expr.UNLIMITED), 101)
+        self.stops("calls", "double(1)", environment=host, limits=expr.Limits(calls=0))
+        self.assertIs(expr.eval("slow(10)", environment=host), True)
+        self.stops("steps", "slow(10) and slow(10000)", environment=host)
+        self.stops("steps", "compiles() + len(1..2000000)", environment=host)
+        self.assertIs(expr.eval("slow(10) and len(1..900000) > 0", environment=host), True)
+        self.stops("steps", "slow(10) and len(1..2000000) > 0", environment=host)
+        self.assertEqual(expr.eval("double(2)", environment=host), 4)
+
     def test_threads(self):
         program, found = expr.compile("x + 1"), []
         threads = [threading.Thread(target=lambda i=i: found.append(program.run({"x": i}))) for i in range(4)]
@@ -109,7 +174,7 @@ class Calls(unittest.TestCase):
 
 
 def load_tests(loader, tests, ignore):
-    tests.addTests(doctest.DocTestSuite(expr))
+    tests.addTests(doctest.DocTestSuite(expr, optionflags=doctest.IGNORE_EXCEPTION_DETAIL))
     return tests
 
 

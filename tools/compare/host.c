@@ -1,6 +1,7 @@
 /* Ours from C: PROGRAM PART TURNS CODE [NAME=JSON].. does a part so many times: `compile` (and lets the program go), or `run` of a
-   program that is kept, in a context that is kept. The answer goes to standard output, and the nanoseconds of all turns to standard
-   error. */
+   program that is kept, in a context that is kept; both within the limits for strangers, which an engine has at first, and without
+   limits where the part is `compile-unlimited` or `run-unlimited`. The answer goes to standard output, and the nanoseconds of all
+   turns to standard error. */
 #include "expr.h"
 #include <stdio.h>
 #include <stdlib.h>
@@ -20,7 +21,7 @@ static void check(expr_status status)
 static expr_program compiled(const char *code, size_t length)
 {
     expr_program program;
-    check(expr_compile(engine, code, length, 0, &program, NULL));
+    check(expr_compile(engine, code, length, &program, NULL));
     return program;
 }
 
@@ -33,6 +34,7 @@ int main(int count, char **words)
     expr_context names;
     expr_answer answer;
     engine = expr_open();
+    if (strstr(words[1], "-unlimited")) check(expr_set_unlimited(engine));
     check(expr_context_new(engine, &names));
     for (int i = 4; i < count; i++) {
         const char *value = strchr(words[i], '=');
@@ -40,7 +42,7 @@ int main(int count, char **words)
     }
     expr_program program = compiled(code, length);
     clock_gettime(CLOCK_MONOTONIC, &start);
-    if (!strcmp(words[1], "compile")) {
+    if (!strncmp(words[1], "compile", strlen("compile"))) {
         for (long i = 0; i < turns; i++) check(expr_drop_program(engine, compiled(code, length)));
     } else {
         for (long i = 0; i < turns; i++) check(expr_run(engine, program, EXPR_NO_ENVIRONMENT, names, &answer));

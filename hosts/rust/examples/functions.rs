@@ -1,10 +1,10 @@
 //! A host with a function of its own: what an order costs, by the prices of a shop.
-use expr::{compile_within, Context, Environment, Error, Value};
+use expr::{compile, Context, Environment, Error, Value};
 use std::collections::HashMap;
 
 fn main() -> expr::Result<()> {
     let text = std::env::args().nth(1).unwrap_or("sum(map(articles, price(#)))".into());
-    let rule = compile_within(&text, 500)?;
+    let rule = compile(&text)?;
     let prices = HashMap::from([("pen", 150), ("ink", 900)]);
     let mut shop = Environment::new();
     shop.add_function("price", move |call| match call.args.as_slice() {

@@ -1,10 +1,10 @@
 //! Compiles a rule once, and runs it over the records of standard input, each `NAME=NUMBER ..` on a line.
-use expr::{compile_within, run, Context};
+use expr::{compile, run, Context};
 use std::io::BufRead;
 
 fn main() -> expr::Result<()> {
     let text = std::env::args().nth(1).unwrap_or("price * count > 100".into());
-    let rule = compile_within(&text, 500)?;
+    let rule = compile(&text)?;
     println!("asks for {}", rule.names()?.join(" "));
     for line in std::io::stdin().lock().lines().map_while(Result::ok) {
         let pairs = line.split_whitespace().filter_map(|pair| pair.split_once('='));

@@ -1,7 +1,8 @@
 //! The engine of a thread, and what is kept in it for values of this crate, which go from thread to thread.
 use crate::error::{Error, Place, Result};
+use crate::limits::{Limit, Limits};
 use crate::map::Map;
-use crate::raw::{kind, Ask, Asked, Handle, Raw, Told, ASKS, DIFFERS};
+use crate::raw::{kind, Ask, Asked, Handle, Raw, Told, ASKS, DIFFERS, LIMITS};
 use crate::value::{DateTimeValue, Value};
 use std::cell::RefCell;
 use std::sync::{Arc, Mutex, MutexGuard, PoisonError};
@@ -14,10 +15,17 @@ struct Engine {
     inbox: Inbox,
     /// How many runs were begun.
     runs: u64,
+    /// The numbers of the limits that it has, or None where it has none.
+    limits: Option<Numbers>,
 }
 
 thread_local! {
-    static ENGINE: RefCell<Engine> = RefCell::new(Engine { raw: Raw::open(), inbox: Inbox::default(), runs: 0 });
+    static ENGINE: RefCell<Engine> = RefCell::new(Engine {
+        raw: Raw::open(),
+        inbox: Inbox::default(),
+        runs: 0,
+        limits: Some(numbers(&Limits::for_strangers())),
+    });
 }
 
 /// A thing that is kept in the engine of one thread, and let go of with this value.
@@ -102,17 +110,18 @@ pub struct Session<'e> {
     raw: &'e mut Raw,
     inbox: &'e Inbox,
     runs: &'e mut u64,
+    limits: &'e mut Option<Numbers>,
 }
 
 /// Uses the engine of this thread.
 pub fn with_engine<T>(work: impl FnOnce(&mut Session<'_>) -> Result<T>) -> Result<T> {
     ENGINE.with(|engine| {
         let mut engine = engine.borrow_mut();
-        let Engine { raw, inbox, runs } = &mut *engine;
+        let Engine { raw, inbox, runs, limits } = &mut *engine;
         for (drop, handle) in lock(inbox).drain(..) {
             raw.call(drop, asked_about(drop, handle));
         }
-        work(&mut Session { raw, inbox, runs })
+        work(&mut Session { raw, inbox, runs, limits })
     })
 }
 
@@ -124,6 +133,26 @@ impl Session<'_> {
             0 => Ok(told),
             status => Err(self.refusal(status, &told)),
         }
+    }
+
+    /// Has the engine take these limits, or none, in what it compiles and runs from now on.
+    pub fn limit(&mut self, limits: Option<&Limits>) -> Result<()> {
+        let Some(limits) = limits else {
+            if self.limits.is_some() {
+                self.ask(Ask::Unlimited, Asked::default())?;
+                *self.limits = None;
+            }
+            return Ok(());
+        };
+        for (kind, number) in (0..).zip(numbers(limits)) {
+            let place = kind as usize;
+            if self.limits.map(|has| has[place]) != Some(number) {
+                self.ask(Ask::Limit, Asked { kind, number, ..Asked::default() })?;
+                // Where the engine had no limits, it has those for strangers now, with this one changed.
+                self.limits.get_or_insert(numbers(&Limits::for_strangers()))[place] = number;
+            }
+        }
+        Ok(())
     }
 
     /// Begins a run: what is told of its answer, or None where it waits for a reply.
@@ -181,7 +210,10 @@ impl Session<'_> {
             4 => Error::RegexError(message),
             5 => Error::MemoryError,
             DIFFERS => Error::ExprError("a run came to another call than the one that was replied to".into()),
-            _ => Error::ExprError("the engine has no such value".into()),
+            status => match limit_of(status) {
+                Some(limit) => Error::LimitError(limit),
+                None => Error::ExprError("the engine has no such value".into()),
+            },
         }
     }
 
@@ -296,6 +328,21 @@ impl Session<'_> {
             _ => Value::Nil,
         })
     }
+}
+
+/// The limits of an engine as they cross, in their order.
+type Numbers = [i64; 5];
+
+fn numbers(limits: &Limits) -> Numbers {
+    let whole = |number: u64| i64::try_from(number).unwrap_or(i64::MAX);
+    let (height, depth) = (limits.height as u64, limits.depth as u64);
+    [whole(height), whole(limits.patterns), whole(limits.steps), whole(depth), whole(limits.size)]
+}
+
+/// The limit that a status tells of.
+fn limit_of(status: u32) -> Option<Limit> {
+    const ALL: [Limit; 5] = [Limit::Height, Limit::Patterns, Limit::Steps, Limit::Depth, Limit::Size];
+    ALL.get(status.checked_sub(LIMITS)? as usize).copied()
 }
 
 /// How a value is handed in that isn't an array or a map. A zone goes as its name, since the engine has its rules.

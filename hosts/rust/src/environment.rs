@@ -2,18 +2,19 @@
 use crate::context::Context;
 use crate::engine::{with_engine, Copies, Session};
 use crate::error::{Error, Result};
-use crate::program::{compile, Program};
+use crate::limits::{Limit, Limits};
+use crate::program::{compile, compile_limited, compile_unlimited, Program};
 use crate::raw::{Ask, Asked, Handle, Told, NONE};
 use crate::value::{DateTimeValue, Value};
 use std::collections::HashMap;
 use std::fmt;
 
-/// What a program answers in a context, where the host adds nothing.
+/// What a program answers in a context, where the host adds nothing, within the program's limits.
 pub fn run(program: &Program, ctx: &Context) -> Result<Value> {
     with_engine(|engine| answer(engine, program, NONE, ctx))
 }
 
-/// What a text answers in a context, where the host adds nothing.
+/// What a text answers in a context, where the host adds nothing, within the limits for strangers.
 ///
 /// ```
 /// use expr::{eval, Context};
@@ -21,6 +22,23 @@ pub fn run(program: &Program, ctx: &Context) -> Result<Value> {
 /// ```
 pub fn eval(code: &str, ctx: &Context) -> Result<Value> {
     run(&compile(code)?, ctx)
+}
+
+/// What a text answers in a context within limits, where the host adds nothing.
+///
+/// ```
+/// use expr::{eval_limited, Context, Error, Limit, Limits};
+/// let few = Limits { steps: 1_000, ..Limits::default() };
+/// let answer = eval_limited("all(1..1000, {# > 0})", &Context::default(), &few);
+/// assert_eq!(answer, Err(Error::LimitError(Limit::Steps)));
+/// ```
+pub fn eval_limited(code: &str, ctx: &Context, limits: &Limits) -> Result<Value> {
+    run(&compile_limited(code, limits)?, ctx)
+}
+
+/// What a text answers in a context without limits, where the host adds nothing: for texts that are trusted.
+pub fn eval_unlimited(code: &str, ctx: &Context) -> Result<Value> {
+    run(&compile_unlimited(code)?, ctx)
 }
 
 fn answer(engine: &mut Session<'_>, program: &Program, environment: Handle, ctx: &Context) -> Result<Value> {
@@ -36,6 +54,7 @@ enum Turn {
     Asks(ExprCall, u64),
 }
 
+/// Begins a run, within the program's limits.
 fn started(engine: &mut Session<'_>, program: &Program, environment: Handle, ctx: &Context) -> Result<Turn> {
     let asked = Asked {
         program: program.handle(engine)?,
@@ -43,11 +62,14 @@ fn started(engine: &mut Session<'_>, program: &Program, environment: Handle, ctx
         context: ctx.handle(engine)?,
         ..Asked::default()
     };
+    engine.limit(program.limits())?;
     let told = engine.run(asked)?;
     turned(engine, told)
 }
 
-fn go_on(engine: &mut Session<'_>, reply: &Result<Value>) -> Result<Turn> {
+/// Goes on with the run that waits, within the limits of its program, since a function may have compiled another.
+fn go_on(engine: &mut Session<'_>, program: &Program, reply: &Result<Value>) -> Result<Turn> {
+    engine.limit(program.limits())?;
     let told = engine.reply(reply)?;
     turned(engine, told)
 }
@@ -115,7 +137,9 @@ impl Environment {
     /// Adds a function, in place of an earlier one of this name or of one of the language. Its refusal is that of the call.
     ///
     /// A run stops at a call of it and begins anew with the reply, so that a program that makes n calls is run n + 1 times.
-    /// Each call is answered once; the function may run programs itself.
+    /// Each call is answered once; the function may run programs itself. How many calls a run may make is a limit of the
+    /// program ([`Limits::calls`]), and where the function answers [`Error::LimitError`], as where a program that it runs
+    /// stops, the whole run stops with that.
     ///
     /// ```
     /// use expr::{Context, Environment, Error, Value};
@@ -152,7 +176,7 @@ impl Environment {
         self.now = Some(DateTimeValue::from_timestamp(second, nanosecond));
     }
 
-    /// What a program answers in a context.
+    /// What a program answers in a context, within the program's limits.
     pub fn run(&self, program: &Program, ctx: &Context) -> Result<Value> {
         let mut replies = Vec::new();
         let mut turn = with_engine(|engine| self.begin(engine, program, ctx, &replies))?;
@@ -160,9 +184,9 @@ impl Environment {
             match turn {
                 Turn::Ended(value) => return Ok(value),
                 Turn::Asks(call, run) => {
-                    replies.push(self.call(call));
+                    replies.push(self.call(program, replies.len(), call)?);
                     turn = with_engine(|engine| match replies.last() {
-                        Some(reply) if engine.run_is(run) => go_on(engine, reply),
+                        Some(reply) if engine.run_is(run) => go_on(engine, program, reply),
                         // A function has run programs itself, so the engine waits for this run no longer.
                         _ => self.begin(engine, program, ctx, &replies),
                     })?;
@@ -171,11 +195,18 @@ impl Environment {
         }
     }
 
-    /// What a function of the host answers.
-    fn call(&self, call: ExprCall) -> Result<Value> {
-        match self.functions.get(&call.ident) {
+    /// What a function of the host answers or refuses with, once so many calls were answered, or the limit that ends the run.
+    fn call(&self, program: &Program, answered: usize, call: ExprCall) -> Result<Result<Value>> {
+        if program.limits().is_some_and(|limits| answered >= limits.calls) {
+            return Err(Error::LimitError(Limit::Calls));
+        }
+        let reply = match self.functions.get(&call.ident) {
             Some(function) => function(call),
             None => Err(Error::ExprError(call.ident)),
+        };
+        match reply {
+            Err(Error::LimitError(limit)) => Err(Error::LimitError(limit)),
+            reply => Ok(reply),
         }
     }
 
@@ -191,15 +222,25 @@ impl Environment {
         let mut turn = started(engine, program, environment, ctx)?;
         for reply in replies {
             if let Turn::Asks(..) = turn {
-                turn = go_on(engine, reply)?;
+                turn = go_on(engine, program, reply)?;
             }
         }
         Ok(turn)
     }
 
-    /// What a text answers in a context.
+    /// What a text answers in a context, within the limits for strangers.
     pub fn eval(&self, code: &str, ctx: &Context) -> Result<Value> {
         self.run(&compile(code)?, ctx)
+    }
+
+    /// What a text answers in a context within limits.
+    pub fn eval_limited(&self, code: &str, ctx: &Context, limits: &Limits) -> Result<Value> {
+        self.run(&compile_limited(code, limits)?, ctx)
+    }
+
+    /// What a text answers in a context without limits: for texts that are trusted.
+    pub fn eval_unlimited(&self, code: &str, ctx: &Context) -> Result<Value> {
+        self.run(&compile_unlimited(code)?, ctx)
     }
 
     fn handle(&self, engine: &mut Session<'_>) -> Result<Handle> {

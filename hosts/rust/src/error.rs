@@ -1,4 +1,5 @@
 //! Refusals.
+use crate::limits::Limit;
 use std::fmt;
 
 /// Why a call was refused.
@@ -6,7 +7,7 @@ use std::fmt;
 pub enum Error {
     /// The text is none of the language.
     PestError(Place),
-    /// A number of 2^63 or more, or a text that nests deeper than was allowed.
+    /// A number of 2^63 or more.
     ParseError(String),
     /// A name, a field or a function that isn't there, a value of the wrong kind, a remainder by zero, a division.
     ExprError(String),
@@ -14,6 +15,9 @@ pub enum Error {
     RegexError(String),
     /// The engine was refused memory.
     MemoryError,
+    /// The program would have passed one of its [`Limits`](crate::Limits). That is no refusal of the language: with higher
+    /// limits it might be answered, or refused for another reason.
+    LimitError(Limit),
 }
 
 /// Where a text is refused: in bytes from 0, and the line and the character in it from 1.
@@ -35,6 +39,7 @@ impl fmt::Display for Error {
             Error::PestError(place) => write!(f, "line {}, column {}\n{}", place.line, place.column, place.shown),
             Error::ParseError(message) | Error::ExprError(message) | Error::RegexError(message) => f.write_str(message),
             Error::MemoryError => f.write_str("out of memory"),
+            Error::LimitError(limit) => write!(f, "{limit}"),
         }
     }
 }

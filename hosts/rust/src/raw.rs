@@ -106,12 +106,16 @@ pub enum Ask {
     Answer,
     Refuse,
     Asked,
+    Limit,
+    Unlimited,
 }
 
 /// The status of a run that waits for the host's reply, as `Status` of refused.rt.
 pub const ASKS: u32 = 8;
 /// The status of a run that came to another call than the one that was replied to.
 pub const DIFFERS: u32 = 9;
+/// The first of the statuses of limits, one for each in the order of [`Limits`](crate::Limits).
+pub const LIMITS: u32 = 10;
 
 /// Kinds of values, as `Kind` of call.rt.
 pub mod kind {
@@ -182,12 +186,26 @@ pub struct Told {
 }
 
 /// An engine, and room for what it says. The engine lies in memory of this struct's own, which nothing else reaches.
+///
+/// It is neither `Send` nor `Sync`, which is asserted below.
 pub struct Raw {
     inside: Box<[MaybeUninit<u128>]>,
     room: Vec<u8>,
     /// An engine stays on its thread: that one may go to another isn't proved, since it keeps patterns.
     stays: PhantomData<*mut ()>,
 }
+
+// This compiles only where an engine is neither `Send` nor `Sync`: one that was would have two of these implementations, and
+// nothing would say which of them is meant.
+const _: fn() = {
+    trait Stays<Which> {
+        fn stays() {}
+    }
+    impl<T> Stays<()> for T {}
+    impl<T: Send> Stays<u8> for T {}
+    impl<T: Sync> Stays<u16> for T {}
+    <Raw as Stays<_>>::stays
+};
 
 impl Raw {
     pub fn open() -> Raw {

@@ -1,5 +1,5 @@
 use expr::{
-    compile, compile_within, eval, run, value, Context, DateTimeValue, Environment, Error, ExprCall, Map, Program, Value,
+    compile, eval, run, value, Context, DateTimeValue, Environment, Error, ExprCall, Map, Program, Value,
 };
 use std::sync::atomic::{AtomicI64, Ordering};
 
@@ -59,7 +59,6 @@ fn refusals_say_where_and_why() {
     assert_eq!((place.byte, place.line, place.column), (13, 2, 9), "{}", place.shown);
     assert_eq!(place.shown, "  \"é\" * * 2\n        ^");
     assert!(matches!(compile("9223372036854775808"), Err(Error::ParseError(_))));
-    assert!(matches!(compile_within("((((1))))", 3), Err(Error::ParseError(_))));
     assert!(matches!(alone("1 / 0"), Err(Error::ExprError(_))));
     assert!(matches!(alone("'a' matches '('"), Err(Error::RegexError(_))));
     assert!(matches!(Context::try_from(value!([1])), Err(Error::ExprError(_))));

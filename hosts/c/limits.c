@@ -1,0 +1,214 @@
+/* What expr.h promises of limits. Says the line of the first check that fails, and ends with 1. */
+#include "expr.h"
+#include <stdio.h>
+#include <string.h>
+#define CHECK(what) do { if (!(what)) { printf("%s:%d: %s\n", __FILE__, __LINE__, #what); return 1; } } while (0)
+#define ALONE EXPR_NO_ENVIRONMENT, EXPR_NO_CONTEXT
+
+/* Appends a piece so many times to a text. */
+static void add(char *text, size_t room, size_t count, const char *piece) {
+    size_t length = strlen(text), more = strlen(piece);
+    for (; count > 0 && length + more < room; count--, length += more) memcpy(text + length, piece, more + 1);
+}
+
+/* Texts that take much, within the limits for strangers, which an engine has at first. Those of the table come to that of
+ * steps, in which all that is made counts too; and where that is as wide as can be, to that of which they take much. */
+static int strangers(expr_engine *engine) {
+    static const struct { const char *text; expr_status much; } rows[] = {
+        {"len(1..100000000)", EXPR_LIMIT_SIZE},
+        {"len(repeat(repeat(\"a\", 1000000), 1000000))", EXPR_LIMIT_SIZE},
+        {"let a = 1..10000; len(map(1..300000, {a}))", EXPR_LIMIT_SIZE},
+        {"len(reduce(1..10000, [#acc], 0))", EXPR_LIMIT_DEPTH},
+        {"reduce(1..10000, {a: #acc}, 0)", EXPR_LIMIT_DEPTH},
+        {"reduce(1..200, [[[[[[[[[[#acc]]]]]]]]]], 0)", EXPR_LIMIT_DEPTH},
+        {"all(1..300000, {all(1..300000, {true})})", EXPR_LIMIT_STEPS},
+        {"let a = 1..10000; all(1..300000, {0 not in a})", EXPR_LIMIT_STEPS},
+    };
+    static const expr_limits wide = {100, 100000, INT64_MAX, 100, 100000};
+    static char wide_call[100], deep[500], heavy[10000];
+    expr_answer answer;
+    expr_program program;
+    expr_place place;
+    CHECK(expr_eval(engine, "40 + 2", EXPR_Z, ALONE, NULL) == EXPR_OK);
+    for (size_t i = 0; i < sizeof rows / sizeof *rows; i++) {
+        CHECK(expr_eval(engine, rows[i].text, EXPR_Z, ALONE, &answer) == EXPR_LIMIT_STEPS);
+        CHECK(*expr_message(engine) && answer.kind == EXPR_NIL);
+        /* the answer of before is left */
+        CHECK(expr_look(engine, &answer) == EXPR_OK && answer.kind == EXPR_INTEGER && answer.number == 42);
+        if (rows[i].much == EXPR_LIMIT_STEPS) continue;
+        CHECK(expr_set_limits(engine, &wide) == EXPR_OK);
+        CHECK(expr_eval(engine, rows[i].text, EXPR_Z, ALONE, &answer) == rows[i].much && *expr_message(engine));
+        CHECK(expr_look(engine, &answer) == EXPR_OK && answer.number == 42);
+        CHECK(expr_set_limits(engine, &EXPR_LIMITS_FOR_STRANGERS) == EXPR_OK);
+    }
+    /* arguments that are copied count in size before they do in steps */
+    add(wide_call, sizeof wide_call, 1, "let a = 1..100000; map(a");
+    add(wide_call, sizeof wide_call, 15, ", a");
+    add(wide_call, sizeof wide_call, 1, ", {#})");
+    CHECK(expr_eval(engine, wide_call, EXPR_Z, ALONE, NULL) == EXPR_LIMIT_SIZE && *expr_message(engine));
+    add(deep, sizeof deep, 200, "(");
+    add(deep, sizeof deep, 1, "1");
+    add(deep, sizeof deep, 200, ")");
+    CHECK(expr_compile(engine, deep, EXPR_Z, &program, &place) == EXPR_LIMIT_HEIGHT && *expr_message(engine));
+    CHECK(expr_run(engine, program, ALONE, NULL) == EXPR_UNKNOWN);
+    CHECK(expr_eval(engine, deep, EXPR_Z, ALONE, NULL) == EXPR_LIMIT_HEIGHT);
+    CHECK(expr_compile(engine, deep, strlen(deep) - 1, &program, &place) == EXPR_SYNTAX); /* there is no tree at all */
+    add(heavy, sizeof heavy, 400, "\"a\" matches \"\\\\w{20}\" or ");
+    add(heavy, sizeof heavy, 1, "true");
+    CHECK(expr_compile(engine, heavy, EXPR_Z, &program, &place) == EXPR_LIMIT_PATTERNS && *expr_message(engine));
+    CHECK(expr_look(engine, &answer) == EXPR_OK && answer.number == 42);
+    return 0;
+}
+
+/* The numbers of limits, in the order of expr_limits. */
+static expr_status set(expr_engine *engine, const int64_t *numbers) {
+    expr_limits limits = {numbers[0], numbers[1], numbers[2], numbers[3], numbers[4]};
+    return expr_set_limits(engine, &limits);
+}
+
+/* The least number of one limit within which a text is answered, where the others are wide; -1 where it stops elsewhere or is
+ * refused on the way. */
+static int64_t least(expr_engine *engine, const char *text, int which) {
+    int64_t numbers[] = {INT64_MAX, INT64_MAX, INT64_MAX, INT64_MAX, INT64_MAX}, low = 0, high = 1 << 14;
+    while (low < high) {
+        int64_t middle = low + (high - low) / 2;
+        numbers[which] = middle;
+        if (set(engine, numbers) != EXPR_OK) return -1;
+        expr_status status = expr_eval(engine, text, EXPR_Z, ALONE, NULL);
+        if (status == EXPR_OK) high = middle;
+        else if (status == (expr_status)(EXPR_LIMIT_HEIGHT + which)) low = middle + 1;
+        else return -1;
+    }
+    return low;
+}
+
+enum { HEIGHT, PATTERNS, STEPS, DEPTH, SIZE };
+
+/* A run stops exactly where its limit is, by the numbers of docs/LIMITS.md. */
+static int exactly(expr_engine *engine) {
+    CHECK(least(engine, "((1))", HEIGHT) == 3 && least(engine, "1", HEIGHT) == 1);
+    CHECK(least(engine, "1 + 1", PATTERNS) == 0 && least(engine, "\"a\" matches \"b\"", PATTERNS) == 12);
+    CHECK(least(engine, "\"a\" matches \"b\" or \"a\" matches \"\\\\d{3}\"", PATTERNS) == 12 + 424);
+    CHECK(least(engine, "1 + 2", DEPTH) == 0 && least(engine, "[[1]]", DEPTH) == 2 && least(engine, "{a: [1]}", DEPTH) == 2);
+    CHECK(least(engine, "let a = reduce(1..90, [#acc], 0); len(a)", DEPTH) == 90);
+    /* an instruction, and the answer's weight */
+    CHECK(least(engine, "1", STEPS) == 1 + 1 && least(engine, "\"a\"", STEPS) == 1 + 2);
+    CHECK(least(engine, "[1, 2, 3]", STEPS) == 1 + 4 + 3 && least(engine, "[1, 2, 3]", SIZE) == 4 + 3);
+    int64_t few = least(engine, "all(1..100, {true})", STEPS), more = least(engine, "all(1..200, {true})", STEPS);
+    CHECK(few > 100 && more - few >= 200);
+    few = least(engine, "len(1..1000)", SIZE), more = least(engine, "len(1..3000)", SIZE);
+    CHECK(few > 1000 && more - few == 2000);
+    CHECK(expr_set_limits(engine, &EXPR_LIMITS_FOR_STRANGERS) == EXPR_OK);
+    return 0;
+}
+
+/* Setting limits: all or none, kept until others are set, and by name there are none. */
+static int settings(expr_engine *engine) {
+    expr_limits limits = EXPR_LIMITS_FOR_STRANGERS;
+    expr_program program, kept;
+    expr_context context;
+    expr_answer answer;
+    CHECK(limits.height == 100 && limits.patterns == 100000 && limits.steps == 1000000 && limits.depth == 1000 &&
+          limits.size == 1000000);
+    CHECK(expr_set_limits(NULL, &limits) == EXPR_MISUSE && expr_set_unlimited(NULL) == EXPR_MISUSE);
+    CHECK(expr_set_limits(engine, NULL) == EXPR_MISUSE);
+    CHECK(expr_compile(engine, "all(1..1000, {# > 0})", EXPR_Z, &program, NULL) == EXPR_OK);
+    limits.steps = 100;
+    CHECK(expr_set_limits(engine, &limits) == EXPR_OK);
+    CHECK(expr_run(engine, program, ALONE, &answer) == EXPR_LIMIT_STEPS);
+    CHECK(expr_run(engine, program, ALONE, &answer) == EXPR_LIMIT_STEPS); /* anew each time */
+    /* where one is refused none is set */
+    limits.steps = 1000000, limits.size = -1;
+    CHECK(expr_set_limits(engine, &limits) == EXPR_MISUSE);
+    CHECK(expr_run(engine, program, ALONE, &answer) == EXPR_LIMIT_STEPS);
+    /* when all is let go of they stay */
+    CHECK(expr_clear(engine) == EXPR_OK && expr_run(engine, program, ALONE, &answer) == EXPR_UNKNOWN);
+    CHECK(expr_compile(engine, "all(1..1000, {# > 0})", EXPR_Z, &program, NULL) == EXPR_OK);
+    CHECK(expr_compile(engine, "x * 2", EXPR_Z, &kept, NULL) == EXPR_OK);
+    CHECK(expr_run(engine, program, ALONE, &answer) == EXPR_LIMIT_STEPS);
+    /* what was compiled and handed in stays; what was being built goes where a text or a run stops, as where it is refused */
+    CHECK(expr_context_json(engine, "{\"x\": 5}", EXPR_Z, &context) == EXPR_OK);
+    CHECK(expr_push_integer(engine, 7) == EXPR_OK);
+    limits = (expr_limits){0, 0, 0, 0, 0};
+    CHECK(expr_set_limits(engine, &limits) == EXPR_OK);
+    CHECK(expr_compile(engine, "1", EXPR_Z, &program, NULL) == EXPR_LIMIT_HEIGHT);
+    CHECK(expr_run(engine, kept, EXPR_NO_ENVIRONMENT, context, &answer) == EXPR_LIMIT_STEPS);
+    CHECK(expr_set_unlimited(engine) == EXPR_OK);
+    CHECK(expr_set_built(engine, context, "built", EXPR_Z) == EXPR_MISUSE);
+    CHECK(expr_run(engine, kept, EXPR_NO_ENVIRONMENT, context, &answer) == EXPR_OK && answer.number == 10);
+    /* setting limits leaves what is being built */
+    CHECK(expr_push_integer(engine, 7) == EXPR_OK && expr_set_limits(engine, &EXPR_LIMITS_FOR_STRANGERS) == EXPR_OK);
+    CHECK(expr_set_unlimited(engine) == EXPR_OK && expr_set_built(engine, context, "built", EXPR_Z) == EXPR_OK);
+    CHECK(expr_eval(engine, "len(1..2000000)", EXPR_Z, ALONE, &answer) == EXPR_OK && answer.number == 2000000);
+    CHECK(expr_eval(engine, "len(reduce(1..2000, [#acc], 0))", EXPR_Z, ALONE, &answer) == EXPR_OK && answer.number == 1);
+    /* the last that are set hold */
+    CHECK(expr_set_limits(engine, &EXPR_LIMITS_FOR_STRANGERS) == EXPR_OK);
+    CHECK(expr_eval(engine, "len(1..2000000)", EXPR_Z, ALONE, &answer) == EXPR_LIMIT_STEPS);
+    CHECK(expr_run(engine, kept, EXPR_NO_ENVIRONMENT, context, &answer) == EXPR_OK && answer.number == 10);
+    return 0;
+}
+
+/* A run that waits: each turn has the limits anew, and one that stops waits for nothing. */
+static int waiting(expr_engine *engine) {
+    const char *text = "all(1..1000, {# > 0}) and f(1) > 0 and f(2) > 0 and len(1..f(3)) > 0";
+    expr_limits limits = EXPR_LIMITS_FOR_STRANGERS;
+    expr_environment host;
+    expr_program program;
+    expr_answer answer;
+    expr_status status;
+    CHECK(expr_environment_new(engine, &host) == EXPR_OK && expr_add_name(engine, host, "f", EXPR_Z) == EXPR_OK);
+    CHECK(expr_compile(engine, text, EXPR_Z, &program, NULL) == EXPR_OK);
+    for (int turn = 0; turn < 3; turn++) {
+        static const int64_t replies[] = {2, 100000000, 3};
+        int calls = 0;
+        limits.steps = 12000; /* for each turn; all of them take more */
+        CHECK(expr_set_limits(engine, &limits) == EXPR_OK);
+        status = expr_run(engine, program, host, EXPR_NO_CONTEXT, &answer);
+        for (; status == EXPR_ASKS; calls++) {
+            CHECK(expr_push_integer(engine, replies[turn]) == EXPR_OK);
+            if (turn == 2 && calls == 1) {
+                limits.steps = 10; /* of the next turn */
+                CHECK(expr_set_limits(engine, &limits) == EXPR_OK && expr_asked(engine, NULL, &answer) == EXPR_OK);
+                CHECK(!strcmp(expr_shown(engine, NULL), "[2]"));
+            }
+            status = expr_reply(engine, &answer);
+        }
+        CHECK(status == (turn == 0 ? EXPR_OK : EXPR_LIMIT_STEPS));
+        CHECK(calls == (turn == 2 ? 2 : 3));
+        CHECK(expr_asked(engine, NULL, NULL) == EXPR_MISUSE && expr_refuse(engine, "", 0, NULL) == EXPR_MISUSE);
+        CHECK(expr_push_nil(engine) == EXPR_OK && expr_reply(engine, NULL) == EXPR_MISUSE);
+    }
+    /* a run that stops before its first call, while another waits, leaves none waiting */
+    limits.steps = 1000000;
+    CHECK(expr_set_limits(engine, &limits) == EXPR_OK);
+    CHECK(expr_run(engine, program, host, EXPR_NO_CONTEXT, &answer) == EXPR_ASKS);
+    CHECK(expr_eval(engine, "len(1..100000000)", EXPR_Z, host, EXPR_NO_CONTEXT, &answer) == EXPR_LIMIT_STEPS);
+    CHECK(expr_asked(engine, NULL, NULL) == EXPR_MISUSE);
+    /* a text that is too high isn't run, so that the other still waits */
+    CHECK(expr_run(engine, program, host, EXPR_NO_CONTEXT, &answer) == EXPR_ASKS);
+    limits.height = 1;
+    CHECK(expr_set_limits(engine, &limits) == EXPR_OK);
+    CHECK(expr_eval(engine, "1 + 1", EXPR_Z, host, EXPR_NO_CONTEXT, &answer) == EXPR_LIMIT_HEIGHT);
+    CHECK(expr_asked(engine, NULL, &answer) == EXPR_OK && answer.number == 1);
+    return expr_set_limits(engine, &EXPR_LIMITS_FOR_STRANGERS) != EXPR_OK;
+}
+
+static int words(void) {
+    for (int status = EXPR_OK; status <= EXPR_LIMIT_SIZE; status++) {
+        CHECK(EXPR_IS_LIMIT(status) == (status >= EXPR_LIMIT_HEIGHT) && *expr_status_word((expr_status)status) != '?');
+        for (int other = EXPR_OK; other < status; other++) {
+            CHECK(strcmp(expr_status_word((expr_status)status), expr_status_word((expr_status)other)));
+        }
+    }
+    CHECK(!EXPR_IS_LIMIT(EXPR_LIMIT_SIZE + 1) && *expr_status_word((expr_status)(EXPR_LIMIT_SIZE + 1)) == '?');
+    return 0;
+}
+
+int main(void) {
+    expr_engine *engine = expr_open();
+    CHECK(engine);
+    int failed = strangers(engine) || exactly(engine) || settings(engine) || waiting(engine) || words();
+    expr_close(engine);
+    if (!failed) printf("limits: ok\n");
+    return failed;
+}
