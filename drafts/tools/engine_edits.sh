@@ -1,1 +1,0 @@
-(time NONE=0 nice /work/tools/prio engine python3 /work/tmp/engine_chk2.py /work/tmp/engine_edits expr_engine --only additions::Additions::add_name --only engine::Engine::turn --only engine::Engine::compile --only engine::Engine::clear --only limiting::let_go_of_limits --only serving::number) > /work/tmp/engine_edits_engine.log 2>&1
