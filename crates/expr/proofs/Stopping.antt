@@ -1,11 +1,12 @@
 -- Where a counted run stops, a charge passed that limit.
-use Rattle.std.proofs.Common.{ℕ, zero, suc, Bool, true, false, List, [], ◌∷◌, ◌++◌, length, take, Result, Ok, Err, MatchBool, MatchOption, Option, Some, None, bytes_eq, codes, sym, subst, inl, inr, ◌≡◌}
+use Rattle.std.proofs.Common.{ℕ, zero, suc, Bool, true, false, List, [], ◌∷◌, ◌++◌, length, take, Result, Ok, Err, MatchBool, sym, subst, inl, inr, ◌≡◌}
 use Rattle.std.specs.Prelude.{if◌then◌else◌}
 use Rattle.expr_code.specs.Asked.{bound_values}
 use Rattle.expr_code.specs.Machine.{Op, push, load, look, look_with, env, store, act, asks, refuse, jump, jump_if_false, and_then, or_else, unless_nil, Move, onward, refused as refused_by, Step}
+use Rattle.expr_meaning.proofs.Beginning.{ByName-either}
 use Rattle.expr_meaning.specs.Calls.{AllowsOnValues, ByName}
 use Rattle.expr_meaning.specs.Host.{Host}
-use Rattle.expr_predicates.specs.Calls.{SortsItems, Start, asking_named, begun}
+use Rattle.expr_predicates.specs.Calls.{Start, begun}
 use Rattle.expr_predicates.specs.Tasks.{Question, Reply, Task, Outcome, about, stopped, refused}
 use Rattle.expr_sizes.specs.Sizes.{depth, inside, weight}
 use Rattle.expr_steps.specs.Context.{Context}
@@ -66,10 +67,6 @@ module _ (counting : Counting) (such : Limit → Type 0) (by : AllPass counting 
   one_of true P Q R f g p = f p
   one_of false P Q R f g p = g p
 
-  option_of : {A : Type 0} (o : Option A) (P : Type 0) (Q : A → Type 0) (R : Type 0) → (P → R) → ((x : A) → Q x → R) → MatchOption o P Q → R
-  option_of None P Q R f g p = f p
-  option_of (Some x) P Q R f g p = g x p
-
   -- a call, where what is asked stops so
   module _ (asks : Predicate Tally) (asked : (q : Question) (now : Tally) (e : Ending Tally) → asks q now e → In e) where
     asks_stop : (t : Task) (first : Tally) (left : List Value) (rs : List Reply) (now : Tally) (e : Ending Tally) → CountsAsks counting t first asks left rs now e → In e
@@ -91,14 +88,11 @@ module _ (counting : Counting) (such : Limit → Type 0) (by : AllPass counting 
 
     call_stops : (host : Host) (key : List ℕ) (vs : List Value) (now : Tally) (e : Ending Tally) → CountsCall counting host key vs asks now e → In e
     call_stops host key vs now e p =
-        one_of (host.is_added key) (Answers (host.calls key vs) now e) (ByName key (Answers (SortsItems vs) now e) (Answers (AllowsOnValues host key vs) now e) (λ b. CountsStart counting (begun b vs true) asks now e)) (In e) (
+        one_of (host.is_added key) (Answers (host.calls key vs) now e) (ByName key (e ≡ refuses evaluation) (λ c. Answers (AllowsOnValues host c vs) now e) (λ b. CountsStart counting (begun b vs true) asks now e)) (In e) (
         answers (host.calls key vs) now e
         ) (
-        λ q. one_of (bytes_eq key (codes "sort")) (Answers (SortsItems vs) now e) (MatchOption (asking_named key) (Answers (AllowsOnValues host key vs) now e) (λ b. CountsStart counting (begun b vs true) asks now e)) (In e) (
-        answers (SortsItems vs) now e
-        ) (
-        λ r. option_of (asking_named key) (Answers (AllowsOnValues host key vs) now e) (λ b. CountsStart counting (begun b vs true) asks now e) (In e) (answers (AllowsOnValues host key vs) now e) (λ b c. start_stops (begun b vs true) now e c) r
-        ) q
+        ByName-either key (e ≡ refuses evaluation) (λ c. Answers (AllowsOnValues host c vs) now e) (λ b. CountsStart counting (begun b vs true) asks now e) (In e)
+        (λ is. subst In (sym is) tt) (λ c. answers (AllowsOnValues host c vs) now e) (λ b. start_stops (begun b vs true) now e)
         ) p
 
   module _ (costs : Costs) (host : Host) (ctx : Context) where

@@ -4,7 +4,12 @@ pub mod Limited
 pub mod Parsers
 pub mod Spots
 pub mod Texts
-pub use Rattle.expr_builtins.specs.Calls as Builtins
+pub use Rattle.expr_builtins.specs.Bits as OnBits
+pub use Rattle.expr_builtins.specs.Collections as OnCollections
+pub use Rattle.expr_builtins.specs.Conversions
+pub use Rattle.expr_builtins.specs.Numbers as OnNumbers
+pub use Rattle.expr_builtins.specs.Text as OnTexts
+pub use Rattle.expr_functions.specs.Functions
 pub use Rattle.expr_lowering.specs.Kept as Matched
 pub use Rattle.expr_meaning.specs.Allows
 pub use Rattle.expr_meaning.specs.Calls

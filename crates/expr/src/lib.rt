@@ -23,6 +23,7 @@ pub use expr_evaluation::{
     eval_expr, eval_func, eval_operator, eval_postfix_operator, eval_unary_operator,
 };
 pub use expr_frames::laws::brackets_leave_program;
+pub use expr_functions::each_name_finds_its_call;
 pub use expr_grammar::laws::{brackets_fit, one_tree};
 pub use expr_layout::layouts_have_one_reading;
 pub use expr_lowering::{Block, Code, Holder, Instruction, KeptCode, PredicateCall};

@@ -9,7 +9,7 @@ use Rattle.expr_value.specs.declared.key.Key.{Key}
 use Rattle.expr_value.specs.declared.value.Value as value
 use Rattle.expr_value.specs.declared.value.Value.{Value}
 use Rattle.expr_builtins.specs.Collections.{in_a_row, named_pair, keyed_pair, pair}
-use Rattle.expr_builtins.specs.Arguments.{all_of}
+use Rattle.expr_arguments.specs.Arguments.{all_of}
 
 module _ {A : Type 0} (kind : Value → Option A) where
   -- one more at the end

@@ -12,7 +12,7 @@ use Rattle.expr_value.specs.declared.key.Key.{Key}
 use Rattle.expr_value.specs.declared.value.Value as value
 use Rattle.expr_value.specs.declared.value.Value.{Value, out-Value, the_lemmas}
 use Rattle.expr_value.specs.declared.value.Value.TheOpen.{Value-F}
-use Rattle.expr_builtins.specs.Arguments.{all_of, asked}
+use Rattle.expr_arguments.specs.Arguments.{all_of, asked}
 use Rattle.expr_builtins.specs.Collections.{from_pairs, keyed_pair, pair_of, to_pairs, to_pairs_layer, two_items}
 
 abbrev Entry : Type 0

@@ -1,11 +1,13 @@
 -- What the calls on bits give: an integer is its 64 bits, of which the first is the sign.
-use Rattle.std.specs.Prelude.{ℕ, ◌/◌, ◌^◌, ℤ, pos, negsuc, nat_lt, int_lt, List, Ok, Err, if◌then◌else◌}
+use Rattle.std.specs.Prelude.{◌≡◌, ℕ, ◌/◌, ◌^◌, ℤ, pos, negsuc, nat_lt, int_lt, List, Ok, Err, if◌then◌else◌}
 use Rattle.std.specs.Int.{w64, cast_signed, cast_unsigned, int_bit_and, int_bit_or, int_bit_xor, int_bit_not, int_shl, int_shr}
 use Rattle.expr_value.specs.Fault.{evaluation}
 use Rattle.expr_value.specs.declared.value.Value as value
 use Rattle.expr_value.specs.declared.value.Value.{Value}
 use Rattle.expr_value.specs.Answers.{Answer}
-use Rattle.expr_builtins.specs.Arguments.{asked, one_integer, two_integers}
+use Rattle.expr_arguments.specs.Arguments.{asked, one_integer, two_integers}
+use Rattle.expr_functions.specs.declared.functions.BitCall.{BitCall}
+use Rattle.expr_functions.specs.declared.functions.BitCall.TheVariants as is
 
 -- two integers, bit by bit
 abbrev pub of_two : (ℤ → ℤ → ℤ) → List Value → Answer
@@ -55,3 +57,14 @@ bitshr = of_count shifted_right
 
 abbrev pub bitushr : List Value → Answer
 bitushr = of_count shifted_unsigned
+
+-- what a call on bits may answer
+abbrev pub Called : BitCall → List Value → Answer → Type 0
+Called is.Bitand arguments answer = answer ≡ bitand arguments
+Called is.Bitor arguments answer = answer ≡ bitor arguments
+Called is.Bitxor arguments answer = answer ≡ bitxor arguments
+Called is.Bitnand arguments answer = answer ≡ bitnand arguments
+Called is.Bitnot arguments answer = answer ≡ bitnot arguments
+Called is.Bitshl arguments answer = answer ≡ bitshl arguments
+Called is.Bitshr arguments answer = answer ≡ bitshr arguments
+Called is.Bitushr arguments answer = answer ≡ bitushr arguments

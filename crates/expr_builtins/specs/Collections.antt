@@ -1,5 +1,5 @@
 -- What the calls on arrays and maps give.
-use Rattle.std.specs.Prelude.{ℕ, ◌-◌, ◌==◌, if◌then◌else◌, ℤ, pos, negsuc, List, [], ◌∷◌, length, take, map, reverse, slice_get, Option, None, Some, unwrap_or, flat_map, Ok, Err}
+use Rattle.std.specs.Prelude.{◌≡◌, ℕ, ◌-◌, ◌==◌, if◌then◌else◌, ℤ, pos, negsuc, List, [], ◌∷◌, length, take, map, reverse, slice_get, Option, None, Some, unwrap_or, flat_map, Ok, Err}
 use Rattle.std.specs.Int.{w64, cast_signed}
 use Rattle.std.specs.Map.{keys_of, values_of}
 use Rattle.std.specs.Option.{option_and_then, option_map}
@@ -13,7 +13,11 @@ use Rattle.expr_value.specs.declared.value.Value as value
 use Rattle.expr_value.specs.declared.value.Value.{Value, out-Value}
 use Rattle.expr_value.specs.declared.value.Value.TheOpen.{Value-F}
 use Rattle.expr_value.specs.Answers.{Answer}
-use Rattle.expr_builtins.specs.Arguments.{asked, one_of, two_of, any_value, all_of, array_and_text}
+use Rattle.expr_arguments.specs.Arguments.{asked, one_of, two_of, any_value, all_of, array_and_text}
+use Rattle.expr_builtins.specs.Distinct as distinct
+use Rattle.expr_builtins.specs.Nested as nested
+use Rattle.expr_functions.specs.declared.functions.CollectionCall.{CollectionCall}
+use Rattle.expr_functions.specs.declared.functions.CollectionCall.TheVariants as is
 
 -- how many items, characters, bytes or pairs there are
 abbrev pub size_layer : Value-F Value → Option ℕ
@@ -129,3 +133,20 @@ in_a_row xss = flat_map (λ xs. xs) xss
 -- of at least one array
 abbrev pub concat : List Value → Answer
 concat arguments = if length arguments == 0 then Err evaluation else asked (option_map in_a_row (all_of items_of arguments)) (λ xs. Ok (value.Array xs))
+
+-- what a call on arrays and maps may answer
+abbrev pub Called : CollectionCall → List Value → Answer → Type 0
+Called is.Len arguments answer = answer ≡ len arguments
+Called is.First arguments answer = answer ≡ first arguments
+Called is.Last arguments answer = answer ≡ last arguments
+Called is.Take arguments answer = answer ≡ take_items arguments
+Called is.Reverse arguments answer = answer ≡ reversed arguments
+Called is.Uniq arguments answer = answer ≡ distinct.uniq arguments
+Called is.Flatten arguments answer = answer ≡ nested.flatten arguments
+Called is.Concat arguments answer = answer ≡ concat arguments
+Called is.Keys arguments answer = answer ≡ keys arguments
+Called is.Values arguments answer = answer ≡ values arguments
+Called is.ToPairs arguments answer = answer ≡ to_pairs arguments
+Called is.Get arguments answer = answer ≡ get arguments
+Called is.Join arguments answer = answer ≡ join arguments
+Called is.FromPairs arguments answer = answer ≡ from_pairs arguments

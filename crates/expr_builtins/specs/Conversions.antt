@@ -9,7 +9,9 @@ use Rattle.expr_value.specs.declared.value.Value as value
 use Rattle.expr_value.specs.declared.value.Value.{Value, out-Value}
 use Rattle.expr_value.specs.declared.value.Value.TheOpen.{Value-F}
 use Rattle.expr_value.specs.Answers.{Answer}
-use Rattle.expr_builtins.specs.Arguments.{asked, one_of, any_value}
+use Rattle.expr_arguments.specs.Arguments.{asked, one_of, any_value}
+use Rattle.expr_functions.specs.declared.functions.ConversionCall.{ConversionCall}
+use Rattle.expr_functions.specs.declared.functions.ConversionCall.TheVariants as is
 
 -- an optional sign and ASCII digits, within 64 bits
 abbrev pub IsInteger : List ℕ → Type 0
@@ -53,3 +55,9 @@ kind_text (Value-F.Timezone z) = codes "time.Location"
 
 abbrev pub type_name : List Value → Answer
 type_name arguments = asked (one_of any_value arguments) (λ v. Ok (value.String (kind_text (out-Value v))))
+
+-- what a call of conversion may answer
+abbrev pub Called : ConversionCall → List Value → Answer → Type 0
+Called is.Int arguments answer = Int arguments answer
+Called is.String arguments answer = answer ≡ string arguments
+Called is.Type arguments answer = answer ≡ type_name arguments

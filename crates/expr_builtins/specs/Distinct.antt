@@ -6,7 +6,7 @@ use Rattle.expr_value.specs.declared.key.Key.{Key}
 use Rattle.expr_value.specs.declared.value.Value as value
 use Rattle.expr_value.specs.declared.value.Value.{Value}
 use Rattle.expr_value.specs.Answers.{Answer}
-use Rattle.expr_builtins.specs.Arguments.{asked, one_of}
+use Rattle.expr_arguments.specs.Arguments.{asked, one_of}
 
 -- the first, and of the others those that don't equal it
 abbrev pub distinct : List Value → List Value

@@ -4,7 +4,7 @@ use Rattle.std.specs.Int.{w64, cast_signed}
 use Rattle.expr_value.specs.declared.value.Value as value
 use Rattle.expr_value.specs.declared.value.Value.{Value}
 use Rattle.expr_value.specs.Answers.{Answer}
-use Rattle.expr_builtins.specs.Arguments.{asked, two_texts}
+use Rattle.expr_arguments.specs.Arguments.{asked, two_texts}
 use Rattle.expr_builtins.specs.Places.{stands}
 
 -- the first byte is at a place

@@ -1,7 +1,4 @@
-pub mod Arguments
-pub mod Arrays
 pub mod Bits
-pub mod Calls
 pub mod Collections
 pub mod Conversions
 pub mod Distinct

@@ -5,7 +5,7 @@ use Rattle.expr_value.specs.declared.value.Value as value
 use Rattle.expr_value.specs.declared.value.Value.{Value, fold-Value, out-Value}
 use Rattle.expr_value.specs.declared.value.Value.TheOpen.{Value-F}
 use Rattle.expr_value.specs.Answers.{Answer}
-use Rattle.expr_builtins.specs.Arguments.{asked, one_of}
+use Rattle.expr_arguments.specs.Arguments.{asked, one_of}
 
 -- what each of some values gives, one after the other
 abbrev pub given_by_each : List (Value → List Value) → List Value → List Value

@@ -1,5 +1,5 @@
 -- What the calls on numbers give.
-use Rattle.std.specs.Prelude.{ℤ, ◌==◌, if◌then◌else◌, unsigned_abs, List, [], ◌∷◌, length, Ok, Err}
+use Rattle.std.specs.Prelude.{◌≡◌, ℤ, ◌==◌, if◌then◌else◌, unsigned_abs, List, [], ◌∷◌, length, Ok, Err}
 use Rattle.std.specs.Int.{w64, cast_signed, int_max, int_min}
 use Rattle.std.specs.List.{fold}
 use Rattle.expr_value.specs.Fault.{evaluation}
@@ -7,8 +7,10 @@ use Rattle.expr_value.specs.declared.value.Value as value
 use Rattle.expr_value.specs.declared.value.Value.{Value}
 use Rattle.expr_value.specs.Answers.{Answer}
 use Rattle.expr_value.specs.Values.{integer_of}
-use Rattle.expr_builtins.specs.Arguments.{asked, one_integer, all_of}
+use Rattle.expr_arguments.specs.Arguments.{asked, one_integer, all_of}
 use Rattle.expr_builtins.specs.Nested.{all_opened}
+use Rattle.expr_functions.specs.declared.functions.NumberCall.{NumberCall}
+use Rattle.expr_functions.specs.declared.functions.NumberCall.TheVariants as is
 
 -- without its sign; the least integer is its own
 abbrev pub abs : List Value → Answer
@@ -32,3 +34,15 @@ greatest = chosen_among int_max
 
 abbrev pub least : List Value → Answer
 least = chosen_among int_min
+
+-- what a call on numbers may answer
+abbrev pub Called : NumberCall → List Value → Answer → Type 0
+Called is.Abs arguments answer = answer ≡ abs arguments
+Called is.Max arguments answer = answer ≡ greatest arguments
+Called is.Min arguments answer = answer ≡ least arguments
+Called is.Float arguments answer = answer ≡ of_fractions arguments
+Called is.Mean arguments answer = answer ≡ of_fractions arguments
+Called is.Median arguments answer = answer ≡ of_fractions arguments
+Called is.Ceil arguments answer = answer ≡ of_fractions arguments
+Called is.Floor arguments answer = answer ≡ of_fractions arguments
+Called is.Round arguments answer = answer ≡ of_fractions arguments

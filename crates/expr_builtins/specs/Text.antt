@@ -7,8 +7,12 @@ use Rattle.expr_value.specs.Fault.{evaluation}
 use Rattle.expr_value.specs.declared.value.Value as value
 use Rattle.expr_value.specs.declared.value.Value.{Value}
 use Rattle.expr_value.specs.Answers.{Answer}
-use Rattle.expr_builtins.specs.Arguments.{asked, one_text, two_texts, two_texts_and_limit, one_or_two_texts, text_and_integer, three_texts_and_limit}
+use Rattle.expr_arguments.specs.Arguments.{asked, one_text, two_texts, two_texts_and_limit, one_or_two_texts, text_and_integer, three_texts_and_limit}
 use Rattle.expr_builtins.specs.Texts.{parts, parts_after, replaced}
+use Rattle.expr_builtins.specs.Indices as indices
+use Rattle.expr_builtins.specs.Trimmed as trimmed
+use Rattle.expr_functions.specs.declared.functions.TextCall.{TextCall}
+use Rattle.expr_functions.specs.declared.functions.TextCall.TheVariants as is
 
 abbrev pub has_prefix : List Value → Answer
 has_prefix arguments = asked (two_texts arguments) (λ a. Ok (value.Bool (starts_with nat_eq a.0 a.1)))
@@ -59,3 +63,19 @@ Upper arguments = CasedOne to_ascii_uppercase (one_text arguments)
 
 abbrev pub Lower : List Value → Answer → Type 0
 Lower arguments = CasedOne to_ascii_lowercase (one_text arguments)
+
+-- what a call on texts may answer
+abbrev pub Called : TextCall → List Value → Answer → Type 0
+Called is.HasPrefix arguments answer = answer ≡ has_prefix arguments
+Called is.HasSuffix arguments answer = answer ≡ has_suffix arguments
+Called is.Trim arguments answer = trimmed.Trim arguments answer
+Called is.TrimPrefix arguments answer = answer ≡ trim_prefix arguments
+Called is.TrimSuffix arguments answer = answer ≡ trim_suffix arguments
+Called is.Upper arguments answer = Upper arguments answer
+Called is.Lower arguments answer = Lower arguments answer
+Called is.Split arguments answer = answer ≡ split arguments
+Called is.SplitAfter arguments answer = answer ≡ split_after arguments
+Called is.Replace arguments answer = answer ≡ replace arguments
+Called is.Repeat arguments answer = answer ≡ repeat_text arguments
+Called is.IndexOf arguments answer = answer ≡ indices.index_of arguments
+Called is.LastIndexOf arguments answer = answer ≡ indices.last_index_of arguments

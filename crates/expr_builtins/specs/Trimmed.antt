@@ -7,7 +7,7 @@ use Rattle.expr_value.specs.Fault.{evaluation}
 use Rattle.expr_value.specs.declared.value.Value as value
 use Rattle.expr_value.specs.declared.value.Value.{Value}
 use Rattle.expr_value.specs.Answers.{Answer}
-use Rattle.expr_builtins.specs.Arguments.{one_text, two_texts}
+use Rattle.expr_arguments.specs.Arguments.{one_text, two_texts}
 
 -- r is s without the characters at both ends that are dropped
 pub record IsTrimmed (drops : ℕ → Bool) (s r : List ℕ) : Type 0 where

@@ -1,15 +1,33 @@
 //! The calls on bits.
 ghost use Rattle.std.specs.Prelude.{◌≡◌};
 ghost use Rattle.expr_value.specs.Answers.{Gives};
-ghost use Rattle.expr_builtins.specs.Bits.{bitand, bitor, bitxor, bitnand, bitnot, bitshl, bitshr, bitushr, shifted_left, shifted_right, shifted_unsigned};
+ghost use Rattle.expr_builtins.specs.Bits.{Called, bitand, bitor, bitxor, bitnand, bitnot, bitshl, bitshr, bitushr, shifted_left, shifted_right, shifted_unsigned};
 
-use crate::arguments::{one_integer, two_integers};
+use expr_arguments::{one_integer, two_integers};
+use expr_functions::BitCall;
 use expr_held::Held;
 use expr_value::{Result, Value, refusal};
 use std::alloc::Global;
 
+/// What a call on bits gives on these arguments. Other numbers and kinds of arguments than it takes are refused with
+/// [`expr_value::Error::ExprError`].
+pub fn call_on_bits(alloc: Global, call: BitCall, arguments: &[Held<'_>]) -> Result<Value>
+    ensures { Gives result (Called call arguments.now) }
+{
+    match call {
+        BitCall::Bitand => bitand(alloc, arguments),
+        BitCall::Bitor => bitor(alloc, arguments),
+        BitCall::Bitxor => bitxor(alloc, arguments),
+        BitCall::Bitnand => bitnand(alloc, arguments),
+        BitCall::Bitnot => bitnot(alloc, arguments),
+        BitCall::Bitshl => bitshl(alloc, arguments),
+        BitCall::Bitshr => bitshr(alloc, arguments),
+        BitCall::Bitushr => bitushr(alloc, arguments),
+    }
+}
+
 /// The bits that are set in both integers.
-pub(crate) fn bitand(alloc: Global, arguments: &[Held<'_>]) -> Result<Value>
+fn bitand(alloc: Global, arguments: &[Held<'_>]) -> Result<Value>
     ensures { Gives result (λ answer. answer ≡ bitand arguments.now) }
 {
     let Some((a, b)) = two_integers(arguments) else {
@@ -19,7 +37,7 @@ pub(crate) fn bitand(alloc: Global, arguments: &[Held<'_>]) -> Result<Value>
 }
 
 /// The bits that are set in either integer.
-pub(crate) fn bitor(alloc: Global, arguments: &[Held<'_>]) -> Result<Value>
+fn bitor(alloc: Global, arguments: &[Held<'_>]) -> Result<Value>
     ensures { Gives result (λ answer. answer ≡ bitor arguments.now) }
 {
     let Some((a, b)) = two_integers(arguments) else {
@@ -29,7 +47,7 @@ pub(crate) fn bitor(alloc: Global, arguments: &[Held<'_>]) -> Result<Value>
 }
 
 /// The bits that are set in one integer alone.
-pub(crate) fn bitxor(alloc: Global, arguments: &[Held<'_>]) -> Result<Value>
+fn bitxor(alloc: Global, arguments: &[Held<'_>]) -> Result<Value>
     ensures { Gives result (λ answer. answer ≡ bitxor arguments.now) }
 {
     let Some((a, b)) = two_integers(arguments) else {
@@ -39,7 +57,7 @@ pub(crate) fn bitxor(alloc: Global, arguments: &[Held<'_>]) -> Result<Value>
 }
 
 /// The first integer with the bits of the second cleared.
-pub(crate) fn bitnand(alloc: Global, arguments: &[Held<'_>]) -> Result<Value>
+fn bitnand(alloc: Global, arguments: &[Held<'_>]) -> Result<Value>
     ensures { Gives result (λ answer. answer ≡ bitnand arguments.now) }
 {
     let Some((a, b)) = two_integers(arguments) else {
@@ -49,7 +67,7 @@ pub(crate) fn bitnand(alloc: Global, arguments: &[Held<'_>]) -> Result<Value>
 }
 
 /// The bits that are not set in an integer.
-pub(crate) fn bitnot(alloc: Global, arguments: &[Held<'_>]) -> Result<Value>
+fn bitnot(alloc: Global, arguments: &[Held<'_>]) -> Result<Value>
     ensures { Gives result (λ answer. answer ≡ bitnot arguments.now) }
 {
     let Some(a) = one_integer(arguments) else {
@@ -91,7 +109,7 @@ fn shifted_unsigned(a: i64, count: u64) -> i64
 }
 
 /// An integer shifted to the left. A count below 0 is refused; bits shifted out are lost.
-pub(crate) fn bitshl(alloc: Global, arguments: &[Held<'_>]) -> Result<Value>
+fn bitshl(alloc: Global, arguments: &[Held<'_>]) -> Result<Value>
     ensures { Gives result (λ answer. answer ≡ bitshl arguments.now) }
 {
     let Some((a, count)) = two_integers(arguments) else {
@@ -104,7 +122,7 @@ pub(crate) fn bitshl(alloc: Global, arguments: &[Held<'_>]) -> Result<Value>
 }
 
 /// An integer shifted to the right, with its sign kept. A count below 0 is refused.
-pub(crate) fn bitshr(alloc: Global, arguments: &[Held<'_>]) -> Result<Value>
+fn bitshr(alloc: Global, arguments: &[Held<'_>]) -> Result<Value>
     ensures { Gives result (λ answer. answer ≡ bitshr arguments.now) }
 {
     let Some((a, count)) = two_integers(arguments) else {
@@ -117,7 +135,7 @@ pub(crate) fn bitshr(alloc: Global, arguments: &[Held<'_>]) -> Result<Value>
 }
 
 /// An integer shifted to the right, with zeros from the left. A count below 0 is refused.
-pub(crate) fn bitushr(alloc: Global, arguments: &[Held<'_>]) -> Result<Value>
+fn bitushr(alloc: Global, arguments: &[Held<'_>]) -> Result<Value>
     ensures { Gives result (λ answer. answer ≡ bitushr arguments.now) }
 {
     let Some((a, count)) = two_integers(arguments) else {

@@ -5,19 +5,53 @@ ghost use Rattle.std.specs.Str.{chars};
 ghost use Rattle.expr_value.specs.Fault.{fault_of, memory, evaluation};
 ghost use Rattle.expr_value.specs.Values.{of_key, string_of, items_of};
 ghost use Rattle.expr_value.specs.Answers.{Gives};
-ghost use Rattle.expr_builtins.specs.Arguments.{all_of};
-ghost use Rattle.expr_builtins.specs.Arrays.{items_held};
-ghost use Rattle.expr_builtins.specs.Collections.{len, size_of, first, last, item_or_nil, take_items, taken, reversed, keys, values, to_pairs, from_pairs, get, join, concat, pair_of, two_items, in_a_row, item_from, or_nil, pair, named_pair, keyed_pair};
+ghost use Rattle.expr_arguments.specs.Arguments.{all_of};
+ghost use Rattle.expr_arguments.specs.Arrays.{items_held};
+ghost use Rattle.expr_builtins.specs.Collections.{Called, len, size_of, first, last, item_or_nil, take_items, taken, reversed, keys, values, to_pairs, from_pairs, get, join, concat, pair_of, two_items, in_a_row, item_from, or_nil, pair, named_pair, keyed_pair};
 
-use crate::arguments::{array_and_integer, array_and_text, one_array, one_value, two_values};
-use crate::array::{Array, array_of, count_items, each_held, first_items, into_items, item_at};
+use crate::array::{first_items, item_at};
 use crate::cuts::joined;
+use crate::{distinct, nested};
+use expr_arguments::{
+    Array, array_and_integer, array_and_text, array_of, count_items, each_held, into_items,
+    one_array, one_value, two_values,
+};
+use expr_functions::CollectionCall;
 use expr_held::Held;
 use expr_value::{Error, Items, Key, KeyedMap, Result, Text, Value, ValueMap, refusal};
 use std::alloc::{AllocError, Global};
+use std::mem;
+
+/// What a call on arrays and maps gives on these arguments. What is kept of them is moved out of values of the
+/// call's own and copied of lent ones. Other numbers and kinds of arguments than it takes are refused with
+/// [`expr_value::Error::ExprError`].
+pub fn call_on_collections(
+    alloc: Global,
+    call: CollectionCall,
+    arguments: &mut Vec<Held<'_>>,
+) -> Result<Value>
+    ensures { Gives result (Called call arguments.old.items) }
+{
+    match call {
+        CollectionCall::Len => len(alloc, arguments),
+        CollectionCall::First => first(alloc, arguments),
+        CollectionCall::Last => last(alloc, arguments),
+        CollectionCall::Take => take_items(alloc, arguments),
+        CollectionCall::Reverse => reversed(alloc, arguments),
+        CollectionCall::Uniq => distinct::uniq(alloc, arguments),
+        CollectionCall::Flatten => nested::flatten(alloc, arguments),
+        CollectionCall::Concat => concat(alloc, mem::replace(arguments, Vec::new(alloc))),
+        CollectionCall::Keys => keys(alloc, arguments),
+        CollectionCall::Values => values(alloc, arguments),
+        CollectionCall::ToPairs => to_pairs(alloc, arguments),
+        CollectionCall::Get => get(alloc, arguments),
+        CollectionCall::Join => join(alloc, arguments),
+        CollectionCall::FromPairs => from_pairs(alloc, arguments),
+    }
+}
 
 /// How many items, characters, bytes or pairs there are.
-pub(crate) fn len(alloc: Global, arguments: &[Held<'_>]) -> Result<Value>
+fn len(alloc: Global, arguments: &[Held<'_>]) -> Result<Value>
     ensures { Gives result (λ answer. answer ≡ len arguments.now) }
 {
     let Some(value) = one_value(arguments) else {
@@ -49,7 +83,7 @@ fn characters(text: &str) -> usize
 }
 
 /// The first item of an array, or nil.
-pub(crate) fn first(alloc: Global, arguments: &mut [Held<'_>]) -> Result<Value>
+fn first(alloc: Global, arguments: &mut [Held<'_>]) -> Result<Value>
     ensures { Gives result (λ answer. answer ≡ first arguments.old) }
 {
     let Some(array) = one_array(arguments) else {
@@ -59,7 +93,7 @@ pub(crate) fn first(alloc: Global, arguments: &mut [Held<'_>]) -> Result<Value>
 }
 
 /// The last item of an array, or nil.
-pub(crate) fn last(alloc: Global, arguments: &mut [Held<'_>]) -> Result<Value>
+fn last(alloc: Global, arguments: &mut [Held<'_>]) -> Result<Value>
     ensures { Gives result (λ answer. answer ≡ last arguments.old) }
 {
     let Some(array) = one_array(arguments) else {
@@ -70,7 +104,7 @@ pub(crate) fn last(alloc: Global, arguments: &mut [Held<'_>]) -> Result<Value>
 }
 
 /// The first items of an array, so many.
-pub(crate) fn take_items(alloc: Global, arguments: &mut [Held<'_>]) -> Result<Value>
+fn take_items(alloc: Global, arguments: &mut [Held<'_>]) -> Result<Value>
     ensures { Gives result (λ answer. answer ≡ take_items arguments.old) }
 {
     let Some((array, count)) = array_and_integer(arguments) else {
@@ -84,7 +118,7 @@ pub(crate) fn take_items(alloc: Global, arguments: &mut [Held<'_>]) -> Result<Va
 }
 
 /// The items of an array, the last first.
-pub(crate) fn reversed(alloc: Global, arguments: &mut [Held<'_>]) -> Result<Value>
+fn reversed(alloc: Global, arguments: &mut [Held<'_>]) -> Result<Value>
     ensures { Gives result (λ answer. answer ≡ reversed arguments.old) }
 {
     let Some(array) = one_array(arguments) else {
@@ -96,7 +130,7 @@ pub(crate) fn reversed(alloc: Global, arguments: &mut [Held<'_>]) -> Result<Valu
 }
 
 /// The keys of a map, in its order.
-pub(crate) fn keys(alloc: Global, arguments: &[Held<'_>]) -> Result<Value>
+fn keys(alloc: Global, arguments: &[Held<'_>]) -> Result<Value>
     ensures { Gives result (λ answer. answer ≡ keys arguments.now) }
 {
     let Some(value) = one_value(arguments) else {
@@ -132,7 +166,7 @@ fn scalars(alloc: Global, keys: &[Key]) -> Result<Value>
 }
 
 /// The values of a map, in its order.
-pub(crate) fn values(alloc: Global, arguments: &[Held<'_>]) -> Result<Value>
+fn values(alloc: Global, arguments: &[Held<'_>]) -> Result<Value>
     ensures { Gives result (λ answer. answer ≡ values arguments.now) }
 {
     let Some(value) = one_value(arguments) else {
@@ -152,7 +186,7 @@ pub(crate) fn values(alloc: Global, arguments: &[Held<'_>]) -> Result<Value>
 }
 
 /// What a value has at a key, or nil.
-pub(crate) fn get(alloc: Global, arguments: &[Held<'_>]) -> Result<Value>
+fn get(alloc: Global, arguments: &[Held<'_>]) -> Result<Value>
     ensures { Gives result (λ answer. answer ≡ get arguments.now) }
 {
     let Some((value, key)) = two_values(arguments) else {
@@ -197,7 +231,7 @@ fn item<T>(items: &[T], place: i64) -> Option<&T>
 }
 
 /// The texts of an array, with a separator between.
-pub(crate) fn join(alloc: Global, arguments: &[Held<'_>]) -> Result<Value>
+fn join(alloc: Global, arguments: &[Held<'_>]) -> Result<Value>
     ensures { Gives result (λ answer. answer ≡ join arguments.now) }
 {
     let Some((items, separator)) = array_and_text(arguments) else {
@@ -227,7 +261,7 @@ fn texts(alloc: Global, items: &[Value]) -> Result<Option<Vec<&str>>>
 }
 
 /// The pairs of a map, in its order, as arrays of two.
-pub(crate) fn to_pairs(alloc: Global, arguments: &[Held<'_>]) -> Result<Value>
+fn to_pairs(alloc: Global, arguments: &[Held<'_>]) -> Result<Value>
     ensures { Gives result (λ answer. answer ≡ to_pairs arguments.now) }
 {
     let Some(value) = one_value(arguments) else {
@@ -279,7 +313,7 @@ fn pair(alloc: Global, key: Value, value: &Value) -> Result<Value>
 }
 
 /// A map of arrays of two. A repeated key stays as first given, in its place, and takes the later value.
-pub(crate) fn from_pairs(alloc: Global, arguments: &mut [Held<'_>]) -> Result<Value>
+fn from_pairs(alloc: Global, arguments: &mut [Held<'_>]) -> Result<Value>
     ensures { Gives result (λ answer. answer ≡ from_pairs arguments.old) }
 {
     let Some(array) = one_array(arguments) else {
@@ -338,7 +372,7 @@ fn both_copied(items: &[Value]) -> Result<Option<(Value, Value)>>
 }
 
 /// The items of some arrays, one array after the other.
-pub(crate) fn concat(alloc: Global, arguments: Vec<Held<'_>>) -> Result<Value>
+fn concat(alloc: Global, arguments: Vec<Held<'_>>) -> Result<Value>
     ensures { Gives result (λ answer. answer ≡ concat arguments.entry.items) }
 {
     if arguments.is_empty() {

@@ -2,15 +2,28 @@
 ghost use Rattle.std.specs.Prelude.{◌≡◌};
 ghost use Rattle.expr_value.specs.declared.value.Value.{out-Value};
 ghost use Rattle.expr_value.specs.Answers.{Gives};
-ghost use Rattle.expr_builtins.specs.Conversions.{Int, Read, string, kind_text, type_name};
+ghost use Rattle.expr_builtins.specs.Conversions.{Called, Int, Read, string, kind_text, type_name};
 
-use crate::arguments::one_value;
+use expr_arguments::one_value;
+use expr_functions::ConversionCall;
 use expr_held::Held;
 use expr_value::{Result, Text, Value, refusal};
 use std::alloc::Global;
 
+/// What a call of conversion gives on these arguments. Other numbers and kinds of arguments than it takes are refused with
+/// [`expr_value::Error::ExprError`].
+pub fn call_conversion(alloc: Global, call: ConversionCall, arguments: &[Held<'_>]) -> Result<Value>
+    ensures { Gives result (Called call arguments.now) }
+{
+    match call {
+        ConversionCall::Int => int(alloc, arguments),
+        ConversionCall::String => string(alloc, arguments),
+        ConversionCall::Type => type_name(alloc, arguments),
+    }
+}
+
 /// An integer itself, or the integer of a text: an optional sign and ASCII digits, within 64 bits.
-pub(crate) fn int(alloc: Global, arguments: &[Held<'_>]) -> Result<Value>
+fn int(alloc: Global, arguments: &[Held<'_>]) -> Result<Value>
     ensures { Gives result (Int arguments.now) }
 {
     let Some(value) = one_value(arguments) else {
@@ -33,7 +46,7 @@ fn read(alloc: Global, text: &str) -> Result<Value>
 }
 
 /// The text of a value: a text itself, and the pairs of a map in the order of their keys.
-pub(crate) fn string(alloc: Global, arguments: &[Held<'_>]) -> Result<Value>
+fn string(alloc: Global, arguments: &[Held<'_>]) -> Result<Value>
     ensures { Gives result (λ answer. answer ≡ string arguments.now) }
 {
     let Some(value) = one_value(arguments) else {
@@ -44,7 +57,7 @@ pub(crate) fn string(alloc: Global, arguments: &[Held<'_>]) -> Result<Value>
 }
 
 /// The name of a value's kind.
-pub(crate) fn type_name(alloc: Global, arguments: &[Held<'_>]) -> Result<Value>
+fn type_name(alloc: Global, arguments: &[Held<'_>]) -> Result<Value>
     ensures { Gives result (λ answer. answer ≡ type_name arguments.now) }
 {
     let Some(value) = one_value(arguments) else {

@@ -5,8 +5,7 @@ ghost use Rattle.expr_value.specs.Answers.{Gives};
 ghost use Rattle.expr_value.specs.Values.{at_key, key_of};
 ghost use Rattle.expr_builtins.specs.Distinct.{uniq, distinct, keys_among, with_new};
 
-use crate::arguments::one_array;
-use crate::array::each_held;
+use expr_arguments::{each_held, one_array};
 use expr_held::Held;
 use expr_value::{Error, Items, Key, OrderedMap, Result, Value, refusal};
 use std::alloc::Global;

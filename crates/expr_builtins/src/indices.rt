@@ -3,7 +3,7 @@ ghost use Rattle.std.specs.Prelude.{◌≡◌};
 ghost use Rattle.expr_value.specs.Answers.{Gives};
 ghost use Rattle.expr_builtins.specs.Indices.{index_of, last_index_of, least_place, greatest_place, place_or_less};
 
-use crate::arguments::two_texts;
+use expr_arguments::two_texts;
 use expr_held::Held;
 use expr_value::{Result, Value, refusal};
 use std::alloc::Global;

@@ -2,11 +2,10 @@
 ghost use Rattle.std.specs.Prelude.{◌≡◌, None, IfOk, IfErr};
 ghost use Rattle.expr_value.specs.Answers.{Gives};
 ghost use Rattle.expr_value.specs.Values.{items_of};
-ghost use Rattle.expr_builtins.specs.Arrays.{items_held};
+ghost use Rattle.expr_arguments.specs.Arrays.{items_held};
 ghost use Rattle.expr_builtins.specs.Nested.{flatten, all_opened};
 
-use crate::arguments::one_array;
-use crate::array::{Array, each_held, each_kept};
+use expr_arguments::{Array, each_held, each_kept, one_array};
 use expr_held::{Held, Holding};
 use expr_value::{Error, Items, Result, Value, refusal};
 use std::alloc::Global;

@@ -5,18 +5,43 @@ ghost use Rattle.std.specs.Option.{option_map};
 ghost use Rattle.expr_value.specs.Answers.{Gives};
 ghost use Rattle.expr_value.specs.Fault.{evaluation};
 ghost use Rattle.expr_value.specs.Values.{integer_of};
-ghost use Rattle.expr_builtins.specs.Arguments.{all_of};
+ghost use Rattle.expr_arguments.specs.Arguments.{all_of};
 ghost use Rattle.expr_builtins.specs.Nested.{all_opened};
-ghost use Rattle.expr_builtins.specs.Numbers.{abs, chosen, greatest, least};
+ghost use Rattle.expr_builtins.specs.Numbers.{Called, abs, chosen, greatest, least};
 
-use crate::arguments::one_integer;
 use crate::nested::all_opened;
+use expr_arguments::one_integer;
+use expr_functions::NumberCall;
 use expr_held::Held;
 use expr_value::{Error, Result, Value, refusal};
 use std::alloc::Global;
+use std::mem;
+
+/// What a call on numbers gives on these arguments. What is kept of them is moved out of values of the
+/// call's own and copied of lent ones. Other numbers and kinds of arguments than it takes are refused with
+/// [`expr_value::Error::ExprError`].
+pub fn call_on_numbers(
+    alloc: Global,
+    call: NumberCall,
+    arguments: &mut Vec<Held<'_>>,
+) -> Result<Value>
+    ensures { Gives result (Called call arguments.old.items) }
+{
+    match call {
+        NumberCall::Abs => abs(alloc, arguments),
+        NumberCall::Max => greatest(alloc, mem::replace(arguments, Vec::new(alloc))),
+        NumberCall::Min => least(alloc, mem::replace(arguments, Vec::new(alloc))),
+        NumberCall::Float => of_fractions(alloc),
+        NumberCall::Mean => of_fractions(alloc),
+        NumberCall::Median => of_fractions(alloc),
+        NumberCall::Ceil => of_fractions(alloc),
+        NumberCall::Floor => of_fractions(alloc),
+        NumberCall::Round => of_fractions(alloc),
+    }
+}
 
 /// An integer without its sign. The least integer is its own.
-pub(crate) fn abs(alloc: Global, arguments: &[Held<'_>]) -> Result<Value>
+fn abs(alloc: Global, arguments: &[Held<'_>]) -> Result<Value>
     ensures { Gives result (λ answer. answer ≡ abs arguments.now) }
 {
     let Some(a) = one_integer(arguments) else {
@@ -26,14 +51,14 @@ pub(crate) fn abs(alloc: Global, arguments: &[Held<'_>]) -> Result<Value>
 }
 
 /// A call on numbers with fractions, which there aren't. It is always refused.
-pub(crate) fn of_fractions(alloc: Global) -> Result<Value>
+fn of_fractions(alloc: Global) -> Result<Value>
     ensures { Gives result (λ answer. answer ≡ Err evaluation) }
 {
     Err(refusal(alloc, "there are no numbers with fractions"))
 }
 
 /// The greatest of integers and of arrays of them, at every depth, or nil where there are none.
-pub(crate) fn greatest(alloc: Global, arguments: Vec<Held<'_>>) -> Result<Value>
+fn greatest(alloc: Global, arguments: Vec<Held<'_>>) -> Result<Value>
     ensures { Gives result (λ answer. answer ≡ greatest arguments.entry.items) }
 {
     if arguments.is_empty() {
@@ -46,7 +71,7 @@ pub(crate) fn greatest(alloc: Global, arguments: Vec<Held<'_>>) -> Result<Value>
 }
 
 /// The least of integers and of arrays of them, at every depth, or nil where there are none.
-pub(crate) fn least(alloc: Global, arguments: Vec<Held<'_>>) -> Result<Value>
+fn least(alloc: Global, arguments: Vec<Held<'_>>) -> Result<Value>
     ensures { Gives result (λ answer. answer ≡ least arguments.entry.items) }
 {
     if arguments.is_empty() {

@@ -2,20 +2,44 @@
 ghost use Rattle.std.specs.Prelude.{◌≡◌, nat_eq, map, IfOk, IfErr};
 ghost use Rattle.std.specs.List.{starts_with, ends_with};
 ghost use Rattle.expr_value.specs.Answers.{Gives};
-ghost use Rattle.expr_builtins.specs.Text.{has_prefix, has_suffix, trim_prefix, trim_suffix, without_front, without_back, split, split_after, replace, repeat_text, repeated, Upper, Lower};
+ghost use Rattle.expr_builtins.specs.Text.{Called, has_prefix, has_suffix, trim_prefix, trim_suffix, without_front, without_back, split, split_after, replace, repeat_text, repeated, Upper, Lower};
 
 use crate::after::parts_after;
-use crate::arguments::{
+use crate::cuts::{parts, replaced};
+use crate::{indices, trimmed};
+use expr_arguments::{
     one_or_two_texts, one_text, text_and_integer, three_texts_and_limit, two_texts,
     two_texts_and_limit,
 };
-use crate::cuts::{parts, replaced};
+use expr_functions::TextCall;
 use expr_held::Held;
 use expr_value::{Error, Items, Result, Text, Value, refusal};
 use std::alloc::Global;
 
+/// What a call on texts gives on these arguments. Other numbers and kinds of arguments than it takes are refused with
+/// [`expr_value::Error::ExprError`].
+pub fn call_on_texts(alloc: Global, call: TextCall, arguments: &[Held<'_>]) -> Result<Value>
+    ensures { Gives result (Called call arguments.now) }
+{
+    match call {
+        TextCall::HasPrefix => has_prefix(alloc, arguments),
+        TextCall::HasSuffix => has_suffix(alloc, arguments),
+        TextCall::Trim => trimmed::trim(alloc, arguments),
+        TextCall::TrimPrefix => trim_prefix(alloc, arguments),
+        TextCall::TrimSuffix => trim_suffix(alloc, arguments),
+        TextCall::Upper => upper(alloc, arguments),
+        TextCall::Lower => lower(alloc, arguments),
+        TextCall::Split => split(alloc, arguments),
+        TextCall::SplitAfter => split_after(alloc, arguments),
+        TextCall::Replace => replace(alloc, arguments),
+        TextCall::Repeat => repeat_text(alloc, arguments),
+        TextCall::IndexOf => indices::index_of(alloc, arguments),
+        TextCall::LastIndexOf => indices::last_index_of(alloc, arguments),
+    }
+}
+
 /// Whether a text begins with another.
-pub(crate) fn has_prefix(alloc: Global, arguments: &[Held<'_>]) -> Result<Value>
+fn has_prefix(alloc: Global, arguments: &[Held<'_>]) -> Result<Value>
     ensures { Gives result (λ answer. answer ≡ has_prefix arguments.now) }
 {
     let Some((text, front)) = two_texts(arguments) else {
@@ -25,7 +49,7 @@ pub(crate) fn has_prefix(alloc: Global, arguments: &[Held<'_>]) -> Result<Value>
 }
 
 /// Whether a text ends with another.
-pub(crate) fn has_suffix(alloc: Global, arguments: &[Held<'_>]) -> Result<Value>
+fn has_suffix(alloc: Global, arguments: &[Held<'_>]) -> Result<Value>
     ensures { Gives result (λ answer. answer ≡ has_suffix arguments.now) }
 {
     let Some((text, back)) = two_texts(arguments) else {
@@ -47,7 +71,7 @@ fn ends_in(text: &str, back: &str) -> bool
 }
 
 /// A text without another at its front, once, if it is there.
-pub(crate) fn trim_prefix(alloc: Global, arguments: &[Held<'_>]) -> Result<Value>
+fn trim_prefix(alloc: Global, arguments: &[Held<'_>]) -> Result<Value>
     ensures { Gives result (λ answer. answer ≡ trim_prefix arguments.now) }
 {
     let Some((text, front)) = one_or_two_texts(arguments) else {
@@ -57,7 +81,7 @@ pub(crate) fn trim_prefix(alloc: Global, arguments: &[Held<'_>]) -> Result<Value
 }
 
 /// A text without another at its back, once, if it is there.
-pub(crate) fn trim_suffix(alloc: Global, arguments: &[Held<'_>]) -> Result<Value>
+fn trim_suffix(alloc: Global, arguments: &[Held<'_>]) -> Result<Value>
     ensures { Gives result (λ answer. answer ≡ trim_suffix arguments.now) }
 {
     let Some((text, back)) = one_or_two_texts(arguments) else {
@@ -85,7 +109,7 @@ fn without_back<'a>(text: &'a str, back: &str) -> &'a str
 }
 
 /// The parts of a text at a separator, at most so many if a limit is given.
-pub(crate) fn split(alloc: Global, arguments: &[Held<'_>]) -> Result<Value>
+fn split(alloc: Global, arguments: &[Held<'_>]) -> Result<Value>
     ensures { Gives result (λ answer. answer ≡ split arguments.now) }
 {
     let Some((text, separator, limit)) = two_texts_and_limit(arguments) else {
@@ -96,7 +120,7 @@ pub(crate) fn split(alloc: Global, arguments: &[Held<'_>]) -> Result<Value>
 }
 
 /// The parts of a text, cut after each match of a separator, at most so many if a limit is given.
-pub(crate) fn split_after(alloc: Global, arguments: &[Held<'_>]) -> Result<Value>
+fn split_after(alloc: Global, arguments: &[Held<'_>]) -> Result<Value>
     ensures { Gives result (λ answer. answer ≡ split_after arguments.now) }
 {
     let Some((text, separator, limit)) = two_texts_and_limit(arguments) else {
@@ -118,7 +142,7 @@ fn array_of_texts(alloc: Global, texts: &[&str]) -> Result<Value>
 }
 
 /// A text with matches replaced, the first so many if a limit is given.
-pub(crate) fn replace(alloc: Global, arguments: &[Held<'_>]) -> Result<Value>
+fn replace(alloc: Global, arguments: &[Held<'_>]) -> Result<Value>
     ensures { Gives result (λ answer. answer ≡ replace arguments.now) }
 {
     let Some((text, from, to, limit)) = three_texts_and_limit(arguments) else {
@@ -129,7 +153,7 @@ pub(crate) fn replace(alloc: Global, arguments: &[Held<'_>]) -> Result<Value>
 }
 
 /// So many copies of a text: at most a million, of less than 2^64 bytes.
-pub(crate) fn repeat_text(alloc: Global, arguments: &[Held<'_>]) -> Result<Value>
+fn repeat_text(alloc: Global, arguments: &[Held<'_>]) -> Result<Value>
     ensures { Gives result (λ answer. answer ≡ repeat_text arguments.now) }
 {
     let Some((text, count)) = text_and_integer(arguments) else {
@@ -155,7 +179,7 @@ fn repeated(alloc: Global, text: &str, count: i64) -> Result<Value>
 }
 
 /// A text in upper case.
-pub(crate) fn upper(alloc: Global, arguments: &[Held<'_>]) -> Result<Value>
+fn upper(alloc: Global, arguments: &[Held<'_>]) -> Result<Value>
     ensures { Gives result (Upper arguments.now) }
 {
     let Some(text) = one_text(arguments) else {
@@ -165,7 +189,7 @@ pub(crate) fn upper(alloc: Global, arguments: &[Held<'_>]) -> Result<Value>
 }
 
 /// A text in lower case.
-pub(crate) fn lower(alloc: Global, arguments: &[Held<'_>]) -> Result<Value>
+fn lower(alloc: Global, arguments: &[Held<'_>]) -> Result<Value>
     ensures { Gives result (Lower arguments.now) }
 {
     let Some(text) = one_text(arguments) else {

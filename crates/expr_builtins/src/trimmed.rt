@@ -6,7 +6,7 @@ ghost use Rattle.std.specs.Str.{chars};
 ghost use Rattle.expr_value.specs.Answers.{Gives};
 ghost use Rattle.expr_builtins.specs.Trimmed.{Trim, IsTrimmed};
 
-use crate::arguments::{one_text, two_texts};
+use expr_arguments::{one_text, two_texts};
 use expr_held::Held;
 use expr_value::{Result, Value, refusal};
 use std::alloc::{AllocError, Global};

@@ -2,8 +2,8 @@
 use Rattle.std.proofs.Common.{◌≡◌, List, [], ◌∷◌, Option, Some, None, Result, Ok, Err, Bool, refl, subst}
 use Rattle.expr_predicates.specs.Calls.{Start, direction_named, reduced_from_first, sorted_in, started}
 use Rattle.expr_predicates.specs.Tasks.{sorting}
-use Rattle.expr_predicates.specs.declared.asking.Asking.{Asking}
-use Rattle.expr_predicates.specs.declared.asking.Asking.TheVariants.{All, Any, NoneOf, One, Map, Filter, Find, FindIndex, FindLast, FindLastIndex, Count, Sum, Reduce, GroupBy, SortBy}
+use Rattle.expr_functions.specs.declared.functions.Asking.{Asking}
+use Rattle.expr_functions.specs.declared.functions.Asking.TheVariants.{Map, Filter, Find, FindLast, Reduce, GroupBy, SortBy}
 use Rattle.expr_value.specs.Fault.{Fault}
 use Rattle.expr_value.specs.Values.{string_of}
 use Rattle.expr_value.specs.declared.value.Value.{Value}
@@ -35,36 +35,11 @@ from_first [] = tt
 from_first (x ∷ items) = (refl, λ r. refl)
 
 begins : (b : Asking) (items : List Value) (more : Option Value) → IfStart (keeps_of b) (started b items more)
-begins All items None = (refl, λ r. refl)
-begins All items (Some w) = tt
-begins Any items None = (refl, λ r. refl)
-begins Any items (Some w) = tt
-begins NoneOf items None = (refl, λ r. refl)
-begins NoneOf items (Some w) = tt
-begins One items None = (refl, λ r. refl)
-begins One items (Some w) = tt
-begins Map items None = (refl, λ r. refl)
-begins Map items (Some w) = tt
-begins Filter items None = (refl, λ r. refl)
-begins Filter items (Some w) = tt
-begins Find items None = (refl, λ r. refl)
-begins Find items (Some w) = tt
-begins FindIndex items None = (refl, λ r. refl)
-begins FindIndex items (Some w) = tt
-begins FindLast items None = (refl, λ r. refl)
-begins FindLast items (Some w) = tt
-begins FindLastIndex items None = (refl, λ r. refl)
-begins FindLastIndex items (Some w) = tt
-begins Count items None = (refl, λ r. refl)
-begins Count items (Some w) = tt
-begins Sum items None = (refl, λ r. refl)
-begins Sum items (Some w) = tt
 begins Reduce items None = from_first items
 begins Reduce items (Some w) = (refl, λ r. refl)
-begins GroupBy items None = (refl, λ r. refl)
-begins GroupBy items (Some w) = tt
-begins SortBy items None = (refl, λ r. refl)
 begins SortBy items (Some w) = sorted items (direction_named (string_of w))
+begins b items None = (refl, λ r. refl)
+begins b items (Some w) = tt
 
 -- each task that a built-in begins with keeps what is told by its name
 pub keeps_so : (b : Asking) (items : List Value) (more : Option Value) (s : Start) → started b items more ≡ Ok s → KeepsSo (keeps_of b) s.task

@@ -3,8 +3,8 @@ use Rattle.std.proofs.Common.{◌≡◌, List, [], ◌∷◌, true, Option, Some
 use Rattle.expr_meter.specs.Asking.{kept_first}
 use Rattle.expr_predicates.specs.Calls.{Start, array_then, begun, started_on}
 use Rattle.expr_predicates.specs.Tasks.{reducing}
-use Rattle.expr_predicates.specs.declared.asking.Asking.{Asking}
-use Rattle.expr_predicates.specs.declared.asking.Asking.TheVariants.{Reduce}
+use Rattle.expr_functions.specs.declared.functions.Asking.{Asking}
+use Rattle.expr_functions.specs.declared.functions.Asking.TheVariants.{Reduce}
 use Rattle.expr_value.specs.Fault.{Fault}
 use Rattle.expr_value.specs.Values.{items_of}
 use Rattle.expr_value.specs.declared.value.Value.{Value}

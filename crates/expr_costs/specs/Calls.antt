@@ -1,5 +1,20 @@
 -- What calls cost: the work of each on its arguments, and the room that there must be for what it builds.
-use Rattle.std.specs.Prelude.{ℕ, ◌+◌, ◌*◌, ◌/◌, Bool, false, ◌||◌, List, [], ◌∷◌, bytes_eq, codes, pos, negsuc, ℤ, Option, Some, None, if◌then◌else◌}
+use Rattle.std.specs.Prelude.{ℕ, ◌+◌, ◌*◌, ◌/◌, List, pos, negsuc, ℤ, Option, Some, None, if◌then◌else◌}
+use Rattle.expr_functions.specs.Functions.{builtin_named}
+use Rattle.expr_functions.specs.declared.functions.Asking.{Asking}
+use Rattle.expr_functions.specs.declared.functions.Asking.TheVariants as asking
+use Rattle.expr_functions.specs.declared.functions.Builtin.{Builtin}
+use Rattle.expr_functions.specs.declared.functions.Builtin.TheVariants as builtin
+use Rattle.expr_functions.specs.declared.functions.CollectionCall.{CollectionCall}
+use Rattle.expr_functions.specs.declared.functions.CollectionCall.TheVariants as collection
+use Rattle.expr_functions.specs.declared.functions.ConversionCall.TheVariants as conversion
+use Rattle.expr_functions.specs.declared.functions.EncodingCall.TheVariants as encoding
+use Rattle.expr_functions.specs.declared.functions.NumberCall.{NumberCall}
+use Rattle.expr_functions.specs.declared.functions.NumberCall.TheVariants as number
+use Rattle.expr_functions.specs.declared.functions.TextCall.{TextCall}
+use Rattle.expr_functions.specs.declared.functions.TextCall.TheVariants as text
+use Rattle.expr_functions.specs.declared.functions.ValueCall.{ValueCall}
+use Rattle.expr_functions.specs.declared.functions.ValueCall.TheVariants as call
 use Rattle.expr_meaning.specs.Host.{Host}
 use Rattle.expr_sizes.specs.Sizes.{weights}
 use Rattle.expr_value.specs.Values.{integer_of}
@@ -8,35 +23,74 @@ use Rattle.expr_costs.specs.Measures.{argument, bytes_of, colons_of, count_of, i
 use Rattle.expr_costs.specs.declared.kind.Kind.{Kind}
 use Rattle.expr_costs.specs.declared.kind.Kind.TheVariants.{Finds, Reads, Times, Trims, Cases, Splits, Replaces, Repeats, Joins, Copies, Seeks, Pairs, Compares, Sorts, Groups, Walks, Weighs, Prints, Writes, Parses, Recodes}
 
--- one of these names
-abbrev pub is_named : List (List ℕ) → List ℕ → Bool
-is_named [] key = false
-is_named (name ∷ names) key = bytes_eq key name || is_named names key
+-- the kind of a built-in that asks a predicate, beside what it asks
+abbrev pub kind_of_asking : Asking → Kind
+kind_of_asking asking.Count = Walks
+kind_of_asking asking.Sum = Walks
+kind_of_asking asking.GroupBy = Groups
+kind_of_asking asking.SortBy = Sorts
+kind_of_asking a = Finds
+
+-- a call on arrays and maps copies them, unless it is told otherwise
+abbrev pub kind_on_collections : CollectionCall → Kind
+kind_on_collections collection.First = Finds
+kind_on_collections collection.Last = Finds
+kind_on_collections collection.Take = Finds
+kind_on_collections collection.Reverse = Finds
+kind_on_collections collection.Keys = Finds
+kind_on_collections collection.Values = Finds
+kind_on_collections collection.Len = Reads
+kind_on_collections collection.Uniq = Compares
+kind_on_collections collection.Get = Seeks
+kind_on_collections collection.Join = Joins
+kind_on_collections collection.FromPairs = Pairs
+kind_on_collections c = Copies
+
+-- one on texts reads them
+abbrev pub kind_on_texts : TextCall → Kind
+kind_on_texts text.Trim = Trims
+kind_on_texts text.Upper = Cases
+kind_on_texts text.Lower = Cases
+kind_on_texts text.Split = Splits
+kind_on_texts text.SplitAfter = Splits
+kind_on_texts text.Replace = Replaces
+kind_on_texts text.Repeat = Repeats
+kind_on_texts t = Reads
+
+-- and one on numbers looks at all that its arguments hold
+abbrev pub kind_on_numbers : NumberCall → Kind
+kind_on_numbers number.Abs = Finds
+kind_on_numbers number.Float = Finds
+kind_on_numbers number.Mean = Finds
+kind_on_numbers number.Median = Finds
+kind_on_numbers number.Ceil = Finds
+kind_on_numbers number.Floor = Finds
+kind_on_numbers number.Round = Finds
+kind_on_numbers n = Weighs
+
+abbrev pub kind_on_values : ValueCall → Kind
+kind_on_values call.Sort = Sorts
+kind_on_values (call.Collection c) = kind_on_collections c
+kind_on_values (call.Text t) = kind_on_texts t
+kind_on_values (call.Conversion conversion.Int) = Reads
+kind_on_values (call.Conversion conversion.Type) = Finds
+kind_on_values (call.Conversion c) = Prints
+kind_on_values (call.Number n) = kind_on_numbers n
+kind_on_values (call.Bit b) = Finds
+kind_on_values (call.Encoding encoding.FromJson) = Parses
+kind_on_values (call.Encoding encoding.ToJson) = Writes
+kind_on_values (call.Encoding e) = Recodes
+kind_on_values (call.Time t) = Times
+
+-- by the built-in that is called, if there is one
+abbrev pub kind_of : Option Builtin → Kind
+kind_of (Some (builtin.Asks a)) = kind_of_asking a
+kind_of (Some (builtin.OnValues v)) = kind_on_values v
+kind_of None = Finds
 
 -- the kind of a call, by its name
 abbrev pub kind_named : List ℕ → Kind
-kind_named key =
-    if is_named (codes "len" ∷ codes "int" ∷ codes "hasPrefix" ∷ codes "hasSuffix" ∷ codes "trimPrefix" ∷ codes "trimSuffix" ∷ codes "indexOf" ∷ codes "lastIndexOf" ∷ []) key then Reads
-    else (if is_named (codes "now" ∷ codes "date" ∷ codes "duration" ∷ codes "timezone" ∷ []) key then Times
-    else (if is_named (codes "trim" ∷ []) key then Trims
-    else (if is_named (codes "upper" ∷ codes "lower" ∷ []) key then Cases
-    else (if is_named (codes "split" ∷ codes "splitAfter" ∷ []) key then Splits
-    else (if is_named (codes "replace" ∷ []) key then Replaces
-    else (if is_named (codes "repeat" ∷ []) key then Repeats
-    else (if is_named (codes "join" ∷ []) key then Joins
-    else (if is_named (codes "concat" ∷ codes "flatten" ∷ codes "toPairs" ∷ []) key then Copies
-    else (if is_named (codes "get" ∷ []) key then Seeks
-    else (if is_named (codes "fromPairs" ∷ []) key then Pairs
-    else (if is_named (codes "uniq" ∷ []) key then Compares
-    else (if is_named (codes "sort" ∷ codes "sortBy" ∷ []) key then Sorts
-    else (if is_named (codes "groupBy" ∷ []) key then Groups
-    else (if is_named (codes "count" ∷ codes "sum" ∷ []) key then Walks
-    else (if is_named (codes "max" ∷ codes "min" ∷ []) key then Weighs
-    else (if is_named (codes "string" ∷ []) key then Prints
-    else (if is_named (codes "toJSON" ∷ []) key then Writes
-    else (if is_named (codes "fromJSON" ∷ []) key then Parses
-    else (if is_named (codes "toBase64" ∷ codes "fromBase64" ∷ []) key then Recodes
-    else Finds)))))))))))))))))))
+kind_named key = kind_of (builtin_named key)
 
 -- an integer that isn't negative, and 0 for every other value
 abbrev pub natural : Option ℤ → ℕ

@@ -5,8 +5,8 @@ ghost use Rattle.expr_meter.specs.Asking.{kept_first};
 ghost use Rattle.expr_predicates.specs.Calls.{Start, begun, started};
 ghost use Rattle.expr_value.specs.declared.value.Value.{Value as declared};
 
+use expr_functions::Asking;
 use expr_held::Held;
-use expr_predicates::Asking;
 use expr_value::Value;
 
 /// What a built-in keeps of each answer of its predicate.
@@ -29,18 +29,11 @@ impl Keeps {
             → started asking items more ≡ Ok s → KeepsSo result s.task }
     {
         match asking {
-            Asking::All
-            | Asking::Any
-            | Asking::NoneOf
-            | Asking::One
-            | Asking::FindIndex
-            | Asking::FindLastIndex
-            | Asking::Count
-            | Asking::Sum => Keeps::Nothing,
             Asking::Map => Keeps::Answer,
             Asking::Reduce => Keeps::LastAnswer,
             Asking::Filter | Asking::Find | Asking::FindLast => Keeps::Item,
             Asking::GroupBy | Asking::SortBy => Keeps::Both,
+            _ => Keeps::Nothing,
         }
     }
 }

@@ -1,6 +1,10 @@
 //! What kind of work a call is.
-ghost use Rattle.std.specs.Prelude.{◌≡◌, IfSome};
-ghost use Rattle.expr_costs.specs.Calls.{kind_named};
+ghost use Rattle.std.specs.Prelude.{◌≡◌};
+ghost use Rattle.expr_costs.specs.Calls.{kind_named, kind_of_asking, kind_on_collections, kind_on_numbers, kind_on_texts, kind_on_values};
+
+use expr_functions::{
+    Asking, Builtin, CollectionCall, ConversionCall, EncodingCall, NumberCall, TextCall, ValueCall,
+};
 
 /// What kind of work a call is beside the finding of its name.
 #[derive(Clone, Copy, Debug, Drop)]
@@ -54,149 +58,92 @@ impl Kind {
     pub fn named(name: &str) -> Kind
         ensures { result ≡ kind_named name.now }
     {
-        match of_built_in(name) {
-            Some(kind) => kind,
-            None => Kind::of_any(name),
-        }
-    }
-
-    /// The same, by one name after another.
-    fn of_any(name: &str) -> Kind
-        ensures { result ≡ kind_named name.now }
-    {
-        match name {
-            "len"
-            | "int"
-            | "hasPrefix"
-            | "hasSuffix"
-            | "trimPrefix"
-            | "trimSuffix"
-            | "indexOf"
-            | "lastIndexOf" => Kind::Reads,
-            "now" | "date" | "duration" | "timezone" => Kind::Times,
-            "trim" => Kind::Trims,
-            "upper" | "lower" => Kind::Cases,
-            "split" | "splitAfter" => Kind::Splits,
-            "replace" => Kind::Replaces,
-            "repeat" => Kind::Repeats,
-            "join" => Kind::Joins,
-            "concat" | "flatten" | "toPairs" => Kind::Copies,
-            "get" => Kind::Seeks,
-            "fromPairs" => Kind::Pairs,
-            "uniq" => Kind::Compares,
-            "sort" | "sortBy" => Kind::Sorts,
-            "groupBy" => Kind::Groups,
-            "count" | "sum" => Kind::Walks,
-            "max" | "min" => Kind::Weighs,
-            "string" => Kind::Prints,
-            "toJSON" => Kind::Writes,
-            "fromJSON" => Kind::Parses,
-            "toBase64" | "fromBase64" => Kind::Recodes,
-            _ => Kind::Finds,
+        match Builtin::named(name) {
+            Some(Builtin::Asks(asking)) => of_asking(asking),
+            Some(Builtin::OnValues(call)) => on_values(call),
+            None => Kind::Finds,
         }
     }
 }
 
-/// The kind of a built-in, found among those whose names are as long.
-fn of_built_in(name: &str) -> Option<Kind>
-    ensures { IfSome result (λ kind. kind_named name.now ≡ kind) }
+/// The kind of a built-in that asks a predicate, beside what it asks.
+fn of_asking(asking: Asking) -> Kind
+    ensures { result ≡ kind_of_asking asking }
 {
-    match name.len() {
-        3 => of_three(name),
-        4 => of_four(name),
-        5 => of_five(name),
-        6 => of_six(name),
-        7 => of_seven(name),
-        _ => of_more(name),
+    match asking {
+        Asking::Count | Asking::Sum => Kind::Walks,
+        Asking::GroupBy => Kind::Groups,
+        Asking::SortBy => Kind::Sorts,
+        _ => Kind::Finds,
     }
 }
 
-/// The kind of a built-in whose name has three bytes.
-fn of_three(name: &str) -> Option<Kind>
-    ensures { IfSome result (λ kind. kind_named name.now ≡ kind) }
+/// The kind of a built-in on values.
+fn on_values(call: ValueCall) -> Kind
+    ensures { result ≡ kind_on_values call }
 {
-    match name {
-        "map" | "all" | "any" | "one" | "abs" => Some(Kind::Finds),
-        "len" | "int" => Some(Kind::Reads),
-        "max" | "min" => Some(Kind::Weighs),
-        "sum" => Some(Kind::Walks),
-        "get" => Some(Kind::Seeks),
-        "now" => Some(Kind::Times),
-        _ => None,
+    match call {
+        ValueCall::Sort => Kind::Sorts,
+        ValueCall::Collection(call) => on_collections(call),
+        ValueCall::Text(call) => on_texts(call),
+        ValueCall::Conversion(ConversionCall::Int) => Kind::Reads,
+        ValueCall::Conversion(ConversionCall::Type) => Kind::Finds,
+        ValueCall::Conversion(_) => Kind::Prints,
+        ValueCall::Number(call) => on_numbers(call),
+        ValueCall::Bit(_) => Kind::Finds,
+        ValueCall::Encoding(EncodingCall::FromJson) => Kind::Parses,
+        ValueCall::Encoding(EncodingCall::ToJson) => Kind::Writes,
+        ValueCall::Encoding(_) => Kind::Recodes,
+        ValueCall::Time(_) => Kind::Times,
     }
 }
 
-/// The kind of a built-in whose name has four bytes.
-fn of_four(name: &str) -> Option<Kind>
-    ensures { IfSome result (λ kind. kind_named name.now ≡ kind) }
+/// The kind of a call on arrays and maps: it copies them, unless it is told otherwise.
+fn on_collections(call: CollectionCall) -> Kind
+    ensures { result ≡ kind_on_collections call }
 {
-    match name {
-        "find" | "none" | "last" | "keys" | "take" | "ceil" | "type" | "mean" => Some(Kind::Finds),
-        "trim" => Some(Kind::Trims),
-        "join" => Some(Kind::Joins),
-        "sort" => Some(Kind::Sorts),
-        "date" => Some(Kind::Times),
-        "uniq" => Some(Kind::Compares),
-        _ => None,
+    match call {
+        CollectionCall::First
+        | CollectionCall::Last
+        | CollectionCall::Take
+        | CollectionCall::Reverse
+        | CollectionCall::Keys
+        | CollectionCall::Values => Kind::Finds,
+        CollectionCall::Len => Kind::Reads,
+        CollectionCall::Uniq => Kind::Compares,
+        CollectionCall::Get => Kind::Seeks,
+        CollectionCall::Join => Kind::Joins,
+        CollectionCall::FromPairs => Kind::Pairs,
+        _ => Kind::Copies,
     }
 }
 
-/// The kind of a built-in whose name has five bytes.
-fn of_five(name: &str) -> Option<Kind>
-    ensures { IfSome result (λ kind. kind_named name.now ≡ kind) }
+/// The kind of a call on texts: it reads them, unless it is told otherwise.
+fn on_texts(call: TextCall) -> Kind
+    ensures { result ≡ kind_on_texts call }
 {
-    match name {
-        "first" | "round" | "floor" | "float" | "bitor" => Some(Kind::Finds),
-        "upper" | "lower" => Some(Kind::Cases),
-        "split" => Some(Kind::Splits),
-        "count" => Some(Kind::Walks),
-        _ => None,
+    match call {
+        TextCall::Trim => Kind::Trims,
+        TextCall::Upper | TextCall::Lower => Kind::Cases,
+        TextCall::Split | TextCall::SplitAfter => Kind::Splits,
+        TextCall::Replace => Kind::Replaces,
+        TextCall::Repeat => Kind::Repeats,
+        _ => Kind::Reads,
     }
 }
 
-/// The kind of a built-in whose name has six bytes.
-fn of_six(name: &str) -> Option<Kind>
-    ensures { IfSome result (λ kind. kind_named name.now ≡ kind) }
+/// The kind of a call on numbers: it looks at all that its arguments hold, unless it is told otherwise.
+fn on_numbers(call: NumberCall) -> Kind
+    ensures { result ≡ kind_on_numbers call }
 {
-    match name {
-        "filter" | "reduce" | "values" | "median" | "bitand" | "bitxor" => Some(Kind::Finds),
-        "string" => Some(Kind::Prints),
-        "sortBy" => Some(Kind::Sorts),
-        "concat" => Some(Kind::Copies),
-        "repeat" => Some(Kind::Repeats),
-        "toJSON" => Some(Kind::Writes),
-        _ => None,
-    }
-}
-
-/// The kind of a built-in whose name has seven bytes.
-fn of_seven(name: &str) -> Option<Kind>
-    ensures { IfSome result (λ kind. kind_named name.now ≡ kind) }
-{
-    match name {
-        "reverse" => Some(Kind::Finds),
-        "replace" => Some(Kind::Replaces),
-        "groupBy" => Some(Kind::Groups),
-        "indexOf" => Some(Kind::Reads),
-        "flatten" | "toPairs" => Some(Kind::Copies),
-        _ => None,
-    }
-}
-
-/// The kind of a built-in whose name has more than seven bytes.
-fn of_more(name: &str) -> Option<Kind>
-    ensures { IfSome result (λ kind. kind_named name.now ≡ kind) }
-{
-    match name {
-        "findIndex" | "findLast" | "findLastIndex" => Some(Kind::Finds),
-        "hasPrefix" | "hasSuffix" | "trimPrefix" | "trimSuffix" | "lastIndexOf" => Some(
-            Kind::Reads,
-        ),
-        "duration" | "timezone" => Some(Kind::Times),
-        "fromPairs" => Some(Kind::Pairs),
-        "fromJSON" => Some(Kind::Parses),
-        "toBase64" | "fromBase64" => Some(Kind::Recodes),
-        "splitAfter" => Some(Kind::Splits),
-        _ => None,
+    match call {
+        NumberCall::Abs
+        | NumberCall::Float
+        | NumberCall::Mean
+        | NumberCall::Median
+        | NumberCall::Ceil
+        | NumberCall::Floor
+        | NumberCall::Round => Kind::Finds,
+        _ => Kind::Weighs,
     }
 }

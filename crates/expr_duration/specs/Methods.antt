@@ -1,10 +1,10 @@
 -- What the methods of lengths of time answer, and the built-in that reads one.
-use Rattle.std.specs.Prelude.{◌≡◌, ℕ, ℤ, pos, neg_ℤ, ◌+◌, ◌*◌, ◌/◌, ◌*ℤ◌, int_lt, int_le, int_div, unsigned_abs, List, [], ◌∷◌, Option, None, Some, Ok, Err, FitsSigned, codes, if◌then◌else◌}
+use Rattle.std.specs.Prelude.{◌≡◌, ℕ, ℤ, pos, neg_ℤ, ◌+◌, ◌*◌, ◌/◌, ◌*ℤ◌, int_lt, int_le, int_div, unsigned_abs, List, Option, None, Some, Ok, Err, FitsSigned, codes, if◌then◌else◌}
 use Rattle.std.specs.Int.{w64, int_min}
+use Rattle.expr_arguments.specs.Arguments.{alone, one_duration, one_text}
 use Rattle.expr_clock.specs.Durations.{duration_text}
 use Rattle.expr_value.specs.Answers.{Answer}
 use Rattle.expr_value.specs.Fault.{evaluation}
-use Rattle.expr_value.specs.Values.{duration_of, string_of}
 use Rattle.expr_value.specs.declared.value.Value as value
 use Rattle.expr_value.specs.declared.value.Value.{Value}
 use Rattle.expr_duration.specs.Durations.{Spells}
@@ -34,17 +34,6 @@ abbrev pub rounded : ℤ → ℤ → ℤ
 rounded n step =
     let size = nearest (unsigned_abs n) (unsigned_abs step) in
     if int_le step (pos 0) then n else (if int_lt n (pos 0) then held (neg_ℤ (pos size)) else held (pos size))
-
--- the argument, if it is one length of time
-abbrev pub one_duration : List Value → Option ℤ
-one_duration [] = None
-one_duration (v ∷ []) = duration_of v
-one_duration (v ∷ w ∷ more) = None
-
--- without arguments
-abbrev pub alone : List Value → Value → Answer
-alone [] v = Ok v
-alone (w ∷ more) v = Err evaluation
 
 -- with one length of time
 abbrev pub by_step : Option ℤ → (ℤ → ℤ) → Answer
@@ -79,12 +68,6 @@ Read s (Err e) = ((n : ℤ) → FitsSigned w64 n → ¬ (Spells s n)) × (e ≡ 
 abbrev pub OfText : Option (List ℕ) → Answer → Type 0
 OfText None answer = answer ≡ Err evaluation
 OfText (Some s) answer = Read s answer
-
--- the argument, if it is one text
-abbrev pub one_text : List Value → Option (List ℕ)
-one_text [] = None
-one_text (v ∷ []) = string_of v
-one_text (v ∷ w ∷ more) = None
 
 -- what the built-in `duration` may answer
 abbrev pub Duration : List Value → Answer → Type 0

@@ -6,5 +6,5 @@ mod method;
 mod spelling;
 
 pub use laws::{texts_have_one_meaning, texts_spell_lengths};
-pub use method::{DurationMethod, duration, one_duration, one_text, without};
+pub use method::{DurationMethod, duration};
 pub use spelling::spelled;

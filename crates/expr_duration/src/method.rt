@@ -1,11 +1,12 @@
 //! Methods of lengths of time, and the built-in that reads one.
 ghost use Rattle.std.specs.Prelude.{◌≡◌, ◌≢◌, ◌<◌, ◌≤◌, Some, IfOk, IfErr, MatchOption, string_bytes};
-ghost use Rattle.std.specs.Option.{option_map};
 ghost use Rattle.expr_value.specs.Answers.{Gives, Is};
+ghost use Rattle.expr_arguments.specs.Arguments.{alone, one_duration};
 ghost use Rattle.expr_clock.specs.Durations.{duration_text};
-ghost use Rattle.expr_duration.specs.Methods.{Duration, Read, absolute, alone, answered, by_step, held, name_of, nearest, one_duration, one_text, rounded, truncated};
+ghost use Rattle.expr_duration.specs.Methods.{Duration, Read, absolute, answered, by_step, held, name_of, nearest, rounded, truncated};
 
 use crate::spelling::spelled;
+use expr_arguments::{one_duration, one_text, without};
 use expr_clock::show_duration;
 use expr_held::Held;
 use expr_value::{Error, Result, Text, Value, refusal};
@@ -106,16 +107,6 @@ impl<'a> fmt::Display for DurationText<'a> {
     }
 }
 
-/// An answer that goes with no arguments; with any it is a refusal.
-pub fn without(alloc: Global, arguments: &[Held<'_>], answer: Value) -> Result<Value>
-    ensures { Is result (alone arguments.now answer) }
-{
-    match arguments {
-        [] => Ok(answer),
-        _ => Err(refusal(alloc, "this method takes no arguments")),
-    }
-}
-
 // The length of time without its sign, or the greatest where that doesn't fit.
 fn absolute(nanoseconds: i64) -> i64
     ensures { result ≡ absolute nanoseconds }
@@ -188,26 +179,6 @@ fn held(nanoseconds: i128) -> i64
         return i64::MIN;
     }
     nanoseconds as i64
-}
-
-/// The argument, if it is one length of time, in nanoseconds.
-pub fn one_duration(arguments: &[Held<'_>]) -> Option<i64>
-    ensures { result ≡ one_duration arguments.now }
-{
-    match arguments {
-        [step] => step.get().as_duration(),
-        _ => None,
-    }
-}
-
-/// The argument, if it is one text.
-pub fn one_text<'a>(arguments: &'a [Held<'_>]) -> Option<&'a str>
-    ensures { option_map (λ s. s.now) result ≡ one_text arguments.now }
-{
-    match arguments {
-        [text] => text.get().as_string(),
-        _ => None,
-    }
 }
 
 /// The built-in `duration`: the length of time that a text spells, within 64 bits of nanoseconds.

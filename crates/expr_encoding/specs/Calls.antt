@@ -1,5 +1,5 @@
--- What the calls of encodings may answer on their arguments, and their names.
-use Rattle.std.specs.Prelude.{◌≡◌, ℕ, List, [], ◌∷◌, Err, codes, option_map}
+-- What the calls of encodings may answer on their arguments.
+use Rattle.std.specs.Prelude.{◌≡◌, List, [], ◌∷◌, Err, option_map}
 use Rattle.expr_value.specs.Answers.{Answer}
 use Rattle.expr_value.specs.Fault.{evaluation}
 use Rattle.expr_value.specs.declared.value.Value as value
@@ -9,8 +9,8 @@ use Rattle.expr_encoding.specs.Base64.{FromBase64, in_base64}
 use Rattle.expr_encoding.specs.Optional.{given}
 use Rattle.expr_encoding.specs.Reading.{json_value}
 use Rattle.expr_encoding.specs.Writing.{json_text}
-use Rattle.expr_encoding.specs.declared.encoding.Encoding.{Encoding}
-use Rattle.expr_encoding.specs.declared.encoding.Encoding.TheVariants as is
+use Rattle.expr_functions.specs.declared.functions.EncodingCall.{EncodingCall}
+use Rattle.expr_functions.specs.declared.functions.EncodingCall.TheVariants as is
 
 abbrev pub of_json_layer : Value-F Value → Answer
 of_json_layer (Value-F.String text) = given (json_value text)
@@ -25,21 +25,14 @@ abbrev pub in_json_text : Value → Answer
 in_json_text v = given (option_map value.String (json_text v))
 
 -- what an encoding may answer of a value
-abbrev pub Encodes : Encoding → Value → Answer → Type 0
+abbrev pub Encodes : EncodingCall → Value → Answer → Type 0
 Encodes is.FromJson v answer = answer ≡ of_json v
 Encodes is.ToJson v answer = answer ≡ in_json_text v
 Encodes is.ToBase64 v answer = answer ≡ in_base64 v
 Encodes is.FromBase64 v answer = FromBase64 v answer
 
 -- each call takes one argument
-abbrev pub Called : Encoding → List Value → Answer → Type 0
+abbrev pub Called : EncodingCall → List Value → Answer → Type 0
 Called e [] answer = answer ≡ Err evaluation
 Called e (v ∷ []) answer = Encodes e v answer
 Called e (v ∷ w ∷ more) answer = answer ≡ Err evaluation
-
--- the name of an encoding's call
-abbrev pub name_of : Encoding → List ℕ
-name_of is.FromJson = codes "fromJSON"
-name_of is.ToJson = codes "toJSON"
-name_of is.ToBase64 = codes "toBase64"
-name_of is.FromBase64 = codes "fromBase64"

@@ -10,7 +10,7 @@ mod reading;
 mod tokens;
 mod writing;
 
-pub use encoding::Encoding;
+pub use encoding::call_encoding;
 pub use laws::base64_is_read_back;
 pub use members::Members;
 pub use radix64::{from_base64, to_base64};

@@ -2,12 +2,12 @@
 ghost use Rattle.std.specs.Prelude.{◌≡◌, Some, IfOk, IfErr, string_bytes};
 ghost use Rattle.expr_value.specs.Answers.{Gives};
 ghost use Rattle.expr_layout.specs.Layouts.{Formats, FormatsBy, printed, stamp_text};
-ghost use Rattle.expr_duration.specs.Methods.{one_text};
+ghost use Rattle.expr_arguments.specs.Arguments.{one_text};
 
 use crate::layout::tokens_of;
 use crate::print::show;
 use crate::token::{Field, Pad, Spelling, Token};
-use expr_duration::one_text;
+use expr_arguments::one_text;
 use expr_held::Held;
 use expr_value::{DateTimeValue, Error, Result, Text, Value, refusal};
 use std::alloc::Global;

@@ -2,8 +2,9 @@
 use Rattle.std.proofs.Common.{◌≡◌, ℕ, true, false, List, [], ◌∷◌, Some, None, Result, Ok, Err, refl, sym, ap, ◌∙◌, subst}
 use Rattle.std.specs.Prelude.{if◌then◌else◌}
 use Rattle.expr_meaning.specs.Host.{Host}
-use Rattle.expr_predicates.specs.Calls.{Start, asking_named, begun}
-use Rattle.expr_predicates.specs.declared.asking.Asking.{Asking}
+use Rattle.expr_functions.specs.Functions.{asking_named}
+use Rattle.expr_predicates.specs.Calls.{Start, begun}
+use Rattle.expr_functions.specs.declared.functions.Asking.{Asking}
 use Rattle.expr_sizes.specs.Sizes.{depth, weight}
 use Rattle.expr_value.specs.Fault.{Fault}
 use Rattle.expr_value.specs.declared.value.Value.{Value}

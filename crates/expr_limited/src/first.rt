@@ -1,18 +1,19 @@
 //! What a call keeps before it asks.
 ghost use Rattle.std.specs.Prelude.{◌≡◌, IfOk, Ok, Some, false, true};
 ghost use Rattle.expr_costs.specs.Keeping.{KeepsSo};
+ghost use Rattle.expr_functions.specs.Functions.{asking_named};
+ghost use Rattle.expr_functions.specs.declared.functions.Asking.{Asking as declared};
 ghost use Rattle.expr_limited.specs.Firsts.{firsts, firsts_of};
 ghost use Rattle.expr_meter.specs.Counting.{KeepsAll};
 ghost use Rattle.expr_meter.specs.Metered.{Charges};
 ghost use Rattle.expr_meter.specs.Rooms.{rooms};
-ghost use Rattle.expr_predicates.specs.Calls.{Start, asking_named, begun};
-ghost use Rattle.expr_predicates.specs.declared.asking.Asking.{Asking as declared};
+ghost use Rattle.expr_predicates.specs.Calls.{Start, begun};
 
 use expr_costs::{Keeps, first_kept};
+use expr_functions::Asking;
 use expr_held::Held;
 use expr_meaning::Functions;
 use expr_meter::{Budget, Meter};
-use expr_predicates::Asking;
 use std::alloc::AllocError;
 
 /// What the built-in of a name keeps of each reply; what it keeps before it asks is counted.

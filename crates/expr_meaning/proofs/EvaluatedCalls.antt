@@ -1,7 +1,7 @@
 -- Built-ins on values give a value or refuse to evaluate.
-use Rattle.std.proofs.Common.{◌≡◌, ℕ, ℤ, pos, negsuc, ◌==◌, ◌*◌, ◌^◌, nat_lt, cond, List, [], ◌∷◌, length, Option, Some, None, Ok, Err, refl, option_map}
+use Rattle.std.proofs.Common.{◌≡◌, ℕ, ℤ, pos, negsuc, ◌==◌, ◌*◌, ◌^◌, nat_lt, cond, List, [], ◌∷◌, length, Option, Some, None, Ok, Err, refl, option_map, rules}
 use Rattle.std.specs.Option.{option_and_then}
-use Rattle.expr_builtins.specs.Arguments.{asked, any_value, array_and_text, all_of, one_integer, one_of, one_or_two_texts, one_text, text_and_integer, three_texts_and_limit, two_integers, two_of, two_texts, two_texts_and_limit}
+use Rattle.expr_arguments.specs.Arguments.{asked, any_value, array_and_text, all_of, one_of, one_text, text_and_integer, two_integers, two_of, two_texts}
 use Rattle.expr_builtins.specs.Bits as bits
 use Rattle.expr_builtins.specs.Numbers as numbers
 use Rattle.expr_builtins.specs.Nested.{all_opened}
@@ -9,16 +9,23 @@ use Rattle.expr_builtins.specs.Text as text
 use Rattle.expr_builtins.specs.Trimmed as trimmed
 use Rattle.expr_builtins.specs.Collections as collections
 use Rattle.expr_builtins.specs.Conversions as conversions
-use Rattle.expr_builtins.specs.Calls.{Called}
-use Rattle.expr_builtins.specs.declared.builtin.Builtin.{Builtin}
-use Rattle.expr_builtins.specs.declared.builtin.Builtin.TheVariants as is
 use Rattle.expr_encoding.specs.Base64.{FromBase64Layer, FromText, text_in_base64}
 use Rattle.expr_encoding.specs.Calls.{Called as EncodingCalled, Encodes, of_json_layer}
 use Rattle.expr_encoding.specs.Optional.{given as given_encoding}
 use Rattle.expr_encoding.specs.Reading.{json_value}
 use Rattle.expr_encoding.specs.Writing.{json_text}
-use Rattle.expr_encoding.specs.declared.encoding.Encoding.{Encoding}
-use Rattle.expr_encoding.specs.declared.encoding.Encoding.TheVariants as encoding
+use Rattle.expr_functions.specs.declared.functions.BitCall.{BitCall}
+use Rattle.expr_functions.specs.declared.functions.BitCall.TheVariants as bit
+use Rattle.expr_functions.specs.declared.functions.CollectionCall.{CollectionCall}
+use Rattle.expr_functions.specs.declared.functions.CollectionCall.TheVariants as collection
+use Rattle.expr_functions.specs.declared.functions.ConversionCall.{ConversionCall}
+use Rattle.expr_functions.specs.declared.functions.ConversionCall.TheVariants as conversion
+use Rattle.expr_functions.specs.declared.functions.EncodingCall.{EncodingCall}
+use Rattle.expr_functions.specs.declared.functions.EncodingCall.TheVariants as encoding
+use Rattle.expr_functions.specs.declared.functions.NumberCall.{NumberCall}
+use Rattle.expr_functions.specs.declared.functions.NumberCall.TheVariants as number
+use Rattle.expr_functions.specs.declared.functions.TextCall.{TextCall}
+use Rattle.expr_functions.specs.declared.functions.TextCall.TheVariants as text_call
 use Rattle.expr_value.specs.Answers.{Answer}
 use Rattle.expr_value.specs.Fault.{evaluation}
 use Rattle.expr_value.specs.Values.{integer_of, items_of, joined, scalar_pairs, string_of}
@@ -108,57 +115,42 @@ int-evaluates : (o : Option Value) (a : Answer) → conversions.IntOne o a → E
 int-evaluates None a p = same-evaluates a (Err evaluation) p refl
 int-evaluates (Some v) a p = int_layer-evaluates (out-Value v) a p
 
-pub Called-evaluates : (b : Builtin) (vs : List Value) (a : Answer) → Called b vs a → Evaluates a
-Called-evaluates is.Bitand vs a p = on (two_integers vs) _ a p (λ x. tt)
-Called-evaluates is.Bitor vs a p = on (two_integers vs) _ a p (λ x. tt)
-Called-evaluates is.Bitxor vs a p = on (two_integers vs) _ a p (λ x. tt)
-Called-evaluates is.Bitnand vs a p = on (two_integers vs) _ a p (λ x. tt)
-Called-evaluates is.Bitnot vs a p = on (one_integer vs) _ a p (λ x. tt)
-Called-evaluates is.Bitshl vs a p = on (two_integers vs) _ a p (λ x. counted-evaluates (bits.shifted_left x.0) x.1)
-Called-evaluates is.Bitshr vs a p = on (two_integers vs) _ a p (λ x. counted-evaluates (bits.shifted_right x.0) x.1)
-Called-evaluates is.Bitushr vs a p = on (two_integers vs) _ a p (λ x. counted-evaluates (bits.shifted_unsigned x.0) x.1)
-Called-evaluates is.Abs vs a p = on (one_integer vs) _ a p (λ x. tt)
-Called-evaluates is.Max vs a p = same-evaluates a _ p (chosen-evaluates _ vs)
-Called-evaluates is.Min vs a p = same-evaluates a _ p (chosen-evaluates _ vs)
-Called-evaluates is.Float vs a p = same-evaluates a (Err evaluation) p refl
-Called-evaluates is.Mean vs a p = same-evaluates a (Err evaluation) p refl
-Called-evaluates is.Median vs a p = same-evaluates a (Err evaluation) p refl
-Called-evaluates is.Ceil vs a p = same-evaluates a (Err evaluation) p refl
-Called-evaluates is.Floor vs a p = same-evaluates a (Err evaluation) p refl
-Called-evaluates is.Round vs a p = same-evaluates a (Err evaluation) p refl
-Called-evaluates is.HasPrefix vs a p = on (two_texts vs) _ a p (λ x. tt)
-Called-evaluates is.HasSuffix vs a p = on (two_texts vs) _ a p (λ x. tt)
-Called-evaluates is.Trim vs a p = trimmed-evaluates (one_text vs) (two_texts vs) a p
-Called-evaluates is.TrimPrefix vs a p = on (one_or_two_texts vs) _ a p (λ x. tt)
-Called-evaluates is.TrimSuffix vs a p = on (one_or_two_texts vs) _ a p (λ x. tt)
-Called-evaluates is.Upper vs a p = cased-evaluates _ (one_text vs) a p
-Called-evaluates is.Lower vs a p = cased-evaluates _ (one_text vs) a p
-Called-evaluates is.Split vs a p = on (two_texts_and_limit vs) _ a p (λ x. tt)
-Called-evaluates is.SplitAfter vs a p = on (two_texts_and_limit vs) _ a p (λ x. tt)
-Called-evaluates is.Replace vs a p = on (three_texts_and_limit vs) _ a p (λ x. tt)
-Called-evaluates is.Repeat vs a p = on (text_and_integer vs) _ a p (λ x. repeated-evaluates x.0 x.1)
-Called-evaluates is.Len vs a p = on (option_and_then collections.size_of (one_of any_value vs)) _ a p (λ x. tt)
-Called-evaluates is.First vs a p = on (one_of items_of vs) _ a p (λ x. tt)
-Called-evaluates is.Last vs a p = on (one_of items_of vs) _ a p (λ x. tt)
-Called-evaluates is.Take vs a p = on (two_of items_of integer_of vs) _ a p (λ x. taken-evaluates x.0 x.1)
-Called-evaluates is.Reverse vs a p = on (one_of items_of vs) _ a p (λ x. tt)
-Called-evaluates is.Uniq vs a p = on (one_of items_of vs) _ a p (λ x. tt)
-Called-evaluates is.Flatten vs a p = on (one_of items_of vs) _ a p (λ x. tt)
-Called-evaluates is.Concat vs a p = same-evaluates a (collections.concat vs) p (concat-evaluates vs)
-Called-evaluates is.Keys vs a p = on (one_of any_value vs) _ a p (λ v. keys-evaluates (out-Value v))
-Called-evaluates is.Values vs a p = on (one_of any_value vs) _ a p (λ v. values-evaluates (out-Value v))
-Called-evaluates is.ToPairs vs a p = on (one_of any_value vs) _ a p (λ v. to_pairs-evaluates (out-Value v))
-Called-evaluates is.Get vs a p = on (two_of any_value any_value vs) _ a p (λ x. get-evaluates (out-Value x.0) x.1 (out-Value x.1))
-Called-evaluates is.Join vs a p = on (array_and_text vs) _ a p (λ x. asked-evaluates (all_of string_of x.0) (λ ts. Ok (value.String (joined x.1 ts))) (λ ts. tt))
-Called-evaluates is.FromPairs vs a p =
+-- a call that refuses for its arguments alone is left to the search
+pub BitCalled-evaluates : (c : BitCall) (vs : List Value) (a : Answer) → bits.Called c vs a → Evaluates a
+BitCalled-evaluates bit.Bitshl vs a p = on (two_integers vs) _ a p (λ x. counted-evaluates (bits.shifted_left x.0) x.1)
+BitCalled-evaluates bit.Bitshr vs a p = on (two_integers vs) _ a p (λ x. counted-evaluates (bits.shifted_right x.0) x.1)
+BitCalled-evaluates bit.Bitushr vs a p = on (two_integers vs) _ a p (λ x. counted-evaluates (bits.shifted_unsigned x.0) x.1)
+BitCalled-evaluates c vs a p = search (rules, same-evaluates)
+
+pub NumberCalled-evaluates : (c : NumberCall) (vs : List Value) (a : Answer) → numbers.Called c vs a → Evaluates a
+NumberCalled-evaluates number.Max vs a p = same-evaluates a _ p (chosen-evaluates _ vs)
+NumberCalled-evaluates number.Min vs a p = same-evaluates a _ p (chosen-evaluates _ vs)
+NumberCalled-evaluates c vs a p = search (rules, same-evaluates)
+
+pub TextCalled-evaluates : (c : TextCall) (vs : List Value) (a : Answer) → text.Called c vs a → Evaluates a
+TextCalled-evaluates text_call.Trim vs a p = trimmed-evaluates (one_text vs) (two_texts vs) a p
+TextCalled-evaluates text_call.Upper vs a p = cased-evaluates _ (one_text vs) a p
+TextCalled-evaluates text_call.Lower vs a p = cased-evaluates _ (one_text vs) a p
+TextCalled-evaluates text_call.Repeat vs a p = on (text_and_integer vs) _ a p (λ x. repeated-evaluates x.0 x.1)
+TextCalled-evaluates c vs a p = search (rules, same-evaluates)
+
+pub CollectionCalled-evaluates : (c : CollectionCall) (vs : List Value) (a : Answer) → collections.Called c vs a → Evaluates a
+CollectionCalled-evaluates collection.Take vs a p = on (two_of items_of integer_of vs) _ a p (λ x. taken-evaluates x.0 x.1)
+CollectionCalled-evaluates collection.Concat vs a p = same-evaluates a (collections.concat vs) p (concat-evaluates vs)
+CollectionCalled-evaluates collection.Keys vs a p = on (one_of any_value vs) _ a p (λ v. keys-evaluates (out-Value v))
+CollectionCalled-evaluates collection.Values vs a p = on (one_of any_value vs) _ a p (λ v. values-evaluates (out-Value v))
+CollectionCalled-evaluates collection.ToPairs vs a p = on (one_of any_value vs) _ a p (λ v. to_pairs-evaluates (out-Value v))
+CollectionCalled-evaluates collection.Get vs a p = on (two_of any_value any_value vs) _ a p (λ x. get-evaluates (out-Value x.0) x.1 (out-Value x.1))
+CollectionCalled-evaluates collection.Join vs a p = on (array_and_text vs) _ a p (λ x. asked-evaluates (all_of string_of x.0) (λ ts. Ok (value.String (joined x.1 ts))) (λ ts. tt))
+CollectionCalled-evaluates collection.FromPairs vs a p =
     on (option_and_then (all_of collections.pair_of) (one_of items_of vs)) _ a p (
     λ ps. asked-evaluates (option_map (key_put_all []) (scalar_pairs ps)) (λ m. Ok (value.KeyedMap m)) (λ m. tt)
     )
-Called-evaluates is.IndexOf vs a p = on (two_texts vs) _ a p (λ x. tt)
-Called-evaluates is.LastIndexOf vs a p = on (two_texts vs) _ a p (λ x. tt)
-Called-evaluates is.Int vs a p = int-evaluates (one_of any_value vs) a p
-Called-evaluates is.String vs a p = on (one_of any_value vs) _ a p (λ x. tt)
-Called-evaluates is.Type vs a p = on (one_of any_value vs) _ a p (λ x. tt)
+CollectionCalled-evaluates c vs a p = search (rules, same-evaluates)
+
+pub ConversionCalled-evaluates : (c : ConversionCall) (vs : List Value) (a : Answer) → conversions.Called c vs a → Evaluates a
+ConversionCalled-evaluates conversion.Int vs a p = int-evaluates (one_of any_value vs) a p
+ConversionCalled-evaluates c vs a p = search (rules, same-evaluates)
 
 -- encodings
 given_encoding-evaluates : (o : Option Value) → Evaluates (given_encoding o)
@@ -181,13 +173,13 @@ from_base64-evaluates : (v : Value-F Value) (a : Answer) → FromBase64Layer v a
 from_base64-evaluates (Value-F.String s) a p = from_text-evaluates s a p
 from_base64-evaluates v a p = same-evaluates a (Err evaluation) p refl
 
-encodes-evaluates : (e : Encoding) (v : Value) (a : Answer) → Encodes e v a → Evaluates a
+encodes-evaluates : (e : EncodingCall) (v : Value) (a : Answer) → Encodes e v a → Evaluates a
 encodes-evaluates encoding.FromJson v a p = same-evaluates a (of_json_layer (out-Value v)) p (of_json-evaluates (out-Value v))
 encodes-evaluates encoding.ToJson v a p = same-evaluates a (given_encoding (option_map value.String (json_text v))) p (given_encoding-evaluates (option_map value.String (json_text v)))
 encodes-evaluates encoding.ToBase64 v a p = same-evaluates a (text_in_base64 (out-Value v)) p (in_base64-evaluates (out-Value v))
 encodes-evaluates encoding.FromBase64 v a p = from_base64-evaluates (out-Value v) a p
 
-pub EncodingCalled-evaluates : (e : Encoding) (vs : List Value) (a : Answer) → EncodingCalled e vs a → Evaluates a
+pub EncodingCalled-evaluates : (e : EncodingCall) (vs : List Value) (a : Answer) → EncodingCalled e vs a → Evaluates a
 EncodingCalled-evaluates e [] a p = same-evaluates a (Err evaluation) p refl
 EncodingCalled-evaluates e (v ∷ []) a p = encodes-evaluates e v a p
 EncodingCalled-evaluates e (v ∷ w ∷ more) a p = same-evaluates a (Err evaluation) p refl

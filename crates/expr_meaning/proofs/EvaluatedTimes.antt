@@ -1,6 +1,7 @@
 -- Methods, and calls of times, give a value or refuse to evaluate.
 use Rattle.std.proofs.Common.{◌≡◌, ℕ, ℤ, List, [], ◌∷◌, Option, Some, None, Ok, Err, inl, inr, refl}
-use Rattle.expr_duration.specs.Methods.{alone, answered, by_step, one_duration, one_text, Read, OfText}
+use Rattle.expr_arguments.specs.Arguments.{alone, one_duration, one_text}
+use Rattle.expr_duration.specs.Methods.{answered, by_step, Read, OfText}
 use Rattle.expr_duration.specs.declared.method.DurationMethod.{DurationMethod}
 use Rattle.expr_duration.specs.declared.method.DurationMethod.TheVariants as of_length
 use Rattle.expr_layout.specs.Layouts.{Formats}
@@ -13,8 +14,8 @@ use Rattle.expr_time.specs.Calls.{Called}
 use Rattle.expr_time.specs.Civil.{AllowsDate, Dates, DatesLayout, DatesNamed, DatesText, DatesThree, DatesTwo, GivenIf, place_read, by_form}
 use Rattle.expr_time.specs.Moments.{AddsDates, AnsweredAt, answer_for, located, name_answer, one_moment, one_zone, three_integers, timezone_of}
 use Rattle.expr_time.specs.Zones.{now_answer, timezone_answer, zone_named}
-use Rattle.expr_time.specs.declared.calls.TimeCall.{TimeCall}
-use Rattle.expr_time.specs.declared.calls.TimeCall.TheVariants as call
+use Rattle.expr_functions.specs.declared.functions.TimeCall.{TimeCall}
+use Rattle.expr_functions.specs.declared.functions.TimeCall.TheVariants as call
 use Rattle.expr_time.specs.declared.moments.DateTimeMethod.{DateTimeMethod}
 use Rattle.expr_time.specs.declared.moments.DateTimeMethod.TheVariants as is
 use Rattle.expr_time.specs.declared.moments.NameMethod.{NameMethod}

@@ -1,16 +1,21 @@
 -- What a program is refused with: that it can't be evaluated, a pattern, or what a function of the host refuses with.
-use Rattle.std.proofs.Common.{◌≡◌, ◌≢◌, ◌⊎◌, ℕ, ℤ, Bool, true, false, List, [], ◌∷◌, ◌++◌, map, Option, Some, None, Result, Ok, Err, IfErr, MatchBool, MatchOption, ◌||◌, bytes_eq, codes, cond, inl, inr, refl, sym, subst}
+use Rattle.std.proofs.Common.{◌≡◌, ◌≢◌, ◌⊎◌, ℕ, ℤ, Bool, true, false, List, [], ◌∷◌, ◌++◌, map, Option, Some, None, Result, Ok, Err, IfErr, MatchBool, ◌||◌, bytes_eq, codes, cond, inl, inr, refl, sym, subst}
 use Rattle.expr_operators.specs.Operators.{applied, prefixed, truth}
 use Rattle.expr_operators.specs.Positions.{bound_checked, indexed, ranged, sliced}
 use Rattle.expr_operators.specs.Sides.{sides_of}
 use Rattle.expr_operators.specs.declared.sides.Sides.{Sides}
 use Rattle.expr_operators.specs.declared.sides.Sides.TheVariants.{Both, EndsAtFalse, EndsAtTrue, Pattern}
-use Rattle.expr_predicates.specs.Calls.{AllowsAsking, SortsItems, array_and_more, array_then, asking_named, begun, direction_named, direction_of, reduced_from_first, runs_alone, sorted_in, started, started_on}
+use Rattle.expr_predicates.specs.Calls.{AllowsAsking, SortsItems, array_and_more, array_then, begun, direction_named, direction_of, reduced_from_first, runs_alone, sorted_in, started, started_on}
 use Rattle.expr_predicates.specs.Runs.{Asks, AsksItself}
 use Rattle.expr_predicates.specs.Sorting.{IsSorting, Sorts, are_alike, beside_keys, twice}
 use Rattle.expr_predicates.specs.Tasks.{Task, Reply, Question, Outcome, about, outcome, refused, sorting, stopped}
-use Rattle.expr_predicates.specs.declared.asking.Asking.{Asking}
-use Rattle.expr_predicates.specs.declared.asking.Asking.TheVariants.{All, Any, NoneOf, One, Map, Filter, Find, FindIndex, FindLast, FindLastIndex, Count, Sum, Reduce, GroupBy, SortBy}
+use Rattle.expr_functions.specs.Functions.{builtin_named}
+use Rattle.expr_functions.specs.declared.functions.Asking.{Asking}
+use Rattle.expr_functions.specs.declared.functions.Asking.TheVariants.{Reduce, SortBy}
+use Rattle.expr_functions.specs.declared.functions.Builtin.{Builtin}
+use Rattle.expr_functions.specs.declared.functions.Builtin.TheVariants as builtin
+use Rattle.expr_functions.specs.declared.functions.ValueCall.{ValueCall}
+use Rattle.expr_functions.specs.declared.functions.ValueCall.TheVariants as on_values
 use Rattle.expr_steps.specs.Context.{Context, asked_in, looked_up, override}
 use Rattle.expr_steps.specs.Given.{given_bound}
 use Rattle.expr_steps.specs.Methods.{AllowsMethod}
@@ -24,10 +29,10 @@ use Rattle.expr_value.specs.declared.value.Value as values
 use Rattle.expr_value.specs.declared.value.Value.{Value, out-Value}
 use Rattle.expr_value.specs.declared.value.Value.TheOpen.{Value-F}
 use Rattle.expr_meaning.proofs.Evaluated.{Evaluates, Matched-faults, applied-evaluates, bound_checked-evaluates, either-evaluates, given_bound-evaluates, indexed-evaluates, looked_up-evaluates, prefixed-evaluates, ranged-evaluates, sliced-evaluates, truth-evaluates}
-use Rattle.expr_meaning.proofs.EvaluatedCalls.{Called-evaluates, EncodingCalled-evaluates}
+use Rattle.expr_meaning.proofs.EvaluatedCalls.{BitCalled-evaluates, CollectionCalled-evaluates, ConversionCalled-evaluates, EncodingCalled-evaluates, NumberCalled-evaluates, TextCalled-evaluates}
 use Rattle.expr_meaning.proofs.EvaluatedTimes.{AllowsMethod-evaluates, TimeCalled-evaluates}
 use Rattle.expr_meaning.specs.Allows.{Allows, AllowsAll, AllowsAsked, AllowsBlock, AllowsBound, AllowsCall, AllowsPairs, AllowsPiped, AllowsPostfix, AndThenLayer, ChosenLayer, ContinuedAs, DefaultsLayer, OrElseLayer, is_given}
-use Rattle.expr_meaning.specs.Calls.{AllowsBuiltin, AllowsOnValues}
+use Rattle.expr_meaning.specs.Calls.{AllowsBuiltin, AllowsOnValues, ByBuiltin}
 use Rattle.expr_meaning.specs.Host.{Host}
 use Rattle.expr_meaning.specs.Refusals.{NeverRefusesWith}
 
@@ -60,24 +65,11 @@ reduced_from_first-evaluates [] = refl
 reduced_from_first-evaluates (x ∷ items) = tt
 
 started-evaluates : (b : Asking) (items : List Value) (more : Option Value) → Evaluates (started b items more)
-started-evaluates All items None = tt
-started-evaluates Any items None = tt
-started-evaluates NoneOf items None = tt
-started-evaluates One items None = tt
-started-evaluates Map items None = tt
-started-evaluates Filter items None = tt
-started-evaluates Find items None = tt
-started-evaluates FindIndex items None = tt
-started-evaluates FindLast items None = tt
-started-evaluates FindLastIndex items None = tt
-started-evaluates Count items None = tt
-started-evaluates Sum items None = tt
-started-evaluates Reduce items (Some init) = tt
 started-evaluates Reduce items None = reduced_from_first-evaluates items
-started-evaluates GroupBy items None = tt
-started-evaluates SortBy items None = tt
+started-evaluates Reduce items (Some init) = tt
 started-evaluates SortBy items (Some d) = sorted_in-evaluates items (direction_named (string_of d)) (direction_named-evaluates (string_of d))
-started-evaluates b items more = refl
+started-evaluates b items None = tt
+started-evaluates b items (Some d) = refl
 
 started_on-evaluates : (b : Asking) (r : Result (List Value × Option Value) Fault) → Evaluates r → Evaluates (started_on b r)
 started_on-evaluates b (Ok p) e = started-evaluates b p.0 p.1
@@ -151,21 +143,24 @@ module _ (P : Fault → Type 0) (of_evaluation : P evaluation) where
     asking b vs given a p = Goes-faults (begun b vs given) (λ s. Asks s.task asks s.items []) (Evaluates-faults (begun b vs given) (begun-evaluates b vs given)) (λ s r. asked s.task s.items [] r) a p
 
     module _ (host : Host) (key : List ℕ) (vs : List Value) (given : Bool) where
-      on_values : (a : Answer) → AllowsOnValues host key vs a → IfErr a P
-      on_values a (inl p) = Evaluates-faults a (Called-evaluates p.0 vs a p.2)
-      on_values a (inr (inl p)) = Evaluates-faults a (EncodingCalled-evaluates p.0 vs a p.2)
-      on_values a (inr (inr (inl p))) = Evaluates-faults a (TimeCalled-evaluates host.zones host.moment p.0 vs a p.2)
-      on_values a (inr (inr (inr p))) = refusal a p.1
+      on_values_faults : (c : ValueCall) (a : Answer) → AllowsOnValues host c vs a → IfErr a P
+      on_values_faults on_values.Sort a p = SortsItems-faults vs a p
+      on_values_faults (on_values.Collection c) a p = Evaluates-faults a (CollectionCalled-evaluates c vs a p)
+      on_values_faults (on_values.Text c) a p = Evaluates-faults a (TextCalled-evaluates c vs a p)
+      on_values_faults (on_values.Conversion c) a p = Evaluates-faults a (ConversionCalled-evaluates c vs a p)
+      on_values_faults (on_values.Number c) a p = Evaluates-faults a (NumberCalled-evaluates c vs a p)
+      on_values_faults (on_values.Bit c) a p = Evaluates-faults a (BitCalled-evaluates c vs a p)
+      on_values_faults (on_values.Encoding c) a p = Evaluates-faults a (EncodingCalled-evaluates c vs a p)
+      on_values_faults (on_values.Time c) a p = Evaluates-faults a (TimeCalled-evaluates host.zones host.moment c vs a p)
 
-      by_asking : (o : Option Asking) (a : Answer) → MatchOption o (AllowsOnValues host key vs a) (λ b. AllowsAsking b vs given asks a) → IfErr a P
-      by_asking None a p = on_values a p
-      by_asking (Some b) a p = asking b vs given a p
+      by_builtin : (o : Option Builtin) (a : Answer) → ByBuiltin o (a ≡ Err evaluation) (λ c. AllowsOnValues host c vs a) (λ b. AllowsAsking b vs given asks a) → IfErr a P
+      by_builtin None a p = refusal a p
+      by_builtin (Some (builtin.OnValues c)) a p = on_values_faults c a p
+      by_builtin (Some (builtin.Asks b)) a p = asking b vs given a p
 
       -- a built-in refuses to evaluate, or with what its predicate was refused with
       pub AllowsBuiltin-faults : (a : Answer) → AllowsBuiltin host key vs given asks a → IfErr a P
-      AllowsBuiltin-faults a p =
-          either (bytes_eq key (codes "sort")) (SortsItems vs a) (MatchOption (asking_named key) (AllowsOnValues host key vs a) (λ b. AllowsAsking b vs given asks a)) a
-          (SortsItems-faults vs a) (by_asking (asking_named key) a) p
+      AllowsBuiltin-faults a p = by_builtin (builtin_named key) a p
 
       called : (of_host : (f : Fault) → host.is_added key ≡ true → host.calls key vs (Err f) → P f) (b : Bool) → host.is_added key ≡ b → (a : Answer)
           → MatchBool b (host.calls key vs a) (AllowsBuiltin host key vs given asks a) → IfErr a P

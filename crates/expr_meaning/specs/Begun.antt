@@ -1,10 +1,10 @@
 -- What a call begins with: its answer, or a run that asks a predicate.
 use Rattle.std.specs.Prelude.{◌≡◌, ℕ, Bool, List, Ok, Err, MatchBool}
-use Rattle.expr_predicates.specs.Calls.{SortsItems, begun}
+use Rattle.expr_predicates.specs.Calls.{begun}
 use Rattle.expr_predicates.specs.Gathered.{StartsWith}
-use Rattle.expr_predicates.specs.declared.asking.Asking.{Asking}
+use Rattle.expr_functions.specs.declared.functions.Asking.{Asking}
 use Rattle.expr_predicates.specs.declared.run.PredicateRun.{PredicateRun}
-use Rattle.expr_value.specs.Fault.{Fault}
+use Rattle.expr_value.specs.Fault.{Fault, evaluation}
 use Rattle.expr_value.specs.declared.value.Value.{Value}
 use Rattle.expr_meaning.specs.Calls.{AllowsOnValues, ByName}
 use Rattle.expr_meaning.specs.Host.{Host}
@@ -17,8 +17,8 @@ Starts run vs given b = StartsWith run (begun b vs given)
 
 -- where the host has added no function of the name
 abbrev pub BeginsBuiltin : Host → List ℕ → List Value → Bool → Begun → Type 0
-BeginsBuiltin host key vs given (Answered v) = ByName key (SortsItems vs (Ok v)) (AllowsOnValues host key vs (Ok v)) (λ b. ⊥)
-BeginsBuiltin host key vs given (Asks run) = ByName key ⊥ ⊥ (Starts run vs given)
+BeginsBuiltin host key vs given (Answered v) = ByName key ⊥ (λ c. AllowsOnValues host c vs (Ok v)) (λ b. ⊥)
+BeginsBuiltin host key vs given (Asks run) = ByName key ⊥ (λ c. ⊥) (Starts run vs given)
 
 -- a host's function asks no predicate
 abbrev pub BeginsAdded : Host → List ℕ → List Value → Begun → Type 0
@@ -30,7 +30,7 @@ Begins host key vs given b = MatchBool (host.is_added key) (BeginsAdded host key
 
 -- a call that is refused before it asks anything
 abbrev pub RefusesBuiltin : Host → List ℕ → List Value → Bool → Fault → Type 0
-RefusesBuiltin host key vs given f = ByName key (SortsItems vs (Err f)) (AllowsOnValues host key vs (Err f)) (λ b. begun b vs given ≡ Err f)
+RefusesBuiltin host key vs given f = ByName key (f ≡ evaluation) (λ c. AllowsOnValues host c vs (Err f)) (λ b. begun b vs given ≡ Err f)
 
 abbrev pub Refuses : Host → List ℕ → List Value → Bool → Fault → Type 0
 Refuses host key vs given f = MatchBool (host.is_added key) (host.calls key vs (Err f)) (RefusesBuiltin host key vs given f)

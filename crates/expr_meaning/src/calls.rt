@@ -8,12 +8,15 @@ ghost use Rattle.expr_value.specs.Answers.{Gives};
 ghost use Rattle.expr_value.specs.Fault.{fault_of, memory};
 
 use crate::environment::{AddedZones, ExprCall, Functions};
-use expr_builtins::Builtin;
-use expr_encoding::Encoding;
+use expr_builtins::{
+    call_conversion, call_on_bits, call_on_collections, call_on_numbers, call_on_texts,
+};
+use expr_encoding::call_encoding;
+use expr_functions::{Builtin, ValueCall};
 use expr_operators::Held;
-use expr_predicates::{Asking, PredicateRun, sort};
+use expr_predicates::{PredicateRun, sort};
 use expr_steps::unknown_function;
-use expr_time::TimeCall;
+use expr_time::call_time;
 use expr_value::{Items, Result, Value};
 use std::alloc::Global;
 
@@ -40,6 +43,7 @@ pub fn begin<'s, H: Functions>(
         (λ e. fault_of e ≢ memory → Refuses (H.host host.now) ident.now args.entry given (fault_of e)) }
 {
     if host.has(ident) {
+        let args = values_of(alloc, args)?;
         let answer = call_added(alloc, host, ident, args)?;
         return Ok(Begun::Answered(answer));
     }
@@ -58,35 +62,39 @@ fn begin_builtin<'s, H: Functions>(
     ensures refused { IfErr result (λ e. fault_of e ≢ memory → RefusesBuiltin
         (H.host host.now) ident.now args.entry given (fault_of e)) }
 {
-    if ident == "sort" {
-        return Ok(Begun::Answered(sort(alloc, args)?));
+    match Builtin::named(ident) {
+        Some(Builtin::Asks(asking)) => {
+            Ok(Begun::Asks(PredicateRun::begin(alloc, asking, args, given)?))
+        }
+        Some(Builtin::OnValues(call)) => {
+            Ok(Begun::Answered(call_on_values(alloc, host, call, args)?))
+        }
+        None => Err(unknown_function(alloc, ident)),
     }
-    let Some(asking) = Asking::named(ident) else {
-        return Ok(Begun::Answered(call_on_values(alloc, host, ident, args)?));
-    };
-    Ok(Begun::Asks(PredicateRun::begin(alloc, asking, args, given)?))
 }
 
-/// What the built-in of a name answers that asks no predicate.
+/// What a built-in answers that asks no predicate.
 fn call_on_values<H: Functions>(
     alloc: Global,
     host: &H,
-    ident: &str,
+    call: ValueCall,
     args: Items<Held<'_>>,
 ) -> Result<Value>
-    ensures { Gives result (AllowsOnValues (H.host host.now) ident.now args.entry) }
+    ensures { Gives result (AllowsOnValues (H.host host.now) call args.entry) }
 {
-    if let Some(builtin) = Builtin::named(ident) {
-        return builtin.call(alloc, args.into_vec());
+    match call {
+        ValueCall::Sort => sort(alloc, args),
+        ValueCall::Collection(call) => call_on_collections(alloc, call, &mut args.into_vec()),
+        ValueCall::Text(call) => call_on_texts(alloc, call, args.as_slice()),
+        ValueCall::Conversion(call) => call_conversion(alloc, call, args.as_slice()),
+        ValueCall::Number(call) => call_on_numbers(alloc, call, &mut args.into_vec()),
+        ValueCall::Bit(call) => call_on_bits(alloc, call, args.as_slice()),
+        ValueCall::Encoding(call) => call_encoding(alloc, call, args.as_slice()),
+        ValueCall::Time(call) => {
+            let zones = AddedZones { host };
+            call_time(alloc, call, &zones, host.moment(), args.as_slice())
+        }
     }
-    if let Some(encoding) = Encoding::named(ident) {
-        return encoding.call(alloc, args.as_slice());
-    }
-    if let Some(call) = TimeCall::named(ident) {
-        let zones = AddedZones { host };
-        return call.call(alloc, &zones, host.moment(), args.as_slice());
-    }
-    Err(unknown_function(alloc, ident))
 }
 
 /// What a call answers that is given no predicate.
@@ -105,17 +113,16 @@ pub fn call_alone<'s, H: Functions>(
 }
 
 /// What a function answers on these values that the host has added.
-fn call_added<H: Functions>(
+pub fn call_added<H: Functions>(
     alloc: Global,
     host: &H,
     ident: &str,
-    args: Items<Held<'_>>,
+    args: Vec<Value>,
 ) -> Result<Value>
     ensures { (H.host host.now).is_added ident.now ≡ true
-        → Gives result ((H.host host.now).calls ident.now args.entry) }
+        → Gives result ((H.host host.now).calls ident.now args.items) }
 {
     let ident = String::from_str(alloc, ident)?;
-    let args = values_of(alloc, args)?;
     host.ask(ExprCall { ident, args })
 }
 

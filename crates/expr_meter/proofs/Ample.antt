@@ -1,17 +1,19 @@
 -- With room enough each run is a counted run.
-use Rattle.std.proofs.Common.{◌≡◌, ℕ, zero, suc, ◌+◌, ◌≤◌, Bool, true, false, List, [], ◌∷◌, ◌++◌, length, take, Result, Ok, Err, MatchBool, MatchOption, Option, Some, None, bytes_eq, codes, refl, ap, subst, inl}
+use Rattle.std.proofs.Common.{◌≡◌, ℕ, zero, suc, ◌+◌, ◌≤◌, Bool, true, false, List, [], ◌∷◌, ◌++◌, length, take, Result, Ok, Err, MatchBool, Option, Some, None, refl, ap, subst, inl}
 use Rattle.expr_code.proofs.Ran.{On, runs_of_answers, stepped}
 use Rattle.expr_code.specs.Asked.{bound_values}
 use Rattle.expr_code.specs.Machine.{CodeAnswers, Op, push, load, look, look_with, env, store, act, asks, refuse, jump, jump_if_false, and_then, or_else, unless_nil, Later, Move, moved, onward, refused as refused_by, Step}
 use Rattle.expr_code.specs.Rest.{Ends, Next as Next_run, Rest, Runs}
 use Rattle.expr_code.specs.declared.binds.Binds.{Binds}
+use Rattle.expr_functions.specs.Functions.{builtin_named}
+use Rattle.expr_functions.specs.declared.functions.Builtin.{Builtin}
+use Rattle.expr_functions.specs.declared.functions.Builtin.TheVariants as builtin
 use Rattle.expr_meaning.specs.Allows.{AllowsCall}
-use Rattle.expr_meaning.specs.Calls.{AllowsBuiltin, AllowsOnValues, ByName}
+use Rattle.expr_meaning.specs.Calls.{AllowsBuiltin, AllowsOnValues, ByBuiltin, ByName}
 use Rattle.expr_meaning.specs.Host.{Host}
-use Rattle.expr_predicates.specs.Calls.{AllowsAsking, SortsItems, Start, asking_named, begun}
+use Rattle.expr_predicates.specs.Calls.{AllowsAsking, Start, begun}
 use Rattle.expr_predicates.specs.Runs.{Asks}
 use Rattle.expr_predicates.specs.Tasks.{Question, Reply, Task, Outcome, about, stopped, refused}
-use Rattle.expr_predicates.specs.declared.asking.Asking.{Asking}
 use Rattle.expr_sizes.specs.Sizes.{depth, inside, weight}
 use Rattle.expr_steps.specs.Context.{Context}
 use Rattle.expr_value.specs.Answers.{Answer, After, Goes}
@@ -71,24 +73,18 @@ module _ (asks : Predicate Room) (asks' : Question → Answer → Type 0) (has :
   start_ample (Err e) a p = ample_here a (Alone (CountsStart rooms (Err e) asks)) (λ first now. ap (λ x. ended x now) p)
 
   module _ (host : Host) (key : List ℕ) (vs : List Value) (a : Answer) where
-    asking_ample : (o : Option Asking) → MatchOption o (AllowsOnValues host key vs a) (λ b. AllowsAsking b vs true asks' a)
-        → Ample a (Alone (λ now e. MatchOption o (Answers (AllowsOnValues host key vs) now e) (λ b. CountsStart rooms (begun b vs true) asks now e)))
-    asking_ample None p = ample_answer a (AllowsOnValues host key vs) p
-    asking_ample (Some b) p = start_ample (begun b vs true) a p
-
-    named_ample : (b : Bool) → MatchBool b (SortsItems vs a) (MatchOption (asking_named key) (AllowsOnValues host key vs a) (λ b. AllowsAsking b vs true asks' a))
-        → Ample a (
-        Alone (λ now e. MatchBool b (Answers (SortsItems vs) now e) (MatchOption (asking_named key) (Answers (AllowsOnValues host key vs) now e) (λ b. CountsStart rooms (begun b vs true) asks now e)))
-        )
-    named_ample true p = ample_answer a (SortsItems vs) p
-    named_ample false p = asking_ample (asking_named key) p
+    builtin_ample : (o : Option Builtin) → ByBuiltin o (a ≡ Err evaluation) (λ c. AllowsOnValues host c vs a) (λ b. AllowsAsking b vs true asks' a)
+        → Ample a (Alone (λ now e. ByBuiltin o (e ≡ refuses evaluation) (λ c. Answers (AllowsOnValues host c vs) now e) (λ b. CountsStart rooms (begun b vs true) asks now e)))
+    builtin_ample None p = ample_here a (Alone (λ now e. e ≡ refuses evaluation)) (λ first now. ap (λ x. ended x now) p)
+    builtin_ample (Some (builtin.OnValues c)) p = ample_answer a (AllowsOnValues host c vs) p
+    builtin_ample (Some (builtin.Asks b)) p = start_ample (begun b vs true) a p
 
     added_ample : (b : Bool) → MatchBool b (host.calls key vs a) (AllowsBuiltin host key vs true asks' a)
         → Ample a (
-        Alone (λ now e. MatchBool b (Answers (host.calls key vs) now e) (ByName key (Answers (SortsItems vs) now e) (Answers (AllowsOnValues host key vs) now e) (λ b. CountsStart rooms (begun b vs true) asks now e)))
+        Alone (λ now e. MatchBool b (Answers (host.calls key vs) now e) (ByName key (e ≡ refuses evaluation) (λ c. Answers (AllowsOnValues host c vs) now e) (λ b. CountsStart rooms (begun b vs true) asks now e)))
         )
     added_ample true p = ample_answer a (host.calls key vs) p
-    added_ample false p = named_ample (bytes_eq key (codes "sort")) p
+    added_ample false p = builtin_ample (builtin_named key) p
 
   pub call_ample : (host : Host) (key : List ℕ) (vs : List Value) (a : Answer) → AllowsCall host key vs true asks' a → Ample a (Alone (CountsCall rooms host key vs asks))
   call_ample host key vs a p = added_ample host key vs a (host.is_added key) p

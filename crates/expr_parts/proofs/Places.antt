@@ -1,12 +1,15 @@
 -- What is promoted is what is taken out at its place.
-use Rattle.std.proofs.Common.{◌≡◌, ℕ, zero, suc, ◌+◌, ◌-◌, ◌<◌, Bool, true, false, ◌||◌, cond, nat_lt, bytes_eq, codes, List, [], ◌∷◌, length, Option, Some, None, if◌then◌else◌, refl, sym, ap, ◌∙◌, arith}
+use Rattle.std.proofs.Common.{◌≡◌, ℕ, zero, suc, ◌+◌, ◌-◌, ◌<◌, Bool, true, false, ◌||◌, cond, nat_lt, List, [], ◌∷◌, length, Option, Some, None, if◌then◌else◌, refl, sym, ap, ◌∙◌, arith}
 use Rattle.std.specs.List.{count_by, remove}
+use Rattle.std.specs.Prelude.{is_some}
 use Rattle.std.proofs.lemmas.List.Sums.{sum_by-cons}
 use Rattle.std.proofs.lemmas.Bool.{false≢true, lt-ltb}
 use Rattle.std.proofs.lemmas.Option.{none-some, same_Some}
+use Rattle.expr_functions.specs.Functions.{asking_named}
+use Rattle.expr_functions.specs.declared.functions.Asking.{Asking}
 use Rattle.expr_tree.specs.Term.{Term, call, no_predicate, predicate, answers}
 use Rattle.expr_tree.specs.Written.{terms_of}
-use Rattle.expr_parts.specs.Promotion.{Promoted, has_free_hash, any_free_hash, call_of, promoted, last_promoted, reducer_promoted, takes_predicate}
+use Rattle.expr_parts.specs.Promotion.{Promoted, has_free_hash, any_free_hash, call_of, promoted, last_promoted, reducer_promoted, reduces}
 use Rattle.expr_parts.specs.declared.promotion.Marks.{Marks}
 use Rattle.expr_parts.specs.Places.{is_free_at, marks_of, place_if, promoted_place, taken_out}
 
@@ -54,9 +57,9 @@ chosen false false a b ts = refl
 
 promoted_is : (key : List ℕ) (ts : List Term) → promoted key ts ≡ taken_out (promoted_place key (marks_of ts) (length ts)) ts
 promoted_is key ts =
-    let reduces : Bool = bytes_eq key (codes "reduce") in
-    (λ i. if reduces then reducer_is ts i else (if takes_predicate key then last_is ts i else taken_out None ts))
-    ∙ chosen reduces (takes_predicate key) _ _ ts
+    let asking : Option Asking = asking_named key in
+    (λ i. if reduces asking then reducer_is ts i else (if is_some asking then last_is ts i else taken_out None ts))
+    ∙ chosen (reduces asking) (is_some asking) _ _ ts
 
 -- a hash name is free in what is promoted
 free_if : (ts : List Term) (i j : ℕ) (b : Bool) → b ≡ is_free_at ts i → place_if b i ≡ Some j → is_free_at ts j ≡ true
@@ -71,7 +74,7 @@ free false true c ts j e s = free_if ts (length ts - 1) j (is_free_at ts (length
 free false false c ts j e s = absurd (none-some j s)
 
 promoted_free : (key : List ℕ) (ts : List Term) (j : ℕ) → promoted_place key (marks_of ts) (length ts) ≡ Some j → is_free_at ts j ≡ true
-promoted_free key ts j s = free (bytes_eq key (codes "reduce")) (takes_predicate key) (is_free_at ts 1) ts j refl s
+promoted_free key ts j s = free (reduces (asking_named key)) (is_some (asking_named key)) (is_free_at ts 1) ts j refl s
 
 pub free_within : (ts : List Term) (i : ℕ) → is_free_at ts i ≡ true → i < length ts
 free_within [] i e = absurd (false≢true e)

@@ -1,8 +1,9 @@
 -- Which argument is promoted, by what is kept of the arguments as they are read.
-use Rattle.std.specs.Prelude.{ℕ, ◌-◌, Bool, false, bytes_eq, codes, List, length, map, Option, Some, None, slice_index_or, if◌then◌else◌}
+use Rattle.std.specs.Prelude.{ℕ, ◌-◌, Bool, false, List, length, map, Option, Some, None, is_some, slice_index_or, if◌then◌else◌}
 use Rattle.std.specs.List.{count_by, remove}
 use Rattle.expr_tree.specs.Term.{Term, list, no_terms, no_predicate, predicate, answers}
-use Rattle.expr_parts.specs.Promotion.{Promoted, has_free_hash, takes_predicate}
+use Rattle.expr_functions.specs.Functions.{asking_named}
+use Rattle.expr_parts.specs.Promotion.{Promoted, has_free_hash, reduces}
 use Rattle.expr_parts.specs.declared.promotion.Marks.{Marks}
 
 -- whether a hash name is free in the argument at a place, if there is one
@@ -19,8 +20,9 @@ place_if is_free i = if is_free then Some i else None
 -- where the argument stands that is promoted, of so many
 abbrev pub promoted_place : List ℕ → Marks → ℕ → Option ℕ
 promoted_place key marks count =
-    if bytes_eq key (codes "reduce") then (if marks.second then Some 1 else place_if marks.first 0)
-    else (if takes_predicate key then place_if marks.last (count - 1) else None)
+    let asking = asking_named key in
+    if reduces asking then (if marks.second then Some 1 else place_if marks.first 0)
+    else (if is_some asking then place_if marks.last (count - 1) else None)
 
 -- the arguments but the one at a place, and that one as the program of the call
 abbrev pub taken_out : Option ℕ → List Term → Promoted

@@ -1,6 +1,9 @@
 -- Which argument of a call is the program that it runs, where none is given in braces.
-use Rattle.std.specs.Prelude.{ℕ, Bool, false, ◌==◌, ◌||◌, bytes_eq, codes, List, [], ◌∷◌, if◌then◌else◌}
+use Rattle.std.specs.Prelude.{ℕ, Bool, true, false, ◌==◌, ◌||◌, List, [], ◌∷◌, Option, Some, is_some, if◌then◌else◌}
 use Rattle.std.specs.List.{list_any}
+use Rattle.expr_functions.specs.Functions.{asking_named}
+use Rattle.expr_functions.specs.declared.functions.Asking.{Asking}
+use Rattle.expr_functions.specs.declared.functions.Asking.TheVariants.{Reduce}
 use Rattle.expr_tree.specs.Term.{Term, name, literal, list, mapping, range, call, unary, operation, postfix, choice, Postfix, index, slice, coalesce, pipe, ternary, method, Bound, unbounded, bound, Terms, no_terms, term, Pairs, pairs_end, pair, Predicate, no_predicate, predicate, Block, answers, line, LineTerms}
 use Rattle.expr_tree.specs.Written.{terms_of}
 
@@ -51,9 +54,10 @@ abbrev mutual
 abbrev pub lines_have_free_hash : LineTerms → Bool
 lines_have_free_hash ls = list_any (λ l. has_free_hash l.1) ls
 
--- the functions whose last argument may be their program
-abbrev pub takes_predicate : List ℕ → Bool
-takes_predicate key = list_any (λ word. bytes_eq key word) (codes "all" ∷ codes "any" ∷ codes "one" ∷ codes "none" ∷ codes "map" ∷ codes "filter" ∷ codes "find" ∷ codes "findIndex" ∷ codes "findLast" ∷ codes "findLastIndex" ∷ codes "count" ∷ codes "sum" ∷ codes "groupBy" ∷ codes "sortBy" ∷ [])
+-- whether it is the built-in that tells its predicate what it has made so far
+abbrev pub reduces : Option Asking → Bool
+reduces (Some Reduce) = true
+reduces asking = false
 
 -- the arguments but one, and that one as the program of the call, if one is promoted
 pub record Promoted : Type 0 where
@@ -74,10 +78,14 @@ reducer_promoted (t ∷ u ∷ ts) =
     if has_free_hash u then record { arguments = t ∷ ts; program = predicate (answers u) }
     else (if has_free_hash t then record { arguments = u ∷ ts; program = predicate (answers t) } else record { arguments = t ∷ u ∷ ts; program = no_predicate })
 
+-- by the built-in of the call's name that asks a predicate, if there is one
+abbrev pub promoted_by : Option Asking → List Term → Promoted
+promoted_by asking ts =
+    if reduces asking then reducer_promoted ts
+    else (if is_some asking then last_promoted ts else record { arguments = ts; program = no_predicate })
+
 abbrev pub promoted : List ℕ → List Term → Promoted
-promoted key ts =
-    if bytes_eq key (codes "reduce") then reducer_promoted ts
-    else (if takes_predicate key then last_promoted ts else record { arguments = ts; program = no_predicate })
+promoted key ts = promoted_by (asking_named key) ts
 
 -- the call of these arguments, whose program is the one that is given or else the one that is promoted
 abbrev pub call_of : List ℕ → List Term → Predicate → Term

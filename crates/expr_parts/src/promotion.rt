@@ -6,6 +6,8 @@ ghost use Rattle.expr_parts.specs.Promotion as promotion;
 ghost use Rattle.expr_parts.specs.Places.{marks_of};
 ghost use Rattle.expr_parts.specs.Places as places;
 
+use expr_functions::Asking;
+
 /// In how many arguments a hash name is free, and whether it is in those that a call may promote. One that is missing
 /// has none.
 #[derive(Clone, Copy)]
@@ -47,45 +49,30 @@ impl Marks {
     pub(crate) fn promoted_place(self, ident: &str, count: usize) -> Option<usize>
         ensures { result ≡ places.promoted_place ident.now self count }
     {
-        if ident == "reduce" {
+        let asking = Asking::named(ident);
+        if reduces(asking) {
             return if self.second {
                 Some(1)
             } else {
                 place_if(self.first, 0)
             };
         }
-        if takes_predicate(ident) {
+        if asking.is_some() {
             return place_if(self.last, count.saturating_sub(1));
         }
         None
     }
 }
 
+// Whether it is `reduce`, which takes its program as the second argument, or else as the first.
+fn reduces(asking: Option<Asking>) -> bool
+    ensures { result ≡ promotion.reduces asking }
+{
+    matches!(asking, Some(Asking::Reduce))
+}
+
 fn place_if(is_free: bool, place: usize) -> Option<usize>
     ensures { result ≡ places.place_if is_free place }
 {
     if is_free { Some(place) } else { None }
-}
-
-// Whether a function's last argument may be its program.
-fn takes_predicate(ident: &str) -> bool
-    ensures { result ≡ promotion.takes_predicate ident.now }
-{
-    matches!(
-        ident,
-        "all"
-            | "any"
-            | "one"
-            | "none"
-            | "map"
-            | "filter"
-            | "find"
-            | "findIndex"
-            | "findLast"
-            | "findLastIndex"
-            | "count"
-            | "sum"
-            | "groupBy"
-            | "sortBy"
-    )
 }

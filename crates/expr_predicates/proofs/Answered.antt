@@ -5,7 +5,7 @@ use Rattle.expr_value.specs.Fault.{Fault, evaluation}
 use Rattle.expr_value.specs.declared.value.Value.{Value}
 use Rattle.expr_value.specs.Answers.{Answer, After, Goes}
 use Rattle.expr_predicates.specs.Calls.{AllowsAsking, Start, begun}
-use Rattle.expr_predicates.specs.declared.asking.Asking.{Asking}
+use Rattle.expr_functions.specs.declared.functions.Asking.{Asking}
 use Rattle.expr_predicates.specs.Runs.{Asks, first_about, next_question}
 use Rattle.expr_predicates.specs.Tasks.{Task, Reply, Question, Outcome, about, stopped, refused}
 

@@ -4,7 +4,7 @@ use Rattle.expr_value.specs.declared.value.Value.{Value}
 use Rattle.expr_predicates.specs.Calls.{started}
 use Rattle.expr_predicates.specs.Gathered.{Gathers, Stands, left}
 use Rattle.expr_predicates.specs.Tasks.{Task, first_place}
-use Rattle.expr_predicates.specs.declared.asking.Asking.{Asking}
+use Rattle.expr_functions.specs.declared.functions.Asking.{Asking}
 use Rattle.expr_predicates.specs.declared.run.Gathered.{Gathered}
 use Rattle.expr_predicates.specs.declared.run.PredicateRun.{PredicateRun}
 

@@ -1,4 +1,4 @@
--- The built-ins that ask a predicate, and what they make of their arguments.
+-- What the built-ins that ask a predicate make of their arguments.
 use Rattle.std.specs.Prelude.{ℕ, Bool, true, false, ◌||◌, List, [], ◌∷◌, length, reverse, Option, Some, None, Result, Ok, Err, bytes_eq, codes, if◌then◌else◌}
 use Rattle.expr_value.specs.Fault.{Fault, evaluation}
 use Rattle.expr_value.specs.Values.{items_of, string_of}
@@ -7,20 +7,8 @@ use Rattle.expr_value.specs.Answers.{Answer, Goes}
 use Rattle.expr_predicates.specs.Runs.{Asks}
 use Rattle.expr_predicates.specs.Sorting.{Sorts, twice}
 use Rattle.expr_predicates.specs.Tasks.{Task, all_hold, any_holds, none_holds, one_holds, mapping, filtering, finding, finding_place, finding_last_place, counting, summing, reducing, grouping, sorting, Question}
-use Rattle.expr_predicates.specs.declared.asking.Asking.{Asking}
-use Rattle.expr_predicates.specs.declared.asking.Asking.TheVariants.{All, Any, NoneOf, One, Map, Filter, Find, FindIndex, FindLast, FindLastIndex, Count, Sum, Reduce, GroupBy, SortBy}
-
--- the built-in of a name
-abbrev pub asking_named : List ℕ → Option Asking
-asking_named name =
-    if bytes_eq name (codes "all") then Some All else (if bytes_eq name (codes "any") then Some Any
-    else (if bytes_eq name (codes "none") then Some NoneOf else (if bytes_eq name (codes "one") then Some One
-    else (if bytes_eq name (codes "map") then Some Map else (if bytes_eq name (codes "filter") then Some Filter
-    else (if bytes_eq name (codes "find") then Some Find else (if bytes_eq name (codes "findIndex") then Some FindIndex
-    else (if bytes_eq name (codes "findLast") then Some FindLast else (if bytes_eq name (codes "findLastIndex") then Some FindLastIndex
-    else (if bytes_eq name (codes "count") then Some Count else (if bytes_eq name (codes "sum") then Some Sum
-    else (if bytes_eq name (codes "reduce") then Some Reduce else (if bytes_eq name (codes "groupBy") then Some GroupBy
-    else (if bytes_eq name (codes "sortBy") then Some SortBy else None))))))))))))))
+use Rattle.expr_functions.specs.declared.functions.Asking.{Asking}
+use Rattle.expr_functions.specs.declared.functions.Asking.TheVariants.{All, Any, NoneOf, One, Map, Filter, Find, FindIndex, FindLast, FindLastIndex, Count, Sum, Reduce, GroupBy, SortBy}
 
 -- what is made of which items, in the order in which they are asked about
 pub record Start : Type 0 where

@@ -1,5 +1,4 @@
 pub mod Allowed
-pub mod Arrays
 pub mod Calls
 pub mod Gathered
 pub mod Grouped

@@ -1,15 +1,23 @@
-//! The arguments of a call that asks a predicate.
-ghost use Rattle.std.specs.Prelude.{◌≡◌, ◌≢◌, IfOk, IfErr, Ok, Err};
+//! The arguments of a call that asks a predicate, and which call needs none.
+ghost use Rattle.std.specs.Prelude.{◌≡◌, ◌≢◌, IfOk, IfErr, Ok, Err, Some, None};
 ghost use Rattle.expr_value.specs.Answers.{Is};
-ghost use Rattle.expr_value.specs.Fault.{fault_of, memory};
-ghost use Rattle.expr_value.specs.Values.{string_of};
-ghost use Rattle.expr_predicates.specs.Arrays.{items_held};
-ghost use Rattle.expr_predicates.specs.Calls.{array_and_more, direction_named, direction_of};
+ghost use Rattle.expr_value.specs.Fault.{fault_of, memory, evaluation};
+ghost use Rattle.expr_value.specs.Values.{items_of, string_of};
+ghost use Rattle.expr_arguments.specs.Arrays.{items_held};
+ghost use Rattle.expr_predicates.specs.Calls.{array_and_more, direction_named, direction_of, runs_alone};
 
-use crate::array::{Array, array_of};
+use expr_arguments::{Array, array_of};
+use expr_functions::Asking;
 use expr_held::Held;
 use expr_value::{Items, Result, Value, refusal};
 use std::alloc::Global;
+
+/// Whether a built-in needs no predicate, and takes each item as the answer about itself where none is given.
+pub(crate) fn runs_alone(asking: Asking) -> bool
+    ensures { result ≡ runs_alone asking }
+{
+    matches!(asking, Asking::Count | Asking::Sum)
+}
 
 /// The items of an array, and one more argument if there is one.
 pub(crate) fn array_and_more<'s>(
@@ -22,13 +30,13 @@ pub(crate) fn array_and_more<'s>(
     let mut args = args.into_vec();
     if args.len() == 1 {
         if let Some(array) = args.pop() {
-            return Ok((array_of(alloc, array)?, None));
+            return Ok((array_held(alloc, array)?, None));
         }
     }
     if args.len() == 2 {
         if let Some(more) = args.pop() {
             if let Some(array) = args.pop() {
-                return Ok((array_of(alloc, array)?, Some(more)));
+                return Ok((array_held(alloc, array)?, Some(more)));
             }
         }
     }
@@ -36,6 +44,18 @@ pub(crate) fn array_and_more<'s>(
         alloc,
         "the function takes an array and at most one more argument",
     ))
+}
+
+// The array that a value is.
+fn array_held<'s>(alloc: Global, value: Held<'s>) -> Result<Array<'s>>
+    ensures value { IfOk result (λ array. items_of value.entry ≡ Some (items_held array)) }
+    ensures refusal { IfErr result (λ e. fault_of e ≢ memory
+        → (items_of value.entry ≡ None) × (fault_of e ≡ evaluation)) }
+{
+    match array_of(value.into_holding()) {
+        Some(array) => Ok(array),
+        None => Err(refusal(alloc, "the function takes an array")),
+    }
 }
 
 /// Whether an order is downward.

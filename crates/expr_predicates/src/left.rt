@@ -1,9 +1,9 @@
 //! The items of an array that are left to ask about.
 ghost use Rattle.std.specs.Prelude.{◌≡◌, ◌∷◌, [], MatchOption, reverse};
-ghost use Rattle.expr_predicates.specs.Arrays.{items_held};
+ghost use Rattle.expr_arguments.specs.Arrays.{items_held};
 ghost use Rattle.expr_predicates.specs.Lefts.{left_of};
 
-use crate::array::Array;
+use expr_arguments::Array;
 use expr_held::Held;
 use expr_value::Value;
 
@@ -25,11 +25,11 @@ impl<'s> Left<'s> {
     {
         match array {
             Array::Own(items) => {
-                let mut items = items;
+                let mut items = items.into_vec();
                 items.reverse();
                 Left::Own(items)
             }
-            Array::Lent(items) => Left::Front(items),
+            Array::Lent(items) => Left::Front(items.as_slice()),
         }
     }
 
@@ -38,8 +38,8 @@ impl<'s> Left<'s> {
         ensures { left_of result ≡ reverse (items_held array.entry) }
     {
         match array {
-            Array::Own(items) => Left::Own(items),
-            Array::Lent(items) => Left::Back(items),
+            Array::Own(items) => Left::Own(items.into_vec()),
+            Array::Lent(items) => Left::Back(items.as_slice()),
         }
     }
 

@@ -2,8 +2,6 @@
 #![tactic(auto)]
 
 mod arguments;
-mod array;
-mod asking;
 mod grouping;
 mod kept;
 mod laws;
@@ -13,7 +11,6 @@ mod question;
 mod run;
 mod sorting;
 
-pub use asking::Asking;
 pub use laws::{
     Predicate, a_list_has_one_stable_order, a_run_asks_about_its_items, a_run_is_a_list_of_replies,
     none_is_the_opposite_of_any,

@@ -2,18 +2,18 @@
 ghost use Rattle.std.specs.Prelude.{◌≡◌, ◌≢◌, ℕ, ◌+◌, ◌<◌, ◌^◌, ◌∷◌, ◌++◌, [], List, reverse, length, IfOk, IfErr, IfSome, Ok, Err, Some, None, option_map, true, false};
 ghost use Rattle.expr_value.specs.Answers.{Gives};
 ghost use Rattle.expr_value.specs.Fault.{fault_of, memory, evaluation};
-ghost use Rattle.expr_predicates.specs.Arrays.{items_held};
+ghost use Rattle.expr_arguments.specs.Arrays.{items_held};
 ghost use Rattle.expr_predicates.specs.Calls.{SortsItems};
 ghost use Rattle.expr_predicates.specs.Lefts.{left_of};
 
-use crate::arguments::{array_and_more, direction, is_downward};
-use crate::array::{Array, count_items, into_items};
-use crate::asking::Asking;
+use crate::arguments::{array_and_more, direction, is_downward, runs_alone};
 use crate::kept::Kept;
 use crate::left::Left;
 use crate::noted::Noted;
 use crate::question::Asked;
 use crate::sorting::sorted_alone;
+use expr_arguments::{Array, count_items, into_items};
+use expr_functions::Asking;
 use expr_held::Held;
 use expr_value::{Items, Result, Value, refusal};
 use std::alloc::Global;
@@ -154,7 +154,7 @@ impl<'s> PredicateRun<'s> {
         ensures refused { IfErr result (λ e. fault_of e ≢ memory
             → begun asking args.entry given ≡ Err (fault_of e)) }
     {
-        if !given && !asking.runs_alone() {
+        if !given && !runs_alone(asking) {
             return Err(refusal(alloc, "the function takes a predicate"));
         }
         let (array, more) = array_and_more(alloc, args)?;

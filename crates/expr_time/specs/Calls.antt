@@ -1,5 +1,5 @@
--- What the calls of times may answer on their arguments, with a host's zones and its moment, and their names.
-use Rattle.std.specs.Prelude.{◌≡◌, ℕ, List, Option, codes}
+-- What the calls of times may answer on their arguments, with a host's zones and its moment.
+use Rattle.std.specs.Prelude.{◌≡◌, ℕ, List, Option}
 use Rattle.expr_value.specs.Answers.{Answer}
 use Rattle.expr_value.specs.declared.moment.DateTimeValue.{DateTimeValue}
 use Rattle.expr_value.specs.declared.value.Value.{Value}
@@ -7,18 +7,11 @@ use Rattle.expr_value.specs.declared.zone.TimezoneValue.{TimezoneValue}
 use Rattle.expr_time.specs.Civil.{AllowsDate}
 use Rattle.expr_duration.specs.Methods as methods
 use Rattle.expr_time.specs.Zones.{now_answer, timezone_answer}
-use Rattle.expr_time.specs.declared.calls.TimeCall.{TimeCall}
-use Rattle.expr_time.specs.declared.calls.TimeCall.TheVariants as is
+use Rattle.expr_functions.specs.declared.functions.TimeCall.{TimeCall}
+use Rattle.expr_functions.specs.declared.functions.TimeCall.TheVariants as is
 
 abbrev pub Called : (List ℕ → Option TimezoneValue) → Option DateTimeValue → TimeCall → List Value → Answer → Type 0
 Called zones moment is.Date arguments answer = AllowsDate zones arguments answer
 Called zones moment is.Duration arguments answer = methods.Duration arguments answer
 Called zones moment is.Now arguments answer = answer ≡ now_answer moment arguments
 Called zones moment is.Timezone arguments answer = answer ≡ timezone_answer zones arguments
-
--- the name of a call
-abbrev pub name_of : TimeCall → List ℕ
-name_of is.Date = codes "date"
-name_of is.Duration = codes "duration"
-name_of is.Now = codes "now"
-name_of is.Timezone = codes "timezone"

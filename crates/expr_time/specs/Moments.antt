@@ -17,7 +17,7 @@ use Rattle.expr_value.specs.declared.zone.TimezoneValue.{TimezoneValue}
 use Rattle.expr_moment.specs.Dates.{AddsDate}
 use Rattle.expr_moment.specs.Fields.{between, field_name, field_of, zero_instant}
 use Rattle.expr_layout.specs.Layouts.{Formats}
-use Rattle.expr_duration.specs.Methods.{alone, one_duration, one_text}
+use Rattle.expr_arguments.specs.Arguments.{alone, one_duration, one_of, one_text}
 use Rattle.expr_moment.specs.Places.{given, location_of, placed, utc}
 use Rattle.expr_time.specs.declared.moments.DateTimeMethod.{DateTimeMethod}
 use Rattle.expr_time.specs.declared.moments.DateTimeMethod.TheVariants as is
@@ -30,14 +30,10 @@ timezone_of v = elim (out-Value v) [ Value-F.Timezone z ↦ Some z | _ ↦ None 
 
 -- the argument, if it is one moment or one zone
 abbrev pub one_moment : List Value → Option DateTimeValue
-one_moment [] = None
-one_moment (v ∷ []) = moment_of v
-one_moment (v ∷ w ∷ more) = None
+one_moment = one_of moment_of
 
 abbrev pub one_zone : List Value → Option TimezoneValue
-one_zone [] = None
-one_zone (v ∷ []) = timezone_of v
-one_zone (v ∷ w ∷ more) = None
+one_zone = one_of timezone_of
 
 -- three integers
 abbrev pub all_integers : Option ℤ → Option ℤ → Option ℤ → Option (ℤ × ℤ × ℤ)

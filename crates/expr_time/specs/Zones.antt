@@ -7,7 +7,7 @@ use Rattle.expr_value.specs.declared.moment.Place.TheVariants.{Zone}
 use Rattle.expr_value.specs.declared.value.Value as value
 use Rattle.expr_value.specs.declared.value.Value.{Value}
 use Rattle.expr_value.specs.declared.zone.TimezoneValue.{TimezoneValue}
-use Rattle.expr_duration.specs.Methods.{alone, one_text}
+use Rattle.expr_arguments.specs.Arguments.{alone, one_text}
 use Rattle.expr_time.specs.Moments.{answer_for}
 use Rattle.expr_moment.specs.Places.{placed, utc}
 

@@ -8,7 +8,7 @@ mod laws;
 mod moments;
 mod zones;
 
-pub use calls::TimeCall;
+pub use calls::call_time;
 pub use laws::{printed_moments_are_read, stamps_go_by_a_layout};
 pub use moments::{DateTimeMethod, NameMethod};
 pub use zones::{UtcAlone, Zones};

@@ -11,12 +11,12 @@ ghost use Rattle.expr_value.specs.Times.{instant, moment_string, place_of};
 ghost use Rattle.expr_value.specs.declared.moment.Place.TheVariants.{Zone};
 ghost use Rattle.expr_moment.specs.Dates.{AddsDate};
 ghost use Rattle.expr_moment.specs.Fields.{between, field_of};
-ghost use Rattle.expr_duration.specs.Methods.{alone, one_duration};
+ghost use Rattle.expr_arguments.specs.Arguments.{alone, one_duration};
 ghost use Rattle.expr_time.specs.Moments.{AddsDates, AnsweredAt, answer_for, compared, instant_rounded, instant_truncated, located, moment_method, name_answer, name_method, one_moment, one_zone, three_integers, timezone_of};
 ghost use Rattle.expr_moment.specs.Places.{given, location_of, placed, utc};
 
+use expr_arguments::{one_duration, without};
 use expr_clock::show_stamp;
-use expr_duration::{one_duration, without};
 use expr_held::Held;
 use expr_layout::format;
 use expr_moment::{

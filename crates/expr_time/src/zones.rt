@@ -5,7 +5,7 @@ ghost use Rattle.expr_value.specs.Answers.{Is};
 ghost use Rattle.expr_time.specs.Zones.{now_answer, timezone_answer, zone_named};
 
 use crate::moments::in_utc;
-use expr_duration::one_text;
+use expr_arguments::one_text;
 use expr_held::Held;
 use expr_moment::utc;
 use expr_value::{DateTimeValue, Error, Result, TimezoneValue, Value, refusal};

@@ -3,7 +3,7 @@ use Rattle.std.specs.Option.{option_map}
 use Rattle.std.proofs.lemmas.Iterator.Adapters.{YieldsList-from_vec}
 use Rattle.std.proofs.lemmas.Iterator.Consumers.{YieldsList-turn}
 use Rattle.expr_value.specs.Values.{items_of}
-use Rattle.expr_builtins.specs.Arrays.{items_held}
+use Rattle.expr_arguments.specs.Arrays.{items_held}
 use Rattle.expr_builtins.specs.Collections.{in_a_row}
 use Rattle.expr_builtins.proofs.Each.{all_of-refused, row_after}
 use Rattle.expr_builtins.proofs.collection.appended.Goals as goal

@@ -1,7 +1,7 @@
 use Rattle.std.proofs.Common.{◌≡◌, ◌++◌, Some}
 use Rattle.std.specs.Option.{option_map}
 use Rattle.expr_value.specs.Values.{items_of}
-use Rattle.expr_builtins.specs.Arguments.{all_of}
+use Rattle.expr_arguments.specs.Arguments.{all_of}
 use Rattle.expr_builtins.specs.Collections.{in_a_row}
 use Rattle.expr_builtins.proofs.collection.appended.Given as goal
 

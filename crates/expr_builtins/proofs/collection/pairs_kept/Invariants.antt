@@ -1,5 +1,5 @@
 use Rattle.std.proofs.Common.{◌≡◌, Some}
-use Rattle.expr_builtins.specs.Arguments.{all_of}
+use Rattle.expr_arguments.specs.Arguments.{all_of}
 use Rattle.expr_builtins.specs.Collections.{pair_of}
 use Rattle.expr_builtins.proofs.collection.pairs_kept.Given as goal
 

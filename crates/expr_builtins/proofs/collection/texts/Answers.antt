@@ -1,7 +1,7 @@
 use Rattle.std.proofs.Common.{Bor, ℕ, List, [], ◌∷◌, ◌++◌, Some, map, take, ap, sym, ◌∙◌}
 use Rattle.std.proofs.lemmas.List.{map-append, take_more}
 use Rattle.expr_value.specs.Values.{string_of}
-use Rattle.expr_builtins.specs.Arguments.{all_of}
+use Rattle.expr_arguments.specs.Arguments.{all_of}
 use Rattle.expr_builtins.proofs.Each.{all_of-refused, all_of-next}
 use Rattle.expr_builtins.proofs.collection.texts.Goals as goal
 

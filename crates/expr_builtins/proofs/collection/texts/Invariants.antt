@@ -1,6 +1,6 @@
 use Rattle.std.proofs.Common.{◌≡◌, map, take, Some}
 use Rattle.expr_value.specs.Values.{string_of}
-use Rattle.expr_builtins.specs.Arguments.{all_of}
+use Rattle.expr_arguments.specs.Arguments.{all_of}
 use Rattle.expr_builtins.proofs.collection.texts.Given as goal
 
 abbrev pub invariant-loop-i : goal.invariant-loop-i

@@ -1,7 +1,7 @@
 use Rattle.std.proofs.Common.{◌≡◌, rules, [], ◌∷◌, ◌++◌, Some, take, ap, sym, ◌∙◌}
 use Rattle.std.proofs.lemmas.List.{take_more}
 use Rattle.expr_value.specs.Values.{integer_of}
-use Rattle.expr_builtins.specs.Arguments.{all_of}
+use Rattle.expr_arguments.specs.Arguments.{all_of}
 use Rattle.expr_builtins.proofs.Each.{all_of-refused, all_of-next}
 use Rattle.expr_builtins.proofs.number.integers.Goals as goal
 

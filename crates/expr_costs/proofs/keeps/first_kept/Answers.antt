@@ -2,7 +2,7 @@ use Rattle.std.proofs.Common.{◌≡◌, [], ◌∷◌, option_map, sym, ap, ◌
 use Rattle.std.proofs.lemmas.Bool.{false≢true}
 use Rattle.expr_costs.proofs.Places.{one_item, two_items}
 use Rattle.expr_costs.proofs.Reducing.{reduced_from, reduced_with}
-use Rattle.expr_predicates.specs.declared.asking.Asking.TheVariants.{Reduce}
+use Rattle.expr_functions.specs.declared.functions.Asking.TheVariants.{Reduce}
 use Rattle.expr_costs.proofs.keeps.first_kept.Goals as goal
 use Rattle.expr_costs.proofs.keeps.first_kept.Goals.{in-Reduce, in_default}
 

@@ -6,7 +6,7 @@ use Rattle.std.proofs.Math.Path.{subst}
 use Rattle.expr_clock.specs.Durations.{duration_text}
 use Rattle.expr_value.specs.Answers.{Is}
 use Rattle.expr_value.specs.declared.value.Value.{String}
-use Rattle.expr_duration.specs.Methods.{alone}
+use Rattle.expr_arguments.specs.Arguments.{alone}
 use Rattle.expr_duration.proofs.method.string.Goals as goal
 
 pub returns : goal.returns

@@ -9,8 +9,9 @@ use Rattle.expr_predicates.proofs.Opposite.{none_opposite}
 use Rattle.expr_predicates.specs.Calls.{AllowsAsking, array_then, begun, started_on}
 use Rattle.expr_predicates.specs.Runs.{Asks}
 use Rattle.expr_predicates.specs.Tasks.{Question, Task, any_holds, none_holds}
-use Rattle.expr_predicates.specs.declared.asking.Asking.{Asking}
-use Rattle.expr_predicates.specs.declared.asking.Asking.TheVariants.{Any, NoneOf}
+use Rattle.expr_functions.specs.Functions.{builtin_named}
+use Rattle.expr_functions.specs.declared.functions.Asking.{Asking}
+use Rattle.expr_functions.specs.declared.functions.Asking.TheVariants.{Any, NoneOf}
 use Rattle.expr_steps.specs.Context.{Context}
 use Rattle.expr_meaning.specs.Allows.{Allows, AllowsAll, AllowsAsked, AllowsCall}
 use Rattle.expr_meaning.specs.Calls.{AllowsBuiltin}
@@ -47,9 +48,11 @@ module _ (host : Host) (ctx : Context) (array : Term) (block : Block) (items : L
   begins b t v e p = subst (λ s. Goes s (λ s. Asks s.task asks s.items []) (Ok v)) e p
 
   run_of_any : (v : Value) → host.is_added (codes "any") ≡ false → Asked (codes "any") v → Asks any_holds asks items [] (Ok v)
+  unfolding builtin_named
   run_of_any v added p = begins Any any_holds v (ap (λ o. started_on Any (array_then o None)) (items-array items)) (built_in (codes "any") v added p)
 
   run_of_none : (v : Value) → host.is_added (codes "none") ≡ false → Asked (codes "none") v → Asks none_holds asks items [] (Ok v)
+  unfolding builtin_named
   run_of_none v added p = begins NoneOf none_holds v (ap (λ o. started_on NoneOf (array_then o None)) (items-array items)) (built_in (codes "none") v added p)
 
 pub returns : goal.returns

@@ -1,5 +1,5 @@
 use Rattle.std.proofs.Common.{refl, sym, ap, ◌∙◌}
-use Rattle.expr_predicates.specs.Arrays.{items_held}
+use Rattle.expr_arguments.specs.Arrays.{items_held}
 use Rattle.expr_predicates.specs.Calls.{reduced_from_first}
 use Rattle.expr_predicates.specs.Tasks.{reducing}
 use Rattle.expr_predicates.proofs.Beginning.{same_ok}

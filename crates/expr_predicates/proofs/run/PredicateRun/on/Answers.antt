@@ -1,8 +1,8 @@
 use Rattle.std.proofs.Common.{reverse, Ok, None, false, refl, sym, ap}
 use Rattle.std.specs.Prelude.{pos}
-use Rattle.expr_predicates.specs.Arrays.{items_held}
+use Rattle.expr_arguments.specs.Arrays.{items_held}
 use Rattle.expr_predicates.specs.Tasks.{all_hold, any_holds, none_holds, one_holds, mapping, filtering, finding, finding_place, finding_last_place, counting, summing, grouping, sorting}
-use Rattle.expr_predicates.specs.declared.asking.Asking.TheVariants as asking
+use Rattle.expr_functions.specs.declared.functions.Asking.TheVariants as asking
 use Rattle.expr_predicates.specs.declared.run.Gathered.TheVariants as gathered
 use Rattle.expr_predicates.specs.declared.noted.Noted.TheVariants as noted
 use Rattle.expr_predicates.specs.declared.kept.Kept.TheVariants as kept

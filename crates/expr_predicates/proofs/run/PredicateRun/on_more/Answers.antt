@@ -1,9 +1,9 @@
 use Rattle.std.proofs.Common.{Some, refl, sym, ap, ◌∙◌}
 use Rattle.expr_value.specs.Values.{string_of}
-use Rattle.expr_predicates.specs.Arrays.{items_held}
+use Rattle.expr_arguments.specs.Arrays.{items_held}
 use Rattle.expr_predicates.specs.Calls.{direction_named, sorted_in}
 use Rattle.expr_predicates.specs.Tasks.{reducing, sorting}
-use Rattle.expr_predicates.specs.declared.asking.Asking.TheVariants as asking
+use Rattle.expr_functions.specs.declared.functions.Asking.TheVariants as asking
 use Rattle.expr_predicates.specs.declared.run.Gathered.TheVariants as gathered
 use Rattle.expr_predicates.specs.declared.kept.Kept.TheVariants as kept
 use Rattle.expr_predicates.proofs.Beginning.{begun_as, same_ok}

@@ -1,0 +1,12 @@
+//! The arguments of calls, by number and kinds.
+#![tactic(auto)]
+
+mod arguments;
+mod array;
+
+pub use arguments::{
+    array_and_integer, array_and_text, one_array, one_duration, one_integer, one_or_two_texts,
+    one_text, one_value, text_and_integer, three_texts_and_limit, two_integers, two_texts,
+    two_texts_and_limit, two_values, without,
+};
+pub use array::{Array, array_of, count_items, each_held, each_kept, into_items};

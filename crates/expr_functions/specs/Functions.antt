@@ -1,0 +1,31 @@
+-- The built-in of a name, by the table of all.
+use Rattle.std.specs.Prelude.{ℕ, List, Option, None, Some, bytes_eq}
+use Rattle.std.specs.Map.{lookup}
+use Rattle.std.specs.Option.{option_or}
+use Rattle.expr_functions.specs.declared.functions.TheConstants.{OF_THREE, OF_FOUR, OF_FIVE, OF_SIX, OF_SEVEN, OF_MORE}
+use Rattle.expr_functions.specs.declared.functions.Builtin.{Builtin}
+use Rattle.expr_functions.specs.declared.functions.Builtin.TheVariants.{Asks}
+use Rattle.expr_functions.specs.declared.functions.Asking.{Asking}
+
+-- what stands beside a name in a part of the table
+abbrev pub found_in : {K : Type 0} → (K → List ℕ) → List (K × Builtin) → List ℕ → Option Builtin
+found_in word lines name = lookup (λ key. bytes_eq name (word key)) lines
+
+-- the built-in of a name, in the first part of the table that has it
+unfoldable pub builtin_named : List ℕ → Option Builtin
+builtin_named name =
+    option_or (found_in (λ word. word.now) OF_THREE name) (
+    option_or (found_in (λ word. word.now) OF_FOUR name) (
+    option_or (found_in (λ word. word.now) OF_FIVE name) (
+    option_or (found_in (λ word. word.now) OF_SIX name) (
+    option_or (found_in (λ word. word.now) OF_SEVEN name) (
+    found_in (λ word. word.now) OF_MORE name
+    )))))
+
+-- the one that asks a predicate
+abbrev pub asking_of : Option Builtin → Option Asking
+asking_of (Some (Asks asking)) = Some asking
+asking_of o = None
+
+abbrev pub asking_named : List ℕ → Option Asking
+asking_named name = asking_of (builtin_named name)
