@@ -14,6 +14,7 @@ use Rattle.expr_value.specs.declared.value.Value.{Value}
 use Rattle.expr_meaning.proofs.Faults.{program_faults}
 use Rattle.expr_meaning.specs.Allows.{AllowsBlock}
 use Rattle.expr_meaning.specs.Host.{Host, no_host}
+use Rattle.expr_meaning.specs.World.{World, world_of}
 use Rattle.expr_meaning.specs.Refusals.{NeverRefusesWith}
 use Rattle.expr.specs.Texts.{IsOwnFault}
 
@@ -23,14 +24,14 @@ has_tree text b p none = absurd (none p.tree p.is_tree)
 
 -- Where no function of the host answers a syntax fault, no program comes to one.
 module _ (host : Host) (never : NeverRefusesWith host syntax) (ctx : Context) (b : Block) where
-  no_syntax : (place : ℕ) → ¬ (Gives {A = Value} (Err (PestError place)) (AllowsBlock host ctx b))
+  no_syntax : (place : ℕ) → ¬ (Gives {A = Value} (Err (PestError place)) (AllowsBlock (world_of host ctx) b))
   no_syntax place p =
       let no_evaluation : syntax ≢ evaluation = λ e. cc in
       let no_pattern : syntax ≢ pattern = λ e. cc in
       let no_memory : syntax ≢ memory = λ e. cc in
       program_faults syntax no_evaluation no_pattern host never ctx b (p no_memory)
 
-  pub place_never : (text : List ℕ) (r : Result Value Error) → Gives r (AllowsBlock host ctx b) → IsPlaced text r
+  pub place_never : (text : List ℕ) (r : Result Value Error) → Gives r (AllowsBlock (world_of host ctx) b) → IsPlaced text r
   place_never text (Ok v) p = tt
   place_never text (Err (PestError place)) p = absurd (no_syntax place p)
   place_never text (Err (ParseError message)) p = tt
@@ -38,22 +39,22 @@ module _ (host : Host) (never : NeverRefusesWith host syntax) (ctx : Context) (b
   place_never text (Err (RegexError error)) p = tt
   place_never text (Err MemoryError) p = tt
 
-  pub boundary_never : (text : List ℕ) (r : Result Value Error) → Gives r (AllowsBlock host ctx b) → (place : ℕ) → r ≡ Err (PestError place) → IsCharBoundary text place
-  boundary_never text r p place e = absurd (no_syntax place (subst (λ s. Gives s (AllowsBlock host ctx b)) e p))
+  pub boundary_never : (text : List ℕ) (r : Result Value Error) → Gives r (AllowsBlock (world_of host ctx) b) → (place : ℕ) → r ≡ Err (PestError place) → IsCharBoundary text place
+  boundary_never text r p place e = absurd (no_syntax place (subst (λ s. Gives s (AllowsBlock (world_of host ctx) b)) e p))
 
 -- a host that adds nothing answers none
 pub nothing_refuses : NeverRefusesWith no_host syntax
 nothing_refuses key vs added p = p
 
 -- a program is run whose text has it, so that a syntax fault of the text's own is none of the program's
-module _ (text : List ℕ) (host : Host) (ctx : Context) (b : Block) (of : IsProgramOf text b) (r : Result Value Error) (gives : Gives r (AllowsBlock host ctx b)) where
-  pub place_of_run : IsOwnFault text host → IsPlaced text r
+module _ (text : List ℕ) (world : World) (b : Block) (of : IsProgramOf text b) (r : Result Value Error) (gives : Gives r (AllowsBlock world b)) where
+  pub place_of_run : IsOwnFault text world.host → IsPlaced text r
   place_of_run (inl none) = has_tree text b of none
-  place_of_run (inr never) = place_never host never ctx b text r gives
+  place_of_run (inr never) = place_never world.host never world.context b text r gives
 
-  pub boundary_of_run : IsOwnFault text host → (place : ℕ) → r ≡ Err (PestError place) → IsCharBoundary text place
+  pub boundary_of_run : IsOwnFault text world.host → (place : ℕ) → r ≡ Err (PestError place) → IsCharBoundary text place
   boundary_of_run (inl none) place e = has_tree text b of none
-  boundary_of_run (inr never) place e = boundary_never host never ctx b text r gives place e
+  boundary_of_run (inr never) place e = boundary_never world.host never world.context b text r gives place e
 
 -- a refusal that is passed on keeps its place, whatever would have been given
 module _ (A B : Type 0) (text : List ℕ) where

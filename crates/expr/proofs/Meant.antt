@@ -25,8 +25,7 @@ use Rattle.expr_value.specs.declared.value.Value.{Value, roll-Value, map-Value, 
 use Rattle.expr_value.specs.declared.value.Value.TheOpen.{Value-F}
 use Rattle.expr_operators.specs.Operators.{prefixed}
 use Rattle.expr_meaning.specs.Allows.{Allows, AllowsAll, AllowsPairs}
-use Rattle.expr_steps.specs.Context.{Context}
-use Rattle.expr_meaning.specs.Host.{Host}
+use Rattle.expr_meaning.specs.World.{World}
 
 -- a step that answers this value alone
 abbrev pub Only : {A : Type 0} → (Result A Fault → Type 0) → A → Type 0
@@ -96,9 +95,9 @@ all_from_none (p ∷ ps) = (tt, all_from_none ps)
 put_back : (ps : List Named) → are_distinct (keys_of ps) ≡ true → put_all [] ps ≡ ps
 put_back ps apart = put_apart [] ps (all_from_none ps) apart
 
-module _ (host : Host) (ctx : Context) where
+module _ (world : World) where
   -- where every value is a literal, the pairs mean those
-  literal_allowed : (t : Term) (v : Value) → value_of t ≡ Some v → Allows host ctx t (Ok v)
+  literal_allowed : (t : Term) (v : Value) → value_of t ≡ Some v → Allows world t (Ok v)
   literal_allowed (literal w) v e = cc
   literal_allowed (name key) v e = let d : ⊥ = cc in absurd d
   literal_allowed (list ts) v e = let d : ⊥ = cc in absurd d
@@ -110,38 +109,38 @@ module _ (host : Host) (ctx : Context) where
   literal_allowed (postfix p t) v e = let d : ⊥ = cc in absurd d
   literal_allowed (choice c first second) v e = let d : ⊥ = cc in absurd d
 
-  literals_allowed : (ps : terms.LineTerms) → has_expression ps ≡ false → AllowsPairs host ctx (terms.pairs_of ps) (Ok (literals ps))
+  literals_allowed : (ps : terms.LineTerms) → has_expression ps ≡ false → AllowsPairs world (terms.pairs_of ps) (Ok (literals ps))
   literals_allowed [] h = refl
   literals_allowed (p ∷ ps) h = choose (literals_allowed ps) (value_of p.1) refl
     where
-      choose : (has_expression ps ≡ false → AllowsPairs host ctx (terms.pairs_of ps) (Ok (literals ps))) → (o : Option Value) → value_of p.1 ≡ o
-          → AllowsPairs host ctx (terms.pairs_of (p ∷ ps)) (Ok (literals (p ∷ ps)))
+      choose : (has_expression ps ≡ false → AllowsPairs world (terms.pairs_of ps) (Ok (literals ps))) → (o : Option Value) → value_of p.1 ≡ o
+          → AllowsPairs world (terms.pairs_of (p ∷ ps)) (Ok (literals (p ∷ ps)))
       choose others None e = absurd (false≢true (sym h ∙ ap (λ o. is_none o || has_expression ps) e))
       choose others (Some v) e =
           let all : literals (p ∷ ps) ≡ (p.0, v) ∷ literals ps = ap (λ o. cons_option (option_map (λ w. (p.0, w)) o) (literals ps)) e in
           (Ok v, literal_allowed p.1 v e, (Ok (literals ps), others (ap (λ o. is_none o || has_expression ps) (sym e) ∙ h), ap Ok all))
 
   abbrev IsMeant : Value → Type 0
-  IsMeant v = is_readable v ≡ true → Only (Allows host ctx (printed_term v)) v
+  IsMeant v = is_readable v ≡ true → Only (Allows world (printed_term v)) v
 
-  integer_only : (n : ℤ) → is_above_least n ≡ true → Only (Allows host ctx (integer_term n)) (value.Integer n)
+  integer_only : (n : ℤ) → is_above_least n ≡ true → Only (Allows world (integer_term n)) (value.Integer n)
   integer_only (pos n) h = only_is (value.Integer (pos n))
   integer_only (negsuc n) h =
-      then_only (Allows host ctx (literal (value.Integer (pos (suc n))))) (λ v a. a ≡ prefixed operator.Negative v) (value.Integer (pos (suc n))) (value.Integer (negsuc n))
+      then_only (Allows world (literal (value.Integer (pos (suc n))))) (λ v a. a ≡ prefixed operator.Negative v) (value.Integer (pos (suc n))) (value.Integer (negsuc n))
       (only_is (value.Integer (pos (suc n)))) (λ x e. e ∙ negated n h, sym (negated n h))
 
   -- arrays
-  all_only : (es : List (Such IsMeant)) → list_all (λ b. b) (map is_readable (values_of es)) ≡ true → Only (AllowsAll host ctx (terms_of (map printed_term (values_of es)))) (values_of es)
+  all_only : (es : List (Such IsMeant)) → list_all (λ b. b) (map is_readable (values_of es)) ≡ true → Only (AllowsAll world (terms_of (map printed_term (values_of es)))) (values_of es)
   all_only [] h = only_is []
   all_only (e ∷ es) h =
       let parts = and_parts _ _ h in
-      let rest = AllowsAll host ctx (terms_of (map printed_term (values_of es))) in
-      then_only (Allows host ctx (printed_term e.0)) (λ v. After rest (λ vs a. a ≡ Ok (v ∷ vs))) e.0 (e.0 ∷ values_of es) (e.1 parts.0)
+      let rest = AllowsAll world (terms_of (map printed_term (values_of es))) in
+      then_only (Allows world (printed_term e.0)) (λ v. After rest (λ vs a. a ≡ Ok (v ∷ vs))) e.0 (e.0 ∷ values_of es) (e.1 parts.0)
       (then_only rest (λ vs a. a ≡ Ok (e.0 ∷ vs)) (values_of es) (e.0 ∷ values_of es) (all_only es parts.1) (only_is (e.0 ∷ values_of es)))
 
-  items_only : (es : List (Such IsMeant)) → list_all (λ b. b) (map is_readable (values_of es)) ≡ true → Only (Allows host ctx (list (terms_of (map printed_term (values_of es))))) (value.Array (values_of es))
+  items_only : (es : List (Such IsMeant)) → list_all (λ b. b) (map is_readable (values_of es)) ≡ true → Only (Allows world (list (terms_of (map printed_term (values_of es))))) (value.Array (values_of es))
   items_only es h =
-      then_only (AllowsAll host ctx (terms_of (map printed_term (values_of es)))) (λ vs a. a ≡ Ok (value.Array vs)) (values_of es) (value.Array (values_of es))
+      then_only (AllowsAll world (terms_of (map printed_term (values_of es)))) (λ vs a. a ≡ Ok (value.Array vs)) (values_of es) (value.Array (values_of es))
       (all_only es h) (only_is (value.Array (values_of es)))
 
   -- maps
@@ -151,17 +150,17 @@ module _ (host : Host) (ctx : Context) where
   abbrev written : List (List ℕ × Such IsMeant) → terms.LineTerms
   written ps = with_each printed_term (pairs_of ps)
 
-  pairs_only : (ps : List (List ℕ × Such IsMeant)) → ReadablePairs ps → Only (AllowsPairs host ctx (terms.pairs_of (written ps))) (pairs_of ps)
+  pairs_only : (ps : List (List ℕ × Such IsMeant)) → ReadablePairs ps → Only (AllowsPairs world (terms.pairs_of (written ps))) (pairs_of ps)
   pairs_only [] h = only_is []
   pairs_only (p ∷ ps) h =
       let parts = and_parts _ _ h in
-      let rest = AllowsPairs host ctx (terms.pairs_of (written ps)) in
+      let rest = AllowsPairs world (terms.pairs_of (written ps)) in
       let all : List Named = (p.0, p.1.0) ∷ pairs_of ps in
-      then_only (Allows host ctx (printed_term p.1.0)) (λ v. After rest (λ ms a. a ≡ Ok ((p.0, v) ∷ ms))) p.1.0 all (p.1.1 (and_parts _ _ parts.0).1)
+      then_only (Allows world (printed_term p.1.0)) (λ v. After rest (λ ms a. a ≡ Ok ((p.0, v) ∷ ms))) p.1.0 all (p.1.1 (and_parts _ _ parts.0).1)
       (then_only rest (λ ms a. a ≡ Ok ((p.0, p.1.0) ∷ ms)) (pairs_of ps) all (pairs_only ps parts.1) (only_is all))
 
   map_only : (ps : List (List ℕ × Such IsMeant)) → are_distinct (keys_of (with_each is_readable (pairs_of ps))) ≡ true → ReadablePairs ps
-      → Only (Allows host ctx (map_term (written ps))) (value.Map (pairs_of ps))
+      → Only (Allows world (map_term (written ps))) (value.Map (pairs_of ps))
   map_only ps apart h = ⊎_elim of_pairs of_literals (cases_Bool (has_expression (written ps)))
     where
       keys_same : (qs : List Named) → keys_of (with_each is_readable qs) ≡ keys_of qs
@@ -171,22 +170,22 @@ module _ (host : Host) (ctx : Context) where
       back : value.Map (put_all [] (pairs_of ps)) ≡ value.Map (pairs_of ps)
       back = ap value.Map (put_back (pairs_of ps) (ap are_distinct (sym (keys_same (pairs_of ps))) ∙ apart))
 
-      of_pairs : has_expression (written ps) ≡ true → Only (Allows host ctx (map_term (written ps))) (value.Map (pairs_of ps))
+      of_pairs : has_expression (written ps) ≡ true → Only (Allows world (map_term (written ps))) (value.Map (pairs_of ps))
       of_pairs e =
-          subst (λ t. Only (Allows host ctx t) (value.Map (pairs_of ps))) (sym (cond-true _ _ _ e))
-          (then_only (AllowsPairs host ctx (terms.pairs_of (written ps))) (λ ms a. a ≡ Ok (value.Map (put_all [] ms))) (pairs_of ps) (value.Map (pairs_of ps))
+          subst (λ t. Only (Allows world t) (value.Map (pairs_of ps))) (sym (cond-true _ _ _ e))
+          (then_only (AllowsPairs world (terms.pairs_of (written ps))) (λ ms a. a ≡ Ok (value.Map (put_all [] ms))) (pairs_of ps) (value.Map (pairs_of ps))
           (pairs_only ps h) (λ x is. is ∙ ap Ok back, sym (ap Ok back)))
 
-      of_literals : has_expression (written ps) ≡ false → Only (Allows host ctx (map_term (written ps))) (value.Map (pairs_of ps))
+      of_literals : has_expression (written ps) ≡ false → Only (Allows world (map_term (written ps))) (value.Map (pairs_of ps))
       of_literals e =
           let same : Ok (literals (written ps)) ≡ Ok (pairs_of ps) = (pairs_only ps h).0 (Ok (literals (written ps))) (literals_allowed (written ps) e) in
           let all : literals (written ps) ≡ pairs_of ps = cc in
           let here : Ok (value.Map (put_all [] (literals (written ps)))) ≡ Ok (value.Map (pairs_of ps)) = ap (λ ms. Ok (value.Map (put_all [] ms))) all ∙ ap Ok back in
-          subst (λ t. Only (Allows host ctx t) (value.Map (pairs_of ps))) (sym (cond-false _ _ _ e)) (λ x is. is ∙ here, sym here)
+          subst (λ t. Only (Allows world t) (value.Map (pairs_of ps))) (sym (cond-false _ _ _ e)) (λ x is. is ∙ here, sym here)
 
   -- one layer
   layer_only : (y : Value-F (Such IsMeant)) → readable_layer (map-Value Value Bool is_readable (bare y)) ≡ true
-      → Only (Allows host ctx (term_layer (map-Value Value Term printed_term (bare y)))) (roll-Value (bare y))
+      → Only (Allows world (term_layer (map-Value Value Term printed_term (bare y)))) (roll-Value (bare y))
   unfolding roll-Value denote.Hole.Carrier.roll
   layer_only (Value-F.Integer n) h = integer_only n h
   layer_only (Value-F.Bool b) h = only_is (value.Bool b)
@@ -204,4 +203,4 @@ module _ (host : Host) (ctx : Context) where
 
   pub printed_only : (v : Value) → IsMeant v
   printed_only = by_layers IsMeant (λ y h.
-      subst (λ t. Only (Allows host ctx t) (roll-Value (bare y))) (sym (fold-roll-Value Term term_layer (bare y))) (layer_only y (readable_at (bare y) h)))
+      subst (λ t. Only (Allows world t) (roll-Value (bare y))) (sym (fold-roll-Value Term term_layer (bare y))) (layer_only y (readable_at (bare y) h)))

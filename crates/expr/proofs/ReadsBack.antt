@@ -16,14 +16,13 @@ use Rattle.expr_value.specs.declared.error.Error.{Error}
 use Rattle.expr_value.specs.declared.error.Error.TheVariants.{PestError, ParseError, ExprError, RegexError, MemoryError}
 use Rattle.expr_value.specs.declared.value.Value.{Value}
 use Rattle.expr_meaning.specs.Allows.{Allows, AllowsBlock}
-use Rattle.expr_steps.specs.Context.{Context}
-use Rattle.expr_meaning.specs.Host.{Host}
+use Rattle.expr_meaning.specs.World.{World}
 use Rattle.expr.proofs.Meant.{printed_only}
 
 -- what a program of that text gives is the value
-only_value : (host : Host) (ctx : Context) (v : Value) → IsTrue (is_readable v) → (r : Result Value Error) → Gives r (Allows host ctx (printed_term v)) → Is r (Ok v)
-only_value host ctx v h (Ok w) p = sym ((printed_only host ctx v h).0 (Ok w) p)
-only_value host ctx v h (Err e) p = λ m. sym ((printed_only host ctx v h).0 (Err (fault_of e)) (p m))
+only_value : (world : World) (v : Value) → IsTrue (is_readable v) → (r : Result Value Error) → Gives r (Allows world (printed_term v)) → Is r (Ok v)
+only_value world v h (Ok w) p = sym ((printed_only world v h).0 (Ok w) p)
+only_value world v h (Err e) p = λ m. sym ((printed_only world v h).0 (Err (fault_of e)) (p m))
 
 -- a refusal by `compile` of a text with a tree whose literals fit is one for memory
 only_memory : (t : TreeProgram) → LiteralsFit t → (e : Error) → IsAnswerFor t (Err e) → (v : Value) → Is (Err e) (Ok v)
@@ -42,11 +41,11 @@ module _ (text : List ℕ) (v : Value) (h : IsTrue (is_readable v)) (same : text
   abbrev program : IsProgramOf text (answers (printed_term v))
   program = subst (λ s. IsProgramOf s (answers (printed_term v))) (sym same) (printed_program v h)
 
-  pub back_from_run : (host : Host) (ctx : Context) (p : Program) → ((t : TreeProgram) → IsTreeOf text t → IsAnswerFor t (Ok p))
-      → (r : Result Value Error) → Gives r (AllowsBlock host ctx (program_written p)) → Is r (Ok v)
-  back_from_run host ctx p only r gives =
+  pub back_from_run : (world : World) (p : Program) → ((t : TreeProgram) → IsTreeOf text t → IsAnswerFor t (Ok p))
+      → (r : Result Value Error) → Gives r (AllowsBlock world (program_written p)) → Is r (Ok v)
+  back_from_run world p only r gives =
       let is : program_written p ≡ answers (printed_term v) = (only program.tree program.is_tree).0 ∙ sym program.same in
-      only_value host ctx v h r (subst (λ b. Gives r (AllowsBlock host ctx b)) is gives)
+      only_value world v h r (subst (λ b. Gives r (AllowsBlock world b)) is gives)
 
   pub back_refused : (e : Error) → ((t : TreeProgram) → IsTreeOf text t → IsAnswerFor t (Err e)) → (r : Result Value Error) → IsErrAnd r (λ x. x ≡ e) → Is r (Ok v)
   back_refused e only r passed = is_passed r e (Ok v) passed (only_memory program.tree program.literals e (only program.tree program.is_tree) v)

@@ -14,6 +14,7 @@ use Rattle.expr_value.specs.declared.value.Value.{Value}
 use Rattle.expr_meaning.specs.Allows.{AllowsBlock}
 use Rattle.expr_steps.specs.Context.{Context}
 use Rattle.expr_meaning.specs.Host.{no_host}
+use Rattle.expr_meaning.specs.World.{world_of}
 use Rattle.expr.proofs.Meant.{printed_only}
 
 -- a text has one program
@@ -28,5 +29,5 @@ pub same_text : (v w : Value) → IsTrue (is_readable v) → IsTrue (is_readable
 same_text v w p q same =
     let ctx : Context = record { value_of = λ _. None; map = [] } in
     let programs : answers (printed_term w) ≡ answers (printed_term v) = one_program (text_of v) _ _ (subst (λ s. IsProgramOf s (answers (printed_term w))) (sym same) (printed_program w q)) (printed_program v p) in
-    let allowed : AllowsBlock no_host ctx (answers (printed_term w)) (Ok v) = subst (λ b. AllowsBlock no_host ctx b (Ok v)) (sym programs) (printed_only no_host ctx v p).1 in
-    let both : Ok v ≡ Ok w = (printed_only no_host ctx w q).0 (Ok v) allowed in cc
+    let allowed : AllowsBlock (world_of no_host ctx) (answers (printed_term w)) (Ok v) = subst (λ b. AllowsBlock (world_of no_host ctx) b (Ok v)) (sym programs) (printed_only (world_of no_host ctx) v p).1 in
+    let both : Ok v ≡ Ok w = (printed_only (world_of no_host ctx) w q).0 (Ok v) allowed in cc

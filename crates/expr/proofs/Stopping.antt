@@ -9,7 +9,7 @@ use Rattle.expr_meaning.specs.Host.{Host}
 use Rattle.expr_predicates.specs.Calls.{Start, begun}
 use Rattle.expr_predicates.specs.Tasks.{Question, Reply, Task, Outcome, about, stopped, refused}
 use Rattle.expr_sizes.specs.Sizes.{depth, inside, weight}
-use Rattle.expr_steps.specs.Context.{Context}
+use Rattle.expr_meaning.specs.World.{World}
 use Rattle.expr_value.specs.Answers.{Answer}
 use Rattle.expr_value.specs.Fault.{Fault, evaluation}
 use Rattle.expr_value.specs.declared.value.Value.{Value}
@@ -95,7 +95,7 @@ module _ (counting : Counting) (such : Limit → Type 0) (by : AllPass counting 
         (λ is. subst In (sym is) tt) (λ c. answers (AllowsOnValues host c vs) now e) (λ b. start_stops (begun b vs true) now e)
         ) p
 
-  module _ (costs : Costs) (host : Host) (ctx : Context) where
+  module _ (costs : Costs) (world : World) where
     top_stops : (stack : List Value) (now : Tally) (next : Tally → Ending Tally → Type 0) (e : Ending Tally) → ((u : Tally) → next u e → In e) → CountsTop counting costs stack now next e → In e
     top_stops (v ∷ stack) now next e f p = counted (counting.makes v) (by.makes v) now next e f p
     top_stops [] now next e f p = f now p
@@ -113,23 +113,23 @@ module _ (counting : Counting) (such : Limit → Type 0) (by : AllPass counting 
     module _ (counts : CountsLater counting costs) (later : (n : ℕ) (slots : List Value) (now : Tally) (e : Ending Tally) → counts n slots now e → In e) where
       module _ (next : Next counting costs) (e : Ending Tally) (f : (k : ℕ) (st sl : List Value) (u : Tally) → next k st sl u e → In e) where
         plain_stops : (op : Op) (stack slots : List Value) (now : Tally)
-            → Working counting costs op (looked_at op stack slots) now (λ begun g. (move : Move) × Step host ctx no_block op stack slots move × CountsMove counting costs op move next begun g) e → In e
+            → Working counting costs op (looked_at op stack slots) now (λ begun g. (move : Move) × Step world no_block op stack slots move × CountsMove counting costs op move next begun g) e → In e
         plain_stops op stack slots now p =
             let n = costs.work op (looked_at op stack slots) in
             let k = costs.room op (looked_at op stack slots) in
-            counted (counting.works n k) (by.works n k) now (λ begun g. (move : Move) × Step host ctx no_block op stack slots move × CountsMove counting costs op move next begun g) e (
+            counted (counting.works n k) (by.works n k) now (λ begun g. (move : Move) × Step world no_block op stack slots move × CountsMove counting costs op move next begun g) e (
             λ u q. move_stops op q.0 next u e f q.2
             ) p
 
-        one_stops : (op : Op) (stack slots : List Value) (now : Tally) → Counts counting costs host ctx counts op next stack slots now e → In e
+        one_stops : (op : Op) (stack slots : List Value) (now : Tally) → Counts counting costs world counts op next stack slots now e → In e
         one_stops (asks key n block slot binds) stack slots now (vs, rest, stood, many, p) =
             let w = costs.work (asks key n block slot binds) vs in
             let k = costs.room (asks key n block slot binds) vs in
-            let call = λ (begun : Tally). CountsCall counting host key vs (λ q. counts block (take slot slots ++ bound_values binds q)) begun in
+            let call = λ (begun : Tally). CountsCall counting world.host key vs (λ q. counts block (take slot slots ++ bound_values binds q)) begun in
             let after = λ (v : Value) (ran : Tally). Counted (counting.keeps v) (counting.freed now ran) (next 0 (v ∷ rest) (take slot slots)) in
             keeping p.0 now (λ kept. Counted (counting.works w k) kept (λ begun. Then (call begun) after)) e (
             λ kept c. counted (counting.works w k) (by.works w k) kept (λ begun. Then (call begun) after) e (
-            λ b t. following t.0 after e (call_stops (λ q. counts block (take slot slots ++ bound_values binds q)) (λ q. later block (take slot slots ++ bound_values binds q)) host key vs b t.0 t.1) (
+            λ b t. following t.0 after e (call_stops (λ q. counts block (take slot slots ++ bound_values binds q)) (λ q. later block (take slot slots ++ bound_values binds q)) world.host key vs b t.0 t.1) (
             λ v ran r. counted (counting.keeps v) (by.keeps v) (counting.freed now ran) (next 0 (v ∷ rest) (take slot slots)) e (f 0 (v ∷ rest) (take slot slots)) r
             ) t.2
             ) c
@@ -154,21 +154,21 @@ module _ (counting : Counting) (such : Limit → Type 0) (by : AllPass counting 
       end_stops zero (v ∷ w ∷ stack) slots now e p = absurd p
       end_stops (suc skip) stack slots now e p = absurd p
 
-      rest_stops : (ops : List Op) (skip : ℕ) (stack slots : List Value) (now : Tally) (e : Ending Tally) → CountsRest counting costs host ctx counts ops (CountsEnd counting costs) skip stack slots now e → In e
+      rest_stops : (ops : List Op) (skip : ℕ) (stack slots : List Value) (now : Tally) (e : Ending Tally) → CountsRest counting costs world counts ops (CountsEnd counting costs) skip stack slots now e → In e
       rest_stops [] skip stack slots now e p = end_stops skip stack slots now e p
       rest_stops (op ∷ ops) (suc skip) stack slots now e p = rest_stops ops skip stack slots now e p
       rest_stops (op ∷ ops) zero stack slots now e p =
-          one_stops (CountsRest counting costs host ctx counts ops (CountsEnd counting costs)) e (λ k st sl u q. rest_stops ops k st sl u e q) op stack slots now p
+          one_stops (CountsRest counting costs world counts ops (CountsEnd counting costs)) e (λ k st sl u q. rest_stops ops k st sl u e q) op stack slots now p
 
-    runs_stop : (blocks : List (List Op)) (n : ℕ) (slots : List Value) (now : Tally) (e : Ending Tally) → CountsRuns counting costs host ctx blocks n slots now e → In e
+    runs_stop : (blocks : List (List Op)) (n : ℕ) (slots : List Value) (now : Tally) (e : Ending Tally) → CountsRuns counting costs world blocks n slots now e → In e
     runs_stop [] n slots now e p = absurd p
     runs_stop (ops ∷ blocks) zero slots now e p =
-        counted (counting.enters (length ops)) (by.enters (length ops)) now (CountsRest counting costs host ctx (CountsRuns counting costs host ctx blocks) ops (CountsEnd counting costs) 0 [] slots) e (
-        λ u q. rest_stops (CountsRuns counting costs host ctx blocks) (runs_stop blocks) ops 0 [] slots u e q
+        counted (counting.enters (length ops)) (by.enters (length ops)) now (CountsRest counting costs world (CountsRuns counting costs world blocks) ops (CountsEnd counting costs) 0 [] slots) e (
+        λ u q. rest_stops (CountsRuns counting costs world blocks) (runs_stop blocks) ops 0 [] slots u e q
         ) p
     runs_stop (ops ∷ blocks) (suc n) slots now e p = runs_stop blocks n slots now e p
 
-    code_stops : (blocks : List (List Op)) (now : Tally) (e : Ending Tally) → CodeCounts counting costs host ctx blocks now e → In e
+    code_stops : (blocks : List (List Op)) (now : Tally) (e : Ending Tally) → CodeCounts counting costs world blocks now e → In e
     code_stops blocks now e (x, ran, p) =
         following x (λ v u. Counted (counting.keeps v) (counting.freed now u) (λ last f. f ≡ gives v last)) e (runs_stop blocks 0 [] now x ran) (
         λ v u q. counted (counting.keeps v) (by.keeps v) (counting.freed now u) (λ last f. f ≡ gives v last) e (λ last is. subst In (sym is) tt) q
@@ -205,11 +205,11 @@ holds n e (within s w d) Depth t = tt
 holds n e (within s w d) Size t = tt
 
 -- a counted run within limits stops at one of these
-pub stops_of_runs : (costs : Costs) (host : Host) (ctx : Context) (blocks : List (List Op)) (now : Room) (limit : Limit) → CodeCounts rooms costs host ctx blocks now (stops limit) → IsOfRuns limit
-stops_of_runs costs host ctx blocks now limit p =
+pub stops_of_runs : (costs : Costs) (world : World) (blocks : List (List Op)) (now : Room) (limit : Limit) → CodeCounts rooms costs world blocks now (stops limit) → IsOfRuns limit
+stops_of_runs costs world blocks now limit p =
     code_stops rooms IsOfRuns (record {
       enters = λ n. takes n n;
       works = λ n k. begins n k;
       makes = λ v. holds (inside v) (depth v);
       keeps = λ v. holds (weight v) (depth v);
-    }) costs host ctx blocks now (stops limit) p
+    }) costs world blocks now (stops limit) p

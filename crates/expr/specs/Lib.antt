@@ -2,6 +2,7 @@ pub mod Bracketed
 pub mod Hosted
 pub mod Limited
 pub mod Parsers
+pub mod Promises
 pub mod Spots
 pub mod Texts
 pub use Rattle.expr_builtins.specs.Bits as OnBits
@@ -14,6 +15,7 @@ pub use Rattle.expr_lowering.specs.Kept as Matched
 pub use Rattle.expr_meaning.specs.Allows
 pub use Rattle.expr_meaning.specs.Calls
 pub use Rattle.expr_meaning.specs.Host
+pub use Rattle.expr_meaning.specs.World
 pub use Rattle.expr_meaning.specs.Independence
 pub use Rattle.expr_meaning.specs.Refusals
 pub use Rattle.expr_evaluation.specs.Handed

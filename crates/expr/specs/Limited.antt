@@ -3,7 +3,6 @@ use Rattle.std.specs.Prelude.{◌≢◌, ℕ, List, Result, Ok, Err, ◌⊎◌}
 use Rattle.expr_code.specs.Codes.{IsCode}
 use Rattle.expr_code.specs.Machine.{Op}
 use Rattle.expr_costs.specs.Costs.{costs_in}
-use Rattle.expr_meaning.specs.Host.{Host}
 use Rattle.expr_meter.specs.Counting.{Ending, gives, refuses, stops}
 use Rattle.expr_meter.specs.Counts.{CodeCounts}
 use Rattle.expr_meter.specs.Rooms.{Room, rooms, within}
@@ -11,7 +10,7 @@ use Rattle.expr_meter.specs.declared.limit.Limit.TheVariants.{Height, Patterns}
 use Rattle.expr_meter.specs.declared.limits.Limits.{Limits}
 use Rattle.expr_meter.specs.declared.outcome.Outcome.{Outcome}
 use Rattle.expr_meter.specs.declared.outcome.Outcome.TheVariants.{Answered, Stopped}
-use Rattle.expr_steps.specs.Context.{Context}
+use Rattle.expr_meaning.specs.World.{World}
 use Rattle.expr_syntax.specs.Bounds.{IsHeavier, IsHigher, IsLight}
 use Rattle.expr_syntax.specs.Texts.{HasLargeLiteral, HasNoTree, IsProgramWithin}
 use Rattle.expr_tree.specs.Term.{Block}
@@ -46,22 +45,22 @@ abbrev pub room_of : Limits → Room
 room_of limits = within limits.steps limits.size limits.depth
 
 -- what a run of code may come to that counts within limits, as docs/LIMITS.md tells in words
-abbrev pub CodeEnds : Host → Context → List (List Op) → Limits → Ending Room → Type 0
-CodeEnds host ctx blocks limits = CodeCounts rooms (costs_in host) host ctx blocks (room_of limits)
+abbrev pub CodeEnds : World → List (List Op) → Limits → Ending Room → Type 0
+CodeEnds world blocks limits = CodeCounts rooms (costs_in world.host) world blocks (room_of limits)
 
 -- the same of the code of a text's program, where the text's tree and its literal patterns are within the limits
-abbrev pub TextEnds : Host → Context → List ℕ → Limits → Ending Room → Type 0
-TextEnds host ctx text limits end =
-    (b : Block) × (blocks : List (List Op)) × IsProgramWithin text limits.height b × IsLight text limits.patterns × IsCode b blocks × CodeEnds host ctx blocks limits end
+abbrev pub TextEnds : World → List ℕ → Limits → Ending Room → Type 0
+TextEnds world text limits end =
+    (b : Block) × (blocks : List (List Op)) × IsProgramWithin text limits.height b × IsLight text limits.patterns × IsCode b blocks × CodeEnds world blocks limits end
 
 -- A text is answered as such a run, or refused as one or for what it deserves itself; it stops where its tree is higher, its patterns weigh more, or such a run stops. For want of
 -- memory it may always be refused.
-abbrev pub EndsText : Host → Context → List ℕ → Limits → Result (Outcome Value) Error → Type 0
-EndsText host ctx text limits (Ok (Answered v)) = (left : Room) × TextEnds host ctx text limits (gives v left)
-EndsText host ctx text limits (Ok (Stopped Height)) = IsHigher text limits.height
-EndsText host ctx text limits (Ok (Stopped Patterns)) = IsHeavier text limits.patterns
-EndsText host ctx text limits (Ok (Stopped limit)) = TextEnds host ctx text limits (stops limit)
-EndsText host ctx text limits (Err e) = fault_of e ≢ memory → IsRefused text (Err (fault_of e)) ⊎ TextEnds host ctx text limits (refuses (fault_of e))
+abbrev pub EndsText : World → List ℕ → Limits → Result (Outcome Value) Error → Type 0
+EndsText world text limits (Ok (Answered v)) = (left : Room) × TextEnds world text limits (gives v left)
+EndsText world text limits (Ok (Stopped Height)) = IsHigher text limits.height
+EndsText world text limits (Ok (Stopped Patterns)) = IsHeavier text limits.patterns
+EndsText world text limits (Ok (Stopped limit)) = TextEnds world text limits (stops limit)
+EndsText world text limits (Err e) = fault_of e ≢ memory → IsRefused text (Err (fault_of e)) ⊎ TextEnds world text limits (refuses (fault_of e))
 
 -- What is answered is one of these answers, and so is what it is refused with, unless that is for want of memory. Nothing is said of where it stops.
 abbrev pub MayGive : Result (Outcome Value) Error → (Answer → Type 0) → Type 0

@@ -8,6 +8,8 @@ ghost use Rattle.expr_code.specs.Machine.{CodeAnswers};
 ghost use Rattle.expr_limited.specs.Outcomes.{Ends, OnAnswer};
 ghost use Rattle.expr_lowering.specs.Blocks.{blocks_of};
 ghost use Rattle.expr_meaning.specs.Host.{no_host};
+ghost use Rattle.expr_meaning.specs.World.{world_of};
+ghost use Rattle.expr_machine.specs.Here.{here};
 ghost use Rattle.expr_parts.specs.Kept.{KeepPatterns};
 ghost use Rattle.expr_sizes.specs.Sizes.{depth};
 ghost use Rattle.expr_syntax.specs.Texts.{IsPlaced};
@@ -62,10 +64,10 @@ pub fn execute_limited<L: Holder<Value>, N: Holder<String>, P: Holder<Pattern>>(
     limits: &Limits,
 ) -> Result<Outcome<Value>>
     // It ends as a run of the code does that counts within these limits: where one answers, refuses or stops.
-    ensures outcome { Ends result (CodeEnds no_host (context ctx.now)
+    ensures outcome { Ends result (CodeEnds (world_of no_host (context ctx.now))
         (blocks_of L.held (λ n. string_bytes (N.held n)) code.now) limits.now) }
     // What it answers, `execute` may answer.
-    ensures answer { MayGive result (CodeAnswers no_host (context ctx.now)
+    ensures answer { MayGive result (CodeAnswers (world_of no_host (context ctx.now))
         (blocks_of L.held (λ n. string_bytes (N.held n)) code.now)) }
     // No answer is deeper than is allowed.
     ensures depth { IfOk result (λ o. OnAnswer o (λ v. depth v ≤ limits.now.depth)) }
@@ -92,9 +94,9 @@ pub fn eval_limited(
 ) -> Result<Outcome<Value>>
     // It ends as a run does of a code of the text's program that counts within these limits, where the text is within
     // them; it stops where the text isn't, and is refused what the text deserves.
-    ensures outcome { EndsText no_host (context ctx.now) code.now limits.now result }
+    ensures outcome { EndsText (world_of no_host (context ctx.now)) code.now limits.now result }
     // What it answers, `eval` may answer.
-    ensures answer { MayGive result (MayAnswer code.now no_host (context ctx.now)) }
+    ensures answer { MayGive result (MayAnswer code.now (world_of no_host (context ctx.now))) }
     // No answer is deeper than is allowed.
     ensures depth { IfOk result (λ o. OnAnswer o (λ v. depth v ≤ limits.now.depth)) }
     // A syntax fault is at the text's first fault, where the text may be cut.
@@ -123,10 +125,10 @@ impl Environment {
         limits: &Limits,
     ) -> Result<Outcome<Value>>
         // It ends as a run of the code does that counts within these limits: where one answers, refuses or stops.
-        ensures outcome { Ends result (CodeEnds (host_of self.now) (context ctx.now)
+        ensures outcome { Ends result (CodeEnds (world_of (host_of self.now) (context ctx.now))
             (blocks_of L.held (λ n. string_bytes (N.held n)) code.now) limits.now) }
         // What it answers, `execute` may answer.
-        ensures answer { MayGive result (CodeAnswers (host_of self.now) (context ctx.now)
+        ensures answer { MayGive result (CodeAnswers (world_of (host_of self.now) (context ctx.now))
             (blocks_of L.held (λ n. string_bytes (N.held n)) code.now)) }
         // No answer is deeper than is allowed.
         ensures depth { IfOk result (λ o. OnAnswer o (λ v. depth v ≤ limits.now.depth)) }
@@ -153,9 +155,10 @@ impl Environment {
     ) -> Result<Outcome<Value>>
         // It ends as a run does of a code of the text's program that counts within these limits, where the text is within
         // them; it stops where the text isn't, and is refused what the text deserves.
-        ensures outcome { EndsText (host_of self.now) (context ctx.now) code.now limits.now result }
+        ensures outcome { EndsText (world_of (host_of self.now) (context ctx.now)) code.now limits.now
+            result }
         // What it answers, `eval` may answer.
-        ensures answer { MayGive result (MayAnswer code.now (host_of self.now) (context ctx.now)) }
+        ensures answer { MayGive result (MayAnswer code.now (world_of (host_of self.now) (context ctx.now))) }
         // No answer is deeper than is allowed.
         ensures depth { IfOk result (λ o. OnAnswer o (λ v. depth v ≤ limits.now.depth)) }
         // A syntax fault that no function of the host answers is at the text's first fault, where the text may be cut.
@@ -182,7 +185,7 @@ fn answer_text<H: Functions, P: ContextProvider>(
     code: &str,
     limits: &Limits,
 ) -> Result<Outcome<Value>>
-    ensures outcome { EndsText (H.host machine.now.host.now) (P.context machine.now.provider)
+    ensures outcome { EndsText (here H.host P.context machine.now)
         code.now limits.now result }
     ensures depth { IfOk result (λ o. OnAnswer o (λ v. depth v ≤ limits.now.depth)) }
     ensures place { IsOwnFault code.now (H.host machine.now.host.now) → IsPlaced code.now result }

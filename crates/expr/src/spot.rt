@@ -1,11 +1,11 @@
 //! Places in a text, as a person finds them.
-ghost use Rattle.std.specs.Prelude.{◌≡◌, ◌≢◌, ◌+◌, ◌<◌, ◌^◌, ◌==◌, ◌++◌, ◌∷◌, [], length, string_bytes, IfOk, IfErr};
+ghost use Rattle.std.specs.Prelude.{◌≡◌, ◌≢◌, ◌+◌, ◌<◌, ◌^◌, ◌==◌, ◌++◌, ◌∷◌, [], length, string_bytes, IfOk};
 ghost use Rattle.std.specs.List.{count_by, repeat};
 ghost use Rattle.std.specs.Str.{IsCharBoundary, chars};
-ghost use Rattle.expr_value.specs.Fault.{evaluation, fault_of, memory};
+ghost use Rattle.expr_value.specs.Fault.{evaluation, OnlyMemory, RefusesWith};
 ghost use Rattle.expr.specs.Spots.{IsLastLine, IsSpot, first_line};
 
-use expr_value::{Error, Result, refusal};
+use expr_value::{Result, refusal};
 use std::alloc::Global;
 
 /// A place in a text, as a person finds it.
@@ -27,8 +27,8 @@ pub struct Spot {
 /// `ExprError` for a place within a character or beyond the text, or `MemoryError`.
 pub fn spot_of(alloc: Global, text: &str, place: usize) -> Result<Spot>
     ensures ok { IfOk result (λ s. IsSpot text.now place s) }
-    ensures refusal { IfErr result (λ e. fault_of e ≢ memory → fault_of e ≡ evaluation) }
-    ensures kept { IsCharBoundary text.now place → IfErr result (λ e. e ≡ Error.MemoryError) }
+    ensures refusal { RefusesWith result (λ k. k ≡ evaluation) }
+    ensures kept { IsCharBoundary text.now place → OnlyMemory result }
 {
     let Some((before, after)) = text.split_at_checked(place) else {
         return Err(refusal(alloc, "no character begins there"));
@@ -46,7 +46,7 @@ pub fn spot_of(alloc: Global, text: &str, place: usize) -> Result<Spot>
 fn marked(alloc: Global, left: &str, right: &str) -> Result<String>
     ensures ok { IfOk result (λ s. string_bytes s
         ≡ left.now ++ right.now ++ 10 ∷ [] ++ repeat (length (chars left.now)) (32 ∷ []) ++ 94 ∷ []) }
-    ensures err { IfErr result (λ e. e ≡ Error.MemoryError) }
+    ensures err { OnlyMemory result }
 {
     let mut shown = String::from_str(alloc, left)?;
     shown.push_str(right)?;

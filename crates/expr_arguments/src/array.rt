@@ -1,13 +1,14 @@
 //! Arrays among the arguments, the call's own or lent: items of the one are moved out, and of the other copied where
 //! they are kept.
-ghost use Rattle.std.specs.Prelude.{◌≡◌, length, IfOk, IfErr};
+ghost use Rattle.std.specs.Prelude.{◌≡◌, length, IfOk};
 ghost use Rattle.std.specs.Option.{option_map};
 ghost use Rattle.expr_held.specs.Holdings.{value_held};
 ghost use Rattle.expr_value.specs.Values.{items_of};
 ghost use Rattle.expr_arguments.specs.Arrays.{items_held};
+ghost use Rattle.expr_value.specs.Fault.{OnlyMemory};
 
 use expr_held::{Held, Holding};
-use expr_value::{Error, Items, Result, Value};
+use expr_value::{Items, Result, Value};
 use std::alloc::Global;
 
 /// The items of an array.
@@ -43,7 +44,7 @@ pub fn count_items(array: &Array<'_>) -> usize
 /// All the items, to be kept.
 pub fn into_items<'a>(alloc: Global, array: Array<'a>) -> Result<Vec<Value>>
     ensures ok { IfOk result (λ all. all.items ≡ items_held array.entry) }
-    ensures err { IfErr result (λ e. e ≡ Error.MemoryError) }
+    ensures err { OnlyMemory result }
 {
     match array {
         Array::Own(items) => Ok(items.into_vec()),
@@ -54,7 +55,7 @@ pub fn into_items<'a>(alloc: Global, array: Array<'a>) -> Result<Vec<Value>>
 /// The items, each held as the array is.
 pub fn each_held(alloc: Global, array: Array<'_>) -> Result<Vec<Held<'_>>>
     ensures ok { IfOk result (λ held. held.items ≡ items_held array.entry) }
-    ensures err { IfErr result (λ e. e ≡ Error.MemoryError) }
+    ensures err { OnlyMemory result }
 {
     let held = array;
     match held {
@@ -65,7 +66,7 @@ pub fn each_held(alloc: Global, array: Array<'_>) -> Result<Vec<Held<'_>>>
 
 fn each_own<'a>(alloc: Global, items: Vec<Value>) -> Result<Vec<Held<'a>>>
     ensures ok { IfOk result (λ held. held.items ≡ items.items) }
-    ensures err { IfErr result (λ e. e ≡ Error.MemoryError) }
+    ensures err { OnlyMemory result }
 {
     let mut held = Vec::with_capacity(alloc, items.len())?;
     for item in items {
@@ -76,7 +77,7 @@ fn each_own<'a>(alloc: Global, items: Vec<Value>) -> Result<Vec<Held<'a>>>
 
 fn each_lent(alloc: Global, items: &[Value]) -> Result<Vec<Held<'_>>>
     ensures ok { IfOk result (λ held. held.items ≡ items.now) }
-    ensures err { IfErr result (λ e. e ≡ Error.MemoryError) }
+    ensures err { OnlyMemory result }
 {
     let mut held = Vec::with_capacity(alloc, items.len())?;
     for item in items {
@@ -88,7 +89,7 @@ fn each_lent(alloc: Global, items: &[Value]) -> Result<Vec<Held<'_>>>
 /// Values that are held, to be kept.
 pub fn each_kept(alloc: Global, held: Vec<Held<'_>>) -> Result<Vec<Value>>
     ensures ok { IfOk result (λ values. values.items ≡ held.entry.items) }
-    ensures err { IfErr result (λ e. e ≡ Error.MemoryError) }
+    ensures err { OnlyMemory result }
 {
     let mut values = Vec::with_capacity(alloc, held.len())?;
     for value in held {

@@ -1,9 +1,10 @@
 //! Texts cut after the matches of another.
-ghost use Rattle.std.specs.Prelude.{◌≡◌, ◌++◌, map, pos, suc, IfOk, IfErr};
+ghost use Rattle.std.specs.Prelude.{◌≡◌, ◌++◌, map, pos, suc, IfOk};
 ghost use Rattle.expr_builtins.specs.Texts.{after_each, closed, parts_after};
+ghost use Rattle.expr_value.specs.Fault.{OnlyMemory};
 
 use crate::places::pieces;
-use expr_value::{Error, Result, Text, Value};
+use expr_value::{Result, Text, Value};
 use std::alloc::Global;
 
 #[tactic(auto, using(crate::proofs::Afters::after_all))]
@@ -16,7 +17,7 @@ pub(crate) fn parts_after(
 ) -> Result<Vec<Value>>
     ensures ok { IfOk result (λ found. found.items
         ≡ map Value.String (parts_after text.now separator.now limit)) }
-    ensures err { IfErr result (λ e. e ≡ Error.MemoryError) }
+    ensures err { OnlyMemory result }
 {
     if limit == 0 {
         return Ok(Vec::new(alloc));
@@ -32,7 +33,7 @@ pub(crate) fn parts_after(
 fn first_after(alloc: Global, text: &str, separator: &str, count: usize) -> Result<Vec<Value>>
     ensures ok { IfOk result (λ found. found.items
         ≡ map Value.String (parts_after text.now separator.now (pos (suc count)))) }
-    ensures err { IfErr result (λ e. e ≡ Error.MemoryError) }
+    ensures err { OnlyMemory result }
 {
     let found = pieces(alloc, text, separator, count)?;
     if found.len() > count {
@@ -47,7 +48,7 @@ fn first_after(alloc: Global, text: &str, separator: &str, count: usize) -> Resu
 fn after_each(alloc: Global, found: Vec<&str>, separator: &str) -> Result<Vec<Value>>
     ensures ok { IfOk result (λ parts. parts.items
         ≡ map Value.String (after_each separator.now (map (λ p. p.now) found.entry.items))) }
-    ensures err { IfErr result (λ e. e ≡ Error.MemoryError) }
+    ensures err { OnlyMemory result }
 {
     let mut front = found;
     let Some(last) = front.pop() else {
@@ -65,7 +66,7 @@ fn after_each(alloc: Global, found: Vec<&str>, separator: &str) -> Result<Vec<Va
 fn closed(alloc: Global, found: Vec<&str>, separator: &str) -> Result<Vec<Value>>
     ensures ok { IfOk result (λ parts. parts.items
         ≡ map Value.String (closed separator.now (map (λ p. p.now) found.entry.items))) }
-    ensures err { IfErr result (λ e. e ≡ Error.MemoryError) }
+    ensures err { OnlyMemory result }
 {
     let mut front = found;
     let Some(last) = front.pop() else {
@@ -79,7 +80,7 @@ fn closed(alloc: Global, found: Vec<&str>, separator: &str) -> Result<Vec<Value>
 // Each piece with the separator after it, and room for two parts more.
 fn all_with(alloc: Global, pieces: &[&str], end: &str) -> Result<Vec<Value>>
     ensures ok { IfOk result (λ parts. parts.items ≡ map (λ p. Value.String (p.now ++ end.now)) pieces.now) }
-    ensures err { IfErr result (λ e. e ≡ Error.MemoryError) }
+    ensures err { OnlyMemory result }
 {
     let mut parts = Vec::with_capacity(alloc, pieces.len().saturating_add(2))?;
     for i in 0..pieces.len() {
@@ -90,7 +91,7 @@ fn all_with(alloc: Global, pieces: &[&str], end: &str) -> Result<Vec<Value>>
 
 fn with_end(alloc: Global, piece: &str, end: &str) -> Result<Value>
     ensures ok { IfOk result (λ v. v ≡ Value.String (piece.now ++ end.now)) }
-    ensures err { IfErr result (λ e. e ≡ Error.MemoryError) }
+    ensures err { OnlyMemory result }
 {
     let mut text = String::with_capacity(alloc, piece.len().saturating_add(end.len()))?;
     text.push_str(piece)?;

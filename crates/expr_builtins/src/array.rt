@@ -1,16 +1,17 @@
 //! Items of an array among the arguments: of the call's own they are moved out, and of a lent one copied.
-ghost use Rattle.std.specs.Prelude.{◌≡◌, take, IfOk, IfErr};
+ghost use Rattle.std.specs.Prelude.{◌≡◌, take, IfOk};
 ghost use Rattle.expr_arguments.specs.Arrays.{items_held};
 ghost use Rattle.expr_builtins.specs.Collections.{item_or_nil};
+ghost use Rattle.expr_value.specs.Fault.{OnlyMemory};
 
 use expr_arguments::Array;
-use expr_value::{Error, Result, Value};
+use expr_value::{Result, Value};
 use std::alloc::Global;
 
 /// The item at a place, or nil.
 pub(crate) fn item_at(array: Array<'_>, place: usize) -> Result<Value>
     ensures ok { IfOk result (λ v. v ≡ item_or_nil (items_held array.entry) place) }
-    ensures err { IfErr result (λ e. e ≡ Error.MemoryError) }
+    ensures err { OnlyMemory result }
 {
     match array {
         Array::Own(items) => Ok(item_moved(items.into_vec(), place)),
@@ -31,7 +32,7 @@ fn item_moved(items: Vec<Value>, place: usize) -> Value
 
 fn item_copied(items: &[Value], place: usize) -> Result<Value>
     ensures ok { IfOk result (λ v. v ≡ item_or_nil items.now place) }
-    ensures err { IfErr result (λ e. e ≡ Error.MemoryError) }
+    ensures err { OnlyMemory result }
 {
     match items.get(place) {
         Some(item) => Ok(item.clone()?),
@@ -42,7 +43,7 @@ fn item_copied(items: &[Value], place: usize) -> Result<Value>
 /// The first items, so many.
 pub(crate) fn first_items(alloc: Global, array: Array<'_>, count: usize) -> Result<Vec<Value>>
     ensures ok { IfOk result (λ first. first.items ≡ take count (items_held array.entry)) }
-    ensures err { IfErr result (λ e. e ≡ Error.MemoryError) }
+    ensures err { OnlyMemory result }
 {
     match array {
         Array::Own(items) => {
@@ -56,7 +57,7 @@ pub(crate) fn first_items(alloc: Global, array: Array<'_>, count: usize) -> Resu
 
 fn first_copied(alloc: Global, items: &[Value], count: usize) -> Result<Vec<Value>>
     ensures ok { IfOk result (λ first. first.items ≡ take count items.now) }
-    ensures err { IfErr result (λ e. e ≡ Error.MemoryError) }
+    ensures err { OnlyMemory result }
 {
     let first = &items[..count.min(items.len())];
     Ok(first.to_vec(alloc)?)

@@ -1,8 +1,8 @@
 //! The calls on arrays and maps.
-ghost use Rattle.std.specs.Prelude.{◌≡◌, ◌≢◌, ◌-◌, ◌++◌, None, Some, Ok, map, length, unwrap_or, IfOk, IfErr, OnOk};
+ghost use Rattle.std.specs.Prelude.{◌≡◌, ◌≢◌, ◌-◌, ◌++◌, None, Some, Ok, map, length, unwrap_or, IfOk, OnOk};
 ghost use Rattle.std.specs.Option.{option_copied, option_map};
 ghost use Rattle.std.specs.Str.{chars};
-ghost use Rattle.expr_value.specs.Fault.{fault_of, memory, evaluation};
+ghost use Rattle.expr_value.specs.Fault.{fault_of, memory, evaluation, OnlyMemory};
 ghost use Rattle.expr_value.specs.Values.{of_key, string_of, items_of};
 ghost use Rattle.expr_value.specs.Answers.{Gives};
 ghost use Rattle.expr_arguments.specs.Arguments.{all_of};
@@ -18,7 +18,7 @@ use expr_arguments::{
 };
 use expr_functions::CollectionCall;
 use expr_held::Held;
-use expr_value::{Error, Items, Key, KeyedMap, Result, Text, Value, ValueMap, refusal};
+use expr_value::{Items, Key, KeyedMap, Result, Text, Value, ValueMap, refusal};
 use std::alloc::{AllocError, Global};
 use std::mem;
 
@@ -145,7 +145,7 @@ fn keys(alloc: Global, arguments: &[Held<'_>]) -> Result<Value>
 
 fn names(alloc: Global, names: &[Text]) -> Result<Value>
     ensures ok { IfOk result (λ v. v ≡ Value.Array (map Value.String names.now)) }
-    ensures err { IfErr result (λ e. e ≡ Error.MemoryError) }
+    ensures err { OnlyMemory result }
 {
     let mut items = Vec::with_capacity(alloc, names.len())?;
     for i in 0..names.len() {
@@ -156,7 +156,7 @@ fn names(alloc: Global, names: &[Text]) -> Result<Value>
 
 fn scalars(alloc: Global, keys: &[Key]) -> Result<Value>
     ensures ok { IfOk result (λ v. v ≡ Value.Array (map of_key keys.now)) }
-    ensures err { IfErr result (λ e. e ≡ Error.MemoryError) }
+    ensures err { OnlyMemory result }
 {
     let mut items = Vec::with_capacity(alloc, keys.len())?;
     for i in 0..keys.len() {
@@ -211,7 +211,7 @@ fn get(alloc: Global, arguments: &[Held<'_>]) -> Result<Value>
 
 fn copied_or_nil(found: Option<&Value>) -> Result<Value>
     ensures ok { IfOk result (λ v. Ok v ≡ or_nil (option_copied found.entry)) }
-    ensures err { IfErr result (λ e. e ≡ Error.MemoryError) }
+    ensures err { OnlyMemory result }
 {
     match found {
         Some(value) => Ok(value.clone()?),
@@ -248,7 +248,7 @@ fn join(alloc: Global, arguments: &[Held<'_>]) -> Result<Value>
 fn texts(alloc: Global, items: &[Value]) -> Result<Option<Vec<&str>>>
     ensures ok { IfOk result (λ found. option_map
         (λ v. map (λ t. t.now) v.items) found ≡ all_of string_of items.now) }
-    ensures err { IfErr result (λ e. e ≡ Error.MemoryError) }
+    ensures err { OnlyMemory result }
 {
     let mut parts = Vec::with_capacity(alloc, items.len())?;
     for i in 0..items.len() {
@@ -276,7 +276,7 @@ fn to_pairs(alloc: Global, arguments: &[Held<'_>]) -> Result<Value>
 
 fn named_pairs(alloc: Global, pairs: &ValueMap) -> Result<Value>
     ensures ok { IfOk result (λ v. v ≡ Value.Array (map named_pair pairs.now)) }
-    ensures err { IfErr result (λ e. e ≡ Error.MemoryError) }
+    ensures err { OnlyMemory result }
 {
     let mut items = Vec::with_capacity(alloc, pairs.len())?;
     for i in 0..pairs.len() {
@@ -291,7 +291,7 @@ fn named_pairs(alloc: Global, pairs: &ValueMap) -> Result<Value>
 
 fn keyed_pairs(alloc: Global, pairs: &KeyedMap) -> Result<Value>
     ensures ok { IfOk result (λ v. v ≡ Value.Array (map keyed_pair pairs.now)) }
-    ensures err { IfErr result (λ e. e ≡ Error.MemoryError) }
+    ensures err { OnlyMemory result }
 {
     let mut items = Vec::with_capacity(alloc, pairs.len())?;
     for i in 0..pairs.len() {
@@ -306,7 +306,7 @@ fn keyed_pairs(alloc: Global, pairs: &KeyedMap) -> Result<Value>
 
 fn pair(alloc: Global, key: Value, value: &Value) -> Result<Value>
     ensures ok { IfOk result (λ v. v ≡ pair key value.now) }
-    ensures err { IfErr result (λ e. e ≡ Error.MemoryError) }
+    ensures err { OnlyMemory result }
 {
     let items = Vec::from_array(alloc, [key, value.clone()?])?;
     Ok(Value::Array(Items::from_vec(items)))
@@ -329,7 +329,7 @@ fn from_pairs(alloc: Global, arguments: &mut [Held<'_>]) -> Result<Value>
 
 fn pairs_kept(alloc: Global, items: Vec<Held<'_>>) -> Result<Option<Vec<(Value, Value)>>>
     ensures ok { IfOk result (λ found. option_map (λ v. v.items) found ≡ all_of pair_of items.entry.items) }
-    ensures err { IfErr result (λ e. e ≡ Error.MemoryError) }
+    ensures err { OnlyMemory result }
 {
     let mut pairs = Vec::with_capacity(alloc, items.len())?;
     for item in items {
@@ -343,7 +343,7 @@ fn pairs_kept(alloc: Global, items: Vec<Held<'_>>) -> Result<Option<Vec<(Value, 
 
 fn pair_kept(value: Held<'_>) -> Result<Option<(Value, Value)>>
     ensures ok { IfOk result (λ found. found ≡ pair_of value.entry) }
-    ensures err { IfErr result (λ e. e ≡ Error.MemoryError) }
+    ensures err { OnlyMemory result }
 {
     match array_of(value.into_holding()) {
         Some(Array::Own(items)) => Ok(both_moved(&mut items.into_vec())),
@@ -363,7 +363,7 @@ fn both_moved(items: &mut [Value]) -> Option<(Value, Value)>
 
 fn both_copied(items: &[Value]) -> Result<Option<(Value, Value)>>
     ensures ok { IfOk result (λ found. found ≡ two_items items.now) }
-    ensures err { IfErr result (λ e. e ≡ Error.MemoryError) }
+    ensures err { OnlyMemory result }
 {
     match items {
         [key, value] => Ok(Some((key.clone()?, value.clone()?))),
@@ -388,7 +388,7 @@ fn concat(alloc: Global, arguments: Vec<Held<'_>>) -> Result<Value>
 fn appended(front: Vec<Value>, arrays: Vec<Held<'_>>) -> Result<Option<Vec<Value>>>
     ensures ok { IfOk result (λ found. option_map (λ v. v.items) found ≡ option_map
         (λ rows. front.items ++ in_a_row rows) (all_of items_of arrays.entry.items)) }
-    ensures err { IfErr result (λ e. e ≡ Error.MemoryError) }
+    ensures err { OnlyMemory result }
 {
     let items = arrays.iter().filter_map(|array| array.get().as_array());
     let more = items.fold(0, |sum: usize, items| sum.saturating_add(items.len()));

@@ -1,13 +1,14 @@
 //! Items without those that equal an earlier one.
-ghost use Rattle.std.specs.Prelude.{◌≡◌, is_some, IfOk, IfErr, OnOk};
+ghost use Rattle.std.specs.Prelude.{◌≡◌, is_some, IfOk, OnOk};
 ghost use Rattle.std.specs.Map.{keys_of};
 ghost use Rattle.expr_value.specs.Answers.{Gives};
 ghost use Rattle.expr_value.specs.Values.{at_key, key_of};
 ghost use Rattle.expr_builtins.specs.Distinct.{uniq, distinct, keys_among, with_new};
+ghost use Rattle.expr_value.specs.Fault.{OnlyMemory};
 
 use expr_arguments::{each_held, one_array};
 use expr_held::Held;
-use expr_value::{Error, Items, Key, OrderedMap, Result, Value, refusal};
+use expr_value::{Items, Key, OrderedMap, Result, Value, refusal};
 use std::alloc::Global;
 
 /// Up to how many items are compared with each other, which costs less than a look-up of their keys.
@@ -26,7 +27,7 @@ pub(crate) fn uniq(alloc: Global, arguments: &mut [Held<'_>]) -> Result<Value>
 
 fn distinct(alloc: Global, items: Vec<Held<'_>>) -> Result<Vec<Value>>
     ensures ok { IfOk result (λ kept. kept.items ≡ distinct items.entry.items) }
-    ensures err { IfErr result (λ e. e ≡ Error.MemoryError) }
+    ensures err { OnlyMemory result }
 {
     if items.len() <= FEW {
         return distinct_few(alloc, items);
@@ -37,7 +38,7 @@ fn distinct(alloc: Global, items: Vec<Held<'_>>) -> Result<Vec<Value>>
 // Each item is compared with all that are kept before it.
 fn distinct_few(alloc: Global, items: Vec<Held<'_>>) -> Result<Vec<Value>>
     ensures ok { IfOk result (λ kept. kept.items ≡ distinct items.entry.items) }
-    ensures err { IfErr result (λ e. e ≡ Error.MemoryError) }
+    ensures err { OnlyMemory result }
 {
     let mut kept = Vec::new(alloc);
     for item in items {
@@ -49,7 +50,7 @@ fn distinct_few(alloc: Global, items: Vec<Held<'_>>) -> Result<Vec<Value>>
 // Each scalar is looked up among the keys of the scalars that are kept before it.
 fn distinct_many(alloc: Global, items: Vec<Held<'_>>) -> Result<Vec<Value>>
     ensures ok { IfOk result (λ kept. kept.items ≡ distinct items.entry.items) }
-    ensures err { IfErr result (λ e. e ≡ Error.MemoryError) }
+    ensures err { OnlyMemory result }
 {
     let mut keys = OrderedMap::new(alloc);
     let mut kept = Vec::new(alloc);
@@ -63,7 +64,7 @@ fn keep_by_key(keys: &mut OrderedMap<Key, ()>, kept: &mut Vec<Value>, item: Held
     requires { keys_of keys.old ≡ keys_among kept.old.items }
     ensures keys { OnOk result (keys_of keys.new ≡ keys_among kept.new.items) }
     ensures kept { OnOk result (kept.new.items ≡ with_new kept.old.items item.entry) }
-    ensures err { IfErr result (λ e. e ≡ Error.MemoryError) }
+    ensures err { OnlyMemory result }
 {
     if has_key(keys, item.get()) {
         return Ok(());
@@ -87,7 +88,7 @@ fn has_key(keys: &OrderedMap<Key, ()>, value: &Value) -> bool
 // The key that a scalar is. An item of another kind is not copied.
 fn key_copied(value: &Value) -> Result<Option<Key>>
     ensures ok { IfOk result (λ key. key ≡ key_of value.now) }
-    ensures err { IfErr result (λ e. e ≡ Error.MemoryError) }
+    ensures err { OnlyMemory result }
 {
     match value {
         Value::Array(_) | Value::Bytes(_) | Value::Map(_) | Value::KeyedMap(_) => Ok(None),
@@ -98,7 +99,7 @@ fn key_copied(value: &Value) -> Result<Option<Key>>
 // The item is compared with all that are kept.
 fn keep(kept: &mut Vec<Value>, item: Held<'_>) -> Result<()>
     ensures ok { OnOk result (kept.new.items ≡ with_new kept.old.items item.entry) }
-    ensures err { IfErr result (λ e. e ≡ Error.MemoryError) }
+    ensures err { OnlyMemory result }
 {
     if kept.contains(item.get()) {
         return Ok(());

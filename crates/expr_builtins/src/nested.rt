@@ -4,10 +4,11 @@ ghost use Rattle.expr_value.specs.Answers.{Gives};
 ghost use Rattle.expr_value.specs.Values.{items_of};
 ghost use Rattle.expr_arguments.specs.Arrays.{items_held};
 ghost use Rattle.expr_builtins.specs.Nested.{flatten, all_opened};
+ghost use Rattle.expr_value.specs.Fault.{OnlyMemory};
 
 use expr_arguments::{Array, each_held, each_kept, one_array};
 use expr_held::{Held, Holding};
-use expr_value::{Error, Items, Result, Value, refusal};
+use expr_value::{Items, Result, Value, refusal};
 use std::alloc::Global;
 
 /// An array without arrays in it: the items of each stand in its place, at every depth.
@@ -25,7 +26,7 @@ pub(crate) fn flatten(alloc: Global, arguments: &mut [Held<'_>]) -> Result<Value
 /// Values with each array opened, at every depth. The arrays that wait are held in a list, so that no depth takes stack.
 pub(crate) fn all_opened<'a>(alloc: Global, values: Vec<Held<'a>>) -> Result<Vec<Held<'a>>>
     ensures ok { IfOk result (λ found. found.items ≡ all_opened values.entry.items) }
-    ensures err { IfErr result (λ e. e ≡ Error.MemoryError) }
+    ensures err { OnlyMemory result }
 {
     let mut waiting = values;
     waiting.reverse();

@@ -1,9 +1,9 @@
 //! The calls on numbers.
-ghost use Rattle.std.specs.Prelude.{◌≡◌, Err, IfOk, IfErr};
+ghost use Rattle.std.specs.Prelude.{◌≡◌, Err, IfOk};
 ghost use Rattle.std.specs.Int.{int_max, int_min};
 ghost use Rattle.std.specs.Option.{option_map};
 ghost use Rattle.expr_value.specs.Answers.{Gives};
-ghost use Rattle.expr_value.specs.Fault.{evaluation};
+ghost use Rattle.expr_value.specs.Fault.{evaluation, OnlyMemory};
 ghost use Rattle.expr_value.specs.Values.{integer_of};
 ghost use Rattle.expr_arguments.specs.Arguments.{all_of};
 ghost use Rattle.expr_builtins.specs.Nested.{all_opened};
@@ -13,7 +13,7 @@ use crate::nested::all_opened;
 use expr_arguments::one_integer;
 use expr_functions::NumberCall;
 use expr_held::Held;
-use expr_value::{Error, Result, Value, refusal};
+use expr_value::{Result, Value, refusal};
 use std::alloc::Global;
 use std::mem;
 
@@ -87,7 +87,7 @@ fn least(alloc: Global, arguments: Vec<Held<'_>>) -> Result<Value>
 fn opened_integers(alloc: Global, values: Vec<Held<'_>>) -> Result<Option<Vec<i64>>>
     ensures ok { IfOk result (λ found. option_map
         (λ v. v.items) found ≡ all_of integer_of (all_opened values.entry.items)) }
-    ensures err { IfErr result (λ e. e ≡ Error.MemoryError) }
+    ensures err { OnlyMemory result }
 {
     let opened = all_opened(alloc, values)?;
     integers(alloc, &opened)
@@ -96,7 +96,7 @@ fn opened_integers(alloc: Global, values: Vec<Held<'_>>) -> Result<Option<Vec<i6
 // The integers that some values are, if each is one.
 fn integers(alloc: Global, values: &[Held<'_>]) -> Result<Option<Vec<i64>>>
     ensures ok { IfOk result (λ found. option_map (λ v. v.items) found ≡ all_of integer_of values.now) }
-    ensures err { IfErr result (λ e. e ≡ Error.MemoryError) }
+    ensures err { OnlyMemory result }
 {
     let mut numbers = Vec::with_capacity(alloc, values.len())?;
     for i in 0..values.len() {

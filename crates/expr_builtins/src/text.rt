@@ -1,8 +1,9 @@
 //! The calls on texts.
-ghost use Rattle.std.specs.Prelude.{◌≡◌, nat_eq, map, IfOk, IfErr};
+ghost use Rattle.std.specs.Prelude.{◌≡◌, nat_eq, map, IfOk};
 ghost use Rattle.std.specs.List.{starts_with, ends_with};
 ghost use Rattle.expr_value.specs.Answers.{Gives};
 ghost use Rattle.expr_builtins.specs.Text.{Called, has_prefix, has_suffix, trim_prefix, trim_suffix, without_front, without_back, split, split_after, replace, repeat_text, repeated, Upper, Lower};
+ghost use Rattle.expr_value.specs.Fault.{OnlyMemory};
 
 use crate::after::parts_after;
 use crate::cuts::{parts, replaced};
@@ -13,7 +14,7 @@ use expr_arguments::{
 };
 use expr_functions::TextCall;
 use expr_held::Held;
-use expr_value::{Error, Items, Result, Text, Value, refusal};
+use expr_value::{Items, Result, Text, Value, refusal};
 use std::alloc::Global;
 
 /// What a call on texts gives on these arguments. Other numbers and kinds of arguments than it takes are refused with
@@ -132,7 +133,7 @@ fn split_after(alloc: Global, arguments: &[Held<'_>]) -> Result<Value>
 
 fn array_of_texts(alloc: Global, texts: &[&str]) -> Result<Value>
     ensures ok { IfOk result (λ v. v ≡ Value.Array (map Value.String (map (λ t. t.now) texts.now))) }
-    ensures err { IfErr result (λ e. e ≡ Error.MemoryError) }
+    ensures err { OnlyMemory result }
 {
     let mut items = Vec::with_capacity(alloc, texts.len())?;
     for i in 0..texts.len() {

@@ -3,7 +3,6 @@ use Rattle.std.proofs.Common.{◌≡◌, ◌↔◌, ℕ, suc, ◌+◌, ℤ, Bool
 use Rattle.std.specs.Prelude.{take, slice_get}
 use Rattle.std.proofs.Math.Seq.{take-append_seam}
 use Rattle.expr_meaning.specs.Allows.{Allows, AllowsAll, AllowsAsked, AllowsBlock, AllowsCall, AllowsPairs, AllowsPiped, AllowsPostfix, AndThenLayer, ContinuedAs, Continued, OrElseLayer, ChosenLayer, Chosen, DefaultsLayer, is_given}
-use Rattle.expr_meaning.specs.Host.{Host}
 use Rattle.expr_operators.specs.Operators.{truth}
 use Rattle.expr_operators.specs.Positions.{bound_checked, indexed, sliced}
 use Rattle.expr_operators.specs.Sides.{sides_of}
@@ -12,6 +11,7 @@ use Rattle.expr_operators.specs.declared.sides.Sides.TheVariants.{Both, EndsAtFa
 use Rattle.expr_predicates.specs.Runs.{AsksItself}
 use Rattle.expr_predicates.specs.Tasks.{Question}
 use Rattle.expr_steps.specs.Context.{Context, asked_in, override, hash, looked_up, first_of_two, field_of}
+use Rattle.expr_meaning.specs.World.{World, with_context}
 use Rattle.expr_steps.specs.Given.{given_bound}
 use Rattle.expr_steps.specs.Methods.{AllowsMethod}
 use Rattle.expr_tree.specs.Term.{Term, name, literal, list, mapping, range, call, unary, operation, postfix, choice, Postfix, slice, unbounded, bound, Terms, no_terms, term, Pairs, pairs_end, pair, Predicate, no_predicate, predicate, Block}
@@ -47,43 +47,43 @@ abbrev pub values : List (List ℕ × Value) → List Value
 values ms = map (λ m. m.1) ms
 
 -- as many values as there are arguments
-pub as_many : (host : Host) (ctx : Context) (ts : Terms) (vs : List Value) → AllowsAll host ctx ts (Ok vs) → count_terms ts ≡ length vs
-as_many host ctx no_terms vs p = let e : vs ≡ [] = cc in ap length (sym e)
-as_many host ctx (term t ts) vs (Ok v, q, (Ok ws, r, s)) =
+pub as_many : (world : World) (ts : Terms) (vs : List Value) → AllowsAll world ts (Ok vs) → count_terms ts ≡ length vs
+as_many world no_terms vs p = let e : vs ≡ [] = cc in ap length (sym e)
+as_many world (term t ts) vs (Ok v, q, (Ok ws, r, s)) =
     let e : vs ≡ v ∷ ws = cc in
-    ap suc (as_many host ctx ts ws r) ∙ ap length (sym e)
-as_many host ctx (term t ts) vs (Ok v, q, (Err f, r, s)) = cc
-as_many host ctx (term t ts) vs (Err f, q, s) = cc
+    ap suc (as_many world ts ws r) ∙ ap length (sym e)
+as_many world (term t ts) vs (Ok v, q, (Err f, r, s)) = cc
+as_many world (term t ts) vs (Err f, q, s) = cc
 
 -- the keys of a map literal stand beside the values again
 record Matches (ps : Pairs) (ms : List (List ℕ × Value)) : Type 0 where
   many : length (keys_of ps) ≡ length (values ms)
   again : beside (keys_of ps) (values ms) ≡ ms
 
-pairs_match : (host : Host) (ctx : Context) (ps : Pairs) (ms : List (List ℕ × Value)) → AllowsPairs host ctx ps (Ok ms) → Matches ps ms
-pairs_match host ctx pairs_end ms p =
+pairs_match : (world : World) (ps : Pairs) (ms : List (List ℕ × Value)) → AllowsPairs world ps (Ok ms) → Matches ps ms
+pairs_match world pairs_end ms p =
     let e : ms ≡ [] = cc in
     subst (Matches pairs_end) (sym e) (record { many = refl; again = refl })
-pairs_match host ctx (pair key t ps) ms (Ok v, q, (Ok ns, r, s)) =
+pairs_match world (pair key t ps) ms (Ok v, q, (Ok ns, r, s)) =
     let e : ms ≡ (key, v) ∷ ns = cc in
-    let m = pairs_match host ctx ps ns r in
+    let m = pairs_match world ps ns r in
     subst (Matches (pair key t ps)) (sym e) (record { many = ap suc m.many; again = ap (λ l. (key, v) ∷ l) m.again })
-pairs_match host ctx (pair key t ps) ms (Ok v, q, (Err f, r, s)) = cc
-pairs_match host ctx (pair key t ps) ms (Err f, q, s) = cc
+pairs_match world (pair key t ps) ms (Ok v, q, (Err f, r, s)) = cc
+pairs_match world (pair key t ps) ms (Err f, q, s) = cc
 
 -- an array of literals may be the array of their values alone
-all_literals : (host : Host) (ctx : Context) (vs : List Value) (a : Result (List Value) Fault) → (a ≡ Ok vs) ↔ AllowsAll host ctx (literals vs) a
-all_literals host ctx [] a = itself
-all_literals host ctx (v ∷ vs) a =
+all_literals : (world : World) (vs : List Value) (a : Result (List Value) Fault) → (a ≡ Ok vs) ↔ AllowsAll world (literals vs) a
+all_literals world [] a = itself
+all_literals world (v ∷ vs) a =
     let more = λ (w : Value) (ws : List Value) (b : Result (List Value) Fault). b ≡ Ok (w ∷ ws) in
-    back (via (After-single (Ok v) (λ w. After (AllowsAll host ctx (literals vs)) (more w)) a) (
-    via (After-first (AllowsAll host ctx (literals vs)) (λ b. b ≡ Ok vs) (more v) (λ b. back (all_literals host ctx vs b)) a) (After-single (Ok vs) (more v) a)
+    back (via (After-single (Ok v) (λ w. After (AllowsAll world (literals vs)) (more w)) a) (
+    via (After-first (AllowsAll world (literals vs)) (λ b. b ≡ Ok vs) (more v) (λ b. back (all_literals world vs b)) a) (After-single (Ok vs) (more v) a)
     ))
 
-pub literals_allow : (host : Host) (ctx : Context) (vs : List Value) (a : Answer) → (a ≡ Ok (value.Array vs)) ↔ Allows host ctx (list (literals vs)) a
-literals_allow host ctx vs a =
+pub literals_allow : (world : World) (vs : List Value) (a : Answer) → (a ≡ Ok (value.Array vs)) ↔ Allows world (list (literals vs)) a
+literals_allow world vs a =
     back (
-    via (After-first (AllowsAll host ctx (literals vs)) (λ b. b ≡ Ok vs) (λ ws b. b ≡ Ok (value.Array ws)) (λ b. back (all_literals host ctx vs b)) a) (
+    via (After-first (AllowsAll world (literals vs)) (λ b. b ≡ Ok vs) (λ ws b. b ≡ Ok (value.Array ws)) (λ b. back (all_literals world vs b)) a) (
     After-single (Ok vs) (λ ws b. b ≡ Ok (value.Array ws)) a
     )
     )
@@ -95,17 +95,17 @@ continued_both Pattern h o x right a = itself
 continued_both EndsAtFalse h o x right a = absurd h
 continued_both EndsAtTrue h o x right a = absurd h
 
-piped_other : (host : Host) (ctx : Context) (t : Term) → IsNoCall t → (v : Value) (a : Answer) → (a ≡ Err evaluation) ↔ AllowsPiped host ctx t v a
-piped_other host ctx (name key) h v a = itself
-piped_other host ctx (literal d) h v a = itself
-piped_other host ctx (list ts) h v a = itself
-piped_other host ctx (mapping ps) h v a = itself
-piped_other host ctx (range l r) h v a = itself
-piped_other host ctx (call key ts p) h v a = absurd h
-piped_other host ctx (unary o t) h v a = itself
-piped_other host ctx (operation o l r) h v a = itself
-piped_other host ctx (postfix p t) h v a = itself
-piped_other host ctx (choice t first second) h v a = itself
+piped_other : (world : World) (t : Term) → IsNoCall t → (v : Value) (a : Answer) → (a ≡ Err evaluation) ↔ AllowsPiped world t v a
+piped_other world (name key) h v a = itself
+piped_other world (literal d) h v a = itself
+piped_other world (list ts) h v a = itself
+piped_other world (mapping ps) h v a = itself
+piped_other world (range l r) h v a = itself
+piped_other world (call key ts p) h v a = absurd h
+piped_other world (unary o t) h v a = itself
+piped_other world (operation o l r) h v a = itself
+piped_other world (postfix p t) h v a = itself
+piped_other world (choice t first second) h v a = itself
 
 -- a bound that was checked, and what it leads to
 bound_after : (x : Result (Option ℤ) Fault) (g : Option ℤ → Answer) (a : Answer) → Goes x (λ b c. c ≡ g b) a ↔ (a ≡ bound_then x g)
@@ -142,7 +142,7 @@ module _ (v : Value) (G : Answer → Type 0) where
       λ w c known. via (After-single (kept_if (bound_checked w) w) Between c) (via (between_iff (bound_checked w) w refl c) (back (After-single (bound_at_top w) Second c)))
       ) a) (After-nested F (λ w c. c ≡ bound_at_top w) Second a)
 
-module _ (host : Host) (base : Context) (later : Later) where
+module _ (world : World) (later : Later) where
   -- What is in the slots past those of the scope doesn't matter to what may follow.
   abbrev pub Settled : {A : Type 0} → (A → Stack → Stack) → Next → Stack → List Value → (Result A Fault → Type 0) → Type 0
   Settled {A} to next stack slots allowed = (v : A) (extra : List Value) (b : Answer) → allowed (Ok v) → next 0 (to v stack) (slots ++ extra) b ↔ next 0 (to v stack) slots b
@@ -150,7 +150,7 @@ module _ (host : Host) (base : Context) (later : Later) where
   -- Where code is run with some values on the stack, it may come to exactly what is allowed, and leaves on the stack what that gives.
   abbrev pub Exact : {A : Type 0} → (Stack → Stack) → (A → Stack → Stack) → List Op → List Value → (Result A Fault → Type 0) → Type 1
   Exact pre to ops slots allowed = (next : Next) (stack : Stack) → Settled to next stack slots allowed → (extra : List Value) (a : Answer)
-      → Rest host base later ops next 0 (pre stack) (slots ++ extra) a ↔ After allowed (λ v. next 0 (to v stack) slots) a
+      → Rest world later ops next 0 (pre stack) (slots ++ extra) a ↔ After allowed (λ v. next 0 (to v stack) slots) a
 
   exact_as : {A : Type 0} (pre : Stack → Stack) (to : A → Stack → Stack) (ops : List Op) (slots : List Value) (P Q : Result A Fault → Type 0)
       → ((x : Result A Fault) → P x ↔ Q x) → Exact pre to ops slots P → Exact pre to ops slots Q
@@ -162,23 +162,23 @@ module _ (host : Host) (base : Context) (later : Later) where
       → (F : Result A Fault → Type 0) (G : A → Result B Fault → Type 0) → Exact pre mid one slots F
       → ((v : A) → F (Ok v) → Exact (mid v) to two slots (G v)) → Exact pre to (one ++ two) slots (After F G)
   exact_then {A} {B} pre mid to one two slots F G p q next stack settled extra a =
-      via (same (ap (λ n. n 0 (pre stack) (slots ++ extra) a) (rest_append host base later one two next))) (
+      via (same (ap (λ n. n 0 (pre stack) (slots ++ extra) a) (rest_append world later one two next))) (
       via (p after stack (λ v e b known. via (inner v known e b) (back (bare v known b))) extra a) (
       via (After-next F (λ v. after 0 (mid v stack) slots) (λ v. After (G v) given) (λ v b known. bare v known b) a) (After-nested F G given a)
       )
       )
     where
       after : Next
-      after = Rest host base later two next
+      after = Rest world later two next
 
       given : B → Answer → Type 0
       given w = next 0 (to w stack) slots
 
-      inner : (v : A) → F (Ok v) → (e : List Value) (b : Answer) → Rest host base later two next 0 (mid v stack) (slots ++ e) b ↔ After (G v) (λ w. next 0 (to w stack) slots) b
+      inner : (v : A) → F (Ok v) → (e : List Value) (b : Answer) → Rest world later two next 0 (mid v stack) (slots ++ e) b ↔ After (G v) (λ w. next 0 (to w stack) slots) b
       inner v known e b = q v known next stack (λ w e' c h. settled w e' c (Ok v, known, h)) e b
 
-      bare : (v : A) → F (Ok v) → (b : Answer) → Rest host base later two next 0 (mid v stack) slots b ↔ After (G v) (λ w. next 0 (to w stack) slots) b
-      bare v known b = subst (λ l. Rest host base later two next 0 (mid v stack) l b ↔ After (G v) (λ w. next 0 (to w stack) slots) b) (append-nil slots) (inner v known [] b)
+      bare : (v : A) → F (Ok v) → (b : Answer) → Rest world later two next 0 (mid v stack) slots b ↔ After (G v) (λ w. next 0 (to w stack) slots) b
+      bare v known b = subst (λ l. Rest world later two next 0 (mid v stack) l b ↔ After (G v) (λ w. next 0 (to w stack) slots) b) (append-nil slots) (inner v known [] b)
 
   -- over values that stay on the stack
   exact_over : {A : Type 0} (under pre : Stack → Stack) (to : A → Stack → Stack) (ops : List Op) (slots : List Value) (P : Result A Fault → Type 0)
@@ -200,7 +200,7 @@ module _ (host : Host) (base : Context) (later : Later) where
 
   -- code that is a function of values
   exact_goes : {A : Type 0} (pre : Stack → Stack) (to : A → Stack → Stack) (ops : List Op) (slots : List Value) (x : Result A Fault)
-      → ((next : Next) (stack : Stack) (extra : List Value) (a : Answer) → Rest host base later ops next 0 (pre stack) (slots ++ extra) a ↔ Goes x (λ v. next 0 (to v stack) (slots ++ extra)) a)
+      → ((next : Next) (stack : Stack) (extra : List Value) (a : Answer) → Rest world later ops next 0 (pre stack) (slots ++ extra) a ↔ Goes x (λ v. next 0 (to v stack) (slots ++ extra)) a)
       → Exact pre to ops slots (λ c. c ≡ x)
   exact_goes {A} pre to ops slots x h next stack settled extra a =
       via (h next stack extra a) (
@@ -210,28 +210,28 @@ module _ (host : Host) (base : Context) (later : Later) where
       )
 
   -- what is made of the top values
-  exact_act : (k : Act) (vs : List Value) → takes k ≡ length vs → (slots : List Value) → Exact (pushed vs) put (act k ∷ []) slots (AllowsAct host k vs)
+  exact_act : (k : Act) (vs : List Value) → takes k ≡ length vs → (slots : List Value) → Exact (pushed vs) put (act k ∷ []) slots (AllowsAct world.host k vs)
   exact_act k vs many slots next stack settled extra a =
-      via (same (taken_all vs (takes k) many stack (λ ws rest. After (AllowsAct host k ws) (λ v. next 0 (v ∷ rest) (slots ++ extra))) a)) (
-      After-next (AllowsAct host k vs) (λ v. next 0 (v ∷ stack) (slots ++ extra)) (λ v. next 0 (v ∷ stack) slots) (λ v b known. settled v extra b known) a
+      via (same (taken_all vs (takes k) many stack (λ ws rest. After (AllowsAct world.host k ws) (λ v. next 0 (v ∷ rest) (slots ++ extra))) a)) (
+      After-next (AllowsAct world.host k vs) (λ v. next 0 (v ∷ stack) (slots ++ extra)) (λ v. next 0 (v ∷ stack) slots) (λ v b known. settled v extra b known) a
       )
 
   exact_one : (k : Act) → takes k ≡ 1 → (c : List Op) (slots : List Value) (F : Answer → Type 0) → Exact kept put c slots F
-      → Exact kept put (c ++ act k ∷ []) slots (After F (λ v. AllowsAct host k (v ∷ [])))
-  exact_one k one c slots F p = exact_then kept put put c (act k ∷ []) slots F (λ v. AllowsAct host k (v ∷ [])) p (λ v known. exact_act k (v ∷ []) one slots)
+      → Exact kept put (c ++ act k ∷ []) slots (After F (λ v. AllowsAct world.host k (v ∷ [])))
+  exact_one k one c slots F p = exact_then kept put put c (act k ∷ []) slots F (λ v. AllowsAct world.host k (v ∷ [])) p (λ v known. exact_act k (v ∷ []) one slots)
 
   -- behind a value that is on the stack
   exact_behind : (k : Act) → takes k ≡ 2 → (c : List Op) (slots : List Value) (F : Answer → Type 0) → Exact kept put c slots F
-      → (x : Value) → Exact (put x) put (c ++ act k ∷ []) slots (After F (λ y. AllowsAct host k (x ∷ y ∷ [])))
+      → (x : Value) → Exact (put x) put (c ++ act k ∷ []) slots (After F (λ y. AllowsAct world.host k (x ∷ y ∷ [])))
   exact_behind k two c slots F p x =
-      exact_then (put x) (λ y stack. y ∷ x ∷ stack) put c (act k ∷ []) slots F (λ y. AllowsAct host k (x ∷ y ∷ [])) (exact_over (put x) kept put c slots F p) (
+      exact_then (put x) (λ y stack. y ∷ x ∷ stack) put c (act k ∷ []) slots F (λ y. AllowsAct world.host k (x ∷ y ∷ [])) (exact_over (put x) kept put c slots F p) (
       λ y known. exact_act k (x ∷ y ∷ []) two slots
       )
 
   exact_two : (k : Act) → takes k ≡ 2 → (c d : List Op) (slots : List Value) (F G : Answer → Type 0) → Exact kept put c slots F → Exact kept put d slots G
-      → Exact kept put (c ++ (d ++ act k ∷ [])) slots (After F (λ x. After G (λ y. AllowsAct host k (x ∷ y ∷ []))))
+      → Exact kept put (c ++ (d ++ act k ∷ [])) slots (After F (λ x. After G (λ y. AllowsAct world.host k (x ∷ y ∷ []))))
   exact_two k two c d slots F G p q =
-      exact_then kept put put c (d ++ act k ∷ []) slots F (λ x. After G (λ y. AllowsAct host k (x ∷ y ∷ []))) p (λ x known. exact_behind k two d slots G q x)
+      exact_then kept put put c (d ++ act k ∷ []) slots F (λ x. After G (λ y. AllowsAct world.host k (x ∷ y ∷ []))) p (λ x known. exact_behind k two d slots G q x)
 
   exact_between : (c d : List Op) (slots : List Value) (F G : Answer → Type 0) → Exact kept put c slots F → Exact kept put d slots G
       → (v : Value) → Exact (put v) put (c ++ act check_integer ∷ (d ++ act (cut true true) ∷ [])) slots (After F (λ w. After (λ c. c ≡ kept_if (bound_checked w) w) (Between v G)))
@@ -242,7 +242,7 @@ module _ (host : Host) (base : Context) (later : Later) where
       λ w known. exact_then (λ stack. w ∷ v ∷ stack) (λ u stack. u ∷ v ∷ stack) put (act check_integer ∷ []) (d ++ act (cut true true) ∷ []) slots (λ c. c ≡ kept_if (bound_checked w) w) (Between v G) (
       exact_over (put v) (pushed (w ∷ [])) put (act check_integer ∷ []) slots (λ c. c ≡ kept_if (bound_checked w) w) (exact_act check_integer (w ∷ []) refl slots)
       ) (
-      λ u known'. exact_then (λ stack. u ∷ v ∷ stack) (λ y stack. y ∷ u ∷ v ∷ stack) put d (act (cut true true) ∷ []) slots G (λ y. AllowsAct host (cut true true) (v ∷ u ∷ y ∷ [])) (
+      λ u known'. exact_then (λ stack. u ∷ v ∷ stack) (λ y stack. y ∷ u ∷ v ∷ stack) put d (act (cut true true) ∷ []) slots G (λ y. AllowsAct world.host (cut true true) (v ∷ u ∷ y ∷ [])) (
       exact_over (λ stack. u ∷ v ∷ stack) kept put d slots G q
       ) (λ y known''. exact_act (cut true true) (v ∷ u ∷ y ∷ []) refl slots)
       )
@@ -252,7 +252,7 @@ module _ (host : Host) (base : Context) (later : Later) where
   exact_line : (d : List Op) (i : ℕ) (slots : List Value) → i ≡ length slots → (v : Value) (P : Answer → Type 0) → Exact kept put d (slots ++ v ∷ []) P
       → Exact (put v) put (store i ∷ d) slots P
   exact_line d i slots e v P p next stack settled extra a =
-      via (same (ap (λ l. Rest host base later d next 0 stack l a) start)) (
+      via (same (ap (λ l. Rest world later d next 0 stack l a) start)) (
       via (p next stack (λ w ex b known. via (more w ex b known) (back (settled w (v ∷ []) b known))) [] a) (
       After-next P (λ w. next 0 (w ∷ stack) bound) (λ w. next 0 (w ∷ stack) slots) (λ w b known. settled w (v ∷ []) b known) a
       )
@@ -275,17 +275,17 @@ module _ (host : Host) (base : Context) (later : Later) where
   exact_jumped : (pre : Stack → Stack) (one two : List Op) (slots : List Value) (P : Answer → Type 0)
       → Exact pre put one slots P → Exact pre put (one ++ jump (length two) ∷ two) slots P
   exact_jumped pre one two slots P p next stack settled extra a =
-      via (same (ap (λ n. n 0 (pre stack) (slots ++ extra) a) (rest_append host base later one (jump (length two) ∷ two) next))) (
+      via (same (ap (λ n. n 0 (pre stack) (slots ++ extra) a) (rest_append world later one (jump (length two) ∷ two) next))) (
       via (p after stack (λ v e b known. via (on v (slots ++ e) b) (via (settled v e b known) (back (on v slots b)))) extra a) (
       After-next P (λ v. after 0 (v ∷ stack) slots) (λ v. next 0 (v ∷ stack) slots) (λ v b known. on v slots b) a
       )
       )
     where
       after : Next
-      after = Rest host base later (jump (length two) ∷ two) next
+      after = Rest world later (jump (length two) ∷ two) next
 
-      on : (v : Value) (l : List Value) (b : Answer) → Rest host base later (jump (length two) ∷ two) next 0 (v ∷ stack) l b ↔ next 0 (v ∷ stack) l b
-      on v l b = same (ap (λ n. n (v ∷ stack) l b) (rest_passed host base later two next (length two) 0 (omega arith)))
+      on : (v : Value) (l : List Value) (b : Answer) → Rest world later (jump (length two) ∷ two) next 0 (v ∷ stack) l b ↔ next 0 (v ∷ stack) l b
+      on v l b = same (ap (λ n. n (v ∷ stack) l b) (rest_passed world later two next (length two) 0 (omega arith)))
 
   -- two sides by a boolean, each in a part of its own
   exact_sides : (one two : List Op) (slots : List Value) (first second : Answer → Type 0) → Exact kept put one slots first → Exact kept put two slots second
@@ -293,12 +293,12 @@ module _ (host : Host) (base : Context) (later : Later) where
   exact_sides one two slots first second p q v next stack settled extra a = by (out-Value v) settled
     where
       rest : Next
-      rest = Rest host base later (one ++ jump (length two) ∷ two) next
+      rest = Rest world later (one ++ jump (length two) ∷ two) next
 
-      other : Rest host base later (one ++ jump (length two) ∷ two) next (length one + 1) ≡ Rest host base later two next 0
+      other : Rest world later (one ++ jump (length two) ∷ two) next (length one + 1) ≡ Rest world later two next 0
       other =
-          ap (λ n. n (length one + 1)) (rest_append host base later one (jump (length two) ∷ two) next)
-          ∙ rest_passed host base later one (Rest host base later (jump (length two) ∷ two) next) (length one + 1) 1 refl
+          ap (λ n. n (length one + 1)) (rest_append world later one (jump (length two) ∷ two) next)
+          ∙ rest_passed world later one (Rest world later (jump (length two) ∷ two) next) (length one + 1) 1 refl
 
       by : (layer : Value-F Value) → Settled put next stack slots (ChosenLayer layer first second)
           → ChosenLayer layer (rest 0 stack (slots ++ extra)) (rest (length one + 1) stack (slots ++ extra)) a ↔ After (ChosenLayer layer first second) (λ w. next 0 (w ∷ stack) slots) a
@@ -312,21 +312,21 @@ module _ (host : Host) (base : Context) (later : Later) where
     exact_checked = exact_then kept put put right (act check_bool ∷ []) slots P (λ y c. c ≡ truth y) p (λ y known. exact_act check_bool (y ∷ []) refl slots)
 
     module _ (next : Next) (stack : Stack) (extra : List Value) (a : Answer) where
-      over : (v : Value) → Rest host base later (right ++ act check_bool ∷ []) next (length right + 1) (v ∷ stack) (slots ++ extra) a ↔ next 0 (v ∷ stack) (slots ++ extra) a
+      over : (v : Value) → Rest world later (right ++ act check_bool ∷ []) next (length right + 1) (v ∷ stack) (slots ++ extra) a ↔ next 0 (v ∷ stack) (slots ++ extra) a
       over v =
           same (ap (λ n. n (v ∷ stack) (slots ++ extra) a) (
-          rest_passed host base later (right ++ act check_bool ∷ []) next (length right + 1) 0 (omega (arith, length-append right (act check_bool ∷ [])))
+          rest_passed world later (right ++ act check_bool ∷ []) next (length right + 1) 0 (omega (arith, length-append right (act check_bool ∷ [])))
           ))
 
       stays : (v : Value) → ((b : Answer) → next 0 (v ∷ stack) (slots ++ extra) b ↔ next 0 (v ∷ stack) slots b)
-          → Rest host base later (right ++ act check_bool ∷ []) next (length right + 1) (v ∷ stack) (slots ++ extra) a ↔ After (λ c. c ≡ Ok v) (λ w. next 0 (w ∷ stack) slots) a
+          → Rest world later (right ++ act check_bool ∷ []) next (length right + 1) (v ∷ stack) (slots ++ extra) a ↔ After (λ c. c ≡ Ok v) (λ w. next 0 (w ∷ stack) slots) a
       stays v settles = via (over v) (via (settles a) (back (After-single (Ok v) (λ w. next 0 (w ∷ stack) slots) a)))
 
     exact_and : (v : Value) → Exact (put v) put (and_then (length right + 1) ∷ (right ++ act check_bool ∷ [])) slots (AndThenLayer (out-Value v) P)
     exact_and v next stack settled extra a = by (out-Value v) settled
       where
         rest : Next
-        rest = Rest host base later (right ++ act check_bool ∷ []) next
+        rest = Rest world later (right ++ act check_bool ∷ []) next
 
         by : (layer : Value-F Value) → Settled put next stack slots (AndThenLayer layer P)
             → ChosenLayer layer (rest 0 stack (slots ++ extra)) (rest (length right + 1) (value.Bool false ∷ stack) (slots ++ extra)) a ↔ After (AndThenLayer layer P) (λ w. next 0 (w ∷ stack) slots) a
@@ -338,7 +338,7 @@ module _ (host : Host) (base : Context) (later : Later) where
     exact_or v next stack settled extra a = by (out-Value v) settled
       where
         rest : Next
-        rest = Rest host base later (right ++ act check_bool ∷ []) next
+        rest = Rest world later (right ++ act check_bool ∷ []) next
 
         by : (layer : Value-F Value) → Settled put next stack slots (OrElseLayer layer P)
             → ChosenLayer layer (rest (length right + 1) (value.Bool true ∷ stack) (slots ++ extra)) (rest 0 stack (slots ++ extra)) a ↔ After (OrElseLayer layer P) (λ w. next 0 (w ∷ stack) slots) a
@@ -351,43 +351,43 @@ module _ (host : Host) (base : Context) (later : Later) where
     exact_default v next stack settled extra a = by (out-Value v) settled
       where
         rest : Next
-        rest = Rest host base later right next
+        rest = Rest world later right next
 
         by : (layer : Value-F Value) → Settled put next stack slots (DefaultsLayer layer v P)
             → ByNilLayer layer (rest 0 stack (slots ++ extra)) (rest (length right) (v ∷ stack) (slots ++ extra)) a ↔ After (DefaultsLayer layer v P) (λ w. next 0 (w ∷ stack) slots) a
         by Value-F.Nil settles = p next stack settles extra a
         by layer settles =
-            via (same (ap (λ n. n (v ∷ stack) (slots ++ extra) a) (rest_passed host base later right next (length right) 0 (omega arith)))) (
+            via (same (ap (λ n. n (v ∷ stack) (slots ++ extra) a) (rest_passed world later right next (length right) 0 (omega arith)))) (
             via (settles v extra a refl) (back (After-single (Ok v) (λ w. next 0 (w ∷ stack) slots) a))
             )
 
   -- names
   exact_slot : (scope : Names) (slots : List Value) (key : List ℕ) → length scope ≡ length slots → bytes_eq key (codes "$env") ≡ false
-      → Exact kept put (slot_op (slot_of scope key) (slot_of scope hash) key ∷ []) slots (λ c. c ≡ looked_up (overridden scope slots base) key)
+      → Exact kept put (slot_op (slot_of scope key) (slot_of scope hash) key ∷ []) slots (λ c. c ≡ looked_up (overridden scope slots world.context) key)
   exact_slot scope slots key e plain =
       exact_as kept put (slot_op (slot_of scope key) (slot_of scope hash) key ∷ []) slots (λ c. c ≡ answer) (λ c. c ≡ looked_up ctx key) (λ c. same (ap (λ x. c ≡ x) (sym named))) (
       exact_goes kept put (slot_op (slot_of scope key) (slot_of scope hash) key ∷ []) slots answer (
-      λ next stack extra a. by next stack extra a (slot_of scope key) (slot_of scope hash) (ctx.value_of key) (ctx.value_of hash) (name_means scope slots extra base key e) (name_means scope slots extra base hash e)
+      λ next stack extra a. by next stack extra a (slot_of scope key) (slot_of scope hash) (ctx.value_of key) (ctx.value_of hash) (name_means scope slots extra world.context key e) (name_means scope slots extra world.context hash e)
       )
       )
     where
       ctx : Context
-      ctx = overridden scope slots base
+      ctx = overridden scope slots world.context
 
       answer : Answer
-      answer = first_of_two ((overridden scope slots base).value_of key) (field_of ((overridden scope slots base).value_of hash) key)
+      answer = first_of_two ((overridden scope slots world.context).value_of key) (field_of ((overridden scope slots world.context).value_of hash) key)
 
-      named : looked_up (overridden scope slots base) key ≡ first_of_two ((overridden scope slots base).value_of key) (field_of ((overridden scope slots base).value_of hash) key)
-      named = ap (λ b. cond b (Ok (value.Map (overridden scope slots base).map)) (first_of_two ((overridden scope slots base).value_of key) (field_of ((overridden scope slots base).value_of hash) key))) plain
+      named : looked_up (overridden scope slots world.context) key ≡ first_of_two ((overridden scope slots world.context).value_of key) (field_of ((overridden scope slots world.context).value_of hash) key)
+      named = ap (λ b. cond b (Ok (value.Map (overridden scope slots world.context).map)) (first_of_two ((overridden scope slots world.context).value_of key) (field_of ((overridden scope slots world.context).value_of hash) key))) plain
 
-      by : (next : Next) (stack : Stack) (extra : List Value) (a : Answer) (o h : Option ℕ) (val item : Option Value) → Means slots extra base key val o → Means slots extra base hash item h
-          → Rest host base later (slot_op o h key ∷ []) next 0 stack (slots ++ extra) a ↔ Goes (first_of_two val (field_of item key)) (λ v. next 0 (v ∷ stack) (slots ++ extra)) a
+      by : (next : Next) (stack : Stack) (extra : List Value) (a : Answer) (o h : Option ℕ) (val item : Option Value) → Means slots extra world.context key val o → Means slots extra world.context hash item h
+          → Rest world later (slot_op o h key ∷ []) next 0 stack (slots ++ extra) a ↔ Goes (first_of_two val (field_of item key)) (λ v. next 0 (v ∷ stack) (slots ++ extra)) a
       by next stack extra a (Some i) h val item (in_slot j v at is) m =
           via (same (ap (λ o. Loaded o (λ w. next 0 (w ∷ stack) (slots ++ extra)) a) at)) (
           same (ap (λ o. Goes (first_of_two o (field_of item key)) (λ w. next 0 (w ∷ stack) (slots ++ extra)) a) (sym is))
           )
       by next stack extra a None (Some j) val item (in_context is) (in_slot k v at is') =
-          via (same (ap (λ o. Loaded o (λ x. Goes (looked_with base key (Some x)) (λ w. next 0 (w ∷ stack) (slots ++ extra))) a) at)) (
+          via (same (ap (λ o. Loaded o (λ x. Goes (looked_with world.context key (Some x)) (λ w. next 0 (w ∷ stack) (slots ++ extra))) a) at)) (
           same (
           ap (λ o. Goes (first_of_two o (field_of (Some v) key)) (λ w. next 0 (w ∷ stack) (slots ++ extra)) a) (sym is)
           ∙ ap (λ o. Goes (first_of_two val (field_of o key)) (λ w. next 0 (w ∷ stack) (slots ++ extra)) a) (sym is')
@@ -395,35 +395,35 @@ module _ (host : Host) (base : Context) (later : Later) where
           )
       by next stack extra a None None val item (in_context is) (in_context is') =
           same (
-          ap (λ o. Goes (first_of_two o (field_of (base.value_of hash) key)) (λ w. next 0 (w ∷ stack) (slots ++ extra)) a) (sym is)
+          ap (λ o. Goes (first_of_two o (field_of (world.context.value_of hash) key)) (λ w. next 0 (w ∷ stack) (slots ++ extra)) a) (sym is)
           ∙ ap (λ o. Goes (first_of_two val (field_of o key)) (λ w. next 0 (w ∷ stack) (slots ++ extra)) a) (sym is')
           )
 
-  exact_env : (scope : Names) (slots : List Value) → Exact kept put (Op.env ∷ []) slots (λ c. c ≡ Ok (value.Map (overridden scope slots base).map))
+  exact_env : (scope : Names) (slots : List Value) → Exact kept put (Op.env ∷ []) slots (λ c. c ≡ Ok (value.Map (overridden scope slots world.context).map))
   exact_env scope slots =
-      exact_goes kept put (Op.env ∷ []) slots (Ok (value.Map (overridden scope slots base).map)) (
-      λ next stack extra a. same (ap (λ m. next 0 (value.Map m ∷ stack) (slots ++ extra) a) (sym (overridden-map scope slots base)))
+      exact_goes kept put (Op.env ∷ []) slots (Ok (value.Map (overridden scope slots world.context).map)) (
+      λ next stack extra a. same (ap (λ m. next 0 (value.Map m ∷ stack) (slots ++ extra) a) (sym (overridden-map scope slots world.context)))
       )
 
   exact_name : (scope : Names) (slots : List Value) (key : List ℕ) → length scope ≡ length slots
-      → Exact kept put (name_op scope key ∷ []) slots (λ c. c ≡ looked_up (overridden scope slots base) key)
+      → Exact kept put (name_op scope key ∷ []) slots (λ c. c ≡ looked_up (overridden scope slots world.context) key)
   exact_name scope slots key e = by (bytes_eq key (codes "$env")) refl
     where
-      by : (b : Bool) → bytes_eq key (codes "$env") ≡ b → Exact kept put (name_op scope key ∷ []) slots (λ c. c ≡ looked_up (overridden scope slots base) key)
+      by : (b : Bool) → bytes_eq key (codes "$env") ≡ b → Exact kept put (name_op scope key ∷ []) slots (λ c. c ≡ looked_up (overridden scope slots world.context) key)
       by true is =
           subst (λ c. Exact kept put (cond c Op.env (slot_op (slot_of scope key) (slot_of scope hash) key) ∷ []) slots (
-          λ x. x ≡ cond c (Ok (value.Map (overridden scope slots base).map)) (first_of_two ((overridden scope slots base).value_of key) (field_of ((overridden scope slots base).value_of hash) key))
+          λ x. x ≡ cond c (Ok (value.Map (overridden scope slots world.context).map)) (first_of_two ((overridden scope slots world.context).value_of key) (field_of ((overridden scope slots world.context).value_of hash) key))
           )) (sym is) (exact_env scope slots)
       by false is =
-          subst (λ c. Exact kept put (cond c Op.env (slot_op (slot_of scope key) (slot_of scope hash) key) ∷ []) slots (λ x. x ≡ looked_up (overridden scope slots base) key)) (sym is) (exact_slot scope slots key e is)
+          subst (λ c. Exact kept put (cond c Op.env (slot_op (slot_of scope key) (slot_of scope hash) key) ∷ []) slots (λ x. x ≡ looked_up (overridden scope slots world.context) key)) (sym is) (exact_slot scope slots key e is)
 
 -- each block that is left may come to exactly what its program allows
-abbrev pub IsRight : Host → Context → Programs → Later → Type 0
-IsRight host base programs later =
+abbrev pub IsRight : World → Programs → Later → Type 0
+IsRight world programs later =
     (n : ℕ) (scope : Names) (b : Block) → slice_get programs n ≡ Some (scope, b) → (slots : List Value) → length scope ≡ length slots → (a : Answer)
-    → later n slots a ↔ AllowsBlock host (overridden scope slots base) b a
+    → later n slots a ↔ AllowsBlock (with_context world (overridden scope slots world.context)) b a
 
-module _ (host : Host) (base : Context) (programs : Programs) (later : Later) (right : IsRight host base programs later) where
+module _ (world : World) (programs : Programs) (later : Later) (right : IsRight world programs later) where
   -- a call that asks a block
   module _ (scope : Names) (slots : List Value) (e : length scope ≡ length slots) (key : List ℕ) (block : ℕ) (b : Block)
       (at : slice_get programs block ≡ Some (scope ++ bound_names (binds_named key), b)) where
@@ -442,7 +442,7 @@ module _ (host : Host) (base : Context) (programs : Programs) (later : Later) (r
     abbrev Asked : List Value → Question → Answer → Type 0
     Asked extra q a = later block (take (length scope) (slots ++ extra) ++ bound_values (binds_named key) q) a
 
-    one_asked : (extra : List Value) (q : Question) → HasTold (binds_named key) q → (a : Answer) → Asked extra q a ↔ AllowsBlock host (asked_in (overridden scope slots base) q) b a
+    one_asked : (extra : List Value) (q : Question) → HasTold (binds_named key) q → (a : Answer) → Asked extra q a ↔ AllowsBlock (with_context world (asked_in (overridden scope slots world.context) q)) b a
     one_asked extra q h a =
         let binds = binds_named key in
         let bound = slots ++ bound_values binds q in
@@ -450,27 +450,27 @@ module _ (host : Host) (base : Context) (programs : Programs) (later : Later) (r
         via (same (ap (λ l. later block (l ++ bound_values binds q) a) (first_slots extra))) (
         via (right block inner b at bound (as_told binds q h) a) (
         same (
-        ap (λ c. AllowsBlock host c b a) (
-        overridden-append scope (bound_names binds) slots (bound_values binds q) base e ∙ asked_as (overridden scope slots base) binds q h
+        ap (λ c. AllowsBlock (with_context world c) b a) (
+        overridden-append scope (bound_names binds) slots (bound_values binds q) world.context e ∙ asked_as (overridden scope slots world.context) binds q h
         )
         )
         )
         )
 
     all_asked : (extra vs : List Value) (a : Answer)
-        → AllowsCall host key vs true (Asked extra) a ↔ AllowsCall host key vs true (λ q. AllowsBlock host (asked_in (overridden scope slots base) q) b) a
+        → AllowsCall world.host key vs true (Asked extra) a ↔ AllowsCall world.host key vs true (λ q. AllowsBlock (with_context world (asked_in (overridden scope slots world.context) q)) b) a
     all_asked extra vs a =
-        let allows = λ (q : Question). AllowsBlock host (asked_in (overridden scope slots base) q) b in (
-          call_keeps key (Asked extra) allows (λ q h c. (one_asked extra q h c).0) host vs true a,
-          call_keeps key allows (Asked extra) (λ q h c. (one_asked extra q h c).1) host vs true a,
+        let allows = λ (q : Question). AllowsBlock (with_context world (asked_in (overridden scope slots world.context) q)) b in (
+          call_keeps key (Asked extra) allows (λ q h c. (one_asked extra q h c).0) world.host vs true a,
+          call_keeps key allows (Asked extra) (λ q h c. (one_asked extra q h c).1) world.host vs true a,
         )
 
     exact_asks : (n : ℕ) (vs : List Value) → n ≡ length vs
-        → Exact host base later (pushed vs) put (asks key n block (length scope) (binds_named key) ∷ []) slots (AllowsCall host key vs true (AllowsAsked host (overridden scope slots base) (predicate b)))
+        → Exact world later (pushed vs) put (asks key n block (length scope) (binds_named key) ∷ []) slots (AllowsCall world.host key vs true (AllowsAsked (with_context world (overridden scope slots world.context)) (predicate b)))
     exact_asks n vs many next stack settled extra a =
-        let asked = λ (x : Answer). AllowsCall host key vs true (Asked extra) x in
-        let allowed = λ (x : Answer). AllowsCall host key vs true (λ q. AllowsBlock host (asked_in (overridden scope slots base) q) b) x in
-        via (same (taken_all vs n many stack (λ ws rest. After (AsksBlock host base later key ws block (length scope) (binds_named key) (slots ++ extra)) (λ v. next 0 (v ∷ rest) (take (length scope) (slots ++ extra)))) a)) (
+        let asked = λ (x : Answer). AllowsCall world.host key vs true (Asked extra) x in
+        let allowed = λ (x : Answer). AllowsCall world.host key vs true (λ q. AllowsBlock (with_context world (asked_in (overridden scope slots world.context) q)) b) x in
+        via (same (taken_all vs n many stack (λ ws rest. After (AsksBlock world later key ws block (length scope) (binds_named key) (slots ++ extra)) (λ v. next 0 (v ∷ rest) (take (length scope) (slots ++ extra)))) a)) (
         After-iff asked allowed (λ v. next 0 (v ∷ stack) (take (length scope) (slots ++ extra))) (λ v. next 0 (v ∷ stack) slots) (λ x. all_asked extra vs x) (
         λ v c known. same (ap (λ l. next 0 (v ∷ stack) l c) (first_slots extra))
         ) a
@@ -478,179 +478,179 @@ module _ (host : Host) (base : Context) (programs : Programs) (later : Later) (r
 
   -- a call by its instruction
   exact_call : (scope : Names) (slots : List Value) → length scope ≡ length slots → (key : List ℕ) (n : ℕ) (p : Predicate) (op : Op) → IsCallOp programs scope key n p op
-      → (vs : List Value) → n ≡ length vs → Exact host base later (pushed vs) put (op ∷ []) slots (AllowsCall host key vs (is_given p) (AllowsAsked host (overridden scope slots base) p))
+      → (vs : List Value) → n ≡ length vs → Exact world later (pushed vs) put (op ∷ []) slots (AllowsCall world.host key vs (is_given p) (AllowsAsked (with_context world (overridden scope slots world.context)) p))
   exact_call scope slots e key n no_predicate op is vs many =
-      subst (λ o. Exact host base later (pushed vs) put (o ∷ []) slots (AllowsCall host key vs false AsksItself)) (sym is) (exact_act host base later (calls key n) vs many slots)
+      subst (λ o. Exact world later (pushed vs) put (o ∷ []) slots (AllowsCall world.host key vs false AsksItself)) (sym is) (exact_act world later (calls key n) vs many slots)
   exact_call scope slots e key n (predicate b) op (block, at, is) vs many =
-      subst (λ o. Exact host base later (pushed vs) put (o ∷ []) slots (AllowsCall host key vs true (AllowsAsked host (overridden scope slots base) (predicate b)))) (sym is) (
+      subst (λ o. Exact world later (pushed vs) put (o ∷ []) slots (AllowsCall world.host key vs true (AllowsAsked (with_context world (overridden scope slots world.context)) (predicate b)))) (sym is) (
       exact_asks scope slots e key block b at n vs many
       )
 
   -- an operator with a value on its right that the operator doesn't tell from the one that the right side alone may be
   exact_with : (o : Operator) → AsksBoth (sides_of o) → (r v : Value) → IsAlike o r v → (c : List Op) (slots : List Value) (F G : Answer → Type 0) → ((b : Answer) → (b ≡ Ok r) ↔ G b)
-      → Exact host base later kept put c slots F → Exact host base later kept put (c ++ act (operate_with o v) ∷ []) slots (After F (λ w. Continued o w G))
+      → Exact world later kept put c slots F → Exact world later kept put (c ++ act (operate_with o v) ∷ []) slots (After F (λ w. Continued o w G))
   exact_with o both r v alike c slots F G h p =
-      exact_as host base later kept put (c ++ act (operate_with o v) ∷ []) slots (After F (λ w. Operated o w v)) (After F (λ w. Continued o w G)) (
+      exact_as world later kept put (c ++ act (operate_with o v) ∷ []) slots (After F (λ w. Operated o w v)) (After F (λ w. Continued o w G)) (
       λ a. After-next F (λ w. Operated o w v) (λ w. Continued o w G) (
       λ w b known. back (via (continued_both (sides_of o) both o w G b) (
       via (After-first G (λ x. x ≡ Ok r) (λ u. Operated o w u) (λ x. back (h x)) b) (via (After-single (Ok r) (λ u. Operated o w u) b) (alike w b))
       ))
       ) a
-      ) (exact_one host base later (operate_with o v) refl c slots F p)
+      ) (exact_one world later (operate_with o v) refl c slots F p)
 
   mutual
     pub exact : {scope : Names} {t : Term} {ops : List Op} → TermCode programs scope t ops → (slots : List Value) → length scope ≡ length slots
-        → Exact host base later kept put ops slots (Allows host (overridden scope slots base) t)
-    exact (name_code scope key) slots e = exact_name host base later scope slots key e
-    exact (literal_code scope v) slots e = exact_goes host base later kept put (push v ∷ []) slots (Ok v) (λ next stack extra a. itself)
+        → Exact world later kept put ops slots (Allows (with_context world (overridden scope slots world.context)) t)
+    exact (name_code scope key) slots e = exact_name world later scope slots key e
+    exact (literal_code scope v) slots e = exact_goes world later kept put (push v ∷ []) slots (Ok v) (λ next stack extra a. itself)
     exact (list_code scope ts c d) slots e =
-        exact_then host base later kept pushed put c (act (collect (count_terms ts)) ∷ []) slots (AllowsAll host (overridden scope slots base) ts) (λ vs a. a ≡ Ok (value.Array vs)) (exact_all d slots e) (
-        λ vs known. exact_act host base later (collect (count_terms ts)) vs (as_many host (overridden scope slots base) ts vs known) slots
+        exact_then world later kept pushed put c (act (collect (count_terms ts)) ∷ []) slots (AllowsAll (with_context world (overridden scope slots world.context)) ts) (λ vs a. a ≡ Ok (value.Array vs)) (exact_all d slots e) (
+        λ vs known. exact_act world later (collect (count_terms ts)) vs (as_many (with_context world (overridden scope slots world.context)) ts vs known) slots
         )
     exact (literals_code scope vs) slots e =
-        exact_as host base later kept put (push (value.Array vs) ∷ []) slots (λ a. a ≡ Ok (value.Array vs)) (Allows host (overridden scope slots base) (list (literals vs))) (
-        literals_allow host (overridden scope slots base) vs
-        ) (exact_goes host base later kept put (push (value.Array vs) ∷ []) slots (Ok (value.Array vs)) (λ next stack extra a. itself))
+        exact_as world later kept put (push (value.Array vs) ∷ []) slots (λ a. a ≡ Ok (value.Array vs)) (Allows (with_context world (overridden scope slots world.context)) (list (literals vs))) (
+        literals_allow (with_context world (overridden scope slots world.context)) vs
+        ) (exact_goes world later kept put (push (value.Array vs) ∷ []) slots (Ok (value.Array vs)) (λ next stack extra a. itself))
     exact (mapping_code scope ps c d) slots e =
-        exact_then host base later kept (λ ms. pushed (values ms)) put c (act (gather (keys_of ps)) ∷ []) slots (AllowsPairs host (overridden scope slots base) ps) (λ ms a. a ≡ Ok (value.Map (put_all [] ms))) (exact_pairs d slots e) (
-        λ ms known. let m = pairs_match host (overridden scope slots base) ps ms known in
-        subst (λ l. Exact host base later (pushed (values ms)) put (act (gather (keys_of ps)) ∷ []) slots (λ a. a ≡ Ok (value.Map (put_all [] l)))) m.again (
-        exact_act host base later (gather (keys_of ps)) (values ms) m.many slots
+        exact_then world later kept (λ ms. pushed (values ms)) put c (act (gather (keys_of ps)) ∷ []) slots (AllowsPairs (with_context world (overridden scope slots world.context)) ps) (λ ms a. a ≡ Ok (value.Map (put_all [] ms))) (exact_pairs d slots e) (
+        λ ms known. let m = pairs_match (with_context world (overridden scope slots world.context)) ps ms known in
+        subst (λ l. Exact world later (pushed (values ms)) put (act (gather (keys_of ps)) ∷ []) slots (λ a. a ≡ Ok (value.Map (put_all [] l)))) m.again (
+        exact_act world later (gather (keys_of ps)) (values ms) m.many slots
         )
         )
     exact (range_code scope l r c d x y) slots e =
-        exact_two host base later span refl c d slots (Allows host (overridden scope slots base) l) (Allows host (overridden scope slots base) r) (exact x slots e) (exact y slots e)
+        exact_two world later span refl c d slots (Allows (with_context world (overridden scope slots world.context)) l) (Allows (with_context world (overridden scope slots world.context)) r) (exact x slots e) (exact y slots e)
     exact (call_code scope key ts p c op d is) slots e =
-        exact_then host base later kept pushed put c (op ∷ []) slots (AllowsAll host (overridden scope slots base) ts)
-        (λ vs. AllowsCall host key vs (is_given p) (AllowsAsked host (overridden scope slots base) p)) (exact_all d slots e) (
-        λ vs known. exact_call scope slots e key (count_terms ts) p op is vs (as_many host (overridden scope slots base) ts vs known)
+        exact_then world later kept pushed put c (op ∷ []) slots (AllowsAll (with_context world (overridden scope slots world.context)) ts)
+        (λ vs. AllowsCall world.host key vs (is_given p) (AllowsAsked (with_context world (overridden scope slots world.context)) p)) (exact_all d slots e) (
+        λ vs known. exact_call scope slots e key (count_terms ts) p op is vs (as_many (with_context world (overridden scope slots world.context)) ts vs known)
         )
     exact (unary_code scope o t c x) slots e =
-        exact_one host base later (prefix o) refl c slots (Allows host (overridden scope slots base) t) (exact x slots e)
+        exact_one world later (prefix o) refl c slots (Allows (with_context world (overridden scope slots world.context)) t) (exact x slots e)
     exact (operation_code scope o l r c d both x y) slots e =
-        let F = Allows host (overridden scope slots base) l in
-        let G = Allows host (overridden scope slots base) r in
-        exact_as host base later kept put (c ++ (d ++ act (operate o) ∷ [])) slots (After F (λ v. After G (λ w. Operated o v w))) (After F (λ v. Continued o v G)) (
+        let F = Allows (with_context world (overridden scope slots world.context)) l in
+        let G = Allows (with_context world (overridden scope slots world.context)) r in
+        exact_as world later kept put (c ++ (d ++ act (operate o) ∷ [])) slots (After F (λ v. After G (λ w. Operated o v w))) (After F (λ v. Continued o v G)) (
         λ a. After-next F (λ v. After G (λ w. Operated o v w)) (λ v. Continued o v G) (λ v b known. back (continued_both (sides_of o) both o v G b)) a
-        ) (exact_two host base later (operate o) refl c d slots F G (exact x slots e) (exact y slots e))
+        ) (exact_two world later (operate o) refl c d slots F G (exact x slots e) (exact y slots e))
     exact (operation_with_code scope o l v c both x) slots e =
-        exact_with o both v v (λ w b. itself) c slots (Allows host (overridden scope slots base) l) (λ b. b ≡ Ok v) (λ b. itself) (exact x slots e)
+        exact_with o both v v (λ w b. itself) c slots (Allows (with_context world (overridden scope slots world.context)) l) (λ b. b ≡ Ok v) (λ b. itself) (exact x slots e)
     exact (operation_with_literals_code scope o l vs v c both stands x) slots e =
-        exact_with o both (value.Array vs) v (stands_alike o vs v stands) c slots (Allows host (overridden scope slots base) l) (Allows host (overridden scope slots base) (list (literals vs))) (
-        literals_allow host (overridden scope slots base) vs
+        exact_with o both (value.Array vs) v (stands_alike o vs v stands) c slots (Allows (with_context world (overridden scope slots world.context)) l) (Allows (with_context world (overridden scope slots world.context)) (list (literals vs))) (
+        literals_allow (with_context world (overridden scope slots world.context)) vs
         ) (exact x slots e)
     exact (and_code scope o l r c d s x y) slots e =
-        let F = Allows host (overridden scope slots base) l in
-        let G = Allows host (overridden scope slots base) r in
-        exact_then host base later kept put put c (and_then (length d + 1) ∷ (d ++ act check_bool ∷ [])) slots F (λ v. Continued o v G) (exact x slots e) (
-        λ v known. exact_as host base later (put v) put (and_then (length d + 1) ∷ (d ++ act check_bool ∷ [])) slots (AndThenLayer (out-Value v) G) (Continued o v G) (
+        let F = Allows (with_context world (overridden scope slots world.context)) l in
+        let G = Allows (with_context world (overridden scope slots world.context)) r in
+        exact_then world later kept put put c (and_then (length d + 1) ∷ (d ++ act check_bool ∷ [])) slots F (λ v. Continued o v G) (exact x slots e) (
+        λ v known. exact_as world later (put v) put (and_then (length d + 1) ∷ (d ++ act check_bool ∷ [])) slots (AndThenLayer (out-Value v) G) (Continued o v G) (
         λ a. same (ap (λ k. ContinuedAs k o v G a) (sym s))
-        ) (exact_and host base later d slots G (exact y slots e) v)
+        ) (exact_and world later d slots G (exact y slots e) v)
         )
     exact (or_code scope o l r c d s x y) slots e =
-        let F = Allows host (overridden scope slots base) l in
-        let G = Allows host (overridden scope slots base) r in
-        exact_then host base later kept put put c (or_else (length d + 1) ∷ (d ++ act check_bool ∷ [])) slots F (λ v. Continued o v G) (exact x slots e) (
-        λ v known. exact_as host base later (put v) put (or_else (length d + 1) ∷ (d ++ act check_bool ∷ [])) slots (OrElseLayer (out-Value v) G) (Continued o v G) (
+        let F = Allows (with_context world (overridden scope slots world.context)) l in
+        let G = Allows (with_context world (overridden scope slots world.context)) r in
+        exact_then world later kept put put c (or_else (length d + 1) ∷ (d ++ act check_bool ∷ [])) slots F (λ v. Continued o v G) (exact x slots e) (
+        λ v known. exact_as world later (put v) put (or_else (length d + 1) ∷ (d ++ act check_bool ∷ [])) slots (OrElseLayer (out-Value v) G) (Continued o v G) (
         λ a. same (ap (λ k. ContinuedAs k o v G a) (sym s))
-        ) (exact_or host base later d slots G (exact y slots e) v)
+        ) (exact_or world later d slots G (exact y slots e) v)
         )
     exact (postfix_code scope p t c d x y) slots e =
-        exact_then host base later kept put put c d slots (Allows host (overridden scope slots base) t) (λ v. AllowsPostfix host (overridden scope slots base) p v) (exact x slots e) (
+        exact_then world later kept put put c d slots (Allows (with_context world (overridden scope slots world.context)) t) (λ v. AllowsPostfix (with_context world (overridden scope slots world.context)) p v) (exact x slots e) (
         λ v known. exact_postfix y slots e v
         )
     exact (choice_code scope t first second c d f x y z) slots e =
-        let A = AllowsBlock host (overridden scope slots base) first in
-        let B = AllowsBlock host (overridden scope slots base) second in
-        exact_then host base later kept put put c (jump_if_false (length d + 1) ∷ (d ++ jump (length f) ∷ f)) slots (Allows host (overridden scope slots base) t) (λ v. Chosen v A B) (exact x slots e) (
-        λ v known. exact_sides host base later d f slots A B (exact_block y slots e) (exact_block z slots e) v
+        let A = AllowsBlock (with_context world (overridden scope slots world.context)) first in
+        let B = AllowsBlock (with_context world (overridden scope slots world.context)) second in
+        exact_then world later kept put put c (jump_if_false (length d + 1) ∷ (d ++ jump (length f) ∷ f)) slots (Allows (with_context world (overridden scope slots world.context)) t) (λ v. Chosen v A B) (exact x slots e) (
+        λ v known. exact_sides world later d f slots A B (exact_block y slots e) (exact_block z slots e) v
         )
 
     exact_postfix : {scope : Names} {p : Postfix} {ops : List Op} → PostfixCode programs scope p ops → (slots : List Value) → length scope ≡ length slots
-        → (v : Value) → Exact host base later (put v) put ops slots (AllowsPostfix host (overridden scope slots base) p v)
+        → (v : Value) → Exact world later (put v) put ops slots (AllowsPostfix (with_context world (overridden scope slots world.context)) p v)
     exact_postfix (index_code scope key optional c x) slots e v =
-        exact_behind host base later (pick optional) refl c slots (Allows host (overridden scope slots base) key) (exact x slots e) v
+        exact_behind world later (pick optional) refl c slots (Allows (with_context world (overridden scope slots world.context)) key) (exact x slots e) v
     exact_postfix (index_at_code scope key optional) slots e v =
-        exact_as host base later (put v) put (act (pick_at key optional) ∷ []) slots (λ a. a ≡ indexed v key optional) (After (λ a. a ≡ Ok key) (λ k a. a ≡ indexed v k optional)) (
+        exact_as world later (put v) put (act (pick_at key optional) ∷ []) slots (λ a. a ≡ indexed v key optional) (After (λ a. a ≡ Ok key) (λ k a. a ≡ indexed v k optional)) (
         λ a. back (After-single (Ok key) (λ k b. b ≡ indexed v k optional) a)
-        ) (exact_act host base later (pick_at key optional) (v ∷ []) refl slots)
+        ) (exact_act world later (pick_at key optional) (v ∷ []) refl slots)
     exact_postfix (slice_all_code scope) slots e v =
         let to_end = λ (from : Option ℤ). After (λ b. b ≡ Ok None) (λ to c. c ≡ sliced v from to) in
-        exact_as host base later (put v) put (act (cut false false) ∷ []) slots (λ a. a ≡ sliced v None None) (After (λ b. b ≡ Ok None) to_end) (
+        exact_as world later (put v) put (act (cut false false) ∷ []) slots (λ a. a ≡ sliced v None None) (After (λ b. b ≡ Ok None) to_end) (
         λ a. back (via (After-single (Ok None) to_end a) (After-single (Ok None) (λ to c. c ≡ sliced v None to) a))
-        ) (exact_act host base later (cut false false) (v ∷ []) refl slots)
+        ) (exact_act world later (cut false false) (v ∷ []) refl slots)
     exact_postfix (slice_from_code scope t c x) slots e v =
-        let F = Allows host (overridden scope slots base) t in
+        let F = Allows (with_context world (overridden scope slots world.context)) t in
         let to_end = λ (from : Option ℤ). After (λ b. b ≡ Ok None) (λ to c. c ≡ sliced v from to) in
-        exact_as host base later (put v) put (c ++ act (cut true false) ∷ []) slots (After F (λ w b. b ≡ bound_then (bound_at_top w) (λ from. sliced v from None))) (AllowsPostfix host (overridden scope slots base) (slice (bound t) unbounded) v) (
+        exact_as world later (put v) put (c ++ act (cut true false) ∷ []) slots (After F (λ w b. b ≡ bound_then (bound_at_top w) (λ from. sliced v from None))) (AllowsPostfix (with_context world (overridden scope slots world.context)) (slice (bound t) unbounded) v) (
         λ a. via (bound_made F (λ from. sliced v from None) a) (
         After-next (After F (λ w b. b ≡ bound_at_top w)) (λ from b. b ≡ sliced v from None) to_end (λ from b known. back (After-single (Ok None) (λ to c. c ≡ sliced v from to) b)) a
         )
-        ) (exact_behind host base later (cut true false) refl c slots F (exact x slots e) v)
+        ) (exact_behind world later (cut true false) refl c slots F (exact x slots e) v)
     exact_postfix (slice_to_code scope t c x) slots e v =
-        let F = Allows host (overridden scope slots base) t in
+        let F = Allows (with_context world (overridden scope slots world.context)) t in
         let to_bound = λ (from : Option ℤ). After (After F (λ w b. b ≡ bound_at_top w)) (λ to c. c ≡ sliced v from to) in
-        exact_as host base later (put v) put (c ++ act (cut false true) ∷ []) slots (After F (λ w b. b ≡ bound_then (bound_at_top w) (λ to. sliced v None to))) (AllowsPostfix host (overridden scope slots base) (slice unbounded (bound t)) v) (
+        exact_as world later (put v) put (c ++ act (cut false true) ∷ []) slots (After F (λ w b. b ≡ bound_then (bound_at_top w) (λ to. sliced v None to))) (AllowsPostfix (with_context world (overridden scope slots world.context)) (slice unbounded (bound t)) v) (
         λ a. via (bound_made F (λ to. sliced v None to) a) (back (After-single (Ok None) to_bound a))
-        ) (exact_behind host base later (cut false true) refl c slots F (exact x slots e) v)
+        ) (exact_behind world later (cut false true) refl c slots F (exact x slots e) v)
     exact_postfix (slice_between_code scope t u c d x y) slots e v =
-        let F = Allows host (overridden scope slots base) t in
-        let G = Allows host (overridden scope slots base) u in
-        exact_as host base later (put v) put (c ++ act check_integer ∷ (d ++ act (cut true true) ∷ [])) slots (After F (λ w. After (λ b. b ≡ kept_if (bound_checked w) w) (Between v G))) (AllowsPostfix host (overridden scope slots base) (slice (bound t) (bound u)) v) (
+        let F = Allows (with_context world (overridden scope slots world.context)) t in
+        let G = Allows (with_context world (overridden scope slots world.context)) u in
+        exact_as world later (put v) put (c ++ act check_integer ∷ (d ++ act (cut true true) ∷ [])) slots (After F (λ w. After (λ b. b ≡ kept_if (bound_checked w) w) (Between v G))) (AllowsPostfix (with_context world (overridden scope slots world.context)) (slice (bound t) (bound u)) v) (
         λ a. between_made v G F a
-        ) (exact_between host base later c d slots F G (exact x slots e) (exact y slots e) v)
+        ) (exact_between world later c d slots F G (exact x slots e) (exact y slots e) v)
     exact_postfix (coalesce_code scope t c x) slots e v =
-        exact_default host base later c slots (Allows host (overridden scope slots base) t) (exact x slots e) v
+        exact_default world later c slots (Allows (with_context world (overridden scope slots world.context)) t) (exact x slots e) v
     exact_postfix (pipe_code scope key ts p c op d is) slots e v =
-        exact_then host base later (put v) (λ vs stack. pushed vs (v ∷ stack)) put c (op ∷ []) slots (AllowsAll host (overridden scope slots base) ts)
-        (λ vs. AllowsCall host key (v ∷ vs) (is_given p) (AllowsAsked host (overridden scope slots base) p)) (
-        exact_over host base later (put v) kept pushed c slots (AllowsAll host (overridden scope slots base) ts) (exact_all d slots e)
+        exact_then world later (put v) (λ vs stack. pushed vs (v ∷ stack)) put c (op ∷ []) slots (AllowsAll (with_context world (overridden scope slots world.context)) ts)
+        (λ vs. AllowsCall world.host key (v ∷ vs) (is_given p) (AllowsAsked (with_context world (overridden scope slots world.context)) p)) (
+        exact_over world later (put v) kept pushed c slots (AllowsAll (with_context world (overridden scope slots world.context)) ts) (exact_all d slots e)
         ) (
-        λ vs known. exact_call scope slots e key (suc (count_terms ts)) p op is (v ∷ vs) (ap suc (as_many host (overridden scope slots base) ts vs known))
+        λ vs known. exact_call scope slots e key (suc (count_terms ts)) p op is (v ∷ vs) (ap suc (as_many (with_context world (overridden scope slots world.context)) ts vs known))
         )
     exact_postfix (pipe_other_code scope t other) slots e v =
-        exact_as host base later (put v) put (refuse ∷ []) slots (λ a. a ≡ Err evaluation) (AllowsPiped host (overridden scope slots base) t v) (λ a. piped_other host (overridden scope slots base) t other v a) (
-        exact_goes host base later (put v) put (refuse ∷ []) slots (Err evaluation) (λ next stack extra a. itself)
+        exact_as world later (put v) put (refuse ∷ []) slots (λ a. a ≡ Err evaluation) (AllowsPiped (with_context world (overridden scope slots world.context)) t v) (λ a. piped_other (with_context world (overridden scope slots world.context)) t other v a) (
+        exact_goes world later (put v) put (refuse ∷ []) slots (Err evaluation) (λ next stack extra a. itself)
         )
     exact_postfix (ternary_code scope first second d f y z) slots e v =
-        exact_sides host base later d f slots (Allows host (overridden scope slots base) first) (Allows host (overridden scope slots base) second) (exact y slots e) (exact z slots e) v
+        exact_sides world later d f slots (Allows (with_context world (overridden scope slots world.context)) first) (Allows (with_context world (overridden scope slots world.context)) second) (exact y slots e) (exact z slots e) v
     exact_postfix (method_code scope key ts c d) slots e v =
-        exact_then host base later (put v) (λ vs stack. pushed vs (v ∷ stack)) put c (act (invoke key (count_terms ts)) ∷ []) slots (AllowsAll host (overridden scope slots base) ts)
+        exact_then world later (put v) (λ vs stack. pushed vs (v ∷ stack)) put c (act (invoke key (count_terms ts)) ∷ []) slots (AllowsAll (with_context world (overridden scope slots world.context)) ts)
         (λ vs. AllowsMethod key v vs) (
-        exact_over host base later (put v) kept pushed c slots (AllowsAll host (overridden scope slots base) ts) (exact_all d slots e)
+        exact_over world later (put v) kept pushed c slots (AllowsAll (with_context world (overridden scope slots world.context)) ts) (exact_all d slots e)
         ) (
-        λ vs known. exact_act host base later (invoke key (count_terms ts)) (v ∷ vs) (ap suc (as_many host (overridden scope slots base) ts vs known)) slots
+        λ vs known. exact_act world later (invoke key (count_terms ts)) (v ∷ vs) (ap suc (as_many (with_context world (overridden scope slots world.context)) ts vs known)) slots
         )
 
     exact_all : {scope : Names} {ts : Terms} {ops : List Op} → TermsCode programs scope ts ops → (slots : List Value) → length scope ≡ length slots
-        → Exact host base later kept pushed ops slots (AllowsAll host (overridden scope slots base) ts)
-    exact_all (no_terms_code scope) slots e = exact_goes host base later kept pushed [] slots (Ok []) (λ next stack extra a. itself)
+        → Exact world later kept pushed ops slots (AllowsAll (with_context world (overridden scope slots world.context)) ts)
+    exact_all (no_terms_code scope) slots e = exact_goes world later kept pushed [] slots (Ok []) (λ next stack extra a. itself)
     exact_all (term_code scope t ts c d x y) slots e =
-        let F = Allows host (overridden scope slots base) t in
-        let G = AllowsAll host (overridden scope slots base) ts in
-        exact_then host base later kept put pushed c d slots F (λ v. After G (λ vs a. a ≡ Ok (v ∷ vs))) (exact x slots e) (
-        λ v known. exact_made host base later (λ vs. v ∷ vs) (put v) pushed d slots G (exact_over host base later (put v) kept pushed d slots G (exact_all y slots e))
+        let F = Allows (with_context world (overridden scope slots world.context)) t in
+        let G = AllowsAll (with_context world (overridden scope slots world.context)) ts in
+        exact_then world later kept put pushed c d slots F (λ v. After G (λ vs a. a ≡ Ok (v ∷ vs))) (exact x slots e) (
+        λ v known. exact_made world later (λ vs. v ∷ vs) (put v) pushed d slots G (exact_over world later (put v) kept pushed d slots G (exact_all y slots e))
         )
 
     exact_pairs : {scope : Names} {ps : Pairs} {ops : List Op} → PairsCode programs scope ps ops → (slots : List Value) → length scope ≡ length slots
-        → Exact host base later kept (λ ms. pushed (values ms)) ops slots (AllowsPairs host (overridden scope slots base) ps)
-    exact_pairs (pairs_end_code scope) slots e = exact_goes host base later kept (λ ms. pushed (values ms)) [] slots (Ok []) (λ next stack extra a. itself)
+        → Exact world later kept (λ ms. pushed (values ms)) ops slots (AllowsPairs (with_context world (overridden scope slots world.context)) ps)
+    exact_pairs (pairs_end_code scope) slots e = exact_goes world later kept (λ ms. pushed (values ms)) [] slots (Ok []) (λ next stack extra a. itself)
     exact_pairs (pair_code scope key t ps c d x y) slots e =
-        let F = Allows host (overridden scope slots base) t in
-        let G = AllowsPairs host (overridden scope slots base) ps in
-        exact_then host base later kept put (λ ms. pushed (values ms)) c d slots F (λ v. After G (λ ms a. a ≡ Ok ((key, v) ∷ ms))) (exact x slots e) (
-        λ v known. exact_made host base later (λ ms. (key, v) ∷ ms) (put v) (λ ms. pushed (values ms)) d slots G (exact_over host base later (put v) kept (λ ms. pushed (values ms)) d slots G (exact_pairs y slots e))
+        let F = Allows (with_context world (overridden scope slots world.context)) t in
+        let G = AllowsPairs (with_context world (overridden scope slots world.context)) ps in
+        exact_then world later kept put (λ ms. pushed (values ms)) c d slots F (λ v. After G (λ ms a. a ≡ Ok ((key, v) ∷ ms))) (exact x slots e) (
+        λ v known. exact_made world later (λ ms. (key, v) ∷ ms) (put v) (λ ms. pushed (values ms)) d slots G (exact_over world later (put v) kept (λ ms. pushed (values ms)) d slots G (exact_pairs y slots e))
         )
 
     pub exact_block : {scope : Names} {b : Block} {ops : List Op} → BlockCode programs scope b ops → (slots : List Value) → length scope ≡ length slots
-        → Exact host base later kept put ops slots (AllowsBlock host (overridden scope slots base) b)
+        → Exact world later kept put ops slots (AllowsBlock (with_context world (overridden scope slots world.context)) b)
     exact_block (answers_code scope t c x) slots e = exact x slots e
     exact_block (line_code scope key t b c d x y) slots e =
-        let F = Allows host (overridden scope slots base) t in
+        let F = Allows (with_context world (overridden scope slots world.context)) t in
         let inner = scope ++ key ∷ [] in
-        exact_then host base later kept put put c (store (length scope) ∷ d) slots F (λ v. AllowsBlock host (override (overridden scope slots base) key v) b) (exact x slots e) (
-        λ v known. exact_line host base later d (length scope) slots e v (AllowsBlock host (override (overridden scope slots base) key v) b) (
-        subst (λ k. Exact host base later kept put d (slots ++ v ∷ []) (AllowsBlock host k b)) (overridden-append scope (key ∷ []) slots (v ∷ []) base e) (
+        exact_then world later kept put put c (store (length scope) ∷ d) slots F (λ v. AllowsBlock (with_context world (override (overridden scope slots world.context) key v)) b) (exact x slots e) (
+        λ v known. exact_line world later d (length scope) slots e v (AllowsBlock (with_context world (override (overridden scope slots world.context) key v)) b) (
+        subst (λ k. Exact world later kept put d (slots ++ v ∷ []) (AllowsBlock (with_context world k) b)) (overridden-append scope (key ∷ []) slots (v ∷ []) world.context e) (
         exact_block y (slots ++ v ∷ []) (length-append scope (key ∷ []) ∙ ap (λ n. n + 1) e ∙ sym (length-append slots (v ∷ [])))
         )
         )

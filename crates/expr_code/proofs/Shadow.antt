@@ -2,9 +2,8 @@
 use Rattle.std.proofs.Common.{◌≡◌, ◌↔◌, ◌<◌, ◌≤◌, ℕ, pos, [], true, Ok, Err, refl, sym, ap, ◌∙◌, subst, arith, rules}
 use Rattle.std.specs.Int.{w64, int_wrapping_add}
 use Rattle.expr_meaning.specs.Allows.{Chosen, ChosenLayer}
-use Rattle.expr_meaning.specs.Host.{Host}
 use Rattle.expr_operators.specs.Operators.{added_layers, applied}
-use Rattle.expr_steps.specs.Context.{Context}
+use Rattle.expr_meaning.specs.World.{World}
 use Rattle.expr_tree.specs.declared.operator.Operator.TheVariants.{Add}
 use Rattle.expr_value.specs.Answers.{Answer, Goes}
 use Rattle.expr_value.specs.declared.value.Value as value
@@ -49,20 +48,20 @@ apart {e} f g =
 picked : (f g : Answer → Type 0) (a : Answer) → Chosen (value.Bool true) f g a ↔ f a
 picked f g a = same (ap (λ l. ChosenLayer l f g a) bool_kind)
 
-module _ (host : Host) (ctx : Context) where
-  runs_wrong : Runs host ctx shadowing 0 [] (Ok (whole_number 4))
+module _ (world : World) where
+  runs_wrong : Runs world shadowing 0 [] (Ok (whole_number 4))
   runs_wrong = (picked _ _ _).1 (Ok (whole_number 4), sym four, refl)
 
   at_end : (x a : Answer) → x ≡ applied Add (whole_number 2) (whole_number 1) → Goes x (λ v b. b ≡ Ok v) a → a ≡ Ok (whole_number 3)
   at_end x a e p = subst (λ y. Goes y (λ v b. b ≡ Ok v) a) (e ∙ three) p
 
-  runs_right : (a : Answer) → Runs host ctx (lowered shadowed) 0 [] a → a ≡ Ok (whole_number 3)
+  runs_right : (a : Answer) → Runs world (lowered shadowed) 0 [] a → a ≡ Ok (whole_number 3)
   runs_right a p = let q = (picked _ _ _).0 p in at_end q.0 a q.1 q.2
 
-  pub shadowing_wrong : RunsAs host ctx shadowed shadowing → ⊥
+  pub shadowing_wrong : RunsAs world shadowed shadowing → ⊥
   shadowing_wrong h =
       apart refl (
-      runs_right (Ok (whole_number 4)) ((exact_runs host ctx shadowed (lowered shadowed) (lowered_is shadowed) (Ok (whole_number 4))).1 ((h (Ok (whole_number 4))).0 (answers_of_runs host ctx shadowing 0 [] (Ok (whole_number 4)) runs_wrong)))
+      runs_right (Ok (whole_number 4)) ((exact_runs world shadowed (lowered shadowed) (lowered_is shadowed) (Ok (whole_number 4))).1 ((h (Ok (whole_number 4))).0 (answers_of_runs world shadowing 0 [] (Ok (whole_number 4)) runs_wrong)))
       )
 
 pub shadowing_safe : IsSafeCode shadowing

@@ -7,6 +7,7 @@ ghost use Rattle.expr_code.specs.Safe.{IsSafeCode};
 ghost use Rattle.expr_code.specs.Wrong.{covering, overwriting, shadowed, shadowing};
 ghost use Rattle.expr_meaning.specs.Allows.{AllowsBlock};
 ghost use Rattle.expr_steps.specs.Context.{Context};
+ghost use Rattle.expr_meaning.specs.World.{world_of};
 ghost use Rattle.expr_tree.specs.Term.{Block};
 ghost use Rattle.expr_value.specs.Answers.{Gives};
 ghost use Rattle.std.specs.Prelude.{List, Result};
@@ -17,7 +18,7 @@ use expr_value::{Error, Value};
 /// In every host and context, the runs of a program's code allow exactly what the program allows.
 pub fn runs_as_programs<H: Functions>()
     ensures { (host : H) (ctx : Context) (b : Block) (blocks : List (List Op)) → IsCode b blocks
-        → RunsAs (H.host host) ctx b blocks }
+        → RunsAs (world_of (H.host host) ctx) b blocks }
 {}
 
 /// A program's code finds what it needs at each of its instructions.
@@ -39,12 +40,12 @@ pub fn stale_slots_are_refused()
 /// context it runs otherwise than its program.
 pub fn shadowed_lines_are_refused<H: Functions>()
     ensures { (host : H) (ctx : Context)
-        → IsSafeCode shadowing × (RunsAs (H.host host) ctx shadowed shadowing → ⊥) }
+        → IsSafeCode shadowing × (RunsAs (world_of (H.host host) ctx) shadowed shadowing → ⊥) }
 {}
 
 /// What is given of a program's code, the program allows.
 pub fn execution_answers_programs<H: Functions>()
     ensures { (host : H) (ctx : Context) (b : Block) (blocks : List (List Op)) (r : Result Value Error)
-        → IsCode b blocks → Gives r (CodeAnswers (H.host host) ctx blocks)
-        → Gives r (AllowsBlock (H.host host) ctx b) }
+        → IsCode b blocks → Gives r (CodeAnswers (world_of (H.host host) ctx) blocks)
+        → Gives r (AllowsBlock (world_of (H.host host) ctx) b) }
 {}

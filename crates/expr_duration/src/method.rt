@@ -1,15 +1,16 @@
 //! Methods of lengths of time, and the built-in that reads one.
-ghost use Rattle.std.specs.Prelude.{◌≡◌, ◌≢◌, ◌<◌, ◌≤◌, Some, IfOk, IfErr, MatchOption, string_bytes};
+ghost use Rattle.std.specs.Prelude.{◌≡◌, ◌≢◌, ◌<◌, ◌≤◌, Some, IfOk, MatchOption, string_bytes};
 ghost use Rattle.expr_value.specs.Answers.{Gives, Is};
 ghost use Rattle.expr_arguments.specs.Arguments.{alone, one_duration};
 ghost use Rattle.expr_clock.specs.Durations.{duration_text};
 ghost use Rattle.expr_duration.specs.Methods.{Duration, Read, absolute, answered, by_step, held, name_of, nearest, rounded, truncated};
+ghost use Rattle.expr_value.specs.Fault.{OnlyMemory};
 
 use crate::spelling::spelled;
 use expr_arguments::{one_duration, one_text, without};
 use expr_clock::show_duration;
 use expr_held::Held;
-use expr_value::{Error, Result, Text, Value, refusal};
+use expr_value::{Result, Text, Value, refusal};
 use std::alloc::Global;
 use std::fmt;
 use std::fmt::{Formatter, Write};
@@ -79,7 +80,7 @@ fn string(alloc: Global, nanoseconds: i64, arguments: &[Held<'_>]) -> Result<Val
 // The text of a length of time.
 fn written(alloc: Global, nanoseconds: &i64) -> Result<Value>
     ensures ok { IfOk result (λ v. v ≡ Value.String (duration_text nanoseconds.now)) }
-    ensures err { IfErr result (λ e. e ≡ Error.MemoryError) }
+    ensures err { OnlyMemory result }
 {
     let text = text_of(alloc, nanoseconds)?;
     Ok(Value::String(Text::from_string(text)))
@@ -87,7 +88,7 @@ fn written(alloc: Global, nanoseconds: &i64) -> Result<Value>
 
 fn text_of(alloc: Global, nanoseconds: &i64) -> Result<String>
     ensures ok { IfOk result (λ s. string_bytes s ≡ duration_text nanoseconds.now) }
-    ensures err { IfErr result (λ e. e ≡ Error.MemoryError) }
+    ensures err { OnlyMemory result }
 {
     let text = DurationText { nanoseconds };
     Ok(text.to_string(alloc)?)

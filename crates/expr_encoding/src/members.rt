@@ -1,11 +1,12 @@
 //! Members of an object whose names are lent.
-ghost use Rattle.std.specs.Prelude.{◌≡◌, IfOk, IfErr};
+ghost use Rattle.std.specs.Prelude.{◌≡◌, IfOk};
 ghost use Rattle.std.specs.Option.{option_copied};
 ghost use Rattle.expr_encoding.specs.Tokens.{named};
 ghost use Rattle.expr_value.specs.Names.{find};
+ghost use Rattle.expr_value.specs.Fault.{OnlyMemory};
 
 use crate::tokens::Lent;
-use expr_value::{Context, Error, Result, Value};
+use expr_value::{Context, Result, Value};
 use std::alloc::Global;
 use std::marker::Model;
 
@@ -70,7 +71,7 @@ impl<'t> Members<'t> {
     /// The members as a context, names and values copied.
     pub fn to_context(&self, alloc: Global) -> Result<Context>
         ensures ok { IfOk result (λ c. c ≡ self.now) }
-        ensures err { IfErr result (λ e. e ≡ Error.MemoryError) }
+        ensures err { OnlyMemory result }
     {
         match &self.place {
             Place::Text(lent) => copied(alloc, lent),
@@ -89,7 +90,7 @@ fn find_lent<'m>(lent: &'m Lent<'_>, name: &str) -> Option<&'m Value>
 /// A context with copies of the names and values.
 fn copied(alloc: Global, lent: &Lent<'_>) -> Result<Context>
     ensures ok { IfOk result (λ c. c ≡ named lent.now.entries) }
-    ensures err { IfErr result (λ e. e ≡ Error.MemoryError) }
+    ensures err { OnlyMemory result }
 {
     let mut context = Context::new(alloc);
     for (name, value) in lent.iter() {

@@ -5,7 +5,7 @@ ghost use Rattle.serde_json.specs.View.{view, members_view};
 ghost use Rattle.std.specs.Prelude.{◌≡◌, ◌≢◌, None, Some, map, IfOk, IfErr};
 ghost use Rattle.serde_json.specs.Data.{no_members, string};
 ghost use Rattle.expr_value.specs.Answers.{Is};
-ghost use Rattle.expr_value.specs.Fault.{evaluation, fault_of, memory};
+ghost use Rattle.expr_value.specs.Fault.{evaluation, fault_of, memory, OnlyMemory};
 ghost use Rattle.expr_encoding.specs.Optional.{Refuses, given};
 ghost use Rattle.expr_layout.specs.Layouts.{stamp_text};
 ghost use Rattle.expr_encoding.specs.ReadBack.{ReadsEqual};
@@ -13,7 +13,7 @@ ghost use Rattle.expr_encoding.specs.Writing.{ReadsBack, all_of, data_of, json_t
 
 use base64::engine::general_purpose::STANDARD;
 use expr_layout::stamp;
-use expr_value::{DateTimeValue, Error, Result, Text, Value, ValueMap, refusal};
+use expr_value::{DateTimeValue, Result, Text, Value, ValueMap, refusal};
 use serde_json::{Map, Value as Json};
 use std::alloc::Global;
 
@@ -55,7 +55,7 @@ fn data_of(alloc: Global, value: &Value) -> Result<Json>
 // The stamp of a moment as a text.
 fn stamp_data(alloc: Global, moment: &DateTimeValue) -> Result<Json>
     ensures ok { IfOk result (λ d. Some (string (stamp_text moment.now)) ≡ Some (view d)) }
-    ensures err { IfErr result (λ e. e ≡ Error.MemoryError) }
+    ensures err { OnlyMemory result }
 {
     let text = stamp(alloc, moment)?;
     Ok(Json::try_from_str(alloc, text.as_str())?)

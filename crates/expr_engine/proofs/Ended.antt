@@ -23,7 +23,6 @@ use Rattle.expr_exchange.specs.declared.refused.Refused.TheVariants.{Language, U
 use Rattle.expr_exchange.specs.declared.refused.Status.{Status}
 use Rattle.expr_exchange.specs.declared.refused.Status.TheVariants as ends
 use Rattle.expr_code.specs.Machine.{Op}
-use Rattle.expr_meaning.specs.Host.{Host}
 use Rattle.expr_meter.specs.Counting.{stops}
 use Rattle.expr_meter.specs.Rooms.{within}
 use Rattle.expr_meter.specs.declared.limit.Limit.{Limit}
@@ -31,7 +30,7 @@ use Rattle.expr_meter.specs.declared.limit.Limit.TheVariants.{Height, Patterns, 
 use Rattle.expr_meter.specs.declared.limits.Limits.{Limits}
 use Rattle.expr_stops.specs.Stops.{CodeComes}
 use Rattle.expr_stops.specs.declared.given.Given.{Given}
-use Rattle.expr_value.specs.Context.{Context}
+use Rattle.expr_meaning.specs.World.{World, world_of}
 use Rattle.expr_value.specs.Fault.{Fault, fault_of, syntax, literal, evaluation, pattern, memory}
 use Rattle.expr_value.specs.declared.value.Value.{Value}
 
@@ -43,12 +42,12 @@ said_by q given value pattern m = m (search rules)
 said_by q given value memory m = tt
 
 -- code stops at a limit of runs, and at none where there are no limits
-stops_at_runs : (limits : Option Limits) (host : Host) (ctx : Context) (code : List (List Op)) (limit : Limit) → CodeComes limits host ctx code (stops limit) → IsOfRuns limit
-stops_at_runs (Some limits) host ctx code limit p = stops_of_runs (costs_in host) host ctx code (within limits.steps limits.size limits.depth) limit p
-stops_at_runs None host ctx code limit p = absurd p
+stops_at_runs : (limits : Option Limits) (world : World) (code : List (List Op)) (limit : Limit) → CodeComes limits world code (stops limit) → IsOfRuns limit
+stops_at_runs (Some limits) world code limit p = stops_of_runs (costs_in world.host) world code (within limits.steps limits.size limits.depth) limit p
+stops_at_runs None world code limit p = absurd p
 
 of_runs : (q : Asked) (given : List Given) (limit : Limit) → MayEnd q given (stops limit) → IsOfRuns limit
-of_runs q given limit p = stops_at_runs q.limits (host_with q.added given) (context_of q.names) (code_of q.rule.code) limit p
+of_runs q given limit p = stops_at_runs q.limits (world_of (host_with q.added given) (context_of q.names)) (code_of q.rule.code) limit p
 
 said_at : (q : Asked) (given : List Given) (value : Value) (limit : Limit) → MayEnd q given (stops limit) → Says q given (ends_at limit) value
 said_at q given value Height p = of_runs q given Height p

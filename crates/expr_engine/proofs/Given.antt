@@ -23,7 +23,7 @@ use Rattle.expr_stops.specs.declared.stops.Turn.{Turn}
 use Rattle.expr_stops.specs.declared.stops.Turn.TheVariants.{Ended, Asks, Differs, Stopped}
 use Rattle.expr_tree.specs.Term.{Block}
 use Rattle.expr_value.specs.Answers.{Gives}
-use Rattle.expr_value.specs.Context.{Context}
+use Rattle.expr_meaning.specs.World.{World}
 use Rattle.expr_value.specs.Fault.{Fault, fault_of}
 use Rattle.expr_value.specs.declared.error.Error.{Error}
 use Rattle.expr_value.specs.declared.value.Value.{Value}
@@ -33,25 +33,25 @@ gives_merely (Ok v) allowed c given = ∥∥₁_map c given
 gives_merely (Err e) allowed c given = λ n. ∥∥₁_map c (λ x. given x n)
 
 -- what a code comes to, its program allows
-pub given_within : (limits : Option Limits) (host : Host) (ctx : Context) (b : Block) (code : List (List Op)) (r : Result (Outcome Value) Error) → ∥ IsCode b code ∥₁
-    → Ends r (CodeComes limits host ctx code) → GivesWithin r (MayGive host ctx b)
-given_within limits host ctx b code (Ok (Answered v)) lowered p =
-    ∥∥₁_map lowered (λ is. (exact_code host ctx b code is (Ok v)).0 (comes_answers limits host ctx code (Ok v) p.0 p.1))
-given_within limits host ctx b code (Ok (at_limit limit)) lowered p = tt
-given_within limits host ctx b code (Err e) lowered p = λ m.
-    ∥∥₁_map lowered (λ is. (exact_code host ctx b code is (Err (fault_of e))).0 (comes_answers limits host ctx code (Err (fault_of e)) unlimited (p m)))
+pub given_within : (limits : Option Limits) (world : World) (b : Block) (code : List (List Op)) (r : Result (Outcome Value) Error) → ∥ IsCode b code ∥₁
+    → Ends r (CodeComes limits world code) → GivesWithin r (MayGive world b)
+given_within limits world b code (Ok (Answered v)) lowered p =
+    ∥∥₁_map lowered (λ is. (exact_code world b code is (Ok v)).0 (comes_answers limits world code (Ok v) p.0 p.1))
+given_within limits world b code (Ok (at_limit limit)) lowered p = tt
+given_within limits world b code (Err e) lowered p = λ m.
+    ∥∥₁_map lowered (λ is. (exact_code world b code is (Err (fault_of e))).0 (comes_answers limits world code (Err (fault_of e)) unlimited (p m)))
 
 -- the same of a run that ended, in any host
-turned_merely : (t : Turn) (host : Host) (ctx : Context) (b : Block) (code : List (List Op)) → ∥ IsCode b code ∥₁
-    → IfEnded t (λ r. Gives r (CodeAnswers host ctx code)) → IfEnded t (λ r. Gives r (MayGive host ctx b))
-turned_merely (Ended r) host ctx b code lowered given = gives_merely r _ lowered (λ is. executed_allowed host ctx r b code is given)
-turned_merely Asks host ctx b code lowered given = tt
-turned_merely (Differs stop) host ctx b code lowered given = tt
-turned_merely (Stopped limit) host ctx b code lowered given = tt
+turned_merely : (t : Turn) (world : World) (b : Block) (code : List (List Op)) → ∥ IsCode b code ∥₁
+    → IfEnded t (λ r. Gives r (CodeAnswers world code)) → IfEnded t (λ r. Gives r (MayGive world b))
+turned_merely (Ended r) world b code lowered given = gives_merely r _ lowered (λ is. executed_allowed world r b code is given)
+turned_merely Asks world b code lowered given = tt
+turned_merely (Differs stop) world b code lowered given = tt
+turned_merely (Stopped limit) world b code lowered given = tt
 
-pub turned_within : (limits : Option Limits) (t : Turn) (host : Host) (ctx : Context) (b : Block) (code : List (List Op)) → ∥ IsCode b code ∥₁
-    → EndsTurn t (CodeComes limits host ctx code) → IfEnded t (λ r. Gives r (MayGive host ctx b))
-turned_within limits t host ctx b code lowered p = turned_merely t host ctx b code lowered (answers_by limits host ctx code t p)
+pub turned_within : (limits : Option Limits) (t : Turn) (world : World) (b : Block) (code : List (List Op)) → ∥ IsCode b code ∥₁
+    → EndsTurn t (CodeComes limits world code) → IfEnded t (λ r. Gives r (MayGive world b))
+turned_within limits t world b code lowered p = turned_merely t world b code lowered (answers_by limits world code t p)
 
 -- what holds in the host of an environment's names and replies, holds in what the environment adds
 pub hosted_in : (P : Host → Type 0) (o : Option Additions) (added : Additions) (names : StopNames) (given : List Given) → o ≡ Some added → names ≡ names_in added

@@ -23,6 +23,7 @@ use Rattle.expr_tree.specs.Written.{program_written}
 use Rattle.expr_syntax.specs.Texts.{IsPlaced}
 use Rattle.expr_value.specs.Answers.{Answer}
 use Rattle.expr_value.specs.Fault.{fault_of, memory}
+use Rattle.expr_meaning.specs.World.{world_of}
 
 -- the number that stands for no context and no environment
 abbrev pub none : ℕ
@@ -53,11 +54,11 @@ asked engine program environment context =
 -- how a run of the program's code may end in that environment and that context, where calls of the host's functions answer what it replied, within the limits, if there
 -- are any
 abbrev pub MayEnd : Asked → List Given → Ending Room → Type 0
-MayEnd q given end = CodeComes q.limits (host_with q.added given) (context_of q.names) (code_of q.rule.code) end
+MayEnd q given end = CodeComes q.limits (world_of (host_with q.added given) (context_of q.names)) (code_of q.rule.code) end
 
 -- An answer of such a run: the program's meaning allows it too.
 pub record MayAnswer (q : Asked) (given : List Given) (answer : Answer) : Type 0 where
-  pub allowed : MayGive (host_with q.added given) (context_of q.names) (program_written q.rule.program) answer
+  pub allowed : MayGive (world_of (host_with q.added given) (context_of q.names)) (program_written q.rule.program) answer
   pub left : Room
   pub ends : MayEnd q given (ended answer left)
 

@@ -10,6 +10,7 @@ use Rattle.expr_stops.specs.declared.names.StopNames.{StopNames}
 use Rattle.expr_tree.specs.Term.{Block}
 use Rattle.expr_value.specs.Answers.{Answer}
 use Rattle.expr_value.specs.Context.{Context}
+use Rattle.expr_meaning.specs.World.{World}
 use Rattle.expr_value.specs.Names.{find}
 use Rattle.expr_value.specs.declared.value.Value.{Value}
 use Rattle.expr_value.specs.declared.zone.TimezoneValue.{TimezoneValue}
@@ -62,5 +63,5 @@ host_with None given = no_host
 host_with (Some added) given = answered_by (added_by added) (is_named (names_in added)) given
 
 -- what a program's meaning allows, whichever way it comes to that
-abbrev pub MayGive : Host → Context → Block → Answer → Type 0
-MayGive host ctx b answer = ∥ AllowsBlock host ctx b answer ∥₁
+abbrev pub MayGive : World → Block → Answer → Type 0
+MayGive world b answer = ∥ AllowsBlock world b answer ∥₁

@@ -4,6 +4,7 @@ ghost use Rattle.expr_engine.specs.Codes.{code_of};
 ghost use Rattle.expr_engine.specs.Limiting.{IsCompiledBy};
 ghost use Rattle.expr_syntax.specs.Texts.{IsPlaced};
 ghost use Rattle.expr_tree.specs.Written.{program_written};
+ghost use Rattle.expr_meaning.specs.World.{world_of};
 
 use crate::additions::LentHost;
 use crate::lent::LentNames;
@@ -72,10 +73,10 @@ impl Rule {
         names: LentNames<'_>,
         limits: Option<Limits>,
     ) -> Result<Outcome<Value>>
-        ensures answer { GivesWithin result (MayGive (H.host host.now)
-            (context_of (pairs_of (option_copied names.entry.names))) (program_written self.now.program)) }
-        ensures ends { Ends result (CodeComes limits (H.host host.now)
-            (context_of (pairs_of (option_copied names.entry.names))) (code_of self.now.code)) }
+        ensures answer { GivesWithin result (MayGive (world_of (H.host host.now)
+            (context_of (pairs_of (option_copied names.entry.names)))) (program_written self.now.program)) }
+        ensures ends { Ends result (CodeComes limits (world_of (H.host host.now)
+            (context_of (pairs_of (option_copied names.entry.names)))) (code_of self.now.code)) }
     {
         execute_in(alloc, host, &self.code, names, limits)
     }
@@ -92,12 +93,12 @@ impl Rule {
     ) -> Turn
         // It ends or stops at a limit as a run of the program's code does that counts within the limits, if there are any.
         ensures ends { EndsTurn result (CodeComes limits
-            (host_with (option_copied host.entry.added) (given_of stops.old))
-            (context_of (pairs_of (option_copied names.entry.names))) (code_of self.now.code)) }
+            (world_of (host_with (option_copied host.entry.added) (given_of stops.old))
+            (context_of (pairs_of (option_copied names.entry.names)))) (code_of self.now.code)) }
         // An answer is one that the program's meaning allows.
         ensures ended { IfEnded result (λ r. Gives r (MayGive
-            (host_with (option_copied host.entry.added) (given_of stops.old))
-            (context_of (pairs_of (option_copied names.entry.names))) (program_written self.now.program))) }
+            (world_of (host_with (option_copied host.entry.added) (given_of stops.old))
+            (context_of (pairs_of (option_copied names.entry.names)))) (program_written self.now.program))) }
         ensures stops { asked_of stops.old ≡ None → StopsWell (named_by (option_copied host.entry.added))
             (given_of stops.old) result (asked_of stops.new) }
         ensures given { given_of stops.new ≡ given_of stops.old }

@@ -3,16 +3,14 @@ use Rattle.std.proofs.Common.{◌≡◌, ◌≢◌, ℕ, List, Option, Result, O
 use Rattle.std.specs.Result.{IsErrAnd}
 use Rattle.expr_evaluation.specs.Handed.{IsHanded}
 use Rattle.expr_meaning.specs.Allows.{Allows}
-use Rattle.expr_meaning.specs.Host.{Host}
 use Rattle.expr_operators.specs.Sides.{sides_of}
 use Rattle.expr_operators.specs.declared.sides.Sides.TheVariants.{Both, EndsAtFalse, EndsAtTrue, Pattern}
-use Rattle.expr_steps.specs.Context.{Context}
+use Rattle.expr_meaning.specs.World.{World}
 use Rattle.expr_tree.specs.Term.{Term}
 use Rattle.expr_tree.specs.declared.operator.Operator.{Operator}
 use Rattle.expr_value.specs.Answers.{Answer}
-use Rattle.expr_value.specs.Fault.{Fault, fault_of, memory, pattern}
+use Rattle.expr_value.specs.Fault.{Fault, fault_of, memory, pattern, OnlyMemory}
 use Rattle.expr_value.specs.declared.error.Error.{Error}
-use Rattle.expr_value.specs.declared.error.Error.TheVariants.{MemoryError}
 use Rattle.expr_value.specs.declared.value.Value as value
 use Rattle.expr_value.specs.declared.value.Value.{Value}
 
@@ -33,16 +31,16 @@ module _ (op : Operator) (right : Term) (kept : Option (List ℕ)) (h : IsHanded
   pub handed-not-EndsAtTrue : sides_of op ≢ EndsAtTrue
   handed-not-EndsAtTrue e = let wrong : EndsAtTrue ≡ Pattern = sym e ∙ handed-sides in cc
 
-  module _ (host : Host) (ctx : Context) where
+  module _ (world : World) where
     -- the right side has no other answer than its text
-    handed-answer : (answer : Answer) → Allows host ctx right answer → answer ≡ Ok (value.String h.text)
-    handed-answer answer p = subst (λ t. Allows host ctx t answer) h.literal_text p
+    handed-answer : (answer : Answer) → Allows world right answer → answer ≡ Ok (value.String h.text)
+    handed-answer answer p = subst (λ t. Allows world t answer) h.literal_text p
 
-    pub handed-value : (v : Value) → Allows host ctx right (Ok v) → v ≡ value.String h.text
+    pub handed-value : (v : Value) → Allows world right (Ok v) → v ≡ value.String h.text
     handed-value v p = let same : Ok v ≡ Ok (value.String h.text) = handed-answer (Ok v) p in cc
 
     -- and is refused for want of memory alone
-    pub handed-refused : (e : Error) → (fault_of e ≢ memory → Allows host ctx right (Err (fault_of e))) → fault_of e ≢ pattern
+    pub handed-refused : (e : Error) → (fault_of e ≢ memory → Allows world right (Err (fault_of e))) → fault_of e ≢ pattern
     handed-refused e p is =
         let wrong : Err (fault_of e) ≡ Ok (value.String h.text) = handed-answer (Err (fault_of e)) (p (not-memory (fault_of e) is)) in
         cc
@@ -52,7 +50,7 @@ pub refused-pattern : (R : Answer → Type 0) (e : Error) → (fault_of e ≢ me
 refused-pattern R e p is = subst (λ f. R (Err f)) is (p (not-memory (fault_of e) is))
 
 -- want of memory is no such refusal
-pub memory-alone : {A : Type 0} (r : Result A Error) (P : Type 0) → IfErr r (λ e. e ≡ MemoryError) → IfErr r (λ e. fault_of e ≡ pattern → P)
+pub memory-alone : {A : Type 0} (r : Result A Error) (P : Type 0) → OnlyMemory r → IfErr r (λ e. fault_of e ≡ pattern → P)
 memory-alone (Ok v) P p = p
 memory-alone (Err e) P p = λ is. absurd (not-memory (fault_of e) is (ap fault_of p))
 

@@ -1,33 +1,29 @@
--- What plain nodes answer is plain, and how it follows from what their parts answer.
-use Rattle.std.proofs.Common.{◌≡◌, Bool, true, ◌&&◌, IsTrue, Option, Ok, refl, subst, rules, Global, false, ap, ◌∙◌, String, string_bytes, map, Vec, List, [], ◌∷◌}
-use Rattle.expr_tree.proofs.Programs.{written-parts}
-use Rattle.expr_tree.proofs.Shapes.{written-Ident, written-Array, written-Map, written-Range, written-Func, written-Postfix, written-Conditional}
-use Rattle.expr_tree.specs.declared.node.PostfixOperator.{PostfixOperator}
-use Rattle.expr_tree.specs.declared.node.Program.{Program}
-use Rattle.expr_tree.specs.Term.{Term, name, literal, list, mapping, range, call, unary, operation, postfix, choice, pairs_of, block_with, Block, answers, line}
-use Rattle.expr_tree.specs.declared.operator.Operator.{Operator}
-use Rattle.expr_tree.specs.Written.{written, line_written, postfix_written, program_written, predicate_written, terms_of}
+-- A term that takes no memory has one answer, whatever the host and the names; and how nodes are written.
+use Rattle.std.proofs.Common.{◌≡◌, ◌≢◌, ◌&&◌, Bool, true, false, IsTrue, Option, Some, None, Result, Ok, Err, ap, sym, ◌∙◌, refl, subst, rules, String, Global, Vec}
+use Rattle.std.specs.declared.boxed.Box.{Box}
+use Rattle.expr_evaluation.specs.Plain.{IsPlainly, IsPlainlyAfter, and_answer, answer_then, is_plain, operation_answer, or_answer, plain_answer}
+use Rattle.expr_evaluation.specs.Several.{pairs_written}
+use Rattle.expr_meaning.specs.Allows.{Allows, AndThenLayer, Continued, ContinuedAs, OrElseLayer}
+use Rattle.expr_operators.specs.Operators.{applied, prefixed, truth}
+use Rattle.expr_operators.proofs.Plainly.{Surely-at, applied-plain, bool-plain, plain-Bool, plain-at, prefixed-plain}
+use Rattle.expr_operators.specs.Plain.{Surely, is_plain_operator, is_plain_value}
+use Rattle.expr_operators.specs.Sides.{sides_of}
+use Rattle.expr_operators.specs.declared.sides.Sides.{Sides}
+use Rattle.expr_operators.specs.declared.sides.Sides.TheVariants.{Both, EndsAtFalse, EndsAtTrue, Pattern}
+use Rattle.expr_meaning.specs.World.{World}
+use Rattle.expr_tree.specs.Term.{Term, name, literal, list, mapping, range, call, unary, operation, postfix, choice}
+use Rattle.expr_tree.specs.Written.{written}
+use Rattle.expr_tree.specs.declared.node.CompiledRegex.{CompiledRegex}
 use Rattle.expr_tree.specs.declared.node.Node as node
 use Rattle.expr_tree.specs.declared.node.Node.{Node, the_lemmas as node_lemmas}
-use Rattle.expr_tree.specs.declared.node.CompiledRegex.{CompiledRegex}
-use Rattle.std.specs.declared.boxed.Box.{Box}
+use Rattle.expr_tree.specs.declared.operator.Operator.{Operator}
+use Rattle.expr_tree.specs.declared.operator.Operator.TheVariants.{Matches}
+use Rattle.expr_value.proofs.Answered.{first_of-After}
+use Rattle.expr_value.specs.Answers.{Answer, After}
+use Rattle.expr_value.specs.declared.error.Error.{Error}
 use Rattle.expr_value.specs.declared.value.Value as value
 use Rattle.expr_value.specs.declared.value.Value.{Value, out-Value}
 use Rattle.expr_value.specs.declared.value.Value.TheOpen.{Value-F}
-use Rattle.expr_meaning.specs.Allows.{Allows, AllowsBlock, AndThenLayer, ContinuedAs, OrElseLayer, Continued}
-use Rattle.expr_operators.proofs.Plainly.{plain-Bool, plain-at, applied-plain, prefixed-plain, bool-plain}
-use Rattle.expr_value.specs.Answers.{Answer, After}
-use Rattle.expr_steps.specs.Context.{Context}
-use Rattle.expr_meaning.specs.Host.{Host}
-use Rattle.expr_operators.specs.Sides.{sides_of}
-use Rattle.expr_operators.specs.Matching.{Matched, MatchedLayers}
-use Rattle.expr_operators.specs.Operators.{applied, truth, prefixed}
-use Rattle.expr_operators.specs.declared.sides.Sides.{Sides}
-use Rattle.expr_operators.specs.declared.sides.Sides.TheVariants.{Both, EndsAtFalse, EndsAtTrue, Pattern}
-use Rattle.expr_value.proofs.Answered.{first_of-After}
-use Rattle.expr_evaluation.specs.Several.{pairs_written}
-use Rattle.expr_evaluation.specs.Plain.{is_plain}
-use Rattle.expr_operators.specs.Plain.{is_plain_operator, is_plain_value}
 
 pub written-pairs : (ps : Vec (String Global × Node) Global) → written (node.Map ps) ≡ mapping (pairs_written ps.items)
 written-pairs ps = search (rules, node_lemmas)
@@ -43,79 +39,157 @@ pub right-true : (a b : Bool) → IsTrue (a && b) → IsTrue b
 right-true true b p = p
 right-true false b p = cc
 
-AndThen-plain : (x : Value-F Value) (right : Answer → Type 0) (v : Value) → AndThenLayer x right (Ok v) → IsTrue (is_plain_value v)
-AndThen-plain (Value-F.Bool true) right v p =
-    let q = first_of-After right (λ y a. a ≡ truth y) v p in plain-at (truth q.0) v q.2 (bool-plain (out-Value q.0))
-AndThen-plain (Value-F.Bool false) right v p = plain-at (Ok (value.Bool false)) v p (plain-Bool false)
-AndThen-plain x right v p = cc
+-- the first of two answers that come to a value is one
+first_of : (a : Answer) (next : Value → Answer) (v : Value) → answer_then a next ≡ Ok v → (x : Value) × (a ≡ Ok x) × (next x ≡ Ok v)
+first_of (Ok x) next v e = (x, refl, e)
+first_of (Err k) next v e = cc
 
-OrElse-plain : (x : Value-F Value) (right : Answer → Type 0) (v : Value) → OrElseLayer x right (Ok v) → IsTrue (is_plain_value v)
-OrElse-plain (Value-F.Bool true) right v p = plain-at (Ok (value.Bool true)) v p (plain-Bool true)
-OrElse-plain (Value-F.Bool false) right v p =
-    let q = first_of-After right (λ y a. a ≡ truth y) v p in plain-at (truth q.0) v q.2 (bool-plain (out-Value q.0))
-OrElse-plain x right v p = cc
+-- an operator allows what it answers
+module _ (right : Answer → Type 0) (a : Answer) (allowed : (y : Value) → a ≡ Ok y → right (Ok y)) (v : Value) where
+  and_allowed : (x : Value-F Value) → and_answer x a ≡ Ok v → AndThenLayer x right (Ok v)
+  and_allowed (Value-F.Bool true) e = let q = first_of a truth v e in (Ok q.0, allowed q.0 q.1, sym q.2)
+  and_allowed (Value-F.Bool false) e = sym e
+  and_allowed x e = cc
 
-Matched-plain : (x y : Value-F Value) (v : Value) → MatchedLayers x y (Ok v) → IsTrue (is_plain_value v)
-Matched-plain (Value-F.String text) (Value-F.String source) v p = plain-at (Ok (value.Bool p.0)) v (ap Ok p.2) (plain-Bool p.0)
-Matched-plain x y v p = cc
+  or_allowed : (x : Value-F Value) → or_answer x a ≡ Ok v → OrElseLayer x right (Ok v)
+  or_allowed (Value-F.Bool true) e = sym e
+  or_allowed (Value-F.Bool false) e = let q = first_of a truth v e in (Ok q.0, allowed q.0 q.1, sym q.2)
+  or_allowed x e = cc
 
--- an operator between plain parts
-module _ (right : Answer → Type 0) (of_right : (w : Value) → right (Ok w) → IsTrue (is_plain_value w)) where
-  both-plain : (op : Operator) (x v : Value) → IsTrue (is_plain_operator op) → IsTrue (is_plain_value x) → After right (λ y a. a ≡ applied op x y) (Ok v) → IsTrue (is_plain_value v)
-  both-plain op x v o p h =
-      let q = first_of-After right (λ y a. a ≡ applied op x y) v h in
-      plain-at (applied op x q.0) v q.2 (applied-plain op x q.0 o p (of_right q.0 q.1))
+  operator_allowed : (c : Sides) (op : Operator) (x : Value) → operation_answer c op x a ≡ Ok v → ContinuedAs c op x right (Ok v)
+  operator_allowed Both op x e = let q = first_of a (applied op x) v e in (Ok q.0, allowed q.0 q.1, sym q.2)
+  operator_allowed EndsAtFalse op x e = and_allowed (out-Value x) e
+  operator_allowed EndsAtTrue op x e = or_allowed (out-Value x) e
+  operator_allowed Pattern op x e = cc
 
-  ContinuedAs-plain : (c : Sides) (op : Operator) (x v : Value) → IsTrue (is_plain_operator op) → IsTrue (is_plain_value x) → ContinuedAs c op x right (Ok v) → IsTrue (is_plain_value v)
-  ContinuedAs-plain Both op x v o p h = both-plain op x v o p h
-  ContinuedAs-plain EndsAtFalse op x v o p h = AndThen-plain (out-Value x) right v h
-  ContinuedAs-plain EndsAtTrue op x v o p h = OrElse-plain (out-Value x) right v h
-  ContinuedAs-plain Pattern op x v o p h =
-      let q = first_of-After right (λ y. Matched x y) v h in
-      Matched-plain (out-Value x) (out-Value q.0) v q.2
+-- a term allows what it answers without names and calls
+pub plain_allowed : (world : World) (t : Term) (v : Value) → plain_answer t ≡ Ok v → Allows world t (Ok v)
+plain_allowed world (literal w) v e = sym e
+plain_allowed world (unary op t) v e =
+    let q = first_of (plain_answer t) (prefixed op) v e in (Ok q.0, plain_allowed world t q.0 q.1, sym q.2)
+plain_allowed world (operation op l r) v e =
+    let q = first_of (plain_answer l) (λ x. operation_answer (sides_of op) op x (plain_answer r)) v e in (
+      Ok q.0,
+      plain_allowed world l q.0 q.1,
+      operator_allowed (Allows world r) (plain_answer r) (λ y k. plain_allowed world r y k) v (sides_of op) op q.0 q.2,
+    )
+plain_allowed world (name key) v e = cc
+plain_allowed world (list ts) v e = cc
+plain_allowed world (mapping ps) v e = cc
+plain_allowed world (range a b) v e = cc
+plain_allowed world (call key ts q) v e = cc
+plain_allowed world (postfix q t) v e = cc
+plain_allowed world (choice c a b) v e = cc
 
--- a plain node allows plain values alone
-pub Allows-plain : (host : Host) (ctx : Context) (t : Term) (v : Value) → IsTrue (is_plain t) → Allows host ctx t (Ok v) → IsTrue (is_plain_value v)
-Allows-plain host ctx (literal w) v p h = plain-at (Ok w) v h p
-Allows-plain host ctx (unary op t) v p h =
-    let q = first_of-After (Allows host ctx t) (λ w a. a ≡ prefixed op w) v h in plain-at (prefixed op q.0) v q.2 (prefixed-plain op (out-Value q.0))
-Allows-plain host ctx (operation op l r) v p h =
+-- an operator answers what it allows
+module _ (right : Answer → Type 0) (a : Answer) (only : (y : Value) → right (Ok y) → a ≡ Ok y) (v : Value) where
+  one_next : (next : Value → Answer) → After right (λ y b. b ≡ next y) (Ok v) → answer_then a next ≡ Ok v
+  one_next next h =
+      let q = first_of-After right (λ y b. b ≡ next y) v h in
+      subst (λ b. answer_then b next ≡ Ok v) (sym (only q.0 q.1)) (sym q.2)
+
+  and_only : (x : Value-F Value) → AndThenLayer x right (Ok v) → and_answer x a ≡ Ok v
+  and_only (Value-F.Bool true) h = one_next truth h
+  and_only (Value-F.Bool false) h = sym h
+  and_only x h = cc
+
+  or_only : (x : Value-F Value) → OrElseLayer x right (Ok v) → or_answer x a ≡ Ok v
+  or_only (Value-F.Bool true) h = sym h
+  or_only (Value-F.Bool false) h = one_next truth h
+  or_only x h = cc
+
+  operator_only : (c : Sides) (op : Operator) (x : Value) → c ≢ Pattern → ContinuedAs c op x right (Ok v) → operation_answer c op x a ≡ Ok v
+  operator_only Both op x n h = one_next (applied op x) h
+  operator_only EndsAtFalse op x n h = and_only (out-Value x) h
+  operator_only EndsAtTrue op x n h = or_only (out-Value x) h
+  operator_only Pattern op x n h = absurd (n refl)
+
+-- an operator that takes no memory asks no pattern
+asks_no_pattern : (op : Operator) → IsTrue (is_plain_operator op) → sides_of op ≢ Pattern
+asks_no_pattern Matches p e = cc
+asks_no_pattern op p e = cc
+
+-- and a plain term answers what it allows
+pub plain_only : (world : World) (t : Term) (v : Value) → IsTrue (is_plain t) → Allows world t (Ok v) → plain_answer t ≡ Ok v
+plain_only world (literal w) v p h = sym h
+plain_only world (unary op t) v p h =
+    one_next (Allows world t) (plain_answer t) (λ y k. plain_only world t y p k) v (prefixed op) h
+plain_only world (operation op l r) v p h =
     let o = left-true (is_plain_operator op) (is_plain l && is_plain r) p in
     let both = right-true (is_plain_operator op) (is_plain l && is_plain r) p in
-    let q = first_of-After (Allows host ctx l) (λ x. Continued op x (Allows host ctx r)) v h in
-    ContinuedAs-plain (Allows host ctx r) (λ w k. Allows-plain host ctx r w (right-true (is_plain l) (is_plain r) both) k) (sides_of op) op q.0 v o (
-    Allows-plain host ctx l q.0 (left-true (is_plain l) (is_plain r) both) q.1
+    let q = first_of-After (Allows world l) (λ x. Continued op x (Allows world r)) v h in
+    let first : plain_answer l ≡ Ok q.0 = plain_only world l q.0 (left-true (is_plain l) (is_plain r) both) q.1 in
+    subst (λ b. answer_then b (λ x. operation_answer (sides_of op) op x (plain_answer r)) ≡ Ok v) (sym first) (
+    operator_only (Allows world r) (plain_answer r) (λ y k. plain_only world r y (right-true (is_plain l) (is_plain r) both) k) v (sides_of op) op q.0 (asks_no_pattern op o) q.2
+    )
+plain_only world (name key) v p h = cc
+plain_only world (list ts) v p h = cc
+plain_only world (mapping ps) v p h = cc
+plain_only world (range a b) v p h = cc
+plain_only world (call key ts q) v p h = cc
+plain_only world (postfix q t) v p h = cc
+plain_only world (choice c a b) v p h = cc
+
+-- a plain term has a plain value
+module _ (a : Answer) (of_right : (w : Value) → a ≡ Ok w → IsTrue (is_plain_value w)) where
+  and_plain : (x : Value-F Value) (v : Value) → and_answer x a ≡ Ok v → IsTrue (is_plain_value v)
+  and_plain (Value-F.Bool true) v e = let q = first_of a truth v e in plain-at (truth q.0) v (sym q.2) (bool-plain (out-Value q.0))
+  and_plain (Value-F.Bool false) v e = plain-at (Ok (value.Bool false)) v (sym e) (plain-Bool false)
+  and_plain x v e = cc
+
+  or_plain : (x : Value-F Value) (v : Value) → or_answer x a ≡ Ok v → IsTrue (is_plain_value v)
+  or_plain (Value-F.Bool true) v e = plain-at (Ok (value.Bool true)) v (sym e) (plain-Bool true)
+  or_plain (Value-F.Bool false) v e = let q = first_of a truth v e in plain-at (truth q.0) v (sym q.2) (bool-plain (out-Value q.0))
+  or_plain x v e = cc
+
+  operator_plain : (c : Sides) (op : Operator) (x v : Value) → IsTrue (is_plain_operator op) → IsTrue (is_plain_value x) → operation_answer c op x a ≡ Ok v → IsTrue (is_plain_value v)
+  operator_plain Both op x v o p e =
+      let q = first_of a (applied op x) v e in plain-at (applied op x q.0) v (sym q.2) (applied-plain op x q.0 o p (of_right q.0 q.1))
+  operator_plain EndsAtFalse op x v o p e = and_plain (out-Value x) v e
+  operator_plain EndsAtTrue op x v o p e = or_plain (out-Value x) v e
+  operator_plain Pattern op x v o p e = cc
+
+pub answers_plain : (t : Term) (v : Value) → IsTrue (is_plain t) → plain_answer t ≡ Ok v → IsTrue (is_plain_value v)
+answers_plain (literal w) v p e = plain-at (Ok w) v (sym e) p
+answers_plain (unary op t) v p e =
+    let q = first_of (plain_answer t) (prefixed op) v e in plain-at (prefixed op q.0) v (sym q.2) (prefixed-plain op (out-Value q.0))
+answers_plain (operation op l r) v p e =
+    let o = left-true (is_plain_operator op) (is_plain l && is_plain r) p in
+    let both = right-true (is_plain_operator op) (is_plain l && is_plain r) p in
+    let q = first_of (plain_answer l) (λ x. operation_answer (sides_of op) op x (plain_answer r)) v e in
+    operator_plain (plain_answer r) (λ w k. answers_plain r w (right-true (is_plain l) (is_plain r) both) k) (sides_of op) op q.0 v o (
+    answers_plain l q.0 (left-true (is_plain l) (is_plain r) both) q.1
     ) q.2
-Allows-plain host ctx (name key) v p h = cc
-Allows-plain host ctx (list ts) v p h = cc
-Allows-plain host ctx (mapping ps) v p h = cc
-Allows-plain host ctx (range a b) v p h = cc
-Allows-plain host ctx (call key ts q) v p h = cc
-Allows-plain host ctx (postfix q t) v p h = cc
-Allows-plain host ctx (choice c a b) v p h = cc
+answers_plain (name key) v p e = cc
+answers_plain (list ts) v p e = cc
+answers_plain (mapping ps) v p e = cc
+answers_plain (range a b) v p e = cc
+answers_plain (call key ts q) v p e = cc
+answers_plain (postfix q t) v p e = cc
+answers_plain (choice c a b) v p e = cc
 
--- a node whose tree isn't plain
-not-plain : {A : Type 0} (t u : Term) → t ≡ u → is_plain u ≡ false → IsTrue (is_plain t) → A
-not-plain t u e f p =
-    let q : is_plain u ≡ true = subst (λ x. is_plain x ≡ true) e p in absurd (cc (q, f))
+-- where what follows has no value, or what came first, there is none
+pub none_first : (a : Answer) (next : Value → Answer) → ((w : Value) → a ≢ Ok w) → (v : Value) → answer_then a next ≢ Ok v
+none_first a next n v e = let q = first_of a next v e in n q.0 q.1
 
-pub Ident-plain : {A : Type 0} {s : String Global} (n : Node) → n ≡ node.Ident s → IsTrue (is_plain (written n)) → A
-Ident-plain {s = s} n e p = not-plain (written n) (name (string_bytes s)) (ap written e ∙ written-Ident s) refl p
+pub none_next : (a : Answer) (next : Value → Answer) (x : Value) (r : Result Value Error) (k : Error) → a ≡ Ok x → (Surely r (next x)) → r ≡ Err k → (v : Value) → answer_then a next ≢ Ok v
+none_next a next x r k is sure refused v e =
+    let found : next x ≡ Ok v = subst (λ b. answer_then b next ≡ Ok v) is e in
+    let wrong : r ≡ Ok v = Surely-at r (next x) v sure found in
+    absurd (cc (wrong, refused))
 
-pub Array-plain : {A : Type 0} (ns : Vec Node Global) (n : Node) → n ≡ node.Array ns → IsTrue (is_plain (written n)) → A
-Array-plain ns n e p = not-plain (written n) (list (terms_of (map written ns.items))) (ap written e ∙ written-Array ns) refl p
+-- so it is of an operator whose left side has none
+pub none_left : (op : Operator) (l r : Term) → IsPlainly None l → IsPlainly None (operation op l r)
+none_left op l r n = λ p v e.
+    let both = right-true (is_plain_operator op) (is_plain l && is_plain r) p in
+    none_first (plain_answer l) (λ x. operation_answer (sides_of op) op x (plain_answer r)) (n (left-true (is_plain l) (is_plain r) both)) v e
 
-pub Map-plain : {A : Type 0} (ps : Vec (String Global × Node) Global) (n : Node) → n ≡ node.Map ps → IsTrue (is_plain (written n)) → A
-Map-plain ps n e p = not-plain (written n) (mapping (pairs_of (map line_written ps.items))) (ap written e ∙ written-Map ps) refl p
-
-pub Range-plain : {A : Type 0} {a b : Box Node Global} (n : Node) → n ≡ node.Range a b → IsTrue (is_plain (written n)) → A
-Range-plain {a = a} {b = b} n e p = not-plain (written n) (range (written a.value) (written b.value)) (ap written e ∙ written-Range a b) refl p
-
-pub Func-plain : {A : Type 0} (s : String Global) (ns : Vec Node Global) (q : Option (Box Program Global)) (n : Node) → n ≡ node.Func s ns q → IsTrue (is_plain (written n)) → A
-Func-plain s ns q n e p = not-plain (written n) (call (string_bytes s) (terms_of (map written ns.items)) (predicate_written q)) (ap written e ∙ written-Func s ns q) refl p
-
-pub Postfix-plain : {A : Type 0} {o : PostfixOperator} {m : Box Node Global} (n : Node) → n ≡ node.Postfix o m → IsTrue (is_plain (written n)) → A
-Postfix-plain {o = o} {m = m} n e p = not-plain (written n) (postfix (postfix_written o) (written m.value)) (ap written e ∙ written-Postfix o m) refl p
-
-pub Conditional-plain : {A : Type 0} (q : Box Node Global) (a b : Box Program Global) (n : Node) → n ≡ node.Conditional q a b → IsTrue (is_plain (written n)) → A
-Conditional-plain q a b n e p = not-plain (written n) (choice (written q.value) (program_written a.value) (program_written b.value)) (ap written e ∙ written-Conditional q a b) refl p
+-- what an operator comes to with its left side's value, the operation does
+pub after_plainly : (o : Option Value) (op : Operator) (x : Value) (l r : Term) → plain_answer l ≡ Ok x → IsPlainlyAfter o op x r → IsPlainly o (operation op l r)
+after_plainly (Some v) op x l r is e = subst (λ b. answer_then b (λ y. operation_answer (sides_of op) op y (plain_answer r)) ≡ Ok v) (sym is) e
+after_plainly None op x l r is n = λ p v e.
+    let o = left-true (is_plain_operator op) (is_plain l && is_plain r) p in
+    let both = right-true (is_plain_operator op) (is_plain l && is_plain r) p in
+    n o (answers_plain l x (left-true (is_plain l) (is_plain r) both) is) (right-true (is_plain l) (is_plain r) both) v (
+    subst (λ b. answer_then b (λ y. operation_answer (sides_of op) op y (plain_answer r)) ≡ Ok v) is e
+    )

@@ -1,10 +1,13 @@
 pub mod Handed
+pub mod Here
 pub mod Plain
+pub mod Promises
 pub mod Several
 pub use Rattle.expr_meaning.specs.Allows
 pub use Rattle.expr_meaning.specs.Begun
 pub use Rattle.expr_meaning.specs.Calls
 pub use Rattle.expr_meaning.specs.Host
+pub use Rattle.expr_meaning.specs.World
 pub use Rattle.expr_meaning.specs.Independence
 pub use Rattle.expr_operators.specs.Sides
 pub use Rattle.expr_operators.specs.Operators

@@ -2,6 +2,7 @@
 #![tactic(auto)]
 
 mod evaluation;
+mod plain;
 
 pub use evaluation::{
     Evaluation, eval_expr, eval_func, eval_operator, eval_postfix_operator, eval_unary_operator,

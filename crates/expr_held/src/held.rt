@@ -1,10 +1,11 @@
 //! Values that are held.
-ghost use Rattle.std.specs.Prelude.{◌≡◌, Ok, IfErr, IsTrue};
+ghost use Rattle.std.specs.Prelude.{◌≡◌, Ok, IsTrue};
 ghost use Rattle.expr_value.specs.Answers.{Is};
 ghost use Rattle.expr_held.specs.Holdings.{value_held};
 ghost use Rattle.expr_held.specs.Plain.{is_plain_value};
+ghost use Rattle.expr_value.specs.Fault.{OnlyMemory};
 
-use expr_value::{Error, Result, Value};
+use expr_value::{Result, Value};
 use std::marker::Model;
 
 /// Who owns a value that is held.
@@ -74,7 +75,7 @@ impl<'a> Held<'a> {
     pub fn into_value(self) -> Result<Value>
         ensures answer { Is result (Ok self.entry) }
         ensures plain { IsTrue (is_plain_value self.entry) → result ≡ Ok self.entry }
-        ensures refusal { IfErr result (λ e. e ≡ Error.MemoryError) }
+        ensures refusal { OnlyMemory result }
     {
         let Held { holding } = self;
         match holding {
@@ -104,7 +105,7 @@ impl<'a> Held<'a> {
 fn copied(value: &Value) -> Result<Value>
     ensures answer { Is result (Ok value.now) }
     ensures plain { IsTrue (is_plain_value value.now) → result ≡ Ok value.now }
-    ensures refusal { IfErr result (λ e. e ≡ Error.MemoryError) }
+    ensures refusal { OnlyMemory result }
 {
     match value {
         Value::Nil => Ok(Value::Nil),

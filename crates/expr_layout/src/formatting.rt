@@ -1,15 +1,16 @@
 //! Moments printed by layouts.
-ghost use Rattle.std.specs.Prelude.{◌≡◌, Some, IfOk, IfErr, string_bytes};
+ghost use Rattle.std.specs.Prelude.{◌≡◌, Some, IfOk, string_bytes};
 ghost use Rattle.expr_value.specs.Answers.{Gives};
 ghost use Rattle.expr_layout.specs.Layouts.{Formats, FormatsBy, printed, stamp_text};
 ghost use Rattle.expr_arguments.specs.Arguments.{one_text};
+ghost use Rattle.expr_value.specs.Fault.{OnlyMemory};
 
 use crate::layout::tokens_of;
 use crate::print::show;
 use crate::token::{Field, Pad, Spelling, Token};
 use expr_arguments::one_text;
 use expr_held::Held;
-use expr_value::{DateTimeValue, Error, Result, Text, Value, refusal};
+use expr_value::{DateTimeValue, Result, Text, Value, refusal};
 use std::alloc::Global;
 use std::fmt;
 use std::fmt::{Formatter, Write};
@@ -33,7 +34,7 @@ pub fn format(alloc: Global, moment: &DateTimeValue, arguments: &[Held<'_>]) -> 
 #[tactic(auto, unfolding(crate::specs::Layouts::stamp_text))]
 pub fn stamp(alloc: Global, moment: &DateTimeValue) -> Result<Text>
     ensures text { IfOk result (λ s. s ≡ stamp_text moment.now) }
-    ensures err { IfErr result (λ e. e ≡ Error.MemoryError) }
+    ensures err { OnlyMemory result }
 {
     let tokens = [
         Token::Year,
@@ -64,7 +65,7 @@ fn formatted(alloc: Global, moment: &DateTimeValue, layout: &str) -> Result<Valu
 
 fn text_of(alloc: Global, moment: &DateTimeValue, tokens: &[Token]) -> Result<String>
     ensures ok { IfOk result (λ s. string_bytes s ≡ printed moment.now tokens.now) }
-    ensures err { IfErr result (λ e. e ≡ Error.MemoryError) }
+    ensures err { OnlyMemory result }
 {
     let text = ByTokens { moment, tokens };
     Ok(text.to_string(alloc)?)

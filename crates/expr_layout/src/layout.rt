@@ -1,16 +1,17 @@
 //! The tokens of layouts.
-ghost use Rattle.std.specs.Prelude.{◌≡◌, ℕ, ◌+◌, ◌<◌, ◌≤◌, ◌++◌, [], false, length, IfOk, IfErr, MatchOption};
+ghost use Rattle.std.specs.Prelude.{◌≡◌, ℕ, ◌+◌, ◌<◌, ◌≤◌, ◌++◌, [], false, length, IfOk, MatchOption};
 ghost use Rattle.std.specs.Char.{encode_utf8};
 ghost use Rattle.expr_layout.specs.Layouts.{Heads, IsLayout, after_name, first_of, first_or, fraction_at, either, ends_run, is_second, named_token, numbers, offsets, run_at, run_behind, run_token, seen, seen_run, short_words, token_at, whole_run, words};
+ghost use Rattle.expr_value.specs.Fault.{OnlyMemory};
 
 use crate::token::{Field, Pad, Spelling, Token};
-use expr_value::{Error, Result};
+use expr_value::{Result};
 use std::alloc::Global;
 
 /// The tokens of a layout.
 pub fn tokens_of(alloc: Global, layout: &str) -> Result<Vec<Token>>
     ensures ok { IfOk result (λ tokens. IsLayout false layout.now tokens.items) }
-    ensures err { IfErr result (λ e. e ≡ Error.MemoryError) }
+    ensures err { OnlyMemory result }
 {
     let mut tokens = Vec::new(alloc);
     let mut rest = layout;

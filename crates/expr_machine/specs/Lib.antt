@@ -1,5 +1,7 @@
 pub mod Acts
 pub mod Decides
+pub mod Here
 pub mod Leads
+pub mod Promises
 pub mod Stores
 pub mod Texts

@@ -34,6 +34,7 @@ use Rattle.expr_meaning.proofs.EvaluatedTimes.{AllowsMethod-evaluates, TimeCalle
 use Rattle.expr_meaning.specs.Allows.{Allows, AllowsAll, AllowsAsked, AllowsBlock, AllowsBound, AllowsCall, AllowsPairs, AllowsPiped, AllowsPostfix, AndThenLayer, ChosenLayer, ContinuedAs, DefaultsLayer, OrElseLayer, is_given}
 use Rattle.expr_meaning.specs.Calls.{AllowsBuiltin, AllowsOnValues, ByBuiltin}
 use Rattle.expr_meaning.specs.Host.{Host}
+use Rattle.expr_meaning.specs.World.{world_of}
 use Rattle.expr_meaning.specs.Refusals.{NeverRefusesWith}
 
 -- what a call with a predicate begins with
@@ -206,74 +207,74 @@ module _ (P : Fault → Type 0) (of_evaluation : P evaluation) where
     continued right f Pattern op x a p = After-faults right _ f (λ y. Matched-faults P of_evaluation of_pattern x y) a p
 
     mutual
-      Allows-faults : (ctx : Context) (t : Term) (a : Answer) → Allows host ctx t a → IfErr a P
+      Allows-faults : (ctx : Context) (t : Term) (a : Answer) → Allows (world_of host ctx) t a → IfErr a P
       Allows-faults ctx (name key) a p = by a (looked_up ctx key) (looked_up-evaluates ctx key) p
       Allows-faults ctx (literal v) a p = value a v p
-      Allows-faults ctx (list ts) a p = After-faults (AllowsAll host ctx ts) _ (AllowsAll-faults ctx ts) (λ vs r. value r _) a p
-      Allows-faults ctx (mapping ps) a p = After-faults (AllowsPairs host ctx ps) _ (AllowsPairs-faults ctx ps) (λ ms r. value r _) a p
+      Allows-faults ctx (list ts) a p = After-faults (AllowsAll (world_of host ctx) ts) _ (AllowsAll-faults ctx ts) (λ vs r. value r _) a p
+      Allows-faults ctx (mapping ps) a p = After-faults (AllowsPairs (world_of host ctx) ps) _ (AllowsPairs-faults ctx ps) (λ ms r. value r _) a p
       Allows-faults ctx (range first last) a p =
-          After-faults (Allows host ctx first) _ (Allows-faults ctx first) (
-          λ x. After-faults (Allows host ctx last) _ (Allows-faults ctx last) (λ y r. by r (ranged x y) (ranged-evaluates x y))
+          After-faults (Allows (world_of host ctx) first) _ (Allows-faults ctx first) (
+          λ x. After-faults (Allows (world_of host ctx) last) _ (Allows-faults ctx last) (λ y r. by r (ranged x y) (ranged-evaluates x y))
           ) a p
       Allows-faults ctx (call key ts q) a p =
-          After-faults (AllowsAll host ctx ts) _ (AllowsAll-faults ctx ts) (
-          λ vs. AllowsCall-faults (AllowsAsked host ctx q) (AllowsAsked-faults ctx q) host key vs (is_given q) (of_host key vs)
+          After-faults (AllowsAll (world_of host ctx) ts) _ (AllowsAll-faults ctx ts) (
+          λ vs. AllowsCall-faults (AllowsAsked (world_of host ctx) q) (AllowsAsked-faults ctx q) host key vs (is_given q) (of_host key vs)
           ) a p
-      Allows-faults ctx (unary op t) a p = After-faults (Allows host ctx t) _ (Allows-faults ctx t) (λ v r. by r (prefixed op v) (prefixed-evaluates op v)) a p
+      Allows-faults ctx (unary op t) a p = After-faults (Allows (world_of host ctx) t) _ (Allows-faults ctx t) (λ v r. by r (prefixed op v) (prefixed-evaluates op v)) a p
       Allows-faults ctx (operation op l r) a p =
-          After-faults (Allows host ctx l) _ (Allows-faults ctx l) (λ x. continued (Allows host ctx r) (Allows-faults ctx r) (sides_of op) op x) a p
-      Allows-faults ctx (postfix q t) a p = After-faults (Allows host ctx t) _ (Allows-faults ctx t) (λ v. AllowsPostfix-faults ctx q v) a p
+          After-faults (Allows (world_of host ctx) l) _ (Allows-faults ctx l) (λ x. continued (Allows (world_of host ctx) r) (Allows-faults ctx r) (sides_of op) op x) a p
+      Allows-faults ctx (postfix q t) a p = After-faults (Allows (world_of host ctx) t) _ (Allows-faults ctx t) (λ v. AllowsPostfix-faults ctx q v) a p
       Allows-faults ctx (choice c first second) a p =
-          After-faults (Allows host ctx c) _ (Allows-faults ctx c) (
-          λ v. chosen (AllowsBlock host ctx first) (AllowsBlock host ctx second) (AllowsBlock-faults ctx first) (AllowsBlock-faults ctx second) (out-Value v)
+          After-faults (Allows (world_of host ctx) c) _ (Allows-faults ctx c) (
+          λ v. chosen (AllowsBlock (world_of host ctx) first) (AllowsBlock (world_of host ctx) second) (AllowsBlock-faults ctx first) (AllowsBlock-faults ctx second) (out-Value v)
           ) a p
 
-      AllowsPostfix-faults : (ctx : Context) (q : Postfix) (v : Value) (a : Answer) → AllowsPostfix host ctx q v a → IfErr a P
+      AllowsPostfix-faults : (ctx : Context) (q : Postfix) (v : Value) (a : Answer) → AllowsPostfix (world_of host ctx) q v a → IfErr a P
       AllowsPostfix-faults ctx (index key optional) v a p =
-          After-faults (Allows host ctx key) _ (Allows-faults ctx key) (λ k r. by r (indexed v k optional) (indexed-evaluates v k optional)) a p
+          After-faults (Allows (world_of host ctx) key) _ (Allows-faults ctx key) (λ k r. by r (indexed v k optional) (indexed-evaluates v k optional)) a p
       AllowsPostfix-faults ctx (slice start stop) v a p =
-          After-faults (AllowsBound host ctx start) _ (AllowsBound-faults ctx start) (
-          λ from. After-faults (AllowsBound host ctx stop) _ (AllowsBound-faults ctx stop) (λ to r. by r (sliced v from to) (sliced-evaluates v from to))
+          After-faults (AllowsBound (world_of host ctx) start) _ (AllowsBound-faults ctx start) (
+          λ from. After-faults (AllowsBound (world_of host ctx) stop) _ (AllowsBound-faults ctx stop) (λ to r. by r (sliced v from to) (sliced-evaluates v from to))
           ) a p
-      AllowsPostfix-faults ctx (coalesce t) v a p = defaults (Allows host ctx t) (Allows-faults ctx t) (out-Value v) v a p
+      AllowsPostfix-faults ctx (coalesce t) v a p = defaults (Allows (world_of host ctx) t) (Allows-faults ctx t) (out-Value v) v a p
       AllowsPostfix-faults ctx (pipe t) v a p = AllowsPiped-faults ctx t v a p
       AllowsPostfix-faults ctx (ternary first second) v a p =
-          chosen (Allows host ctx first) (Allows host ctx second) (Allows-faults ctx first) (Allows-faults ctx second) (out-Value v) a p
+          chosen (Allows (world_of host ctx) first) (Allows (world_of host ctx) second) (Allows-faults ctx first) (Allows-faults ctx second) (out-Value v) a p
       AllowsPostfix-faults ctx (method key ts) v a p =
-          After-faults (AllowsAll host ctx ts) _ (AllowsAll-faults ctx ts) (λ vs r m. Evaluates-faults r (AllowsMethod-evaluates key v vs r m)) a p
+          After-faults (AllowsAll (world_of host ctx) ts) _ (AllowsAll-faults ctx ts) (λ vs r m. Evaluates-faults r (AllowsMethod-evaluates key v vs r m)) a p
 
-      AllowsBound-faults : (ctx : Context) (b : Bound) (a : Result (Option ℤ) Fault) → AllowsBound host ctx b a → IfErr a P
+      AllowsBound-faults : (ctx : Context) (b : Bound) (a : Result (Option ℤ) Fault) → AllowsBound (world_of host ctx) b a → IfErr a P
       AllowsBound-faults ctx unbounded a p = value a None p
       AllowsBound-faults ctx (bound t) a p =
-          After-faults (Allows host ctx t) _ (Allows-faults ctx t) (
+          After-faults (Allows (world_of host ctx) t) _ (Allows-faults ctx t) (
           λ w r. by r (given_bound (bound_checked w)) (given_bound-evaluates (bound_checked w) (bound_checked-evaluates w))
           ) a p
 
-      AllowsPiped-faults : (ctx : Context) (t : Term) (v : Value) (a : Answer) → AllowsPiped host ctx t v a → IfErr a P
+      AllowsPiped-faults : (ctx : Context) (t : Term) (v : Value) (a : Answer) → AllowsPiped (world_of host ctx) t v a → IfErr a P
       AllowsPiped-faults ctx (call key ts q) v a p =
-          After-faults (AllowsAll host ctx ts) _ (AllowsAll-faults ctx ts) (
-          λ vs. AllowsCall-faults (AllowsAsked host ctx q) (AllowsAsked-faults ctx q) host key (v ∷ vs) (is_given q) (of_host key (v ∷ vs))
+          After-faults (AllowsAll (world_of host ctx) ts) _ (AllowsAll-faults ctx ts) (
+          λ vs. AllowsCall-faults (AllowsAsked (world_of host ctx) q) (AllowsAsked-faults ctx q) host key (v ∷ vs) (is_given q) (of_host key (v ∷ vs))
           ) a p
       AllowsPiped-faults ctx t v a p = refusal a p
 
-      AllowsAsked-faults : (ctx : Context) (q : Predicate) (x : Question) (a : Answer) → AllowsAsked host ctx q x a → IfErr a P
+      AllowsAsked-faults : (ctx : Context) (q : Predicate) (x : Question) (a : Answer) → AllowsAsked (world_of host ctx) q x a → IfErr a P
       AllowsAsked-faults ctx no_predicate x a p = AsksItself-faults x a p
       AllowsAsked-faults ctx (predicate b) x a p = AllowsBlock-faults (asked_in ctx x) b a p
 
-      AllowsAll-faults : (ctx : Context) (ts : Terms) (r : Result (List Value) Fault) → AllowsAll host ctx ts r → IfErr r P
+      AllowsAll-faults : (ctx : Context) (ts : Terms) (r : Result (List Value) Fault) → AllowsAll (world_of host ctx) ts r → IfErr r P
       AllowsAll-faults ctx no_terms r p = value r [] p
       AllowsAll-faults ctx (term t ts) r p =
-          After-faults (Allows host ctx t) _ (Allows-faults ctx t) (λ v. After-faults (AllowsAll host ctx ts) _ (AllowsAll-faults ctx ts) (λ vs s. value s (v ∷ vs))) r p
+          After-faults (Allows (world_of host ctx) t) _ (Allows-faults ctx t) (λ v. After-faults (AllowsAll (world_of host ctx) ts) _ (AllowsAll-faults ctx ts) (λ vs s. value s (v ∷ vs))) r p
 
-      AllowsPairs-faults : (ctx : Context) (ps : Pairs) (r : Result (List (List ℕ × Value)) Fault) → AllowsPairs host ctx ps r → IfErr r P
+      AllowsPairs-faults : (ctx : Context) (ps : Pairs) (r : Result (List (List ℕ × Value)) Fault) → AllowsPairs (world_of host ctx) ps r → IfErr r P
       AllowsPairs-faults ctx pairs_end r p = value r [] p
       AllowsPairs-faults ctx (pair key t ps) r p =
-          After-faults (Allows host ctx t) _ (Allows-faults ctx t) (λ v. After-faults (AllowsPairs host ctx ps) _ (AllowsPairs-faults ctx ps) (λ ms s. value s ((key, v) ∷ ms))) r p
+          After-faults (Allows (world_of host ctx) t) _ (Allows-faults ctx t) (λ v. After-faults (AllowsPairs (world_of host ctx) ps) _ (AllowsPairs-faults ctx ps) (λ ms s. value s ((key, v) ∷ ms))) r p
 
-      pub AllowsBlock-faults : (ctx : Context) (b : Block) (a : Answer) → AllowsBlock host ctx b a → IfErr a P
+      pub AllowsBlock-faults : (ctx : Context) (b : Block) (a : Answer) → AllowsBlock (world_of host ctx) b a → IfErr a P
       AllowsBlock-faults ctx (answers t) a p = Allows-faults ctx t a p
       AllowsBlock-faults ctx (line key t b) a p =
-          After-faults (Allows host ctx t) _ (Allows-faults ctx t) (λ v. AllowsBlock-faults (override ctx key v) b) a p
+          After-faults (Allows (world_of host ctx) t) _ (Allows-faults ctx t) (λ v. AllowsBlock-faults (override ctx key v) b) a p
 
 -- a refusal to evaluate, or one of a predicate
 abbrev Passed : (Question → Answer → Type 0) → Fault → Type 0
@@ -314,7 +315,7 @@ module _ (f : Fault) (other : f ≢ evaluation) where
       (λ k added h e. never key vs added (subst (λ k. host.calls key vs (Err k)) e h)) (Err f) p refl
 
   -- a program is refused by a pattern, or with what a function of the host is refused with
-  pub program_faults : f ≢ pattern → (host : Host) → NeverRefusesWith host f → (ctx : Context) (b : Block) → ¬ (AllowsBlock host ctx b (Err f))
+  pub program_faults : f ≢ pattern → (host : Host) → NeverRefusesWith host f → (ctx : Context) (b : Block) → ¬ (AllowsBlock (world_of host ctx) b (Err f))
   program_faults no_pattern host never ctx b p =
       AllowsBlock-faults (λ k. k ≢ f) (λ e. other (sym e)) (λ e. no_pattern (sym e)) host
       (λ key vs k added h e. never key vs added (subst (λ k. host.calls key vs (Err k)) e h)) ctx b (Err f) p refl

@@ -24,6 +24,7 @@ use Rattle.expr_predicates.specs.Tasks.{Question}
 use Rattle.expr_value.proofs.Answered.{After-keeps, first-keeps}
 use Rattle.expr_value.specs.Answers.{Answer}
 use Rattle.expr_meaning.specs.Host.{Host}
+use Rattle.expr_meaning.specs.World.{world_of}
 use Rattle.expr_meaning.specs.Independence.{AgreeAt}
 
 -- each part of the relation keeps what it allows, where its own parts do
@@ -101,58 +102,58 @@ AllowsCall-keeps host key vs given asks asks' keeps a p =
     either-keeps (host.is_added key) (host.calls key vs a) (host.calls key vs a) (AllowsBuiltin host key vs given asks a) (AllowsBuiltin host key vs given asks' a) (λ q. q) (AllowsBuiltin-keeps asks asks' keeps host key vs given a) p
 
 mutual
-  pub Allows-keeps : (host : Host) (one other : Context) (t : Term) → Agree one other (operands t) → (a : Answer) → Allows host one t a → Allows host other t a
+  pub Allows-keeps : (host : Host) (one other : Context) (t : Term) → Agree one other (operands t) → (a : Answer) → Allows (world_of host one) t a → Allows (world_of host other) t a
   Allows-keeps host one other (name key) h a p = p ∙ looked_up-same one other key h
   Allows-keeps host one other (literal v) h a p = p
-  Allows-keeps host one other (list ts) h a p = first-keeps (AllowsAll host one ts) (AllowsAll host other ts) _ (AllowsAll-keeps host one other ts h) a p
-  Allows-keeps host one other (mapping ps) h a p = first-keeps (AllowsPairs host one ps) (AllowsPairs host other ps) _ (AllowsPairs-keeps host one other ps h) a p
+  Allows-keeps host one other (list ts) h a p = first-keeps (AllowsAll (world_of host one) ts) (AllowsAll (world_of host other) ts) _ (AllowsAll-keeps host one other ts h) a p
+  Allows-keeps host one other (mapping ps) h a p = first-keeps (AllowsPairs (world_of host one) ps) (AllowsPairs (world_of host other) ps) _ (AllowsPairs-keeps host one other ps h) a p
   Allows-keeps host one other (range first last) h a p =
-      After-keeps (Allows host one first) (Allows host other first) _ _ (Allows-keeps host one other first (Agree-left one other (operands first) (operands last) h)) (
-      λ x s q. first-keeps (Allows host one last) (Allows host other last) _ (Allows-keeps host one other last (Agree-right one other (operands first) (operands last) h)) s q
+      After-keeps (Allows (world_of host one) first) (Allows (world_of host other) first) _ _ (Allows-keeps host one other first (Agree-left one other (operands first) (operands last) h)) (
+      λ x s q. first-keeps (Allows (world_of host one) last) (Allows (world_of host other) last) _ (Allows-keeps host one other last (Agree-right one other (operands first) (operands last) h)) s q
       ) a p
   Allows-keeps host one other (call key ts q) h a p =
-      After-keeps (AllowsAll host one ts) (AllowsAll host other ts) _ (λ vs. AllowsCall host key vs (is_given q) (AllowsAsked host other q)) (AllowsAll-keeps host one other ts (Agree-left one other (all_operands ts) (predicate_operands q) h)) (
-      λ vs s k. AllowsCall-keeps host key vs (is_given q) (AllowsAsked host one q) (AllowsAsked host other q) (AllowsAsked-keeps host one other q (Agree-right one other (all_operands ts) (predicate_operands q) h)) s k
+      After-keeps (AllowsAll (world_of host one) ts) (AllowsAll (world_of host other) ts) _ (λ vs. AllowsCall host key vs (is_given q) (AllowsAsked (world_of host other) q)) (AllowsAll-keeps host one other ts (Agree-left one other (all_operands ts) (predicate_operands q) h)) (
+      λ vs s k. AllowsCall-keeps host key vs (is_given q) (AllowsAsked (world_of host one) q) (AllowsAsked (world_of host other) q) (AllowsAsked-keeps host one other q (Agree-right one other (all_operands ts) (predicate_operands q) h)) s k
       ) a p
-  Allows-keeps host one other (unary op t) h a p = first-keeps (Allows host one t) (Allows host other t) _ (Allows-keeps host one other t h) a p
+  Allows-keeps host one other (unary op t) h a p = first-keeps (Allows (world_of host one) t) (Allows (world_of host other) t) _ (Allows-keeps host one other t h) a p
   Allows-keeps host one other (operation op l r) h a p =
-      After-keeps (Allows host one l) (Allows host other l) _ _ (Allows-keeps host one other l (Agree-left one other (operands l) (operands r) h)) (
-      λ v s q. ContinuedAs-keeps (Allows host one r) (Allows host other r) (Allows-keeps host one other r (Agree-right one other (operands l) (operands r) h)) (sides_of op) op v s q
+      After-keeps (Allows (world_of host one) l) (Allows (world_of host other) l) _ _ (Allows-keeps host one other l (Agree-left one other (operands l) (operands r) h)) (
+      λ v s q. ContinuedAs-keeps (Allows (world_of host one) r) (Allows (world_of host other) r) (Allows-keeps host one other r (Agree-right one other (operands l) (operands r) h)) (sides_of op) op v s q
       ) a p
   Allows-keeps host one other (postfix q t) h a p =
-      After-keeps (Allows host one t) (Allows host other t) _ _ (Allows-keeps host one other t (Agree-left one other (operands t) (postfix_operands q) h)) (
+      After-keeps (Allows (world_of host one) t) (Allows (world_of host other) t) _ _ (Allows-keeps host one other t (Agree-left one other (operands t) (postfix_operands q) h)) (
       λ v s k. AllowsPostfix-keeps host one other q (Agree-right one other (operands t) (postfix_operands q) h) v s k
       ) a p
   Allows-keeps host one other (choice c first second) h a p =
       let k = Agree-right one other (operands c) (block_operands first ++ block_operands second) h in
-      After-keeps (Allows host one c) (Allows host other c) _ _ (Allows-keeps host one other c (Agree-left one other (operands c) (block_operands first ++ block_operands second) h)) (
-      λ v s q. Chosen-keeps (AllowsBlock host one first) (AllowsBlock host other first) (AllowsBlock host one second) (AllowsBlock host other second)
+      After-keeps (Allows (world_of host one) c) (Allows (world_of host other) c) _ _ (Allows-keeps host one other c (Agree-left one other (operands c) (block_operands first ++ block_operands second) h)) (
+      λ v s q. Chosen-keeps (AllowsBlock (world_of host one) first) (AllowsBlock (world_of host other) first) (AllowsBlock (world_of host one) second) (AllowsBlock (world_of host other) second)
       (AllowsBlock-keeps host one other first (Agree-left one other (block_operands first) (block_operands second) k))
       (AllowsBlock-keeps host one other second (Agree-right one other (block_operands first) (block_operands second) k)) (out-Value v) s q
       ) a p
 
-  AllowsPostfix-keeps : (host : Host) (one other : Context) (q : Postfix) → Agree one other (postfix_operands q) → (v : Value) (a : Answer) → AllowsPostfix host one q v a → AllowsPostfix host other q v a
-  AllowsPostfix-keeps host one other (index key optional) h v a p = first-keeps (Allows host one key) (Allows host other key) _ (Allows-keeps host one other key h) a p
+  AllowsPostfix-keeps : (host : Host) (one other : Context) (q : Postfix) → Agree one other (postfix_operands q) → (v : Value) (a : Answer) → AllowsPostfix (world_of host one) q v a → AllowsPostfix (world_of host other) q v a
+  AllowsPostfix-keeps host one other (index key optional) h v a p = first-keeps (Allows (world_of host one) key) (Allows (world_of host other) key) _ (Allows-keeps host one other key h) a p
   AllowsPostfix-keeps host one other (slice start stop) h v a p =
-      After-keeps (AllowsBound host one start) (AllowsBound host other start) _ _ (AllowsBound-keeps host one other start (Agree-left one other (bound_operands start) (bound_operands stop) h)) (
-      λ from s q. first-keeps (AllowsBound host one stop) (AllowsBound host other stop) _ (AllowsBound-keeps host one other stop (Agree-right one other (bound_operands start) (bound_operands stop) h)) s q
+      After-keeps (AllowsBound (world_of host one) start) (AllowsBound (world_of host other) start) _ _ (AllowsBound-keeps host one other start (Agree-left one other (bound_operands start) (bound_operands stop) h)) (
+      λ from s q. first-keeps (AllowsBound (world_of host one) stop) (AllowsBound (world_of host other) stop) _ (AllowsBound-keeps host one other stop (Agree-right one other (bound_operands start) (bound_operands stop) h)) s q
       ) a p
-  AllowsPostfix-keeps host one other (coalesce t) h v a p = Defaults-keeps (Allows host one t) (Allows host other t) (Allows-keeps host one other t h) (out-Value v) v a p
+  AllowsPostfix-keeps host one other (coalesce t) h v a p = Defaults-keeps (Allows (world_of host one) t) (Allows (world_of host other) t) (Allows-keeps host one other t h) (out-Value v) v a p
   AllowsPostfix-keeps host one other (pipe t) h v a p = AllowsPiped-keeps host one other t h v a p
   AllowsPostfix-keeps host one other (ternary first second) h v a p =
-      Chosen-keeps (Allows host one first) (Allows host other first) (Allows host one second) (Allows host other second)
+      Chosen-keeps (Allows (world_of host one) first) (Allows (world_of host other) first) (Allows (world_of host one) second) (Allows (world_of host other) second)
       (Allows-keeps host one other first (Agree-left one other (operands first) (operands second) h))
       (Allows-keeps host one other second (Agree-right one other (operands first) (operands second) h)) (out-Value v) a p
-  AllowsPostfix-keeps host one other (method key ts) h v a p = first-keeps (AllowsAll host one ts) (AllowsAll host other ts) _ (AllowsAll-keeps host one other ts h) a p
+  AllowsPostfix-keeps host one other (method key ts) h v a p = first-keeps (AllowsAll (world_of host one) ts) (AllowsAll (world_of host other) ts) _ (AllowsAll-keeps host one other ts h) a p
 
-  AllowsBound-keeps : (host : Host) (one other : Context) (b : Bound) → Agree one other (bound_operands b) → (a : Result (Option ℤ) Fault) → AllowsBound host one b a → AllowsBound host other b a
+  AllowsBound-keeps : (host : Host) (one other : Context) (b : Bound) → Agree one other (bound_operands b) → (a : Result (Option ℤ) Fault) → AllowsBound (world_of host one) b a → AllowsBound (world_of host other) b a
   AllowsBound-keeps host one other unbounded h a p = p
-  AllowsBound-keeps host one other (bound t) h a p = first-keeps (Allows host one t) (Allows host other t) _ (Allows-keeps host one other t h) a p
+  AllowsBound-keeps host one other (bound t) h a p = first-keeps (Allows (world_of host one) t) (Allows (world_of host other) t) _ (Allows-keeps host one other t h) a p
 
-  AllowsPiped-keeps : (host : Host) (one other : Context) (t : Term) → Agree one other (operands t) → (v : Value) (a : Answer) → AllowsPiped host one t v a → AllowsPiped host other t v a
+  AllowsPiped-keeps : (host : Host) (one other : Context) (t : Term) → Agree one other (operands t) → (v : Value) (a : Answer) → AllowsPiped (world_of host one) t v a → AllowsPiped (world_of host other) t v a
   AllowsPiped-keeps host one other (call key ts q) h v a p =
-      After-keeps (AllowsAll host one ts) (AllowsAll host other ts) _ (λ vs. AllowsCall host key (v ∷ vs) (is_given q) (AllowsAsked host other q)) (AllowsAll-keeps host one other ts (Agree-left one other (all_operands ts) (predicate_operands q) h)) (
-      λ vs s k. AllowsCall-keeps host key (v ∷ vs) (is_given q) (AllowsAsked host one q) (AllowsAsked host other q) (AllowsAsked-keeps host one other q (Agree-right one other (all_operands ts) (predicate_operands q) h)) s k
+      After-keeps (AllowsAll (world_of host one) ts) (AllowsAll (world_of host other) ts) _ (λ vs. AllowsCall host key (v ∷ vs) (is_given q) (AllowsAsked (world_of host other) q)) (AllowsAll-keeps host one other ts (Agree-left one other (all_operands ts) (predicate_operands q) h)) (
+      λ vs s k. AllowsCall-keeps host key (v ∷ vs) (is_given q) (AllowsAsked (world_of host one) q) (AllowsAsked (world_of host other) q) (AllowsAsked-keeps host one other q (Agree-right one other (all_operands ts) (predicate_operands q) h)) s k
       ) a p
   AllowsPiped-keeps host one other (name key) h v a p = p
   AllowsPiped-keeps host one other (literal w) h v a p = p
@@ -164,33 +165,33 @@ mutual
   AllowsPiped-keeps host one other (postfix q t) h v a p = p
   AllowsPiped-keeps host one other (choice c first second) h v a p = p
 
-  AllowsAsked-keeps : (host : Host) (one other : Context) (q : Predicate) → Agree one other (predicate_operands q) → (x : Question) (a : Answer) → AllowsAsked host one q x a → AllowsAsked host other q x a
+  AllowsAsked-keeps : (host : Host) (one other : Context) (q : Predicate) → Agree one other (predicate_operands q) → (x : Question) (a : Answer) → AllowsAsked (world_of host one) q x a → AllowsAsked (world_of host other) q x a
   AllowsAsked-keeps host one other no_predicate h x a p = p
   AllowsAsked-keeps host one other (predicate b) h x a p = AllowsBlock-keeps host (asked_in one x) (asked_in other x) b (asked_in-keeps one other x (block_operands b) h) a p
 
-  AllowsAll-keeps : (host : Host) (one other : Context) (ts : Terms) → Agree one other (all_operands ts) → (r : Result (List Value) Fault) → AllowsAll host one ts r → AllowsAll host other ts r
+  AllowsAll-keeps : (host : Host) (one other : Context) (ts : Terms) → Agree one other (all_operands ts) → (r : Result (List Value) Fault) → AllowsAll (world_of host one) ts r → AllowsAll (world_of host other) ts r
   AllowsAll-keeps host one other no_terms h r p = p
   AllowsAll-keeps host one other (term t ts) h r p =
-      After-keeps (Allows host one t) (Allows host other t) _ _ (Allows-keeps host one other t (Agree-left one other (operands t) (all_operands ts) h)) (
-      λ v s q. first-keeps (AllowsAll host one ts) (AllowsAll host other ts) _ (AllowsAll-keeps host one other ts (Agree-right one other (operands t) (all_operands ts) h)) s q
+      After-keeps (Allows (world_of host one) t) (Allows (world_of host other) t) _ _ (Allows-keeps host one other t (Agree-left one other (operands t) (all_operands ts) h)) (
+      λ v s q. first-keeps (AllowsAll (world_of host one) ts) (AllowsAll (world_of host other) ts) _ (AllowsAll-keeps host one other ts (Agree-right one other (operands t) (all_operands ts) h)) s q
       ) r p
 
-  AllowsPairs-keeps : (host : Host) (one other : Context) (ps : Pairs) → Agree one other (pairs_operands ps) → (r : Result (List (List ℕ × Value)) Fault) → AllowsPairs host one ps r → AllowsPairs host other ps r
+  AllowsPairs-keeps : (host : Host) (one other : Context) (ps : Pairs) → Agree one other (pairs_operands ps) → (r : Result (List (List ℕ × Value)) Fault) → AllowsPairs (world_of host one) ps r → AllowsPairs (world_of host other) ps r
   AllowsPairs-keeps host one other pairs_end h r p = p
   AllowsPairs-keeps host one other (pair key t ps) h r p =
-      After-keeps (Allows host one t) (Allows host other t) _ _ (Allows-keeps host one other t (Agree-left one other (operands t) (pairs_operands ps) h)) (
-      λ v s q. first-keeps (AllowsPairs host one ps) (AllowsPairs host other ps) _ (AllowsPairs-keeps host one other ps (Agree-right one other (operands t) (pairs_operands ps) h)) s q
+      After-keeps (Allows (world_of host one) t) (Allows (world_of host other) t) _ _ (Allows-keeps host one other t (Agree-left one other (operands t) (pairs_operands ps) h)) (
+      λ v s q. first-keeps (AllowsPairs (world_of host one) ps) (AllowsPairs (world_of host other) ps) _ (AllowsPairs-keeps host one other ps (Agree-right one other (operands t) (pairs_operands ps) h)) s q
       ) r p
 
-  pub AllowsBlock-keeps : (host : Host) (one other : Context) (b : Block) → Agree one other (block_operands b) → (a : Answer) → AllowsBlock host one b a → AllowsBlock host other b a
+  pub AllowsBlock-keeps : (host : Host) (one other : Context) (b : Block) → Agree one other (block_operands b) → (a : Answer) → AllowsBlock (world_of host one) b a → AllowsBlock (world_of host other) b a
   AllowsBlock-keeps host one other (answers t) h a p = Allows-keeps host one other t h a p
   AllowsBlock-keeps host one other (line key t b) h a p =
-      After-keeps (Allows host one t) (Allows host other t) _ _ (Allows-keeps host one other t (Agree-left one other (operands t) (block_operands b) h)) (
+      After-keeps (Allows (world_of host one) t) (Allows (world_of host other) t) _ _ (Allows-keeps host one other t (Agree-left one other (operands t) (block_operands b) h)) (
       λ v s q. AllowsBlock-keeps host (override one key v) (override other key v) b (override-keeps one other key v (block_operands b) (Agree-right one other (operands t) (block_operands b) h)) s q
       ) a p
 
 -- an answer is kept by contexts that agree at the program's names
 pub keeps-at_names : (host : Host) (one other : Context) (b : Block) (names : List (List ℕ)) → AreNamesOf names b → AgreeAt names b one other
-    → (a : Answer) → AllowsBlock host one b a → AllowsBlock host other b a
+    → (a : Answer) → AllowsBlock (world_of host one) b a → AllowsBlock (world_of host other) b a
 keeps-at_names host one other b names are h a p =
     AllowsBlock-keeps host one other b (AgreeFor-from_names one other b names are h.at_hash h.at_names h.at_env) a p

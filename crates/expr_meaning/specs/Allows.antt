@@ -14,10 +14,11 @@ use Rattle.expr_value.specs.Answers.{Answer, After}
 use Rattle.expr_meaning.specs.Calls.{AllowsBuiltin}
 use Rattle.expr_steps.specs.Given.{given_bound}
 use Rattle.expr_steps.specs.Methods.{AllowsMethod}
-use Rattle.expr_steps.specs.Context.{Context, asked_in, override, looked_up}
+use Rattle.expr_steps.specs.Context.{looked_up}
 use Rattle.expr_predicates.specs.Runs.{AsksItself}
 use Rattle.expr_predicates.specs.Tasks.{Question}
 use Rattle.expr_meaning.specs.Host.{Host}
+use Rattle.expr_meaning.specs.World.{World, where_asked, where_bound}
 use Rattle.expr_operators.specs.Matching.{Matched}
 use Rattle.expr_operators.specs.Operators.{applied, prefixed, truth}
 use Rattle.expr_operators.specs.Positions.{bound_checked, indexed, ranged, sliced}
@@ -77,60 +78,60 @@ AllowsCall host key vs given asks answer = MatchBool (host.is_added key) (host.c
 
 abbrev mutual
   -- the node may answer this
-  pub Allows : Host → Context → Term → Answer → Type 0
-  Allows host ctx (name key) answer = answer ≡ looked_up ctx key
-  Allows host ctx (literal v) answer = answer ≡ Ok v
-  Allows host ctx (list ts) answer = After (AllowsAll host ctx ts) (λ vs a. a ≡ Ok (value.Array vs)) answer
-  Allows host ctx (mapping ps) answer = After (AllowsPairs host ctx ps) (λ ms a. a ≡ Ok (value.Map (put_all [] ms))) answer
-  Allows host ctx (range first last) answer = After (Allows host ctx first) (λ x. After (Allows host ctx last) (λ y a. a ≡ ranged x y)) answer
-  Allows host ctx (call key ts p) answer = After (AllowsAll host ctx ts) (λ vs. AllowsCall host key vs (is_given p) (AllowsAsked host ctx p)) answer
-  Allows host ctx (unary op t) answer = After (Allows host ctx t) (λ v a. a ≡ prefixed op v) answer
-  Allows host ctx (operation op l r) answer = After (Allows host ctx l) (λ x. Continued op x (Allows host ctx r)) answer
-  Allows host ctx (postfix p t) answer = After (Allows host ctx t) (λ v. AllowsPostfix host ctx p v) answer
-  Allows host ctx (choice c first second) answer = After (Allows host ctx c) (λ v. Chosen v (AllowsBlock host ctx first) (AllowsBlock host ctx second)) answer
+  pub Allows : World → Term → Answer → Type 0
+  Allows world (name key) answer = answer ≡ looked_up world.context key
+  Allows world (literal v) answer = answer ≡ Ok v
+  Allows world (list ts) answer = After (AllowsAll world ts) (λ vs a. a ≡ Ok (value.Array vs)) answer
+  Allows world (mapping ps) answer = After (AllowsPairs world ps) (λ ms a. a ≡ Ok (value.Map (put_all [] ms))) answer
+  Allows world (range first last) answer = After (Allows world first) (λ x. After (Allows world last) (λ y a. a ≡ ranged x y)) answer
+  Allows world (call key ts p) answer = After (AllowsAll world ts) (λ vs. AllowsCall world.host key vs (is_given p) (AllowsAsked world p)) answer
+  Allows world (unary op t) answer = After (Allows world t) (λ v a. a ≡ prefixed op v) answer
+  Allows world (operation op l r) answer = After (Allows world l) (λ x. Continued op x (Allows world r)) answer
+  Allows world (postfix p t) answer = After (Allows world t) (λ v. AllowsPostfix world p v) answer
+  Allows world (choice c first second) answer = After (Allows world c) (λ v. Chosen v (AllowsBlock world first) (AllowsBlock world second)) answer
 
   -- what stands behind an operand may answer this, where that is the operand's value
-  pub AllowsPostfix : Host → Context → Postfix → Value → Answer → Type 0
-  AllowsPostfix host ctx (index key optional) v answer = After (Allows host ctx key) (λ k a. a ≡ indexed v k optional) answer
-  AllowsPostfix host ctx (slice start stop) v answer =
-      After (AllowsBound host ctx start) (λ from. After (AllowsBound host ctx stop) (λ to a. a ≡ sliced v from to)) answer
-  AllowsPostfix host ctx (coalesce t) v answer = Defaults v (Allows host ctx t) answer
-  AllowsPostfix host ctx (pipe t) v answer = AllowsPiped host ctx t v answer
-  AllowsPostfix host ctx (ternary first second) v answer = Chosen v (Allows host ctx first) (Allows host ctx second) answer
-  AllowsPostfix host ctx (method key ts) v answer = After (AllowsAll host ctx ts) (λ vs. AllowsMethod key v vs) answer
+  pub AllowsPostfix : World → Postfix → Value → Answer → Type 0
+  AllowsPostfix world (index key optional) v answer = After (Allows world key) (λ k a. a ≡ indexed v k optional) answer
+  AllowsPostfix world (slice start stop) v answer =
+      After (AllowsBound world start) (λ from. After (AllowsBound world stop) (λ to a. a ≡ sliced v from to)) answer
+  AllowsPostfix world (coalesce t) v answer = Defaults v (Allows world t) answer
+  AllowsPostfix world (pipe t) v answer = AllowsPiped world t v answer
+  AllowsPostfix world (ternary first second) v answer = Chosen v (Allows world first) (Allows world second) answer
+  AllowsPostfix world (method key ts) v answer = After (AllowsAll world ts) (λ vs. AllowsMethod key v vs) answer
 
   -- a bound that is left out is none, and another is an integer
-  pub AllowsBound : Host → Context → Bound → Result (Option ℤ) Fault → Type 0
-  AllowsBound host ctx unbounded answer = answer ≡ Ok None
-  AllowsBound host ctx (bound t) answer = After (Allows host ctx t) (λ w a. a ≡ given_bound (bound_checked w)) answer
+  pub AllowsBound : World → Bound → Result (Option ℤ) Fault → Type 0
+  AllowsBound world unbounded answer = answer ≡ Ok None
+  AllowsBound world (bound t) answer = After (Allows world t) (λ w a. a ≡ given_bound (bound_checked w)) answer
 
   -- a value that is piped into a call is its first argument; into anything else it is refused
-  pub AllowsPiped : Host → Context → Term → Value → Answer → Type 0
-  AllowsPiped host ctx (call key ts p) v answer = After (AllowsAll host ctx ts) (λ vs. AllowsCall host key (v ∷ vs) (is_given p) (AllowsAsked host ctx p)) answer
-  AllowsPiped host ctx t v answer = answer ≡ Err evaluation
+  pub AllowsPiped : World → Term → Value → Answer → Type 0
+  AllowsPiped world (call key ts p) v answer = After (AllowsAll world ts) (λ vs. AllowsCall world.host key (v ∷ vs) (is_given p) (AllowsAsked world p)) answer
+  AllowsPiped world t v answer = answer ≡ Err evaluation
 
   -- what the predicate of a call may answer about an item; an item is the answer about itself where there is none
-  pub AllowsAsked : Host → Context → Predicate → Question → Answer → Type 0
-  AllowsAsked host ctx no_predicate q answer = AsksItself q answer
-  AllowsAsked host ctx (predicate b) q answer = AllowsBlock host (asked_in ctx q) b answer
+  pub AllowsAsked : World → Predicate → Question → Answer → Type 0
+  AllowsAsked world no_predicate q answer = AsksItself q answer
+  AllowsAsked world (predicate b) q answer = AllowsBlock (where_asked world q) b answer
 
   -- the values of these, from the first to the last
-  pub AllowsAll : Host → Context → Terms → Result (List Value) Fault → Type 0
-  AllowsAll host ctx no_terms answer = answer ≡ Ok []
-  AllowsAll host ctx (term t ts) answer =
-      After (Allows host ctx t) (λ v. After (AllowsAll host ctx ts) (λ vs a. a ≡ Ok (v ∷ vs))) answer
+  pub AllowsAll : World → Terms → Result (List Value) Fault → Type 0
+  AllowsAll world no_terms answer = answer ≡ Ok []
+  AllowsAll world (term t ts) answer =
+      After (Allows world t) (λ v. After (AllowsAll world ts) (λ vs a. a ≡ Ok (v ∷ vs))) answer
 
   -- the keys of a map literal with their values, from the first to the last; put into a map in turn, a repeated key keeps its place and takes the later value
-  pub AllowsPairs : Host → Context → Pairs → Result (List (List ℕ × Value)) Fault → Type 0
-  AllowsPairs host ctx pairs_end answer = answer ≡ Ok []
-  AllowsPairs host ctx (pair key t ps) answer =
-      After (Allows host ctx t) (λ v. After (AllowsPairs host ctx ps) (λ ms a. a ≡ Ok ((key, v) ∷ ms))) answer
+  pub AllowsPairs : World → Pairs → Result (List (List ℕ × Value)) Fault → Type 0
+  AllowsPairs world pairs_end answer = answer ≡ Ok []
+  AllowsPairs world (pair key t ps) answer =
+      After (Allows world t) (λ v. After (AllowsPairs world ps) (λ ms a. a ≡ Ok ((key, v) ∷ ms))) answer
 
   -- a program: each line's value stands for its name in what follows
-  pub AllowsBlock : Host → Context → Block → Answer → Type 0
-  AllowsBlock host ctx (answers t) answer = Allows host ctx t answer
-  AllowsBlock host ctx (line key t b) answer = After (Allows host ctx t) (λ v. AllowsBlock host (override ctx key v) b) answer
+  pub AllowsBlock : World → Block → Answer → Type 0
+  AllowsBlock world (answers t) answer = Allows world t answer
+  AllowsBlock world (line key t b) answer = After (Allows world t) (λ v. AllowsBlock (where_bound world key v) b) answer
 
 -- these values, and then those of the terms
-abbrev pub AllowsMore : Host → Context → List Value → Terms → Result (List Value) Fault → Type 0
-AllowsMore host ctx vs ts answer = After (AllowsAll host ctx ts) (λ ws a. a ≡ Ok (vs ++ ws)) answer
+abbrev pub AllowsMore : World → List Value → Terms → Result (List Value) Fault → Type 0
+AllowsMore world vs ts answer = After (AllowsAll world ts) (λ ws a. a ≡ Ok (vs ++ ws)) answer

@@ -4,6 +4,7 @@ pub mod Calls
 pub mod Host
 pub mod Independence
 pub mod Refusals
+pub mod World
 pub use Rattle.expr_operators.specs.Sides
 pub use Rattle.expr_operators.specs.Operators
 pub use Rattle.expr_operators.specs.Positions

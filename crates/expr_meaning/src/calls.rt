@@ -5,7 +5,7 @@ ghost use Rattle.expr_meaning.specs.Begun.{Begins, BeginsBuiltin, Refuses, Refus
 ghost use Rattle.expr_meaning.specs.Calls.{AllowsOnValues};
 ghost use Rattle.expr_predicates.specs.Runs.{AsksItself};
 ghost use Rattle.expr_value.specs.Answers.{Gives};
-ghost use Rattle.expr_value.specs.Fault.{fault_of, memory};
+ghost use Rattle.expr_value.specs.Fault.{fault_of, memory, RefusesWith};
 
 use crate::environment::{AddedZones, ExprCall, Functions};
 use expr_builtins::{
@@ -39,8 +39,8 @@ pub fn begin<'s, H: Functions>(
     given: bool,
 ) -> Result<Begun<'s>>
     ensures begun { IfOk result (λ b. Begins (H.host host.now) ident.now args.entry given b) }
-    ensures refused { IfErr result
-        (λ e. fault_of e ≢ memory → Refuses (H.host host.now) ident.now args.entry given (fault_of e)) }
+    ensures refused { RefusesWith result
+        (λ k. Refuses (H.host host.now) ident.now args.entry given k) }
 {
     if host.has(ident) {
         let args = values_of(alloc, args)?;
@@ -59,8 +59,8 @@ fn begin_builtin<'s, H: Functions>(
     given: bool,
 ) -> Result<Begun<'s>>
     ensures begun { IfOk result (λ b. BeginsBuiltin (H.host host.now) ident.now args.entry given b) }
-    ensures refused { IfErr result (λ e. fault_of e ≢ memory → RefusesBuiltin
-        (H.host host.now) ident.now args.entry given (fault_of e)) }
+    ensures refused { RefusesWith result (λ k. RefusesBuiltin
+        (H.host host.now) ident.now args.entry given k) }
 {
     match Builtin::named(ident) {
         Some(Builtin::Asks(asking)) => {

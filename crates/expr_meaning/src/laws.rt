@@ -5,6 +5,7 @@ ghost use Rattle.expr_meaning.specs.Refusals.{NeverRefusesWith};
 ghost use Rattle.expr_predicates.specs.Allowed.{HasOneAnswer};
 ghost use Rattle.expr_predicates.specs.Tasks.{any_holds};
 ghost use Rattle.expr_steps.specs.Context.{Context};
+ghost use Rattle.expr_meaning.specs.World.{world_of};
 ghost use Rattle.expr_tree.specs.Term.{Block, Term, call, literal, no_terms, operation, predicate, term};
 ghost use Rattle.expr_tree.specs.declared.operator.Operator.TheVariants.{And, Or};
 ghost use Rattle.expr_value.specs.Answers.{Answer};
@@ -17,10 +18,11 @@ use expr_value::Value;
 /// side isn't asked.
 pub fn left_side_decides<H: Functions>()
     ensures and { (host : H) (ctx : Context) (right : Term) (answer : Answer)
-        → Allows (H.host host) ctx (operation And (literal (Value.Bool false)) right) answer ↔ answer
+        → Allows (world_of (H.host host) ctx) (operation And (literal (Value.Bool false)) right) answer
+        ↔ answer
         ≡ Ok (Value.Bool false) }
     ensures or { (host : H) (ctx : Context) (right : Term) (answer : Answer)
-        → Allows (H.host host) ctx (operation Or (literal (Value.Bool true)) right) answer ↔ answer
+        → Allows (world_of (H.host host) ctx) (operation Or (literal (Value.Bool true)) right) answer ↔ answer
         ≡ Ok (Value.Bool true) }
 {}
 
@@ -30,10 +32,12 @@ pub fn none_in_programs_is_the_opposite_of_any<H: Functions>()
     ensures { (host : H) (ctx : Context) (array : Term) (block : Block)
         (items : List Value) (any none : Value)
         → (H.host host).is_added (codes "any") ≡ false → (H.host host).is_added (codes "none") ≡ false
-        → ((a : Answer) → Allows (H.host host) ctx array a → a ≡ Ok (Value.Array items))
-        → HasOneAnswer any_holds (AllowsAsked (H.host host) ctx (predicate block)) items
-        → Allows (H.host host) ctx (call (codes "any") (term array no_terms) (predicate block)) (Ok any)
-        → Allows (H.host host) ctx (call (codes "none") (term array no_terms) (predicate block)) (Ok none)
+        → ((a : Answer) → Allows (world_of (H.host host) ctx) array a → a ≡ Ok (Value.Array items))
+        → HasOneAnswer any_holds (AllowsAsked (world_of (H.host host) ctx) (predicate block)) items
+        → Allows (world_of (H.host host) ctx) (call (codes "any") (term array no_terms) (predicate block))
+        (Ok any)
+        → Allows (world_of (H.host host) ctx) (call (codes "none") (term array no_terms) (predicate block))
+        (Ok none)
         → (b : Bool) × (any ≡ Value.Bool b) × (none ≡ Value.Bool (not b)) }
 {}
 
@@ -42,5 +46,5 @@ pub fn none_in_programs_is_the_opposite_of_any<H: Functions>()
 pub fn programs_refuse_to_evaluate<H: Functions>()
     ensures { (host : H) (ctx : Context) (program : Block) (fault : Fault)
         → fault ≢ evaluation → fault ≢ bad_pattern → NeverRefusesWith (H.host host) fault
-        → ¬ (AllowsBlock (H.host host) ctx program (Err fault)) }
+        → ¬ (AllowsBlock (world_of (H.host host) ctx) program (Err fault)) }
 {}

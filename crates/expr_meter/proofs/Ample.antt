@@ -15,7 +15,7 @@ use Rattle.expr_predicates.specs.Calls.{AllowsAsking, Start, begun}
 use Rattle.expr_predicates.specs.Runs.{Asks}
 use Rattle.expr_predicates.specs.Tasks.{Question, Reply, Task, Outcome, about, stopped, refused}
 use Rattle.expr_sizes.specs.Sizes.{depth, inside, weight}
-use Rattle.expr_steps.specs.Context.{Context}
+use Rattle.expr_meaning.specs.World.{World}
 use Rattle.expr_value.specs.Answers.{Answer, After, Goes}
 use Rattle.expr_value.specs.Fault.{Fault, evaluation}
 use Rattle.expr_value.specs.declared.value.Value.{Value}
@@ -104,13 +104,13 @@ module _ (costs : Costs) where
   move_ample a op (onward k st sl) next' next f p = made_ample a (costs.leaves op) st (next k st sl) (f k st sl p)
   move_ample a op (refused_by e) next' next f p = ample_here a (Alone (CountsMove rooms costs op (refused_by e) next)) (λ first now. ap (λ x. ended x now) p)
 
-  module _ (host : Host) (ctx : Context) (counts : CountsLater rooms costs) (later : Later)
+  module _ (world : World) (counts : CountsLater rooms costs) (later : Later)
       (has : (n : ℕ) (slots : List Value) (a : Answer) → later n slots a → Ample a (Alone (counts n slots))) where
     module _ (a : Answer) (next' : Next_run) (next : Next rooms costs) (goes : (k : ℕ) (st sl : List Value) → next' k st sl a → Ample a (Alone (next k st sl))) where
       abbrev Plain : Op → List Value → List Value → Room → Ending Room → Type 0
-      Plain op stack slots begun e = (m : Move) × Step host ctx no_block op stack slots m × CountsMove rooms costs op m next begun e
+      Plain op stack slots begun e = (m : Move) × Step world no_block op stack slots m × CountsMove rooms costs op m next begun e
 
-      plain_ample : (op : Op) (stack slots : List Value) (move : Move) → Step host ctx no_block op stack slots move → On move next' a
+      plain_ample : (op : Op) (stack slots : List Value) (move : Move) → Step world no_block op stack slots move → On move next' a
           → Ample a (Alone (λ now. Working rooms costs op (looked_at op stack slots) now (Plain op stack slots)))
       plain_ample op stack slots move step on =
           let n = costs.work op (looked_at op stack slots) in
@@ -121,7 +121,7 @@ module _ (costs : Costs) where
 
       -- a call that asks, and what follows it
       abbrev Call : List ℕ → List Value → ℕ → ℕ → Binds → List Value → Room → Ending Room → Type 0
-      Call key vs block slot binds slots = CountsCall rooms host key vs (λ q. counts block (take slot slots ++ bound_values binds q))
+      Call key vs block slot binds slots = CountsCall rooms world.host key vs (λ q. counts block (take slot slots ++ bound_values binds q))
 
       abbrev Rested : List Value → ℕ → List Value → Value → Room → Ending Room → Type 0
       Rested rest slot slots v now e = Counted (rooms.keeps v) now (next 0 (v ∷ rest) (take slot slots)) e
@@ -135,10 +135,10 @@ module _ (costs : Costs) where
       answer_ample n k key block slot binds vs rest slots (Err f) h on = ample_call_refused n k (Call key vs block slot binds slots) (Rested rest slot slots) a f h on
 
       abbrev One : Op → List Value → List Value → Room → Ending Room → Type 0
-      One op stack slots = Counts rooms costs host ctx counts op next stack slots
+      One op stack slots = Counts rooms costs world counts op next stack slots
 
       -- one instruction; a call that asks need copy nothing
-      step_ample : (op : Op) (stack slots : List Value) (move : Move) → Step host ctx later op stack slots move → On move next' a → Ample a (Alone (One op stack slots))
+      step_ample : (op : Op) (stack slots : List Value) (move : Move) → Step world later op stack slots move → On move next' a → Ample a (Alone (One op stack slots))
       step_ample (asks key n block slot binds) stack slots move (vs, rest, x, stood, many, h, e) on =
           let w = costs.work (asks key n block slot binds) vs in
           let k = costs.room (asks key n block slot binds) vs in
@@ -146,7 +146,7 @@ module _ (costs : Costs) where
           λ first now f q. (vs, rest, stood, many, ([], tt, q))
           ) (
           answer_ample w k key block slot binds vs rest slots x (
-          call_ample (λ q. counts block (take slot slots ++ bound_values binds q)) (λ q. later block (take slot slots ++ bound_values binds q)) (λ q. has block (take slot slots ++ bound_values binds q)) host key vs x h
+          call_ample (λ q. counts block (take slot slots ++ bound_values binds q)) (λ q. later block (take slot slots ++ bound_values binds q)) (λ q. has block (take slot slots ++ bound_values binds q)) world.host key vs x h
           ) (subst (λ m. On m next' a) e on)
           )
       step_ample (push v) stack slots move p on = plain_ample (push v) stack slots move p on
@@ -174,23 +174,23 @@ module _ (costs : Costs) where
     end_ample a zero (v ∷ w ∷ stack) slots p = absurd p
     end_ample a (suc skip) stack slots p = absurd p
 
-    rest_ample : (a : Answer) (ops : List Op) (skip : ℕ) (stack slots : List Value) → Rest host ctx later ops Ends skip stack slots a
-        → Ample a (Alone (CountsRest rooms costs host ctx counts ops (CountsEnd rooms costs) skip stack slots))
+    rest_ample : (a : Answer) (ops : List Op) (skip : ℕ) (stack slots : List Value) → Rest world later ops Ends skip stack slots a
+        → Ample a (Alone (CountsRest rooms costs world counts ops (CountsEnd rooms costs) skip stack slots))
     rest_ample a [] skip stack slots p = end_ample a skip stack slots p
     rest_ample a (op ∷ ops) (suc skip) stack slots p = rest_ample a ops skip stack slots p
     rest_ample a (op ∷ ops) zero stack slots p =
-        let s = stepped host ctx later op (Rest host ctx later ops Ends) stack slots a p in
-        step_ample a (Rest host ctx later ops Ends) (CountsRest rooms costs host ctx counts ops (CountsEnd rooms costs)) (rest_ample a ops) op stack slots s.0 s.1 s.2
+        let s = stepped world later op (Rest world later ops Ends) stack slots a p in
+        step_ample a (Rest world later ops Ends) (CountsRest rooms costs world counts ops (CountsEnd rooms costs)) (rest_ample a ops) op stack slots s.0 s.1 s.2
 
-  module _ (host : Host) (ctx : Context) where
+  module _ (world : World) where
     abbrev Behind : List (List Op) → CountsLater rooms costs
-    Behind blocks = CountsRuns rooms costs host ctx blocks
+    Behind blocks = CountsRuns rooms costs world blocks
 
-    runs_ample : (blocks : List (List Op)) (n : ℕ) (slots : List Value) (a : Answer) → Runs host ctx blocks n slots a → Ample a (Alone (Behind blocks n slots))
+    runs_ample : (blocks : List (List Op)) (n : ℕ) (slots : List Value) (a : Answer) → Runs world blocks n slots a → Ample a (Alone (Behind blocks n slots))
     runs_ample [] n slots a p = absurd p
     runs_ample (ops ∷ blocks) zero slots a p =
-        ample_counted (length ops + length ops) (Takes (length ops) (length ops)) a (Alone (CountsRest rooms costs host ctx (Behind blocks) ops (CountsEnd rooms costs) 0 [] slots)) (takes_passes (length ops) (length ops)) (
-        rest_ample host ctx (Behind blocks) (Runs host ctx blocks) (runs_ample blocks) a ops 0 [] slots p
+        ample_counted (length ops + length ops) (Takes (length ops) (length ops)) a (Alone (CountsRest rooms costs world (Behind blocks) ops (CountsEnd rooms costs) 0 [] slots)) (takes_passes (length ops) (length ops)) (
+        rest_ample world (Behind blocks) (Runs world blocks) (runs_ample blocks) a ops 0 [] slots p
         )
     runs_ample (ops ∷ blocks) (suc n) slots a p = runs_ample blocks n slots a p
 
@@ -205,14 +205,14 @@ module _ (costs : Costs) where
         )
     code_by blocks (Err e) p = ample_refused false (Behind blocks 0 []) Last (Err e) e p refl
 
-    code_ample : (blocks : List (List Op)) (a : Answer) → CodeAnswers host ctx blocks a → Ample a (Alone (CodeCounts rooms costs host ctx blocks))
-    code_ample blocks a p = code_by blocks a (runs_ample blocks 0 [] a (runs_of_answers host ctx blocks 0 [] a p))
+    code_ample : (blocks : List (List Op)) (a : Answer) → CodeAnswers world blocks a → Ample a (Alone (CodeCounts rooms costs world blocks))
+    code_ample blocks a p = code_by blocks a (runs_ample blocks 0 [] a (runs_of_answers world blocks 0 [] a p))
 
     -- each run of a code is a counted run within limits that are large enough
-    pub code_within : (blocks : List (List Op)) (a : Answer) → CodeAnswers host ctx blocks a
-        → (need : ℕ) × ((s w d : ℕ) → need ≤ s → need ≤ w → need ≤ d → (left : Room) × CodeCounts rooms costs host ctx blocks (within s w d) (ended a left))
-    code_within blocks a p = ample_within a (CodeCounts rooms costs host ctx blocks) (code_ample blocks a p)
+    pub code_within : (blocks : List (List Op)) (a : Answer) → CodeAnswers world blocks a
+        → (need : ℕ) × ((s w d : ℕ) → need ≤ s → need ≤ w → need ≤ d → (left : Room) × CodeCounts rooms costs world blocks (within s w d) (ended a left))
+    code_within blocks a p = ample_within a (CodeCounts rooms costs world blocks) (code_ample blocks a p)
 
     -- and where there is none
-    pub code_unlimited : (blocks : List (List Op)) (a : Answer) → CodeAnswers host ctx blocks a → CodeCounts rooms costs host ctx blocks unlimited (ended a unlimited)
-    code_unlimited blocks a p = ample_unlimited a (CodeCounts rooms costs host ctx blocks) (code_ample blocks a p)
+    pub code_unlimited : (blocks : List (List Op)) (a : Answer) → CodeAnswers world blocks a → CodeCounts rooms costs world blocks unlimited (ended a unlimited)
+    code_unlimited blocks a p = ample_unlimited a (CodeCounts rooms costs world blocks) (code_ample blocks a p)

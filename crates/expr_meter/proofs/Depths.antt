@@ -1,9 +1,8 @@
 -- What a code answers within limits is no deeper than it may be.
 use Rattle.std.proofs.Common.{◌≡◌, ℕ, ◌≤◌, List, [], Result, Ok, Err, refl, sym, ap, subst, arith}
 use Rattle.expr_code.specs.Machine.{Op}
-use Rattle.expr_meaning.specs.Host.{Host}
 use Rattle.expr_sizes.specs.Sizes.{depth, inside, weight}
-use Rattle.expr_steps.specs.Context.{Context}
+use Rattle.expr_meaning.specs.World.{World}
 use Rattle.expr_value.specs.declared.value.Value.{Value}
 use Rattle.expr_meter.specs.Counting.{Counted, Ending, Following, Passing, gives, refuses, stops}
 use Rattle.expr_meter.specs.Counts.{CodeCounts, Costs}
@@ -55,8 +54,8 @@ ended_by d first v left (gives u ran) h (r, c, p) = kept d u v left (freed first
 ended_by d first v left (refuses e) h p = absurd (subst IsGiven p tt)
 ended_by d first v left (stops limit) h p = absurd (subst IsGiven p tt)
 
-pub code_depth : (costs : Costs) (host : Host) (ctx : Context) (blocks : List (List Op)) (s w d : ℕ) (v : Value) (left : Room) → CodeCounts rooms costs host ctx blocks (within s w d) (gives v left) → depth v ≤ d
-code_depth costs host ctx blocks s w d v left (x, ran, p) =
+pub code_depth : (costs : Costs) (world : World) (blocks : List (List Op)) (s w d : ℕ) (v : Value) (left : Room) → CodeCounts rooms costs world blocks (within s w d) (gives v left) → depth v ≤ d
+code_depth costs world blocks s w d v left (x, ran, p) =
     ended_by d (within s w d) v left x (
     runs_stay rooms (IsDeepest d) (record {
       enters = λ n. takes d n n;
@@ -64,5 +63,5 @@ code_depth costs host ctx blocks s w d v left (x, ran, p) =
       makes = λ v. holds d (inside v) (depth v);
       keeps = λ v. holds d (weight v) (depth v);
       freed = frees d;
-    }) costs host ctx blocks 0 [] (within s w d) x refl ran
+    }) costs world blocks 0 [] (within s w d) x refl ran
     ) p

@@ -8,7 +8,7 @@ use Rattle.expr_meaning.specs.Calls.{AllowsOnValues, ByName}
 use Rattle.expr_meaning.specs.Host.{Host}
 use Rattle.expr_predicates.specs.Calls.{Start, begun}
 use Rattle.expr_predicates.specs.Tasks.{Question, Reply, Task, Outcome, about, stopped, refused}
-use Rattle.expr_steps.specs.Context.{Context}
+use Rattle.expr_meaning.specs.World.{World}
 use Rattle.expr_value.specs.Answers.{Answer}
 use Rattle.expr_value.specs.Fault.{Fault, evaluation}
 use Rattle.expr_value.specs.declared.value.Value.{Value}
@@ -92,7 +92,7 @@ module _ (counting : Counting) (holds : counting.Tally → Type 0) (by : Keeps c
         (λ is. subst In (sym is) tt) (λ c. answers (AllowsOnValues host c vs) now e h) (λ b. start_stays (begun b vs true) now e h)
         ) p
 
-  module _ (costs : Costs) (host : Host) (ctx : Context) where
+  module _ (costs : Costs) (world : World) where
     abbrev After : (Tally → Ending Tally → Type 0) → Type 0
     After next = (u : Tally) (e : Ending Tally) → holds u → next u e → In e
 
@@ -113,23 +113,23 @@ module _ (counting : Counting) (holds : counting.Tally → Type 0) (by : Keeps c
     module _ (counts : CountsLater counting costs) (later : (n : ℕ) (slots : List Value) (now : Tally) (e : Ending Tally) → holds now → counts n slots now e → In e) where
       module _ (next : Next counting costs) (e : Ending Tally) (f : (k : ℕ) (st sl : List Value) (u : Tally) → holds u → next k st sl u e → In e) where
         plain_stays : (op : Op) (stack slots : List Value) (now : Tally) → holds now
-            → Working counting costs op (looked_at op stack slots) now (λ begun g. (move : Move) × Step host ctx no_block op stack slots move × CountsMove counting costs op move next begun g) e → In e
+            → Working counting costs op (looked_at op stack slots) now (λ begun g. (move : Move) × Step world no_block op stack slots move × CountsMove counting costs op move next begun g) e → In e
         plain_stays op stack slots now h p =
             let n = costs.work op (looked_at op stack slots) in
             let k = costs.room op (looked_at op stack slots) in
-            counted (counting.works n k) (by.works n k) now (λ begun g. (move : Move) × Step host ctx no_block op stack slots move × CountsMove counting costs op move next begun g) e h (
+            counted (counting.works n k) (by.works n k) now (λ begun g. (move : Move) × Step world no_block op stack slots move × CountsMove counting costs op move next begun g) e h (
             λ u m q. move_stays op q.0 next u e m f q.2
             ) p
 
-        one_stays : (op : Op) (stack slots : List Value) (now : Tally) → holds now → Counts counting costs host ctx counts op next stack slots now e → In e
+        one_stays : (op : Op) (stack slots : List Value) (now : Tally) → holds now → Counts counting costs world counts op next stack slots now e → In e
         one_stays (asks key n block slot binds) stack slots now h (vs, rest, stood, many, p) =
             let w = costs.work (asks key n block slot binds) vs in
             let k = costs.room (asks key n block slot binds) vs in
-            let call = λ (begun : Tally). CountsCall counting host key vs (λ q. counts block (take slot slots ++ bound_values binds q)) begun in
+            let call = λ (begun : Tally). CountsCall counting world.host key vs (λ q. counts block (take slot slots ++ bound_values binds q)) begun in
             let after = λ (v : Value) (ran : Tally). Counted (counting.keeps v) (counting.freed now ran) (next 0 (v ∷ rest) (take slot slots)) in
             keeping p.0 now (λ kept. Counted (counting.works w k) kept (λ begun. Then (call begun) after)) e h (
             λ kept m c. counted (counting.works w k) (by.works w k) kept (λ begun. Then (call begun) after) e m (
-            λ b o t. following t.0 after e (call_stays (λ q. counts block (take slot slots ++ bound_values binds q)) (λ q. later block (take slot slots ++ bound_values binds q)) host key vs b t.0 o t.1) (
+            λ b o t. following t.0 after e (call_stays (λ q. counts block (take slot slots ++ bound_values binds q)) (λ q. later block (take slot slots ++ bound_values binds q)) world.host key vs b t.0 o t.1) (
             λ v ran g r. counted (counting.keeps v) (by.keeps v) (counting.freed now ran) (next 0 (v ∷ rest) (take slot slots)) e (by.freed now ran g) (f 0 (v ∷ rest) (take slot slots)) r
             ) t.2
             ) c
@@ -154,16 +154,16 @@ module _ (counting : Counting) (holds : counting.Tally → Type 0) (by : Keeps c
       end_stays zero (v ∷ w ∷ stack) slots now e h p = absurd p
       end_stays (suc skip) stack slots now e h p = absurd p
 
-      rest_stays : (ops : List Op) (skip : ℕ) (stack slots : List Value) (now : Tally) (e : Ending Tally) → holds now → CountsRest counting costs host ctx counts ops (CountsEnd counting costs) skip stack slots now e → In e
+      rest_stays : (ops : List Op) (skip : ℕ) (stack slots : List Value) (now : Tally) (e : Ending Tally) → holds now → CountsRest counting costs world counts ops (CountsEnd counting costs) skip stack slots now e → In e
       rest_stays [] skip stack slots now e h p = end_stays skip stack slots now e h p
       rest_stays (op ∷ ops) (suc skip) stack slots now e h p = rest_stays ops skip stack slots now e h p
       rest_stays (op ∷ ops) zero stack slots now e h p =
-          one_stays (CountsRest counting costs host ctx counts ops (CountsEnd counting costs)) e (λ k st sl u g q. rest_stays ops k st sl u e g q) op stack slots now h p
+          one_stays (CountsRest counting costs world counts ops (CountsEnd counting costs)) e (λ k st sl u g q. rest_stays ops k st sl u e g q) op stack slots now h p
 
-    pub runs_stay : (blocks : List (List Op)) (n : ℕ) (slots : List Value) (now : Tally) (e : Ending Tally) → holds now → CountsRuns counting costs host ctx blocks n slots now e → In e
+    pub runs_stay : (blocks : List (List Op)) (n : ℕ) (slots : List Value) (now : Tally) (e : Ending Tally) → holds now → CountsRuns counting costs world blocks n slots now e → In e
     runs_stay [] n slots now e h p = absurd p
     runs_stay (ops ∷ blocks) zero slots now e h p =
-        counted (counting.enters (length ops)) (by.enters (length ops)) now (CountsRest counting costs host ctx (CountsRuns counting costs host ctx blocks) ops (CountsEnd counting costs) 0 [] slots) e h (
-        λ u g q. rest_stays (CountsRuns counting costs host ctx blocks) (runs_stay blocks) ops 0 [] slots u e g q
+        counted (counting.enters (length ops)) (by.enters (length ops)) now (CountsRest counting costs world (CountsRuns counting costs world blocks) ops (CountsEnd counting costs) 0 [] slots) e h (
+        λ u g q. rest_stays (CountsRuns counting costs world blocks) (runs_stay blocks) ops 0 [] slots u e g q
         ) p
     runs_stay (ops ∷ blocks) (suc n) slots now e h p = runs_stay blocks n slots now e h p

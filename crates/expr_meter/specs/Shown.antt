@@ -1,9 +1,8 @@
 -- What counted runs say of runs.
 use Rattle.std.specs.Prelude.{ℕ, ◌≤◌, List}
 use Rattle.expr_code.specs.Machine.{CodeAnswers, Op}
-use Rattle.expr_meaning.specs.Host.{Host}
 use Rattle.expr_sizes.specs.Sizes.{depth}
-use Rattle.expr_steps.specs.Context.{Context}
+use Rattle.expr_meaning.specs.World.{World}
 use Rattle.expr_value.specs.Answers.{Answer}
 use Rattle.expr_value.specs.declared.value.Value.{Value}
 use Rattle.expr_meter.specs.Counting.{ended, gives}
@@ -11,17 +10,17 @@ use Rattle.expr_meter.specs.Counts.{CodeCounts, Costs}
 use Rattle.expr_meter.specs.Rooms.{Room, rooms, unlimited, within}
 
 -- a counted run that answers, whatever the room, is a run of the code
-abbrev pub CountedRunsAreRuns : Host → Context → List (List Op) → Type 0
-CountedRunsAreRuns host ctx blocks = (costs : Costs) (room left : Room) (answer : Answer) → CodeCounts rooms costs host ctx blocks room (ended answer left) → CodeAnswers host ctx blocks answer
+abbrev pub CountedRunsAreRuns : World → List (List Op) → Type 0
+CountedRunsAreRuns world blocks = (costs : Costs) (room left : Room) (answer : Answer) → CodeCounts rooms costs world blocks room (ended answer left) → CodeAnswers world blocks answer
 
 -- each run of the code is a counted run where limits are large enough for it, and so it is where there is none
-abbrev pub RunsHaveCounts : Host → Context → List (List Op) → Type 0
-RunsHaveCounts host ctx blocks =
-    (costs : Costs) (answer : Answer) → CodeAnswers host ctx blocks answer
-    → ((need : ℕ) × ((steps size deepest : ℕ) → need ≤ steps → need ≤ size → need ≤ deepest → (left : Room) × CodeCounts rooms costs host ctx blocks (within steps size deepest) (ended answer left)))
-    × CodeCounts rooms costs host ctx blocks unlimited (ended answer unlimited)
+abbrev pub RunsHaveCounts : World → List (List Op) → Type 0
+RunsHaveCounts world blocks =
+    (costs : Costs) (answer : Answer) → CodeAnswers world blocks answer
+    → ((need : ℕ) × ((steps size deepest : ℕ) → need ≤ steps → need ≤ size → need ≤ deepest → (left : Room) × CodeCounts rooms costs world blocks (within steps size deepest) (ended answer left)))
+    × CodeCounts rooms costs world blocks unlimited (ended answer unlimited)
 
 -- the value that a counted run gives within limits is no deeper than it may be
-abbrev pub AnswersStayWithinDepth : Host → Context → List (List Op) → Type 0
-AnswersStayWithinDepth host ctx blocks =
-    (costs : Costs) (steps size deepest : ℕ) (value : Value) (left : Room) → CodeCounts rooms costs host ctx blocks (within steps size deepest) (gives value left) → depth value ≤ deepest
+abbrev pub AnswersStayWithinDepth : World → List (List Op) → Type 0
+AnswersStayWithinDepth world blocks =
+    (costs : Costs) (steps size deepest : ℕ) (value : Value) (left : Room) → CodeCounts rooms costs world blocks (within steps size deepest) (gives value left) → depth value ≤ deepest

@@ -1,5 +1,5 @@
 //! Moments in other places, and the moments at which the clock of a place shows a civil time.
-ghost use Rattle.std.specs.Prelude.{◌≡◌, ◌++◌, Some, IfOk, IfErr};
+ghost use Rattle.std.specs.Prelude.{◌≡◌, ◌++◌, Some, IfOk};
 ghost use Rattle.std.specs.Option.{option_copied};
 ghost use Rattle.std.specs.Fmt.{WritesOnOk};
 ghost use Rattle.jiff.specs.Words.{civil_nanos};
@@ -8,9 +8,10 @@ ghost use Rattle.expr_value.specs.Moved.{at_instant};
 ghost use Rattle.expr_value.specs.Times.{instant, local_nanos, place_of, place_text};
 ghost use Rattle.expr_value.specs.declared.moment.Place.TheVariants.{Fixed, Zone};
 ghost use Rattle.expr_moment.specs.Places.{at_civil, given, if_shows, location_of, picked_in, placed, utc};
+ghost use Rattle.expr_value.specs.Fault.{OnlyMemory};
 
 use expr_clock::show_offset;
-use expr_value::{DateTimeValue, Error, Result, TimezoneValue, Value, refusal};
+use expr_value::{DateTimeValue, Result, TimezoneValue, Value, refusal};
 use jiff::Timestamp;
 use jiff::civil::DateTime;
 use jiff::tz::{Offset, TimeZone};
@@ -21,7 +22,7 @@ use std::fmt::{Formatter, Write};
 /// The zone UTC.
 pub fn utc(alloc: Global) -> Result<TimezoneValue>
     ensures ok { IfOk result (λ z. z ≡ utc) }
-    ensures err { IfErr result (λ e. e ≡ Error.MemoryError) }
+    ensures err { OnlyMemory result }
 {
     TimezoneValue::named(alloc, "UTC", TimeZone::UTC)
 }
@@ -39,7 +40,7 @@ pub fn given(alloc: Global, moment: Option<DateTimeValue>) -> Result<Value>
 /// The same instant in a zone.
 pub fn in_zone(moment: &DateTimeValue, zone: &TimezoneValue) -> Result<DateTimeValue>
     ensures ok { IfOk result (λ t. t ≡ placed moment.now (Zone zone.now)) }
-    ensures err { IfErr result (λ e. e ≡ Error.MemoryError) }
+    ensures err { OnlyMemory result }
 {
     Ok(DateTimeValue::zoned(moment.timestamp(), zone.clone()?))
 }
@@ -47,7 +48,7 @@ pub fn in_zone(moment: &DateTimeValue, zone: &TimezoneValue) -> Result<DateTimeV
 /// The zone of a moment, or UTC where it has none and no offset.
 pub fn location(alloc: Global, moment: &DateTimeValue) -> Result<Option<TimezoneValue>>
     ensures ok { IfOk result (λ z. z ≡ location_of moment.now) }
-    ensures err { IfErr result (λ e. e ≡ Error.MemoryError) }
+    ensures err { OnlyMemory result }
 {
     if let Some(zone) = moment.timezone() {
         return Ok(Some(zone.clone()?));
@@ -62,7 +63,7 @@ pub fn location(alloc: Global, moment: &DateTimeValue) -> Result<Option<Timezone
 fn beside(moment: &DateTimeValue, timestamp: Timestamp) -> Result<DateTimeValue>
     ensures instant { IfOk result (λ t. instant t ≡ timestamp.nanosecond) }
     ensures place { IfOk result (λ t. place_of t ≡ place_of moment.now) }
-    ensures err { IfErr result (λ e. e ≡ Error.MemoryError) }
+    ensures err { OnlyMemory result }
 {
     match moment.timezone() {
         Some(zone) => Ok(DateTimeValue::zoned(timestamp, zone.clone()?)),
@@ -73,7 +74,7 @@ fn beside(moment: &DateTimeValue, timestamp: Timestamp) -> Result<DateTimeValue>
 /// The moment at an instant, in nanoseconds, in the place of another, if it is in range.
 pub fn at_instant(moment: &DateTimeValue, nanoseconds: i128) -> Result<Option<DateTimeValue>>
     ensures ok { IfOk result (λ t. t ≡ at_instant nanoseconds (place_of moment.now)) }
-    ensures err { IfErr result (λ e. e ≡ Error.MemoryError) }
+    ensures err { OnlyMemory result }
 {
     match Timestamp::from_nanosecond(nanoseconds) {
         Ok(timestamp) => Ok(Some(beside(moment, timestamp)?)),
@@ -84,7 +85,7 @@ pub fn at_instant(moment: &DateTimeValue, nanoseconds: i128) -> Result<Option<Da
 /// The moment at which jiff puts a civil time on the clock of a zone, if it is in range and the clock shows that time then.
 pub fn civil_in_zone(zone: &TimezoneValue, civil: DateTime) -> Result<Option<DateTimeValue>>
     ensures ok { IfOk result (λ t. t ≡ at_civil (Zone zone.now) civil) }
-    ensures err { IfErr result (λ e. e ≡ Error.MemoryError) }
+    ensures err { OnlyMemory result }
 {
     let rules = zone.timezone();
     let Ok(timestamp) = rules.to_timestamp(civil) else {
@@ -109,7 +110,7 @@ pub fn civil_at_offset(offset: Offset, civil: DateTime) -> Option<DateTimeValue>
 /// The moment at which jiff puts a civil time on the clock of a moment's place.
 pub fn civil_beside(moment: &DateTimeValue, civil: DateTime) -> Result<Option<DateTimeValue>>
     ensures ok { IfOk result (λ t. t ≡ at_civil (place_of moment.now) civil) }
-    ensures err { IfErr result (λ e. e ≡ Error.MemoryError) }
+    ensures err { OnlyMemory result }
 {
     match moment.timezone() {
         Some(zone) => civil_in_zone(zone, civil),

@@ -1,7 +1,7 @@
 //! The texts of refusals: what was met, for people.
 ghost use Rattle.std.specs.Prelude.{◌≡◌, ◌≢◌, Err};
 ghost use Rattle.expr_value.specs.Answers.{Is};
-ghost use Rattle.expr_value.specs.Fault.{fault_of, evaluation, memory};
+ghost use Rattle.expr_value.specs.Fault.{evaluation, IsOfKind};
 
 use expr_value::{Error, Value};
 use std::alloc::{AllocError, Global};
@@ -9,7 +9,7 @@ use std::fmt::Display;
 
 /// A refusal to evaluate, of this text, or for want of memory where there is none for it.
 pub fn refused(text: Result<String, AllocError>) -> Error
-    ensures { fault_of result ≢ memory → fault_of result ≡ evaluation }
+    ensures { IsOfKind result evaluation }
 {
     match text {
         Ok(text) => Error::ExprError(text),
@@ -19,7 +19,7 @@ pub fn refused(text: Result<String, AllocError>) -> Error
 
 /// A refusal of two operands.
 pub fn mismatch<D: Display>(alloc: Global, operator: &D, left: &Value, right: &Value) -> Error
-    ensures { fault_of result ≢ memory → fault_of result ≡ evaluation }
+    ensures { IsOfKind result evaluation }
 {
     let left = kind_of(left);
     let right = kind_of(right);
@@ -41,7 +41,7 @@ pub fn refuse<D: Display>(
 
 /// A refusal of a key that the value has no places for.
 pub fn not_indexed(alloc: Global, value: &Value, key: &Value) -> Error
-    ensures { fault_of result ≢ memory → fault_of result ≡ evaluation }
+    ensures { IsOfKind result evaluation }
 {
     let value = kind_of(value);
     let key = kind_of(key);
@@ -50,7 +50,7 @@ pub fn not_indexed(alloc: Global, value: &Value, key: &Value) -> Error
 
 /// A refusal of a value where another kind is expected.
 pub fn unexpected(alloc: Global, expected: &str, met: &Value) -> Error
-    ensures { fault_of result ≢ memory → fault_of result ≡ evaluation }
+    ensures { IsOfKind result evaluation }
 {
     let met = kind_of(met);
     refused(format!(in alloc; "expected {expected}, met {met}"))
@@ -58,7 +58,7 @@ pub fn unexpected(alloc: Global, expected: &str, met: &Value) -> Error
 
 /// A refusal of an operand where an operator before it takes another kind.
 pub fn unexpected_after(alloc: Global, operator: &str, expected: &str, met: &Value) -> Error
-    ensures { fault_of result ≢ memory → fault_of result ≡ evaluation }
+    ensures { IsOfKind result evaluation }
 {
     let met = kind_of(met);
     refused(format!(in alloc; "expected {expected} after {operator}, met {met}"))

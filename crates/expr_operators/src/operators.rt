@@ -1,9 +1,9 @@
 //! The operators, on values.
-ghost use Rattle.std.specs.Prelude.{◌≡◌, ◌≢◌, IfOk, IfErr, Err, IsTrue};
+ghost use Rattle.std.specs.Prelude.{◌≡◌, ◌≢◌, IfOk, Err, IsTrue};
 ghost use Rattle.expr_value.specs.Answers.{Is};
 ghost use Rattle.expr_operators.specs.Operators.{applied, prefixed, truth, truth_answer, verdict};
 ghost use Rattle.expr_operators.specs.Plain.{is_plain_operator, is_plain_value, Surely};
-ghost use Rattle.expr_value.specs.Fault.{fault_of, memory};
+ghost use Rattle.expr_value.specs.Fault.{RefusesWith};
 
 use crate::arithmetic::{add, modulo, multiply, subtract};
 use crate::comparison::{are_equal, compare};
@@ -86,7 +86,7 @@ pub fn as_truth(alloc: Global, value: &Value) -> Result<Value>
 /// Whether a condition holds; what is no boolean is refused.
 pub fn as_condition(alloc: Global, value: &Value) -> Result<bool>
     ensures holds { IfOk result (λ b. truth value.now ≡ truth_answer b) }
-    ensures refusal { IfErr result (λ e. fault_of e ≢ memory → truth value.now ≡ Err (fault_of e)) }
+    ensures refusal { RefusesWith result (λ k. truth value.now ≡ Err k) }
 {
     match value {
         Value::Bool(b) => Ok(*b),

@@ -1,9 +1,10 @@
 //! Ranges, indices and slices.
-ghost use Rattle.std.specs.Prelude.{◌≡◌, ◌≤◌, Ok, IfOk, IfErr, string_bytes};
+ghost use Rattle.std.specs.Prelude.{◌≡◌, ◌≤◌, Ok, IfOk, string_bytes};
 ghost use Rattle.std.specs.Option.{option_copied};
 ghost use Rattle.expr_value.specs.Answers.{Is};
 ghost use Rattle.expr_operators.specs.Positions.{bound_at, bound_checked, indexed, integers_between, item_from, or_nil, part, ranged, repaired, sliced, start_at, stop_at};
 ghost use Rattle.expr_value.specs.declared.value.Value as value;
+ghost use Rattle.expr_value.specs.Fault.{OnlyMemory};
 
 use crate::messages::{not_indexed, refuse, unexpected};
 use bstr::ByteSlice;
@@ -32,7 +33,7 @@ pub fn range_between(alloc: Global, first: i64, last: i64) -> Result<Value>
 
 fn count_up(alloc: Global, first: i64, last: i64) -> Result<Vec<Value>>
     ensures ok { IfOk result (λ v. v.items ≡ integers_between first last) }
-    ensures refusal { IfErr result (λ e. e ≡ Error.MemoryError) }
+    ensures refusal { OnlyMemory result }
 {
     if first > last {
         return Ok(Vec::new(alloc));

@@ -1,7 +1,7 @@
 //! The arguments of a call that asks a predicate, and which call needs none.
-ghost use Rattle.std.specs.Prelude.{◌≡◌, ◌≢◌, IfOk, IfErr, Ok, Err, Some, None};
+ghost use Rattle.std.specs.Prelude.{◌≡◌, ◌≢◌, IfOk, Ok, Err, Some, None};
 ghost use Rattle.expr_value.specs.Answers.{Is};
-ghost use Rattle.expr_value.specs.Fault.{fault_of, memory, evaluation};
+ghost use Rattle.expr_value.specs.Fault.{evaluation, RefusesWith};
 ghost use Rattle.expr_value.specs.Values.{items_of, string_of};
 ghost use Rattle.expr_arguments.specs.Arrays.{items_held};
 ghost use Rattle.expr_predicates.specs.Calls.{array_and_more, direction_named, direction_of, runs_alone};
@@ -25,7 +25,7 @@ pub(crate) fn array_and_more<'s>(
     args: Items<Held<'s>>,
 ) -> Result<(Array<'s>, Option<Held<'s>>)>
     ensures value { IfOk result (λ p. array_and_more args.entry ≡ Ok (items_held p.0, p.1)) }
-    ensures refusal { IfErr result (λ e. fault_of e ≢ memory → array_and_more args.entry ≡ Err (fault_of e)) }
+    ensures refusal { RefusesWith result (λ k. array_and_more args.entry ≡ Err k) }
 {
     let mut args = args.into_vec();
     if args.len() == 1 {
@@ -49,8 +49,7 @@ pub(crate) fn array_and_more<'s>(
 // The array that a value is.
 fn array_held<'s>(alloc: Global, value: Held<'s>) -> Result<Array<'s>>
     ensures value { IfOk result (λ array. items_of value.entry ≡ Some (items_held array)) }
-    ensures refusal { IfErr result (λ e. fault_of e ≢ memory
-        → (items_of value.entry ≡ None) × (fault_of e ≡ evaluation)) }
+    ensures refusal { RefusesWith result (λ k. (items_of value.entry ≡ None) × (k ≡ evaluation)) }
 {
     match array_of(value.into_holding()) {
         Some(array) => Ok(array),

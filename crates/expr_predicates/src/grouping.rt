@@ -1,11 +1,12 @@
 //! Items by their keys.
-ghost use Rattle.std.specs.Prelude.{◌≡◌, ◌<◌, ◌++◌, ◌∷◌, [], List, IfOk, IfErr, map, set, get_or, vec_len, length, ◌+◌, if◌then◌else◌};
+ghost use Rattle.std.specs.Prelude.{◌≡◌, ◌<◌, ◌++◌, ◌∷◌, [], List, IfOk, map, set, get_or, vec_len, length, ◌+◌, if◌then◌else◌};
 ghost use Rattle.expr_value.specs.declared.key.Key.{Key as AKey};
 ghost use Rattle.expr_value.specs.declared.value.Value.{Value as AValue};
 ghost use Rattle.expr_predicates.specs.Tasks.{grouped};
 ghost use Rattle.expr_predicates.specs.Grouping.{item_lists};
+ghost use Rattle.expr_value.specs.Fault.{OnlyMemory};
 
-use expr_value::{Error, Items, Key, KeyedMap, Result, Value};
+use expr_value::{Items, Key, KeyedMap, Result, Value};
 use indexmap::IndexSet;
 use std::alloc::Global;
 
@@ -34,7 +35,7 @@ impl Groups {
     fn with(self, alloc: Global, key: Key, item: Value) -> Result<Groups>
         ensures ok { IfOk result (λ g. (ps : List (AKey × AValue)) → IsGrouping self ps
             → IsGrouping g (ps ++ (key, item) ∷ [])) }
-        ensures err { IfErr result (λ e. e ≡ Error.MemoryError) }
+        ensures err { OnlyMemory result }
     {
         let Groups { mut keys, items } = self;
         let (index, is_new) = keys.insert_full(key)?;
@@ -46,7 +47,7 @@ impl Groups {
     /// The keys, each with the array of its items.
     fn into_map(self, alloc: Global) -> Result<KeyedMap>
         ensures ok { IfOk result (λ m. (ps : List (AKey × AValue)) → IsGrouping self ps → m ≡ grouped ps) }
-        ensures err { IfErr result (λ e. e ≡ Error.MemoryError) }
+        ensures err { OnlyMemory result }
     {
         let Groups { keys, items } = self;
         let mut map = KeyedMap::new(alloc);
@@ -62,7 +63,7 @@ fn with_list(alloc: Global, mut lists: Vec<Vec<Value>>, more: bool) -> Result<Ve
     ensures lists { IfOk result (λ l. item_lists l.items
         ≡ item_lists lists.items ++ (if more then [] ∷ [] else [])) }
     ensures len { IfOk result (λ l. vec_len l ≡ vec_len lists + (if more then 1 else 0)) }
-    ensures err { IfErr result (λ e. e ≡ Error.MemoryError) }
+    ensures err { OnlyMemory result }
 {
     if more {
         lists.push(Vec::new(alloc))?;
@@ -76,7 +77,7 @@ fn with_item(mut lists: Vec<Vec<Value>>, index: usize, item: Value) -> Result<Ve
     ensures len { IfOk result (λ l. vec_len l ≡ vec_len lists) }
     ensures lists { IfOk result (λ l. item_lists l.items
         ≡ set (item_lists lists.items) index (get_or (item_lists lists.items) index [] ++ item ∷ [])) }
-    ensures err { IfErr result (λ e. e ≡ Error.MemoryError) }
+    ensures err { OnlyMemory result }
 {
     lists[index].push(item)?;
     Ok(lists)
@@ -85,7 +86,7 @@ fn with_item(mut lists: Vec<Vec<Value>>, index: usize, item: Value) -> Result<Ve
 /// Each key once, as first seen and in that order, with the items that have it.
 pub fn grouped(alloc: Global, pairs: Vec<(Key, Value)>) -> Result<KeyedMap>
     ensures ok { IfOk result (λ m. m ≡ grouped pairs.items) }
-    ensures err { IfErr result (λ e. e ≡ Error.MemoryError) }
+    ensures err { OnlyMemory result }
 {
     let mut groups = Groups::new(alloc);
     for (key, item) in pairs {

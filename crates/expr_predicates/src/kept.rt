@@ -1,9 +1,9 @@
 //! What is kept of the answers where items or answers are.
-ghost use Rattle.std.specs.Prelude.{◌≡◌, ◌≢◌, ◌∷◌, ◌++◌, [], List, IfOk, IfErr, OnOk, Some, None, true, false, if◌then◌else◌};
+ghost use Rattle.std.specs.Prelude.{◌≡◌, ◌≢◌, ◌∷◌, ◌++◌, [], List, IfOk, OnOk, Some, None, true, false, if◌then◌else◌};
 ghost use Rattle.std.specs.Option.{option_or};
 ghost use Rattle.expr_value.specs.Answers.{Gives};
 ghost use Rattle.expr_value.specs.Values.{key_of};
-ghost use Rattle.expr_value.specs.Fault.{fault_of, memory, evaluation};
+ghost use Rattle.expr_value.specs.Fault.{evaluation, OnlyMemory, RefusesWith};
 ghost use Rattle.expr_value.specs.declared.key.Key.{Key as key};
 ghost use Rattle.expr_predicates.specs.Sorting.{sort_key};
 
@@ -11,7 +11,7 @@ use crate::grouping::grouped;
 use crate::noted::is_true;
 use crate::sorting::sorted;
 use expr_held::{Held, Holding};
-use expr_value::{Error, Items, Key, Result, Value, refusal};
+use expr_value::{Items, Key, Result, Value, refusal};
 use std::alloc::{AllocError, Global};
 
 /// What is kept of the items and answers so far.
@@ -50,8 +50,8 @@ impl Kept {
     pub(crate) fn take(&mut self, alloc: Global, item: Held<'_>, answer: Value) -> Result<()>
         ensures kept { IfOk result (λ _. (t : Task) (rs : List Reply) → KeepsRest self.old t rs
             → Keeps self.new t (rs ++ (item.entry, answer) ∷ []) × (refused t answer ≡ false)) }
-        ensures refused { IfErr result (λ e. fault_of e ≢ memory → (t : Task) (rs : List Reply)
-            → KeepsRest self.old t rs → (refused t answer ≡ true) × (fault_of e ≡ evaluation)) }
+        ensures refused { RefusesWith result (λ k. (t : Task) (rs : List Reply)
+            → KeepsRest self.old t rs → (refused t answer ≡ true) × (k ≡ evaluation)) }
     {
         match self {
             Kept::Map(answers) => {
@@ -174,8 +174,7 @@ fn put_beside(
 ) -> Result<()>
     ensures ok { IfOk result (λ _. (k : key) × (key_of answer ≡ Some k)
         × (pairs.new.items ≡ pairs.old.items ++ (k, item.entry) ∷ [])) }
-    ensures err { IfErr result (λ e. fault_of e ≢ memory
-        → (key_of answer ≡ None) × (fault_of e ≡ evaluation)) }
+    ensures err { RefusesWith result (λ k. (key_of answer ≡ None) × (k ≡ evaluation)) }
 {
     let Some(key) = answer.into_key() else {
         return Err(refusal(alloc, "groupBy takes a predicate that answers a scalar"));
@@ -188,7 +187,7 @@ fn put_beside(
 #[inline(never)]
 fn put_by(pairs: &mut Vec<(Key, Value)>, answer: Value, item: Held<'_>) -> Result<()>
     ensures ok { IfOk result (λ _. pairs.new.items ≡ pairs.old.items ++ (sort_key answer, item.entry) ∷ []) }
-    ensures err { IfErr result (λ e. e ≡ Error.MemoryError) }
+    ensures err { OnlyMemory result }
 {
     pairs.push((answer.into_key().unwrap_or(Key::Nil), item.into_value()?))?;
     Ok(())

@@ -1,8 +1,8 @@
 //! What is kept of the answers where neither an item nor an answer is.
-ghost use Rattle.std.specs.Prelude.{◌≡◌, ◌≢◌, ◌+◌, ◌-◌, ◌<◌, ◌^◌, ◌∷◌, ◌++◌, [], List, length, IfOk, IfErr, Ok, Some, None, true, false, not, unwrap_or, if◌then◌else◌};
+ghost use Rattle.std.specs.Prelude.{◌≡◌, ◌≢◌, ◌+◌, ◌-◌, ◌<◌, ◌^◌, ◌∷◌, ◌++◌, [], List, length, IfOk, Ok, Some, None, true, false, not, unwrap_or, if◌then◌else◌};
 ghost use Rattle.std.specs.Option.{option_map, option_or};
 ghost use Rattle.expr_value.specs.Values.{truth_of};
-ghost use Rattle.expr_value.specs.Fault.{fault_of, memory, evaluation};
+ghost use Rattle.expr_value.specs.Fault.{evaluation, RefusesWith, IsOfKind};
 ghost use Rattle.expr_value.specs.declared.value.Value.{Value as value};
 ghost use Rattle.expr_predicates.specs.Tasks.{place_or_none};
 
@@ -98,7 +98,7 @@ impl Noted {
     /// The refusal of an answer that isn't taken.
     #[inline(never)]
     fn refusal(&self, alloc: Global) -> Error
-        ensures { fault_of result ≢ memory → fault_of result ≡ evaluation }
+        ensures { IsOfKind result evaluation }
     {
         match self {
             Noted::Sum(_) => refusal(alloc, "sum takes integers"),
@@ -113,9 +113,9 @@ impl Noted {
         ensures noted { IfOk result (λ _. (t : Task) (rs : List Reply) (item : value) → Notes self.old t rs
             → asked ≡ first_place t + length rs
             → Notes self.new t (rs ++ (item, answer.now) ∷ []) × (refused t answer.now ≡ false)) }
-        ensures refused { IfErr result
-            (λ e. fault_of e ≢ memory → (t : Task) (rs : List Reply) → Notes self.old t rs
-            → (refused t answer.now ≡ true) × (fault_of e ≡ evaluation)) }
+        ensures refused { RefusesWith result
+            (λ k. (t : Task) (rs : List Reply) → Notes self.old t rs
+            → (refused t answer.now ≡ true) × (k ≡ evaluation)) }
     {
         if self.note(asked, answer) {
             Ok(())

@@ -1,7 +1,7 @@
 //! A run of a predicate over the items of an array.
-ghost use Rattle.std.specs.Prelude.{◌≡◌, ◌≢◌, ℕ, ◌+◌, ◌<◌, ◌^◌, ◌∷◌, ◌++◌, [], List, reverse, length, IfOk, IfErr, IfSome, Ok, Err, Some, None, option_map, true, false};
+ghost use Rattle.std.specs.Prelude.{◌≡◌, ◌≢◌, ℕ, ◌+◌, ◌<◌, ◌^◌, ◌∷◌, ◌++◌, [], List, reverse, length, IfOk, IfSome, Ok, Err, Some, None, option_map, true, false};
 ghost use Rattle.expr_value.specs.Answers.{Gives};
-ghost use Rattle.expr_value.specs.Fault.{fault_of, memory, evaluation};
+ghost use Rattle.expr_value.specs.Fault.{evaluation, RefusesWith};
 ghost use Rattle.expr_arguments.specs.Arrays.{items_held};
 ghost use Rattle.expr_predicates.specs.Calls.{SortsItems};
 ghost use Rattle.expr_predicates.specs.Lefts.{left_of};
@@ -71,8 +71,8 @@ impl Gathered {
         ensures gathered { IfOk result (λ _. (t : Task) (rs : List Reply) → GathersRest self.old t rs
             → place ≡ first_place t + length rs
             → Gathers self.new t (rs ++ (item.entry, answer) ∷ []) × (refused t answer ≡ false)) }
-        ensures refused { IfErr result (λ e. fault_of e ≢ memory → (t : Task) (rs : List Reply)
-            → GathersRest self.old t rs → (refused t answer ≡ true) × (fault_of e ≡ evaluation)) }
+        ensures refused { RefusesWith result (λ k. (t : Task) (rs : List Reply)
+            → GathersRest self.old t rs → (refused t answer ≡ true) × (k ≡ evaluation)) }
     {
         match self {
             Gathered::Noted(noted) => noted.take(alloc, place, &answer),
@@ -86,8 +86,8 @@ impl Gathered {
         ensures gathered { IfOk result (λ _. (t : Task) (rs : List Reply) → GathersRest self.old t rs
             → place ≡ first_place t + length rs
             → Gathers self.new t (rs ++ (item.entry, item.entry) ∷ []) × (refused t item.entry ≡ false)) }
-        ensures refused { IfErr result (λ e. fault_of e ≢ memory → (t : Task) (rs : List Reply)
-            → GathersRest self.old t rs → (refused t item.entry ≡ true) × (fault_of e ≡ evaluation)) }
+        ensures refused { RefusesWith result (λ k. (t : Task) (rs : List Reply)
+            → GathersRest self.old t rs → (refused t item.entry ≡ true) × (k ≡ evaluation)) }
     {
         match self {
             Gathered::Noted(noted) => noted.take(alloc, place, item.get()),
@@ -151,8 +151,7 @@ impl<'s> PredicateRun<'s> {
         given: bool,
     ) -> Result<PredicateRun<'s>>
         ensures begun { IfOk result (λ r. StartsWith r (begun asking args.entry given)) }
-        ensures refused { IfErr result (λ e. fault_of e ≢ memory
-            → begun asking args.entry given ≡ Err (fault_of e)) }
+        ensures refused { RefusesWith result (λ k. begun asking args.entry given ≡ Err k) }
     {
         if !given && !runs_alone(asking) {
             return Err(refusal(alloc, "the function takes a predicate"));
@@ -167,8 +166,7 @@ impl<'s> PredicateRun<'s> {
     /// A built-in on an array alone.
     fn on(alloc: Global, asking: Asking, array: Array<'s>) -> Result<PredicateRun<'s>>
         ensures begun { IfOk result (λ r. StartsWith r (started asking (items_held array.entry) None)) }
-        ensures refused { IfErr result (λ e. fault_of e ≢ memory
-            → started asking (items_held array.entry) None ≡ Err (fault_of e)) }
+        ensures refused { RefusesWith result (λ k. started asking (items_held array.entry) None ≡ Err k) }
     {
         match asking {
             Asking::All => Ok(PredicateRun::forward(array, Gathered::Noted(Noted::All(false)))),
@@ -222,8 +220,8 @@ impl<'s> PredicateRun<'s> {
     ) -> Result<PredicateRun<'s>>
         ensures begun { IfOk result (λ r. StartsWith r
             (started asking (items_held array.entry) (Some more.entry))) }
-        ensures refused { IfErr result (λ e. fault_of e ≢ memory
-            → started asking (items_held array.entry) (Some more.entry) ≡ Err (fault_of e)) }
+        ensures refused { RefusesWith result (λ k. started asking (items_held array.entry) (Some more.entry)
+            ≡ Err k) }
     {
         match asking {
             Asking::Reduce => {
@@ -270,8 +268,7 @@ impl<'s> PredicateRun<'s> {
     /// A run that begins with the first item as what has been made so far, which is copied where it is lent.
     fn from_first(alloc: Global, array: Array<'s>) -> Result<PredicateRun<'s>>
         ensures begun { IfOk result (λ r. StartsWith r (reduced_from_first (items_held array.entry))) }
-        ensures refused { IfErr result (λ e. fault_of e ≢ memory
-            → reduced_from_first (items_held array.entry) ≡ Err (fault_of e)) }
+        ensures refused { RefusesWith result (λ k. reduced_from_first (items_held array.entry) ≡ Err k) }
     {
         let mut left = Left::forward(array);
         match left.pop() {
@@ -350,8 +347,8 @@ impl<'s> PredicateRun<'s> {
         ensures value { IfOk result (λ _. (t : Task) (rs : List Reply) → Awaits self.old t rs
             → (refused t answer ≡ false) × (left self.new ≡ left self.old)
             × Stands self.new t (rs ++ (item.entry, answer) ∷ [])) }
-        ensures refused { IfErr result (λ e. fault_of e ≢ memory → (t : Task) (rs : List Reply)
-            → Awaits self.old t rs → (refused t answer ≡ true) × (fault_of e ≡ evaluation)) }
+        ensures refused { RefusesWith result (λ k. (t : Task) (rs : List Reply)
+            → Awaits self.old t rs → (refused t answer ≡ true) × (k ≡ evaluation)) }
         ensures same { to_ask self.new ≡ to_ask self.old }
     {
         let place = self.asked.saturating_sub(1);
@@ -363,8 +360,8 @@ impl<'s> PredicateRun<'s> {
         ensures value { IfOk result (λ _. (t : Task) (rs : List Reply) → Awaits self.old t rs
             → (refused t item.entry ≡ false) × (left self.new ≡ left self.old)
             × Stands self.new t (rs ++ (item.entry, item.entry) ∷ [])) }
-        ensures refused { IfErr result (λ e. fault_of e ≢ memory → (t : Task) (rs : List Reply)
-            → Awaits self.old t rs → (refused t item.entry ≡ true) × (fault_of e ≡ evaluation)) }
+        ensures refused { RefusesWith result (λ k. (t : Task) (rs : List Reply)
+            → Awaits self.old t rs → (refused t item.entry ≡ true) × (k ≡ evaluation)) }
         ensures same { to_ask self.new ≡ to_ask self.old }
     {
         let place = self.asked.saturating_sub(1);

@@ -1,10 +1,10 @@
 -- What is known of a value that a call gave, or refused to give.
 use Rattle.std.proofs.Common.{◌≡◌, ◌≢◌, refl, sym, ap, subst, ◌∙◌, Result, Ok, Err}
-use Rattle.std.specs.Prelude.{Option, None, Some, IfErr, option_and_then, option_map}
+use Rattle.std.specs.Prelude.{Option, None, Some, option_and_then, option_map}
 use Rattle.std.proofs.lemmas.Option.{same_Some}
 use Rattle.std.specs.Result.{IsErrAnd}
 use Rattle.expr_encoding.specs.Optional.{given}
-use Rattle.expr_value.specs.Fault.{Fault, fault_of, memory}
+use Rattle.expr_value.specs.Fault.{Fault, fault_of, memory, RefusesWith}
 use Rattle.expr_value.specs.declared.error.Error.{Error}
 
 module _ {A : Type 0} where
@@ -33,6 +33,6 @@ none_before f (Some a) e = absurd (cc)
 
 -- a refusal that a `?` passes on, of a call that is allowed to refuse so
 pub refused_passed : {A B : Type 0} (r : Result A Error) (e : Error) (R : Result B Fault → Type 0)
-    → IsErrAnd r (λ x. x ≡ e) → (fault_of e ≢ memory → R (Err (fault_of e))) → IfErr r (λ x. fault_of x ≢ memory → R (Err (fault_of x)))
+    → IsErrAnd r (λ x. x ≡ e) → (fault_of e ≢ memory → R (Err (fault_of e))) → RefusesWith r (λ k. R (Err k))
 refused_passed (Ok v) e R is p = absurd is
 refused_passed (Err x) e R is p = subst (λ y. fault_of y ≢ memory → R (Err (fault_of y))) (sym is) p

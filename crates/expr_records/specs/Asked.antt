@@ -9,6 +9,7 @@ use Rattle.expr_lowering.specs.Blocks.{blocks_of}
 use Rattle.expr_lowering.specs.Owned.{own_text, own_value}
 use Rattle.expr_lowering.specs.declared.code.Code.{Code}
 use Rattle.expr_meaning.specs.Host.{Host}
+use Rattle.expr_meaning.specs.World.{world_of}
 use Rattle.expr_records.specs.Records.{Pairs, lent}
 use Rattle.expr_syntax.specs.Texts.{IsProgramWithin}
 use Rattle.expr_tree.specs.Term.{Block}
@@ -26,8 +27,8 @@ IsCodeOf text code = (b : Block) × IsProgramWithin text 500 b × IsCode b code
 
 -- what the text may answer of a record, where names stand before its members
 abbrev pub may_answer : Host → Pairs → List ℕ → Pairs → Answer → Type 0
-may_answer host names text members answer = MayAnswerWithin 500 text host (lent names members) answer
+may_answer host names text members answer = MayAnswerWithin 500 text (world_of host (lent names members)) answer
 
 -- what the code of a name may answer, among no names
 abbrev pub may_name : Host → List ℕ → Answer → Type 0
-may_name host code answer = MayAnswerWithin 500 code host (record { value_of = λ name. find name []; map = [] }) answer
+may_name host code answer = MayAnswerWithin 500 code (world_of host (record { value_of = λ name. find name []; map = [] })) answer

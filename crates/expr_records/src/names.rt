@@ -1,8 +1,8 @@
 //! Names that stand before those of the records.
-ghost use Rattle.std.specs.Prelude.{◌≡◌, ◌≢◌, Ok, Err, IfErr, OnErr, OnOk};
+ghost use Rattle.std.specs.Prelude.{◌≡◌, ◌≢◌, Ok, Err, OnErr, OnOk};
 ghost use Rattle.expr_records.specs.Asked.{may_name};
 ghost use Rattle.expr_value.specs.Answers.{Gives};
-ghost use Rattle.expr_value.specs.Fault.{fault_of, memory};
+ghost use Rattle.expr_value.specs.Fault.{RefusesWith};
 ghost use Rattle.expr_value.specs.Names.{put};
 ghost use Rattle.expr_value.specs.declared.value.Value.{Value};
 
@@ -39,8 +39,8 @@ pub fn bind<H: Functions>(
 ) -> Result<()>
     ensures bound { OnOk result ((v : Value) × may_name (H.host host.now) code.now (Ok v)
         × names.new ≡ put name.now v names.old) }
-    ensures refused { IfErr result
-        (λ e. fault_of e ≢ memory → may_name (H.host host.now) code.now (Err (fault_of e))) }
+    ensures refused { RefusesWith result
+        (λ k. may_name (H.host host.now) code.now (Err k)) }
     ensures err { OnErr result (names.new ≡ names.old) }
 {
     let value = value_of(alloc, host, code)?;

@@ -1,10 +1,10 @@
 //! An expression that is ready to be asked about records.
-ghost use Rattle.std.specs.Prelude.{◌≡◌, ◌≢◌, ◌↔◌, ℕ, List, Err, IfOk, IfErr, IsTrue};
+ghost use Rattle.std.specs.Prelude.{◌≡◌, ◌≢◌, ◌↔◌, ℕ, List, Err, IfOk, IsTrue};
 ghost use Rattle.expr.specs.Texts.{IsRefusedWithin};
 ghost use Rattle.expr_records.specs.Asked.{IsCodeOf, code_of, may_answer};
 ghost use Rattle.expr_syntax.specs.Texts.{IsPlaced};
 ghost use Rattle.expr_value.specs.Answers.{Gives};
-ghost use Rattle.expr_value.specs.Fault.{fault_of, memory};
+ghost use Rattle.expr_value.specs.Fault.{RefusesWith};
 
 use crate::record::Record;
 use expr::{
@@ -48,8 +48,8 @@ pub const HEIGHT: usize = 500;
 /// What [`compile_within`] refuses of a text whose tree may be no higher than 500.
 pub fn code_of_text(alloc: Global, text: &str) -> Result<KeptCode>
     ensures code { IfOk result (λ code. IsCodeOf text.now (code_of code)) }
-    ensures refused { IfErr result
-        (λ e. fault_of e ≢ memory → IsRefusedWithin 500 text.now (Err (fault_of e))) }
+    ensures refused { RefusesWith result
+        (λ k. IsRefusedWithin 500 text.now (Err k)) }
     ensures place { IsPlaced text.now result }
 {
     let program = compile_within(alloc, text, HEIGHT)?;

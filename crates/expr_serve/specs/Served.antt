@@ -1,6 +1,7 @@
 -- What the program may answer to its words.
 use Rattle.std.specs.Prelude.{◌≡◌, ℕ, List, [], ◌∷◌, Result, Ok}
 use Rattle.expr.specs.Host.{no_host}
+use Rattle.expr.specs.World.{world_of}
 use Rattle.expr.specs.Texts.{MayAnswerWithin}
 use Rattle.expr_value.specs.Answers.{Answer, After}
 use Rattle.expr_value.specs.Fault.{Fault}
@@ -13,7 +14,7 @@ Pairs = List (List ℕ × Value)
 
 -- what a text may answer where these names have these values; its tree may be no higher than 500
 abbrev pub MayGive : Pairs → List ℕ → Answer → Type 0
-MayGive pairs code answer = MayAnswerWithin 500 code no_host (record { value_of = λ name. find name pairs; map = pairs }) answer
+MayGive pairs code answer = MayAnswerWithin 500 code (world_of no_host (record { value_of = λ name. find name pairs; map = pairs })) answer
 
 -- the names that bindings give values to, from left to right, each by itself, after those that have one; or the first refusal
 abbrev pub MayBind : List (List ℕ) → Pairs → Result Pairs Fault → Type 0

@@ -1,13 +1,14 @@
 //! What the program does with its words and its streams.
-ghost use Rattle.std.specs.Prelude.{◌≡◌, ◌≢◌, ◌≤◌, ◌↔◌, [], ◌∷◌, ◌++◌, false, map, string_bytes, Ok, Err, OnOk, IfErr};
+ghost use Rattle.std.specs.Prelude.{◌≡◌, ◌≢◌, ◌≤◌, ◌↔◌, [], ◌∷◌, ◌++◌, false, map, string_bytes, Ok, Err, OnOk};
 ghost use Rattle.std.specs.Io.KnownBytes.{Appends};
 ghost use Rattle.std.specs.List.{list_all};
 ghost use Rattle.expr.specs.Host.{no_host};
+ghost use Rattle.expr.specs.World.{world_of};
 ghost use Rattle.expr.specs.Texts.{MayAnswerWithin};
 ghost use Rattle.expr_serve.specs.Served.{MayBind, MayGive, MayPrint, MayServe};
 ghost use Rattle.expr_serve.specs.Words.{code_of, is_binding, is_call, name_of, word_for};
 ghost use Rattle.expr_value.specs.Answers.{Gives};
-ghost use Rattle.expr_value.specs.Fault.{fault_of, literal, memory};
+ghost use Rattle.expr_value.specs.Fault.{fault_of, literal, memory, RefusesWith, IsOfKind};
 ghost use Rattle.expr_value.specs.Names.{put};
 ghost use Rattle.expr_value.specs.Values.{text_of};
 ghost use Rattle.expr_value.specs.declared.value.Value.{Value};
@@ -76,7 +77,7 @@ fn value_under(alloc: Global, code: &str, names: &Context) -> Result<Value>
 /// The value of a code in a context. A tree that is higher than is allowed is refused as a literal is that can't be held, and
 /// for want of memory what passes another limit.
 fn value_in(alloc: Global, code: &str, ctx: &dyn ContextProvider) -> Result<Value>
-    ensures { Gives result (MayAnswerWithin 500 code.now no_host (context ctx.now)) }
+    ensures { Gives result (MayAnswerWithin 500 code.now (world_of no_host (context ctx.now))) }
 {
     let limits = wide();
     let outcome = eval_limited(alloc, code, ctx, &limits)?;
@@ -91,7 +92,7 @@ fn value_in(alloc: Global, code: &str, ctx: &dyn ContextProvider) -> Result<Valu
 
 /// The refusal of a code whose tree is higher than is allowed.
 fn too_high(alloc: Global) -> Error
-    ensures { fault_of result ≢ memory → fault_of result ≡ literal }
+    ensures { IsOfKind result literal }
 {
     match String::from_str(alloc, "the expression nests deeper than is allowed") {
         Ok(message) => Error::ParseError(message),
@@ -103,8 +104,8 @@ fn too_high(alloc: Global) -> Error
 fn bind(alloc: Global, word: &str, context: &mut Context) -> Result<()>
     ensures bound { OnOk result ((v : Value) × MayGive [] (code_of word.now) (Ok v)
         × context.new ≡ put (name_of word.now) v context.old) }
-    ensures refused { IfErr result
-        (λ e. fault_of e ≢ memory → MayGive [] (code_of word.now) (Err (fault_of e))) }
+    ensures refused { RefusesWith result
+        (λ k. MayGive [] (code_of word.now) (Err k)) }
 {
     let (name, code) = parts(word);
     let value = value_under(alloc, code, &Context::new(alloc))?;

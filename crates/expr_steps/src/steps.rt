@@ -10,7 +10,7 @@ ghost use Rattle.expr_operators.specs.Operators.{applied, prefixed, truth, truth
 ghost use Rattle.expr_operators.specs.Plain.{is_plain_operator, is_plain_value, Surely};
 ghost use Rattle.expr_operators.specs.Positions.{bound_checked, indexed, ranged, sliced};
 ghost use Rattle.expr_value.specs.Answers.{Gives, Is};
-ghost use Rattle.expr_value.specs.Fault.{fault_of, memory, pattern as bad_pattern};
+ghost use Rattle.expr_value.specs.Fault.{fault_of, memory, pattern as bad_pattern, RefusesWith};
 ghost use Rattle.expr_value.specs.Names.{put_all};
 ghost use Rattle.expr_value.specs.declared.value.Value as value;
 
@@ -114,7 +114,7 @@ pub fn truth_of<'s>(alloc: Global, value: &Held<'_>) -> Result<Held<'s>>
 #[inline(never)]
 pub fn holds(alloc: Global, value: &Held<'_>) -> Result<bool>
     ensures holds { IfOk result (λ b. truth value.now ≡ truth_answer b) }
-    ensures refusal { IfErr result (λ e. fault_of e ≢ memory → truth value.now ≡ Err (fault_of e)) }
+    ensures refusal { RefusesWith result (λ k. truth value.now ≡ Err k) }
 {
     as_condition(alloc, value.get())
 }

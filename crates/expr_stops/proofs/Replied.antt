@@ -10,7 +10,7 @@ use Rattle.expr_meter.specs.Counting.{Ending, ended}
 use Rattle.expr_meter.specs.Rooms.{Room, rooms, unlimited, within}
 use Rattle.expr_meter.specs.declared.limits.Limits.{Limits}
 use Rattle.expr_meter.specs.declared.outcome.Outcome.{Outcome}
-use Rattle.expr_steps.specs.Context.{Context}
+use Rattle.expr_meaning.specs.World.{World}
 use Rattle.expr_stops.specs.Stops.{CodeComes, ComesTo, EndsTurn, IfEnded, IsAsItWent, IsReply, answer_of, answered_by, is_named, is_to}
 use Rattle.expr_stops.specs.declared.given.Given.{Given}
 use Rattle.expr_stops.specs.declared.given.Reply.{Reply}
@@ -75,17 +75,17 @@ refused_so e allowed (Ok o) p is = absurd is
 refused_so e allowed (Err x) p is = subst (λ y. Ends (Err y) (ComesTo allowed)) (sym is) p
 
 -- what code comes to, within limits too, it may answer
-pub comes_answers : (limits : Option Limits) (host : Host) (ctx : Context) (code : List (List Op)) (answer : Answer) (left : Room) → CodeComes limits host ctx code (ended answer left) → CodeAnswers host ctx code answer
-comes_answers (Some limits) host ctx code answer left p = code_forgets rooms (costs_in host) host ctx code (within limits.steps limits.size limits.depth) answer left p
-comes_answers None host ctx code (Ok v) left p = p
-comes_answers None host ctx code (Err e) left p = p
+pub comes_answers : (limits : Option Limits) (world : World) (code : List (List Op)) (answer : Answer) (left : Room) → CodeComes limits world code (ended answer left) → CodeAnswers world code answer
+comes_answers (Some limits) world code answer left p = code_forgets rooms (costs_in world.host) world code (within limits.steps limits.size limits.depth) answer left p
+comes_answers None world code (Ok v) left p = p
+comes_answers None world code (Err e) left p = p
 
-pub answers_by : (limits : Option Limits) (host : Host) (ctx : Context) (code : List (List Op)) (t : Turn) → EndsTurn t (CodeComes limits host ctx code) → IfEnded t (λ r. Gives r (CodeAnswers host ctx code))
-answers_by limits host ctx code (Ended (Ok v)) p = comes_answers limits host ctx code (Ok v) p.0 p.1
-answers_by limits host ctx code (Ended (Err e)) p = λ m. comes_answers limits host ctx code (Err (fault_of e)) unlimited (p m)
-answers_by limits host ctx code Asks p = tt
-answers_by limits host ctx code (Differs stop) p = tt
-answers_by limits host ctx code (Stopped limit) p = tt
+pub answers_by : (limits : Option Limits) (world : World) (code : List (List Op)) (t : Turn) → EndsTurn t (CodeComes limits world code) → IfEnded t (λ r. Gives r (CodeAnswers world code))
+answers_by limits world code (Ended (Ok v)) p = comes_answers limits world code (Ok v) p.0 p.1
+answers_by limits world code (Ended (Err e)) p = λ m. comes_answers limits world code (Err (fault_of e)) unlimited (p m)
+answers_by limits world code Asks p = tt
+answers_by limits world code (Differs stop) p = tt
+answers_by limits world code (Stopped limit) p = tt
 
 -- the same host from the same parts
 pub same_replay : {S : Type 0} (host_of : S → Host) (P : Host → Type 0) (s t : S) (names others : StopNames) (given more : List Given) → s ≡ t → names ≡ others → given ≡ more

@@ -12,7 +12,7 @@ use Rattle.expr_meter.specs.Rooms.{Room, rooms, within}
 use Rattle.expr_meter.specs.declared.limits.Limits.{Limits}
 use Rattle.expr_meter.specs.declared.outcome.Outcome.{Outcome}
 use Rattle.expr_meter.specs.declared.outcome.Outcome.TheVariants as outcome
-use Rattle.expr_steps.specs.Context.{Context}
+use Rattle.expr_meaning.specs.World.{World}
 use Rattle.expr_stops.specs.declared.given.Given.{Given}
 use Rattle.expr_stops.specs.declared.given.Reply.{Reply}
 use Rattle.expr_stops.specs.declared.given.Reply.TheVariants as reply
@@ -79,9 +79,9 @@ ComesTo allowed (refuses e) = allowed (Err e)
 ComesTo allowed (stops_at limit) = ⊥
 
 -- What a run of code may come to: within limits what one does that counts, and where there are none one of its answers.
-abbrev pub CodeComes : Option Limits → Host → Context → List (List Op) → Ending Room → Type 0
-CodeComes (Some limits) host ctx code end = CodeCounts rooms (costs_in host) host ctx code (within limits.steps limits.size limits.depth) end
-CodeComes None host ctx code end = ComesTo (CodeAnswers host ctx code) end
+abbrev pub CodeComes : Option Limits → World → List (List Op) → Ending Room → Type 0
+CodeComes (Some limits) world code end = CodeCounts rooms (costs_in world.host) world code (within limits.steps limits.size limits.depth) end
+CodeComes None world code end = ComesTo (CodeAnswers world code) end
 
 -- A run that ended gives or is refused what such a run does, or it is refused for want of memory; one that stopped at a limit does so where such a run does.
 abbrev pub EndsTurn : Turn → (Ending Room → Type 0) → Type 0

@@ -6,6 +6,7 @@ ghost use Rattle.expr_machine.specs.Texts.{text_of};
 ghost use Rattle.expr_meaning.specs.Refusals.{NeverRefusesWith};
 ghost use Rattle.expr_stops.specs.Stops.{CodeComes};
 ghost use Rattle.expr_value.specs.Fault.{fault_of, pattern as bad_pattern};
+ghost use Rattle.expr_meaning.specs.World.{world_of};
 
 use expr_limited::execute_limited;
 use expr_lowering::{Code, Holder};
@@ -35,7 +36,7 @@ pub fn execute_in<
     provider: P,
     limits: Option<Limits>,
 ) -> Result<Outcome<Value>>
-    ensures ends { Ends result (CodeComes limits (H.host host.now) (P.context provider)
+    ensures ends { Ends result (CodeComes limits (world_of (H.host host.now) (P.context provider))
         (blocks_of L.held (text_of N.held) code.now)) }
     ensures pattern { limits ≡ None → NeverRefusesWith (H.host host.now) bad_pattern
         → CodeKeeps L.held K.held code.now → IfErr result (λ e. fault_of e ≢ bad_pattern) }

@@ -1,8 +1,9 @@
 //! The names of functions that a host answers itself.
-ghost use Rattle.std.specs.Prelude.{◌≡◌, ℕ, List, IfErr, OnErr, OnOk, bytes_eq, false, if◌then◌else◌, true};
+ghost use Rattle.std.specs.Prelude.{◌≡◌, ℕ, List, OnErr, OnOk, bytes_eq, false, if◌then◌else◌, true};
 ghost use Rattle.expr_stops.specs.Stops.{is_named};
+ghost use Rattle.expr_value.specs.Fault.{OnlyMemory};
 
-use expr_value::{Error, Result};
+use expr_value::{Result};
 use indexmap::IndexSet;
 use std::alloc::Global;
 
@@ -32,7 +33,7 @@ impl StopNames {
         ensures added { OnOk result ((key : List ℕ) → is_named self.new key
             ≡ (if bytes_eq name.now key then true else is_named self.old key)) }
         ensures err { OnErr result ((key : List ℕ) → is_named self.new key ≡ is_named self.old key) }
-        ensures refusal { IfErr result (λ e. e ≡ Error.MemoryError) }
+        ensures refusal { OnlyMemory result }
     {
         let name = String::from_str(alloc, name)?;
         self.names.insert_full(name)?;

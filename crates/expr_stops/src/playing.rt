@@ -8,6 +8,7 @@ ghost use Rattle.expr_meaning.specs.Allows.{AllowsBlock};
 ghost use Rattle.expr_meaning.specs.Independence.{AgreeAt};
 ghost use Rattle.expr_meaning.specs.Refusals.{NeverRefusesWith};
 ghost use Rattle.expr_steps.specs.Context.{Context};
+ghost use Rattle.expr_meaning.specs.World.{world_of};
 ghost use Rattle.expr_stops.specs.Stops.{CodeComes, ComesTo, answered_by, is_named};
 ghost use Rattle.expr_tree.specs.Names.{AreNamesOf};
 ghost use Rattle.expr_tree.specs.Written.{program_written};
@@ -43,13 +44,13 @@ pub fn play<'a, H: Functions>(
     ctx: &dyn ContextProvider,
 ) -> Played
     ensures answer { Ends result.went (ComesTo (AllowsBlock
-        (answered_by (H.host host.now) (is_named names.now) given.now)
-        (context ctx.now) (program_written program.now))) }
+        (world_of (answered_by (H.host host.now) (is_named names.now) given.now) (context ctx.now))
+        (program_written program.now))) }
     ensures independent { Ends result.went (ComesTo
         (λ a. (other : Context) (keys : List (List ℕ)) → AreNamesOf keys (program_written program.now)
         → AgreeAt keys (program_written program.now) (context ctx.now) other
-        → AllowsBlock (answered_by (H.host host.now) (is_named names.now) given.now)
-        other (program_written program.now) a)) }
+        → AllowsBlock (world_of (answered_by (H.host host.now) (is_named names.now) given.now) other)
+        (program_written program.now) a)) }
     ensures pattern { NeverRefusesWith (H.host host.now) bad_pattern → ProgramKeeps program.now
         → IfErr result.went (λ e. fault_of e ≢ bad_pattern) }
 {
@@ -77,8 +78,8 @@ pub fn play_code<
     limits: Option<Limits>,
 ) -> Played
     ensures ends { Ends result.went (CodeComes limits
-        (answered_by (H.host host.now) (is_named names.now) given.now)
-        (P.context provider) (blocks_of L.held (text_of N.held) code.now)) }
+        (world_of (answered_by (H.host host.now) (is_named names.now) given.now) (P.context provider))
+        (blocks_of L.held (text_of N.held) code.now)) }
     ensures pattern { limits ≡ None → NeverRefusesWith (H.host host.now) bad_pattern
         → CodeKeeps L.held K.held code.now → IfErr result.went (λ e. fault_of e ≢ bad_pattern) }
 {
@@ -95,12 +96,12 @@ fn run_in<H: Functions>(
     program: &Program,
     ctx: &dyn ContextProvider,
 ) -> Result<Outcome<Value>>
-    ensures answer { Ends result (ComesTo (AllowsBlock (H.host host.now) (context ctx.now)
+    ensures answer { Ends result (ComesTo (AllowsBlock (world_of (H.host host.now) (context ctx.now))
         (program_written program.now))) }
     ensures independent { Ends result (ComesTo
         (λ a. (other : Context) (keys : List (List ℕ)) → AreNamesOf keys (program_written program.now)
         → AgreeAt keys (program_written program.now) (context ctx.now) other
-        → AllowsBlock (H.host host.now) other (program_written program.now) a)) }
+        → AllowsBlock (world_of (H.host host.now) other) (program_written program.now) a)) }
     ensures pattern { NeverRefusesWith (H.host host.now) bad_pattern → ProgramKeeps program.now
         → IfErr result (λ e. fault_of e ≢ bad_pattern) }
 {

@@ -9,13 +9,14 @@ ghost use Rattle.expr_meaning.specs.Allows.{AllowsBlock};
 ghost use Rattle.expr_meaning.specs.Independence.{AgreeAt};
 ghost use Rattle.expr_meaning.specs.Refusals.{NeverRefusesWith};
 ghost use Rattle.expr_steps.specs.Context.{Context};
+ghost use Rattle.expr_meaning.specs.World.{world_of};
 ghost use Rattle.expr_stops.specs.Stops.{CodeComes, ComesTo, EndsTurn, IfEnded, IsAsItWent, IsRefused, IsReplied, IsSame, StopsWell, answered_by, asked_of, given_of, is_named};
 ghost use Rattle.expr_stops.specs.declared.given.Given.{Given};
 ghost use Rattle.expr_stops.specs.declared.given.Reply.{Reply};
 ghost use Rattle.expr_tree.specs.Names.{AreNamesOf};
 ghost use Rattle.expr_tree.specs.Written.{program_written};
 ghost use Rattle.expr_value.specs.Answers.{Gives};
-ghost use Rattle.expr_value.specs.Fault.{fault_of, memory, pattern as bad_pattern};
+ghost use Rattle.expr_value.specs.Fault.{fault_of, pattern as bad_pattern, RefusesWith};
 
 use crate::given::{Given, Reply};
 use crate::names::StopNames;
@@ -91,14 +92,14 @@ impl Stops {
         // An answer is one that the program's meaning allows where these names answer what the host answered. There are no
         // limits, so that it stops at none.
         ensures ended { EndsTurn result (ComesTo (AllowsBlock
-            (answered_by (H.host host.now) (is_named names.now) (given_of self.old))
-            (context ctx.now) (program_written program.now))) }
+            (world_of (answered_by (H.host host.now) (is_named names.now) (given_of self.old))
+            (context ctx.now)) (program_written program.now))) }
         // The answer is allowed in each context that agrees with this one at the program's names.
         ensures independent { EndsTurn result (ComesTo
             (λ a. (other : Context) (keys : List (List ℕ)) → AreNamesOf keys (program_written program.now)
             → AgreeAt keys (program_written program.now) (context ctx.now) other
-            → AllowsBlock (answered_by (H.host host.now) (is_named names.now) (given_of self.old))
-            other (program_written program.now) a)) }
+            → AllowsBlock (world_of (answered_by (H.host host.now) (is_named names.now) (given_of self.old))
+            other) (program_written program.now) a)) }
         // Where each `matches` keeps the pattern of the text on its right, none is built.
         ensures pattern { NeverRefusesWith (H.host host.now) bad_pattern → ProgramKeeps program.now
             → IfEnded result (λ r. IfErr r (λ e. fault_of e ≢ bad_pattern)) }
@@ -128,12 +129,12 @@ impl Stops {
         // It ends or stops at a limit as a run of the code does that counts within these limits, or as one that counts
         // nothing where there are none.
         ensures ends { EndsTurn result (CodeComes limits
-            (answered_by (H.host host.now) (is_named names.now) (given_of self.old))
-            (P.context provider) (blocks_of L.held (text_of N.held) code.now)) }
+            (world_of (answered_by (H.host host.now) (is_named names.now) (given_of self.old))
+            (P.context provider)) (blocks_of L.held (text_of N.held) code.now)) }
         // An answer is one that the code may give where there are no limits.
         ensures ended { IfEnded result (λ r. Gives r (CodeAnswers
-            (answered_by (H.host host.now) (is_named names.now) (given_of self.old))
-            (P.context provider) (blocks_of L.held (text_of N.held) code.now))) }
+            (world_of (answered_by (H.host host.now) (is_named names.now) (given_of self.old))
+            (P.context provider)) (blocks_of L.held (text_of N.held) code.now))) }
         ensures pattern { limits ≡ None → NeverRefusesWith (H.host host.now) bad_pattern
             → CodeKeeps L.held K.held code.now
             → IfEnded result (λ r. IfErr r (λ e. fault_of e ≢ bad_pattern)) }
@@ -190,7 +191,7 @@ impl Stops {
     pub fn answer(&mut self, value: Value) -> Result<()>
         ensures given { OnOk result (IsReplied self.old self.new (Reply.Value value)) }
         ensures err { OnErr result (IsSame self.old self.new) }
-        ensures waits { IfErr result (λ e. fault_of e ≢ memory → asked_of self.old ≡ None) }
+        ensures waits { RefusesWith result (λ k. asked_of self.old ≡ None) }
     {
         self.reply(Reply::Value(value))
     }
@@ -203,7 +204,7 @@ impl Stops {
     pub fn refuse(&mut self, text: &str) -> Result<()>
         ensures given { OnOk result (IsRefused self.old self.new text.now) }
         ensures err { OnErr result (IsSame self.old self.new) }
-        ensures waits { IfErr result (λ e. fault_of e ≢ memory → asked_of self.old ≡ None) }
+        ensures waits { RefusesWith result (λ k. asked_of self.old ≡ None) }
     {
         let text = String::from_str(self.alloc, text)?;
         self.reply(Reply::Refusal(text))
@@ -213,7 +214,7 @@ impl Stops {
     fn reply(&mut self, reply: Reply) -> Result<()>
         ensures given { OnOk result (IsReplied self.old self.new reply) }
         ensures err { OnErr result (IsSame self.old self.new) }
-        ensures waits { IfErr result (λ e. fault_of e ≢ memory → asked_of self.old ≡ None) }
+        ensures waits { RefusesWith result (λ k. asked_of self.old ≡ None) }
     {
         let Some(stop) = self.asked.take() else {
             return Err(refusal(self.alloc, "no call waits for an answer"));

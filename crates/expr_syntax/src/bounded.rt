@@ -1,5 +1,5 @@
 //! From a text to its program, within bounds on its tree and on its literal patterns.
-ghost use Rattle.std.specs.Prelude.{◌≡◌, ◌+◌, ◌<◌, ℕ, Err, IfErr, IfOk, MatchBool, MatchOption, option_map, codes};
+ghost use Rattle.std.specs.Prelude.{◌≡◌, ◌+◌, ◌<◌, ℕ, Err, IfOk, MatchBool, MatchOption, option_map, codes};
 ghost use Rattle.std.specs.Str.{IsCharBoundary};
 ghost use Rattle.std.specs.Str.Iter.{HasSubslice};
 ghost use Rattle.expr_grammar.specs.Grammar.{TreeProgram};
@@ -8,6 +8,7 @@ ghost use Rattle.expr_syntax.specs.Bounds.{IsAnswerBounded, IsCompiledBounded, I
 ghost use Rattle.expr_syntax.specs.Texts.{IsPlaced, IsTreeOf};
 ghost use Rattle.expr_tree.specs.Beside.{program_operations};
 ghost use Rattle.expr_value.specs.declared.error.Error.{Error as declared};
+ghost use Rattle.expr_value.specs.Fault.{OnlyMemory};
 
 use crate::text::read_program;
 use expr_sizes::weigh_pattern;
@@ -61,7 +62,7 @@ pub fn compile_bounded(alloc: Global, code: &str, height: usize, patterns: u64) 
 fn is_light(alloc: Global, code: &str, patterns: u64) -> Result<bool>
     ensures answer { IfOk result (λ is.
         MatchBool is (IsLight code.now patterns) (IsHeavier code.now patterns)) }
-    ensures refused { IfErr result (λ e. e ≡ declared.MemoryError) }
+    ensures refused { OnlyMemory result }
 {
     if !has_matches(code) {
         return Ok(true);

@@ -1,5 +1,5 @@
 //! Methods of moments, of zones, of months and of days of the week.
-ghost use Rattle.std.specs.Prelude.{◌≡◌, ◌≢◌, ℤ, int_lt, Some, None, Ok, IfOk, IfErr, MatchOption, string_bytes, ◌-ℤ◌};
+ghost use Rattle.std.specs.Prelude.{◌≡◌, ◌≢◌, ℤ, int_lt, Some, None, Ok, IfOk, MatchOption, string_bytes, ◌-ℤ◌};
 ghost use Rattle.std.specs.Option.{option_copied};
 ghost use Rattle.std.specs.Fmt.{WritesOnOk};
 ghost use Rattle.std.specs.Ordering.{int_eq};
@@ -14,6 +14,7 @@ ghost use Rattle.expr_moment.specs.Fields.{between, field_of};
 ghost use Rattle.expr_arguments.specs.Arguments.{alone, one_duration};
 ghost use Rattle.expr_time.specs.Moments.{AddsDates, AnsweredAt, answer_for, compared, instant_rounded, instant_truncated, located, moment_method, name_answer, name_method, one_moment, one_zone, three_integers, timezone_of};
 ghost use Rattle.expr_moment.specs.Places.{given, location_of, placed, utc};
+ghost use Rattle.expr_value.specs.Fault.{OnlyMemory};
 
 use expr_arguments::{one_duration, without};
 use expr_clock::show_stamp;
@@ -23,7 +24,7 @@ use expr_moment::{
     DateTimeField, ZERO_INSTANT, at_instant, civil_beside, date_after, date_shown, given, in_zone,
     location, show_place, time_shown, utc,
 };
-use expr_value::{DateTimeValue, Error, Result, Text, TimezoneValue, Value, refusal};
+use expr_value::{DateTimeValue, Result, Text, TimezoneValue, Value, refusal};
 use jiff::civil::DateTime;
 use std::alloc::Global;
 use std::fmt;
@@ -149,7 +150,7 @@ fn string(alloc: Global, moment: &DateTimeValue, arguments: &[Held<'_>]) -> Resu
 
 fn stamp_of(alloc: Global, moment: &DateTimeValue) -> Result<String>
     ensures ok { IfOk result (λ s. string_bytes s ≡ moment_string moment.now) }
-    ensures err { IfErr result (λ e. e ≡ Error.MemoryError) }
+    ensures err { OnlyMemory result }
 {
     let text = Stamp { moment };
     Ok(text.to_string(alloc)?)

@@ -1,14 +1,15 @@
 //! Zones by name, and the built-ins that answer a zone or the present moment.
-ghost use Rattle.std.specs.Prelude.{◌≡◌, IfOk, IfErr};
+ghost use Rattle.std.specs.Prelude.{◌≡◌, IfOk};
 ghost use Rattle.std.specs.Option.{option_copied};
 ghost use Rattle.expr_value.specs.Answers.{Is};
 ghost use Rattle.expr_time.specs.Zones.{now_answer, timezone_answer, zone_named};
+ghost use Rattle.expr_value.specs.Fault.{OnlyMemory};
 
 use crate::moments::in_utc;
 use expr_arguments::one_text;
 use expr_held::Held;
 use expr_moment::utc;
-use expr_value::{DateTimeValue, Error, Result, TimezoneValue, Value, refusal};
+use expr_value::{DateTimeValue, Result, TimezoneValue, Value, refusal};
 use std::alloc::Global;
 
 /// The zones that a host has added, by their names.
@@ -45,7 +46,7 @@ pub(crate) fn zone_named<Z: Zones>(
     name: &str,
 ) -> Result<Option<TimezoneValue>>
     ensures ok { IfOk result (λ zone. zone ≡ zone_named (Z.zones zones.now) name.now) }
-    ensures err { IfErr result (λ e. e ≡ Error.MemoryError) }
+    ensures err { OnlyMemory result }
 {
     if name == "UTC" {
         return Ok(Some(utc(alloc)?));

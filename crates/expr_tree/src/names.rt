@@ -1,5 +1,5 @@
 //! The names of a program.
-ghost use Rattle.std.specs.Prelude.{◌≡◌, ◌↔◌, ◌++◌, [], IsTrue, IfOk, IfErr, OnOk, map, string_bytes};
+ghost use Rattle.std.specs.Prelude.{◌≡◌, ◌↔◌, ◌++◌, [], IsTrue, IfOk, OnOk, map, string_bytes};
 ghost use Rattle.std.specs.List.{Contains};
 ghost use Rattle.std.specs.List.Sorted.{IsStrictlySortedBy};
 ghost use Rattle.std.specs.Cmp.Lexicographic.{slice_cmp};
@@ -8,10 +8,11 @@ ghost use Rattle.expr_tree.specs.Children.{children, own_name};
 ghost use Rattle.expr_tree.specs.Inside.{lent_terms, maybe_child, program_children};
 ghost use Rattle.expr_tree.specs.Names.{operands, postfix_operands, bound_operands, all_operands, predicate_operands, block_operands, lines_operands, env, has_env, AreNamesOf, with_name, with_names};
 ghost use Rattle.expr_tree.specs.Written.{written, postfix_written, bound_written, predicate_written, program_written, line_written, terms_of};
+ghost use Rattle.expr_value.specs.Fault.{OnlyMemory};
 
 use crate::inside::{Inside, look_inside};
 use crate::node::{Node, PostfixOperator, Program};
-use expr_value::{Error, Result};
+use expr_value::{Result};
 use std::alloc::{AllocError, Global};
 use std::collections::BTreeSet;
 use std::marker::Model;
@@ -24,7 +25,7 @@ impl Program {
     /// `MemoryError`, if a growth is refused.
     pub fn names(&self, alloc: Global) -> Result<Vec<String>>
         ensures ok { IfOk result (λ ns. AreNamesOf (map string_bytes ns.items) (program_written self.now)) }
-        ensures err { IfErr result (λ e. e ≡ Error.MemoryError) }
+        ensures err { OnlyMemory result }
     {
         names_within(self, alloc, Vec::new(alloc))
     }
@@ -46,7 +47,7 @@ fn names_within<'a>(
 ) -> Result<Vec<String>>
     requires { waiting.items ≡ [] }
     ensures ok { IfOk result (λ ns. AreNamesOf (map string_bytes ns.items) (program_written program.now)) }
-    ensures err { IfErr result (λ e. e ≡ Error.MemoryError) }
+    ensures err { OnlyMemory result }
 {
     let mut names = Names::new(alloc);
     wait_for_program(program, &mut waiting)?;

@@ -1,9 +1,9 @@
 //! Zones by their names.
-ghost use Rattle.std.specs.Prelude.{◌≡◌, ◌≢◌, false, IfOk, IfErr, MatchOption, IsTrue};
-ghost use Rattle.expr_value.specs.Fault.{evaluation, fault_of, memory};
+ghost use Rattle.std.specs.Prelude.{◌≡◌, ◌≢◌, false, IfOk, MatchOption, IsTrue};
+ghost use Rattle.expr_value.specs.Fault.{evaluation, OnlyMemory, RefusesWith};
 ghost use Rattle.expr_value.specs.Times.{is_table, kept_rules, plain_rules, rules_of, zone_name};
 
-use crate::error::{Error, Result, refusal};
+use crate::error::{Result, refusal};
 use crate::text::Text;
 use jiff::tz::TimeZone;
 use jiff_core::Offset;
@@ -60,9 +60,9 @@ impl TimezoneValue {
     pub fn named(alloc: Global, name: &str, rules: TimeZone<'static>) -> Result<TimezoneValue>
         ensures name { IfOk result (λ z. zone_name z ≡ name.now) }
         ensures rules { IfOk result (λ z. rules_of z ≡ plain_rules rules.entry) }
-        ensures refusal { IfErr result (λ e. fault_of e ≢ memory → fault_of e ≡ evaluation) }
+        ensures refusal { RefusesWith result (λ k. k ≡ evaluation) }
         ensures kept { is_table (plain_rules rules.entry) ≡ false
-            → IfErr result (λ e. e ≡ Error.MemoryError) }
+            → OnlyMemory result }
     {
         let Some(rules) = KeptRules::of(rules.to_plain()) else {
             return Err(refusal(alloc, "a zone is a fixed offset or a rule"));

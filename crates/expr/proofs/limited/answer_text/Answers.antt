@@ -1,7 +1,7 @@
 use Rattle.std.proofs.Common.{Ok, subst}
-use Rattle.expr_meaning.specs.Host.{Host}
 use Rattle.expr_meter.specs.declared.outcome.Outcome.{Outcome}
-use Rattle.expr_steps.specs.Context.{Context}
+use Rattle.expr_meaning.specs.World.{World}
+use Rattle.expr_machine.specs.Here.{here}
 use Rattle.expr_tree.specs.Written.{program_written}
 use Rattle.expr_tree.specs.declared.node.Program.{Program}
 use Rattle.expr_value.specs.declared.value.Value.{Value}
@@ -12,9 +12,8 @@ use Rattle.expr.proofs.limited.answer_text.Goals as goal
 
 pub returns-in_err-compiled-clause-outcome : goal.returns-in_err-compiled-clause-outcome
 returns-in_err-compiled-clause-outcome g c =
-    let host : Host = g.H.Functions.host c.args.machine.now.host.now in
-    let ctx : Context = g.P.ContextProvider.context c.args.machine.now.provider in
-    passed_ends host ctx c.args.code.now c.args.limits.now c.in_err-compiled.field-0.0 c.in_err-compiled.ensures.answer c.from_residual.result c.from_residual.ensures.1
+    let world : World = here g.H.Functions.host g.P.ContextProvider.context c.args.machine.now in
+    passed_ends world c.args.code.now c.args.limits.now c.in_err-compiled.field-0.0 c.in_err-compiled.ensures.answer c.from_residual.result c.from_residual.ensures.1
 
 pub returns-in_err-compiled-clause-place : goal.returns-in_err-compiled-clause-place
 returns-in_err-compiled-clause-place g c = λ own.
@@ -26,9 +25,8 @@ returns-in_err-compiled-clause-boundary g c = λ own.
 
 pub returns-in_err-code-in-Answered-clause-outcome : goal.returns-in_err-code-in-Answered-clause-outcome
 returns-in_err-code-in-Answered-clause-outcome g c =
-    let host : Host = g.H.Functions.host c.args.machine.now.host.now in
-    let ctx : Context = g.P.ContextProvider.context c.args.machine.now.provider in
-    memory_ends host ctx c.args.code.now c.args.limits.now c.in_err-code-in-Answered.field-0.0 c.in_err-code-in-Answered.ensures.refused c.from_residual-in_err-code-in-Answered.result c.from_residual-in_err-code-in-Answered.ensures.1
+    let world : World = here g.H.Functions.host g.P.ContextProvider.context c.args.machine.now in
+    memory_ends world c.args.code.now c.args.limits.now c.in_err-code-in-Answered.field-0.0 c.in_err-code-in-Answered.ensures.refused c.from_residual-in_err-code-in-Answered.result c.from_residual-in_err-code-in-Answered.ensures.1
 
 pub returns-in_err-code-in-Answered-clause-place : goal.returns-in_err-code-in-Answered-clause-place
 returns-in_err-code-in-Answered-clause-place g c = λ own.
@@ -40,29 +38,25 @@ returns-in_err-code-in-Answered-clause-boundary g c = λ own.
 
 pub returns-in_ok-code-in-Answered-clause-outcome : goal.returns-in_ok-code-in-Answered-clause-outcome
 returns-in_ok-code-in-Answered-clause-outcome g c =
-    let host : Host = g.H.Functions.host c.args.machine.now.host.now in
-    let ctx : Context = g.P.ContextProvider.context c.args.machine.now.provider in
+    let world : World = here g.H.Functions.host g.P.ContextProvider.context c.args.machine.now in
     let read = subst (λ o. IsCompiledLimited c.args.code.now c.args.limits.now (Ok o)) c.in-Answered.is c.in_ok-compiled.ensures.answer in
-    text_ends host ctx c.args.code.now c.args.limits.now (program_written c.in-Answered.program) _ read.0 read.1 c.in_ok-code-in-Answered.ensures.code c.execute_limited.result c.execute_limited.ensures.outcome
+    text_ends world c.args.code.now c.args.limits.now (program_written c.in-Answered.program) _ read.0 read.1 c.in_ok-code-in-Answered.ensures.code c.execute_limited.result c.execute_limited.ensures.outcome
 
 pub returns-in_ok-code-in-Answered-clause-place : goal.returns-in_ok-code-in-Answered-clause-place
 returns-in_ok-code-in-Answered-clause-place g c =
-    let host : Host = g.H.Functions.host c.args.machine.now.host.now in
-    let ctx : Context = g.P.ContextProvider.context c.args.machine.now.provider in
+    let world : World = here g.H.Functions.host g.P.ContextProvider.context c.args.machine.now in
     let read = subst (λ o. IsCompiledLimited c.args.code.now c.args.limits.now (Ok o)) c.in-Answered.is c.in_ok-compiled.ensures.answer in
-    run_place host ctx c.args.code.now c.args.limits.now (program_written c.in-Answered.program) _ read.0 read.1 c.in_ok-code-in-Answered.ensures.code c.execute_limited.result c.execute_limited.ensures.outcome
+    run_place world c.args.code.now c.args.limits.now (program_written c.in-Answered.program) _ read.0 read.1 c.in_ok-code-in-Answered.ensures.code c.execute_limited.result c.execute_limited.ensures.outcome
 
 pub returns-in_ok-code-in-Answered-clause-boundary : goal.returns-in_ok-code-in-Answered-clause-boundary
 returns-in_ok-code-in-Answered-clause-boundary g c =
-    let host : Host = g.H.Functions.host c.args.machine.now.host.now in
-    let ctx : Context = g.P.ContextProvider.context c.args.machine.now.provider in
+    let world : World = here g.H.Functions.host g.P.ContextProvider.context c.args.machine.now in
     let read = subst (λ o. IsCompiledLimited c.args.code.now c.args.limits.now (Ok o)) c.in-Answered.is c.in_ok-compiled.ensures.answer in
-    run_boundary host ctx c.args.code.now c.args.limits.now (program_written c.in-Answered.program) _ read.0 read.1 c.in_ok-code-in-Answered.ensures.code c.execute_limited.result c.execute_limited.ensures.outcome
+    run_boundary world c.args.code.now c.args.limits.now (program_written c.in-Answered.program) _ read.0 read.1 c.in_ok-code-in-Answered.ensures.code c.execute_limited.result c.execute_limited.ensures.outcome
 
 pub returns-in-Stopped-clause-outcome : goal.returns-in-Stopped-clause-outcome
 returns-in-Stopped-clause-outcome g c =
-    let host : Host = g.H.Functions.host c.args.machine.now.host.now in
-    let ctx : Context = g.P.ContextProvider.context c.args.machine.now.provider in
-    stopped_ends host ctx c.args.code.now c.args.limits.now c.in-Stopped.limit (
+    let world : World = here g.H.Functions.host g.P.ContextProvider.context c.args.machine.now in
+    stopped_ends world c.args.code.now c.args.limits.now c.in-Stopped.limit (
     subst (λ o. IsCompiledLimited c.args.code.now c.args.limits.now (Ok o)) c.in-Stopped.is c.in_ok-compiled.ensures.answer
     )

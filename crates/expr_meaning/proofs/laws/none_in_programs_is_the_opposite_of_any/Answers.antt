@@ -12,10 +12,9 @@ use Rattle.expr_predicates.specs.Tasks.{Question, Task, any_holds, none_holds}
 use Rattle.expr_functions.specs.Functions.{builtin_named}
 use Rattle.expr_functions.specs.declared.functions.Asking.{Asking}
 use Rattle.expr_functions.specs.declared.functions.Asking.TheVariants.{Any, NoneOf}
-use Rattle.expr_steps.specs.Context.{Context}
 use Rattle.expr_meaning.specs.Allows.{Allows, AllowsAll, AllowsAsked, AllowsCall}
 use Rattle.expr_meaning.specs.Calls.{AllowsBuiltin}
-use Rattle.expr_meaning.specs.Host.{Host}
+use Rattle.expr_meaning.specs.World.{World, world_of}
 use Rattle.expr_meaning.proofs.laws.none_in_programs_is_the_opposite_of_any.Goals as goal
 
 -- what follows a first step that has one answer
@@ -26,36 +25,36 @@ after_one first next v b only p = subst (λ a. Goes a next b) (only p.0 p.1) p.2
 items-array : (items : List Value) → items_of (value.Array items) ≡ Some items
 items-array items = search (rules, the_lemmas)
 
-module _ (host : Host) (ctx : Context) (array : Term) (block : Block) (items : List Value) (only : (a : Answer) → Allows host ctx array a → a ≡ Ok (value.Array items)) where
+module _ (world : World) (array : Term) (block : Block) (items : List Value) (only : (a : Answer) → Allows world array a → a ≡ Ok (value.Array items)) where
   abbrev asks : Question → Answer → Type 0
-  asks = AllowsAsked host ctx (predicate block)
+  asks = AllowsAsked world (predicate block)
 
   abbrev Asked : List ℕ → Value → Type 0
-  Asked key v = Allows host ctx (call key (term array no_terms) (predicate block)) (Ok v)
+  Asked key v = Allows world (call key (term array no_terms) (predicate block)) (Ok v)
 
-  arguments : (r : Result (List Value) Fault) → AllowsAll host ctx (term array no_terms) r → r ≡ Ok (value.Array items ∷ [])
+  arguments : (r : Result (List Value) Fault) → AllowsAll world (term array no_terms) r → r ≡ Ok (value.Array items ∷ [])
   arguments r p =
-      let rest : After (AllowsAll host ctx no_terms) (λ vs a. a ≡ Ok (value.Array items ∷ vs)) r = after_one (Allows host ctx array) (λ v. After (AllowsAll host ctx no_terms) (λ vs a. a ≡ Ok (v ∷ vs))) (value.Array items) r only p in
-      after_one (AllowsAll host ctx no_terms) (λ vs a. a ≡ Ok (value.Array items ∷ vs)) [] r (λ a e. e) rest
+      let rest : After (AllowsAll world no_terms) (λ vs a. a ≡ Ok (value.Array items ∷ vs)) r = after_one (Allows world array) (λ v. After (AllowsAll world no_terms) (λ vs a. a ≡ Ok (v ∷ vs))) (value.Array items) r only p in
+      after_one (AllowsAll world no_terms) (λ vs a. a ≡ Ok (value.Array items ∷ vs)) [] r (λ a e. e) rest
 
-  built_in : (key : List ℕ) (v : Value) → host.is_added key ≡ false → Asked key v → AllowsBuiltin host key (value.Array items ∷ []) true asks (Ok v)
+  built_in : (key : List ℕ) (v : Value) → world.host.is_added key ≡ false → Asked key v → AllowsBuiltin world.host key (value.Array items ∷ []) true asks (Ok v)
   built_in key v added p =
-      let called : AllowsCall host key (value.Array items ∷ []) true asks (Ok v) = after_one (AllowsAll host ctx (term array no_terms)) (λ vs. AllowsCall host key vs true asks) (value.Array items ∷ []) (Ok v) arguments p in
-      subst (λ b. MatchBool b (host.calls key (value.Array items ∷ []) (Ok v)) (AllowsBuiltin host key (value.Array items ∷ []) true asks (Ok v))) added called
+      let called : AllowsCall world.host key (value.Array items ∷ []) true asks (Ok v) = after_one (AllowsAll world (term array no_terms)) (λ vs. AllowsCall world.host key vs true asks) (value.Array items ∷ []) (Ok v) arguments p in
+      subst (λ b. MatchBool b (world.host.calls key (value.Array items ∷ []) (Ok v)) (AllowsBuiltin world.host key (value.Array items ∷ []) true asks (Ok v))) added called
 
   begins : (b : Asking) (t : Task) (v : Value) → begun b (value.Array items ∷ []) true ≡ Ok (record { task = t; items = items })
       → AllowsAsking b (value.Array items ∷ []) true asks (Ok v) → Asks t asks items [] (Ok v)
   begins b t v e p = subst (λ s. Goes s (λ s. Asks s.task asks s.items []) (Ok v)) e p
 
-  run_of_any : (v : Value) → host.is_added (codes "any") ≡ false → Asked (codes "any") v → Asks any_holds asks items [] (Ok v)
+  run_of_any : (v : Value) → world.host.is_added (codes "any") ≡ false → Asked (codes "any") v → Asks any_holds asks items [] (Ok v)
   unfolding builtin_named
   run_of_any v added p = begins Any any_holds v (ap (λ o. started_on Any (array_then o None)) (items-array items)) (built_in (codes "any") v added p)
 
-  run_of_none : (v : Value) → host.is_added (codes "none") ≡ false → Asked (codes "none") v → Asks none_holds asks items [] (Ok v)
+  run_of_none : (v : Value) → world.host.is_added (codes "none") ≡ false → Asked (codes "none") v → Asks none_holds asks items [] (Ok v)
   unfolding builtin_named
   run_of_none v added p = begins NoneOf none_holds v (ap (λ o. started_on NoneOf (array_then o None)) (items-array items)) (built_in (codes "none") v added p)
 
 pub returns : goal.returns
 returns g c = λ host ctx array block items x y no_any no_none only one p q.
     let h = g.H.Functions.host host in
-    none_opposite (AllowsAsked h ctx (predicate block)) x y items [] one (run_of_any h ctx array block items only x no_any p) (run_of_none h ctx array block items only y no_none q)
+    none_opposite (AllowsAsked (world_of h ctx) (predicate block)) x y items [] one (run_of_any (world_of h ctx) array block items only x no_any p) (run_of_none (world_of h ctx) array block items only y no_none q)

@@ -4,6 +4,7 @@ use Rattle.expr_meaning.specs.Allows.{AllowsBlock}
 use Rattle.expr_meaning.specs.Independence.{AgreeAt}
 use Rattle.expr_meaning.specs.Refusals.{NeverRefusesWith}
 use Rattle.expr_steps.specs.Context.{Context}
+use Rattle.expr_meaning.specs.World.{world_of}
 use Rattle.expr_stops.specs.Stops.{ComesTo, is_named}
 use Rattle.expr_stops.proofs.Replied.{answered_never, same_replay}
 use Rattle.expr_tree.specs.Names.{AreNamesOf}
@@ -17,7 +18,7 @@ returns-clause-independent g c =
     let base : Context = asked.context c.args.ctx.now.1 in
     let b = program_written c.args.program.now in
     same_replay (g.H.Functions.host) (λ h. Ends c.run_in-went.result (ComesTo (
-    λ a. (other : Context) (keys : List (List ℕ)) → AreNamesOf keys b → AgreeAt keys b base other → AllowsBlock h other b a
+    λ a. (other : Context) (keys : List (List ℕ)) → AreNamesOf keys b → AgreeAt keys b base other → AllowsBlock (world_of h other) b a
     ))) _ _ _ _ _ _ c.new-replay.ensures.host c.new-replay.ensures.names c.new-replay.ensures.given c.run_in-went.ensures.independent
 
 pub returns-clause-pattern : goal.returns-clause-pattern

@@ -7,11 +7,12 @@ use Rattle.expr_stops.specs.Stops.{CodeComes, is_named}
 use Rattle.expr_stops.proofs.Replied.{answered_never, same_replay}
 use Rattle.expr_value.specs.Fault.{pattern}
 use Rattle.expr_stops.proofs.playing.play_code.Goals as goal
+use Rattle.expr_meaning.specs.World.{world_of}
 
 pub returns-clause-ends : goal.returns-clause-ends
 returns-clause-ends g c =
     same_replay (g.H.Functions.host) (λ h. Ends c.execute_in-went.result (
-    CodeComes c.args.limits h (g.P.ContextProvider.context c.args.provider) (blocks_of g.L.Holder.held (text_of g.N.Holder.held) c.args.code.now)
+    CodeComes c.args.limits (world_of h (g.P.ContextProvider.context c.args.provider)) (blocks_of g.L.Holder.held (text_of g.N.Holder.held) c.args.code.now)
     )) _ _ _ _ _ _ c.new-replay.ensures.host c.new-replay.ensures.names c.new-replay.ensures.given c.execute_in-went.ensures.ends
 
 pub returns-clause-pattern : goal.returns-clause-pattern

@@ -2,6 +2,7 @@ use Rattle.std.proofs.Common.{ℕ, List}
 use Rattle.expr_meaning.specs.Allows.{AllowsBlock}
 use Rattle.expr_meaning.specs.Independence.{AgreeAt}
 use Rattle.expr_steps.specs.Context.{Context}
+use Rattle.expr_meaning.specs.World.{world_of}
 use Rattle.expr_stops.proofs.Replied.{refused_so}
 use Rattle.expr_tree.specs.Names.{AreNamesOf}
 use Rattle.expr_tree.specs.Written.{program_written}
@@ -13,5 +14,5 @@ returns-in_err-answer_program-clause-independent g c =
     let base : Context = asked.context c.args.ctx.now.1 in
     let b = program_written c.args.program.now in
     refused_so c.in_err-answer_program.field-0.0 (
-    λ a. (other : Context) (keys : List (List ℕ)) → AreNamesOf keys b → AgreeAt keys b base other → AllowsBlock (g.H.Functions.host c.args.host.now) other b a
+    λ a. (other : Context) (keys : List (List ℕ)) → AreNamesOf keys b → AgreeAt keys b base other → AllowsBlock (world_of (g.H.Functions.host c.args.host.now) other) b a
     ) c.from_residual.result c.in_err-answer_program.ensures.independent c.from_residual.ensures.1

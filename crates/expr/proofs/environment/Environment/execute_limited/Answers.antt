@@ -3,6 +3,7 @@ use Rattle.expr_code.specs.Machine.{Op}
 use Rattle.expr_lowering.specs.Blocks.{blocks_of}
 use Rattle.expr_meaning.specs.Host.{Host}
 use Rattle.expr_steps.specs.Context.{Context}
+use Rattle.expr_meaning.specs.World.{world_of}
 use Rattle.expr.specs.Hosted.{host_of}
 use Rattle.expr.proofs.Ending.{code_answers}
 use Rattle.expr.proofs.environment.Environment.execute_limited.Goals as goal
@@ -13,4 +14,4 @@ returns-clause-answer g c =
     let base : Context = asked.context c.args.ctx.now.1 in
     let host : Host = host_of c.args.self.now in
     let blocks : List (List Op) = blocks_of g.L.Holder.held (λ n. string_bytes (g.N.Holder.held n)) c.args.code.now in
-    code_answers host base blocks c.args.limits.now c.execute_limited.result c.execute_limited.ensures.outcome
+    code_answers (world_of host base) blocks c.args.limits.now c.execute_limited.result c.execute_limited.ensures.outcome

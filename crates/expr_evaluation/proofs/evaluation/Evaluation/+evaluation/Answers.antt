@@ -23,12 +23,12 @@ use Rattle.expr_steps.specs.Given.{listed}
 use Rattle.expr_value.specs.Answers.{After, Answer, Gives}
 use Rattle.expr_steps.specs.Context.{Context}
 use Rattle.expr_meaning.specs.Host.{Host}
+use Rattle.expr_meaning.specs.World.{World, world_of, with_context}
+use Rattle.expr_evaluation.specs.Here.{here, outermost}
 use Rattle.expr_operators.specs.Sides.{sides_of}
 use Rattle.expr_operators.specs.Operators.{applied}
-use Rattle.expr_operators.specs.declared.sides.Sides.TheVariants.{Both, EndsAtFalse, EndsAtTrue}
+use Rattle.expr_operators.specs.declared.sides.Sides.TheVariants.{Both}
 use Rattle.expr_operators.specs.Positions.{sliced}
-use Rattle.expr_evaluation.specs.Plain.{is_plain}
-use Rattle.expr_operators.specs.Plain.{is_plain_operator, is_plain_value}
 use Rattle.expr_steps.specs.Scope.{inside}
 use Rattle.expr_evaluation.specs.Several.{pairs_written, terms_written}
 use Rattle.expr_steps.specs.declared.scope.Binding.{Binding}
@@ -36,218 +36,80 @@ use Rattle.expr_steps.specs.declared.scope.Scope.{Scope, Scope-F, out-Scope, rol
 use Rattle.expr_meaning.proofs.Literal.{OnLiteral, OnLiteral-continued, OnLiteral-only}
 use Rattle.expr_evaluation.proofs.Allowed.{prepended, drop-at, loop-step, loop-failed, loop-done, AllowsAll-first, AllowsPairs-first, AllowsBlock-line, AllowsMore-all, AllowsMore-rest}
 use Rattle.expr_value.proofs.Answered.{Gives-of-Is, Gives-passed, Gives-under, first_of-After}
-use Rattle.expr_operators.proofs.Plainly.{Surely-at}
 use Rattle.expr_evaluation.proofs.Handed.{handed-not-Both, handed-not-EndsAtFalse, handed-not-EndsAtTrue, handed-refused, handed-value, refusal-passed}
-use Rattle.expr_evaluation.proofs.Plainly.{Ident-plain, Array-plain, Map-plain, Range-plain, Func-plain, Postfix-plain, Conditional-plain, Allows-plain, left-true, right-true, written-Operation, written-pairs}
+use Rattle.expr_evaluation.proofs.Plainly.{written-Operation, written-pairs}
 use Rattle.expr_evaluation.proofs.evaluation.Evaluation.+evaluation.Goals as goal
 
-pub evaluate_form-returns-in_err-first-in-Operation-clause-plain : goal.evaluate_form-returns-in_err-first-in-Operation-clause-plain
-evaluate_form-returns-in_err-first-in-Operation-clause-plain g t c =
-    let host : Host = g.H.Functions.host c.args.self.now.host.now in
-    let base : Context = g.P.ContextProvider.context c.args.self.now.provider in
-    let ctx : Context = inside c.args.scope.now base in
-    let l = c.in-Operation.left.value in
-    let r = c.in-Operation.right.value in
-    let op = c.in-Operation.operator in
-    let result = c.from_residual-in_err-first-in-Operation.result in
-    let is : written c.args.node.now ≡ operation op (written l) (written r) = ap written c.in-Operation.is ∙ written-Operation op c.in-Operation.left c.in-Operation.right c.in-Operation.compiled_regex in
-    subst (λ n. (v : Value) → IsTrue (is_plain n) → Allows host ctx n (Ok v) → result ≡ Ok v) (sym is) (
-    λ v p h.
-    let both = right-true (is_plain_operator op) (is_plain (written l) && is_plain (written r)) p in
-    let q = first_of-After (Allows host ctx (written l)) (λ x. Continued op x (Allows host ctx (written r))) v h in
-    let wrong = c.in_err-first-in-Operation.ensures.plain q.0
-    (subst (λ m. IsTrue (is_plain (written m))) (sym c.deref-in-Operation.ensures) (left-true (is_plain (written l)) (is_plain (written r)) both))
-    (subst (λ m. Allows host ctx (written m) (Ok q.0)) (sym c.deref-in-Operation.ensures) q.1) in
-    absurd (cc wrong)
-    )
-
-pub evaluate_form-returns-in-Operation-clause-answer : goal.evaluate_form-returns-in-Operation-clause-answer
-evaluate_form-returns-in-Operation-clause-answer g t c =
-    let host : Host = g.H.Functions.host c.args.self.now.host.now in
-    let ctx : Context = inside c.args.scope.now (g.P.ContextProvider.context c.args.self.now.provider) in
+pub evaluate_form-returns-in-Operation : goal.evaluate_form-returns-in-Operation
+evaluate_form-returns-in-Operation g t c =
+    let world : World = here g.H.Functions.host g.P.ContextProvider.context c.args.self.now c.args.scope.now in
     let l = c.in-Operation.left.value in
     let r = c.in-Operation.right.value in
     let op = c.in-Operation.operator in
     let is : written c.args.node.now ≡ operation op (written l) (written r) = ap written c.in-Operation.is ∙ written-Operation op c.in-Operation.left c.in-Operation.right c.in-Operation.compiled_regex in
     let first = c.in_ok-first-in-Operation.first in
-    let first_is = subst (λ m. Allows host ctx (written m) (Ok first)) c.deref-in-Operation.ensures c.in_ok-first-in-Operation.ensures.answer in
-    let next = Continued op first (Allows host ctx (written r)) in
-    subst (λ n. Gives c.operate.result (Allows host ctx n)) (sym is) (
-    Gives-under c.operate.result next (Allows host ctx (operation op (written l) (written r))) (λ a p. (Ok first, first_is, p)) (
-    subst (λ m. Gives c.operate.result (Continued op first (Allows host ctx (written m)))) c.deref-in-Operation-2.ensures c.operate.ensures.answer
-    )
-    )
+    let first_is = subst (λ m. Allows world (written m) (Ok first)) c.deref-in-Operation.ensures c.in_ok-first-in-Operation.ensures.answer in
+    let next = Continued op first (Allows world (written r)) in
+    record {
+      answer = subst (λ n. Gives c.operate.result (Allows world n)) (sym is) (
+          Gives-under c.operate.result next (Allows world (operation op (written l) (written r))) (λ a p. (Ok first, first_is, p)) (
+          subst (λ m. Gives c.operate.result (Continued op first (Allows world (written m)))) c.deref-in-Operation-2.ensures c.operate.ensures.answer
+          )
+          );
+    }
 
-pub evaluate_form-returns-in-Operation-clause-plain : goal.evaluate_form-returns-in-Operation-clause-plain
-evaluate_form-returns-in-Operation-clause-plain g t c =
-    let host : Host = g.H.Functions.host c.args.self.now.host.now in
-    let base : Context = g.P.ContextProvider.context c.args.self.now.provider in
-    let ctx : Context = inside c.args.scope.now base in
-    let l = c.in-Operation.left.value in
-    let r = c.in-Operation.right.value in
-    let op = c.in-Operation.operator in
-    let first = c.in_ok-first-in-Operation.first in
-    let is : written c.args.node.now ≡ operation op (written l) (written r) = ap written c.in-Operation.is ∙ written-Operation op c.in-Operation.left c.in-Operation.right c.in-Operation.compiled_regex in
-    subst (λ n. (v : Value) → IsTrue (is_plain n) → Allows host ctx n (Ok v) → c.operate.result ≡ Ok v) (sym is) (
-    λ v p h.
-    let o = left-true (is_plain_operator op) (is_plain (written l) && is_plain (written r)) p in
-    let both = right-true (is_plain_operator op) (is_plain (written l) && is_plain (written r)) p in
-    let l_plain = left-true (is_plain (written l)) (is_plain (written r)) both in
-    let q = first_of-After (Allows host ctx (written l)) (λ x. Continued op x (Allows host ctx (written r))) v h in
-    let same : first ≡ q.0 = cc (c.in_ok-first-in-Operation.ensures.plain q.0
-    (subst (λ m. IsTrue (is_plain (written m))) (sym c.deref-in-Operation.ensures) l_plain)
-    (subst (λ m. Allows host ctx (written m) (Ok q.0)) (sym c.deref-in-Operation.ensures) q.1)) in
-    let first_plain = subst (λ w. IsTrue (is_plain_value w)) (sym same) (Allows-plain host ctx (written l) q.0 l_plain q.1) in
-    let next = subst (λ w. Continued op w (Allows host ctx (written r)) (Ok v)) (sym same) q.2 in
-    c.operate.ensures.plain v o first_plain
-    (subst (λ m. IsTrue (is_plain (written m))) (sym c.deref-in-Operation-2.ensures) (right-true (is_plain (written l)) (is_plain (written r)) both))
-    (subst (λ m. Continued op first (Allows host ctx (written m)) (Ok v)) (sym c.deref-in-Operation-2.ensures) next)
-    )
-
-pub evaluate_operation-returns-in_err-first-in-Operation-clause-plain : goal.evaluate_operation-returns-in_err-first-in-Operation-clause-plain
-evaluate_operation-returns-in_err-first-in-Operation-clause-plain g t c =
-    let host : Host = g.H.Functions.host c.args.self.now.host.now in
-    let base : Context = g.P.ContextProvider.context c.args.self.now.provider in
-    let ctx : Context = inside c.args.scope.now base in
-    let l = c.in-Operation.left.value in
-    let r = c.in-Operation.right.value in
-    let op = c.in-Operation.operator in
-    let result = c.from_residual.result in
-    let is : written c.args.node.now ≡ operation op (written l) (written r) = ap written c.in-Operation.is ∙ written-Operation op c.in-Operation.left c.in-Operation.right c.in-Operation.compiled_regex in
-    subst (λ n. (v : Value) → IsTrue (is_plain n) → Allows host ctx n (Ok v) → result ≡ Ok v) (sym is) (
-    λ v p h.
-    let both = right-true (is_plain_operator op) (is_plain (written l) && is_plain (written r)) p in
-    let q = first_of-After (Allows host ctx (written l)) (λ x. Continued op x (Allows host ctx (written r))) v h in
-    let wrong = c.in_err-first-in-Operation.ensures.plain q.0
-    (subst (λ m. IsTrue (is_plain (written m))) (sym c.deref.ensures) (left-true (is_plain (written l)) (is_plain (written r)) both))
-    (subst (λ m. Allows host ctx (written m) (Ok q.0)) (sym c.deref.ensures) q.1) in
-    absurd (cc wrong)
-    )
-
-pub evaluate_operation-returns-in-Some-clause-answer : goal.evaluate_operation-returns-in-Some-clause-answer
-evaluate_operation-returns-in-Some-clause-answer g t c =
-    let host : Host = g.H.Functions.host c.args.self.now.host.now in
-    let ctx : Context = inside c.args.scope.now (g.P.ContextProvider.context c.args.self.now.provider) in
+pub evaluate_operation-returns-in-Some : goal.evaluate_operation-returns-in-Some
+evaluate_operation-returns-in-Some g t c =
+    let world : World = here g.H.Functions.host g.P.ContextProvider.context c.args.self.now c.args.scope.now in
     let l = c.in-Operation.left.value in
     let r = c.in-Operation.right.value in
     let op = c.in-Operation.operator in
     let v = c.in-Some.value in
     let is : written c.args.node.now ≡ operation op (written l) (written r) = ap written c.in-Operation.is ∙ written-Operation op c.in-Operation.left c.in-Operation.right c.in-Operation.compiled_regex in
     let first = c.in_ok-first-in-Operation.first in
-    let first_is = subst (λ m. Allows host ctx (written m) (Ok first)) c.deref.ensures c.in_ok-first-in-Operation.ensures.answer in
+    let first_is = subst (λ m. Allows world (written m) (Ok first)) c.deref.ensures c.in_ok-first-in-Operation.ensures.answer in
     let read = subst (λ x. OnLiteral op x (written c.deref-in-Operation.result.now) v) c.get.ensures c.in-Some.ensures in
     let found = subst (λ m. OnLiteral op first (written m) v) c.deref-in-Operation.ensures read in
-    subst (λ n. Allows host ctx n (Ok c.own.result)) (sym is) (
-    subst (λ w. Allows host ctx (operation op (written l) (written r)) (Ok w)) (sym c.own.ensures) (
-      Ok first,
-      first_is,
-      OnLiteral-continued host ctx op first (written r) v found,
-    )
-    )
+    record {
+      answer = subst (λ n. Allows world n (Ok c.own.result)) (sym is) (
+          subst (λ w. Allows world (operation op (written l) (written r)) (Ok w)) (sym c.own.ensures) (
+            Ok first,
+            first_is,
+            OnLiteral-continued world op first (written r) v found,
+          )
+          );
+    }
 
-pub evaluate_operation-returns-in-Some-clause-plain : goal.evaluate_operation-returns-in-Some-clause-plain
-evaluate_operation-returns-in-Some-clause-plain g t c =
-    let host : Host = g.H.Functions.host c.args.self.now.host.now in
-    let base : Context = g.P.ContextProvider.context c.args.self.now.provider in
-    let ctx : Context = inside c.args.scope.now base in
-    let l = c.in-Operation.left.value in
-    let r = c.in-Operation.right.value in
-    let op = c.in-Operation.operator in
-    let first = c.in_ok-first-in-Operation.first in
-    let is : written c.args.node.now ≡ operation op (written l) (written r) = ap written c.in-Operation.is ∙ written-Operation op c.in-Operation.left c.in-Operation.right c.in-Operation.compiled_regex in
-    let read = subst (λ x. OnLiteral op x (written c.deref-in-Operation.result.now) c.in-Some.value) c.get.ensures c.in-Some.ensures in
-    let found = subst (λ m. OnLiteral op first (written m) c.in-Some.value) c.deref-in-Operation.ensures read in
-    λ v given allowed.
-    let p = subst (λ n. IsTrue (is_plain n)) is given in
-    let both = right-true (is_plain_operator op) (is_plain (written l) && is_plain (written r)) p in
-    let l_plain = left-true (is_plain (written l)) (is_plain (written r)) both in
-    let q = first_of-After (Allows host ctx (written l)) (λ x. Continued op x (Allows host ctx (written r))) v (subst (λ n. Allows host ctx n (Ok v)) is allowed) in
-    let same : first ≡ q.0 = cc (c.in_ok-first-in-Operation.ensures.plain q.0
-    (subst (λ m. IsTrue (is_plain (written m))) (sym c.deref.ensures) l_plain)
-    (subst (λ m. Allows host ctx (written m) (Ok q.0)) (sym c.deref.ensures) q.1)) in
-    let next = subst (λ w. Continued op w (Allows host ctx (written r)) (Ok v)) (sym same) q.2 in
-    ap Ok (c.own.ensures ∙ OnLiteral-only host ctx op first (written r) c.in-Some.value v found next)
-
-pub evaluate_operation-returns-in_default-of_literal-clause-answer : goal.evaluate_operation-returns-in_default-of_literal-clause-answer
-evaluate_operation-returns-in_default-of_literal-clause-answer g t c =
-    let host : Host = g.H.Functions.host c.args.self.now.host.now in
-    let ctx : Context = inside c.args.scope.now (g.P.ContextProvider.context c.args.self.now.provider) in
+pub evaluate_operation-returns-in_default-of_literal : goal.evaluate_operation-returns-in_default-of_literal
+evaluate_operation-returns-in_default-of_literal g t c =
+    let world : World = here g.H.Functions.host g.P.ContextProvider.context c.args.self.now c.args.scope.now in
     let l = c.in-Operation.left.value in
     let r = c.in-Operation.right.value in
     let op = c.in-Operation.operator in
     let is : written c.args.node.now ≡ operation op (written l) (written r) = ap written c.in-Operation.is ∙ written-Operation op c.in-Operation.left c.in-Operation.right c.in-Operation.compiled_regex in
     let first = c.in_ok-first-in-Operation.first in
-    let first_is = subst (λ m. Allows host ctx (written m) (Ok first)) c.deref.ensures c.in_ok-first-in-Operation.ensures.answer in
-    let next = Continued op first (Allows host ctx (written r)) in
-    subst (λ n. Gives c.operate.result (Allows host ctx n)) (sym is) (
-    Gives-under c.operate.result next (Allows host ctx (operation op (written l) (written r))) (λ a p. (Ok first, first_is, p)) (
-    subst (λ m. Gives c.operate.result (Continued op first (Allows host ctx (written m)))) c.deref-in-Operation-2.ensures c.operate.ensures.answer
-    )
-    )
-
-pub evaluate_operation-returns-in_default-of_literal-clause-plain : goal.evaluate_operation-returns-in_default-of_literal-clause-plain
-evaluate_operation-returns-in_default-of_literal-clause-plain g t c =
-    let host : Host = g.H.Functions.host c.args.self.now.host.now in
-    let base : Context = g.P.ContextProvider.context c.args.self.now.provider in
-    let ctx : Context = inside c.args.scope.now base in
-    let l = c.in-Operation.left.value in
-    let r = c.in-Operation.right.value in
-    let op = c.in-Operation.operator in
-    let first = c.in_ok-first-in-Operation.first in
-    let is : written c.args.node.now ≡ operation op (written l) (written r) = ap written c.in-Operation.is ∙ written-Operation op c.in-Operation.left c.in-Operation.right c.in-Operation.compiled_regex in
-    subst (λ n. (v : Value) → IsTrue (is_plain n) → Allows host ctx n (Ok v) → c.operate.result ≡ Ok v) (sym is) (
-    λ v p h.
-    let o = left-true (is_plain_operator op) (is_plain (written l) && is_plain (written r)) p in
-    let both = right-true (is_plain_operator op) (is_plain (written l) && is_plain (written r)) p in
-    let l_plain = left-true (is_plain (written l)) (is_plain (written r)) both in
-    let q = first_of-After (Allows host ctx (written l)) (λ x. Continued op x (Allows host ctx (written r))) v h in
-    let same : first ≡ q.0 = cc (c.in_ok-first-in-Operation.ensures.plain q.0
-    (subst (λ m. IsTrue (is_plain (written m))) (sym c.deref.ensures) l_plain)
-    (subst (λ m. Allows host ctx (written m) (Ok q.0)) (sym c.deref.ensures) q.1)) in
-    let first_plain = subst (λ w. IsTrue (is_plain_value w)) (sym same) (Allows-plain host ctx (written l) q.0 l_plain q.1) in
-    let next = subst (λ w. Continued op w (Allows host ctx (written r)) (Ok v)) (sym same) q.2 in
-    c.operate.ensures.plain v o first_plain
-    (subst (λ m. IsTrue (is_plain (written m))) (sym c.deref-in-Operation-2.ensures) (right-true (is_plain (written l)) (is_plain (written r)) both))
-    (subst (λ m. Continued op first (Allows host ctx (written m)) (Ok v)) (sym c.deref-in-Operation-2.ensures) next)
-    )
-
-pub operate-returns-in-EndsAtFalse-clause-plain : goal.operate-returns-in-EndsAtFalse-clause-plain
-operate-returns-in-EndsAtFalse-clause-plain g t c =
-    let host : Host = g.H.Functions.host c.args.self.now.host.now in
-    let base : Context = g.P.ContextProvider.context c.args.self.now.provider in
-    let op = c.args.operator in
-    let right = Allows host (inside c.args.scope.now base) (written c.args.right.now) in
-    let asked : sides_of op ≡ EndsAtFalse = sym c.sides_asked.ensures ∙ c.in-EndsAtFalse.is in
-    λ v o p q h. c.and_then.ensures.plain v q (subst (λ k. ContinuedAs k op c.args.first right (Ok v)) asked h)
-
-pub operate-returns-in-EndsAtTrue-clause-plain : goal.operate-returns-in-EndsAtTrue-clause-plain
-operate-returns-in-EndsAtTrue-clause-plain g t c =
-    let host : Host = g.H.Functions.host c.args.self.now.host.now in
-    let base : Context = g.P.ContextProvider.context c.args.self.now.provider in
-    let op = c.args.operator in
-    let right = Allows host (inside c.args.scope.now base) (written c.args.right.now) in
-    let asked : sides_of op ≡ EndsAtTrue = sym c.sides_asked.ensures ∙ c.in-EndsAtTrue.is in
-    λ v o p q h. c.or_else.ensures.plain v q (subst (λ k. ContinuedAs k op c.args.first right (Ok v)) asked h)
+    let first_is = subst (λ m. Allows world (written m) (Ok first)) c.deref.ensures c.in_ok-first-in-Operation.ensures.answer in
+    let next = Continued op first (Allows world (written r)) in
+    record {
+      answer = subst (λ n. Gives c.operate.result (Allows world n)) (sym is) (
+          Gives-under c.operate.result next (Allows world (operation op (written l) (written r))) (λ a p. (Ok first, first_is, p)) (
+          subst (λ m. Gives c.operate.result (Continued op first (Allows world (written m)))) c.deref-in-Operation-2.ensures c.operate.ensures.answer
+          )
+          );
+    }
 
 pub operate-returns-in-Both : goal.operate-returns-in-Both
 operate-returns-in-Both g t c =
-    let host : Host = g.H.Functions.host c.args.self.now.host.now in
-    let base : Context = g.P.ContextProvider.context c.args.self.now.provider in
-    let ctx : Context = inside c.args.scope.now base in
+    let world : World = here g.H.Functions.host g.P.ContextProvider.context c.args.self.now c.args.scope.now in
     let op = c.args.operator in
     let first = c.args.first in
     let second = c.in_ok-second-in-Both.second in
-    let right = Allows host ctx (written c.args.right.now) in
+    let right = Allows world (written c.args.right.now) in
     let asked : sides_of op ≡ Both = sym c.sides_asked.ensures ∙ c.in-Both.is in
     record {
       answer = Gives-of-Is c.apply_held.result (applied op first second) (Continued op first right) c.apply_held.ensures.answer (
           subst (λ k. ContinuedAs k op first right (applied op first second)) (sym asked) (Ok second, c.in_ok-second-in-Both.ensures.answer, refl)
           );
-      plain = λ v o p q h.
-          let found = first_of-After right (λ y b. b ≡ applied op first y) v (subst (λ k. ContinuedAs k op first right (Ok v)) asked h) in
-          let same : second ≡ found.0 = cc (c.in_ok-second-in-Both.ensures.plain found.0 q found.1) in
-          let second_plain = subst (λ w. IsTrue (is_plain_value w)) (sym same) (Allows-plain host ctx (written c.args.right.now) found.0 q found.1) in
-          Surely-at c.apply_held.result (applied op first second) v (c.apply_held.ensures.plain o p second_plain) (ap (applied op first) same ∙ sym found.2);
       handed = λ h. absurd (handed-not-Both _ _ _ h asked);
     }
 
@@ -262,72 +124,62 @@ operate-returns-in_err-second-in-Both-clause-handed g t c = λ h. absurd (handed
 
 pub operate-returns-in_err-source-in-Pattern-clause-handed : goal.operate-returns-in_err-source-in-Pattern-clause-handed
 operate-returns-in_err-source-in-Pattern-clause-handed g t c = λ h.
-    let host : Host = g.H.Functions.host c.args.self.now.host.now in
-    let ctx : Context = inside c.args.scope.now (g.P.ContextProvider.context c.args.self.now.provider) in
+    let world : World = here g.H.Functions.host g.P.ContextProvider.context c.args.self.now c.args.scope.now in
     let e = c.in_err-source-in-Pattern.field-0.0 in
-    refusal-passed _ e (λ x. fault_of x ≢ pattern) c.from_residual-in_err-source-in-Pattern.ensures.1 (handed-refused _ _ _ h host ctx e c.in_err-source-in-Pattern.ensures.answer)
+    refusal-passed _ e (λ x. fault_of x ≢ pattern) c.from_residual-in_err-source-in-Pattern.ensures.1 (handed-refused _ _ _ h world e c.in_err-source-in-Pattern.ensures.answer)
 
 pub operate-returns-clause-handed : goal.operate-returns-clause-handed
 operate-returns-clause-handed g t c = λ h.
-    let host : Host = g.H.Functions.host c.args.self.now.host.now in
-    let ctx : Context = inside c.args.scope.now (g.P.ContextProvider.context c.args.self.now.provider) in
+    let world : World = here g.H.Functions.host g.P.ContextProvider.context c.args.self.now c.args.scope.now in
     let source = c.in_ok-source-in-Pattern.source in
-    c.match_held.ensures.kept h.text (handed-value _ _ _ h host ctx source c.in_ok-source-in-Pattern.ensures.answer) h.of_text
+    c.match_held.ensures.kept h.text (handed-value _ _ _ h world source c.in_ok-source-in-Pattern.ensures.answer) h.of_text
 
 pub follow-returns-in_err-start-in-Range : goal.follow-returns-in_err-start-in-Range
 follow-returns-in_err-start-in-Range g t c =
-    let host : Host = g.H.Functions.host c.args.self.now.host.now in
-    let base : Context = g.P.ContextProvider.context c.args.self.now.provider in
-    let ctx : Context = inside c.args.scope.now base in
+    let world : World = here g.H.Functions.host g.P.ContextProvider.context c.args.self.now c.args.scope.now in
     let a = bound_written c.in-Range.start in
     let b = bound_written c.in-Range.end in
     let v = c.args.value in
     let is : postfix_written c.args.operator.now ≡ slice a b = ap postfix_written c.in-Range.is ∙ written-Slice c.in-Range.start c.in-Range.end in
     let r = c.from_residual.result in
     let e = c.in_err-start-in-Range.field-0.0 in
-    subst (λ p. Gives r (AllowsPostfix host ctx p v)) (sym is) (
-    Gives-passed r e (AllowsPostfix host ctx (slice a b) v) c.from_residual.ensures.1 (
+    subst (λ p. Gives r (AllowsPostfix world p v)) (sym is) (
+    Gives-passed r e (AllowsPostfix world (slice a b) v) c.from_residual.ensures.1 (
     λ m. (Err (fault_of e), c.in_err-start-in-Range.ensures m, refl)
     )
     )
 
 pub follow-returns-in-Range : goal.follow-returns-in-Range
 follow-returns-in-Range g t c =
-    let host : Host = g.H.Functions.host c.args.self.now.host.now in
-    let base : Context = g.P.ContextProvider.context c.args.self.now.provider in
-    let ctx : Context = inside c.args.scope.now base in
+    let world : World = here g.H.Functions.host g.P.ContextProvider.context c.args.self.now c.args.scope.now in
     let a = bound_written c.in-Range.start in
     let b = bound_written c.in-Range.end in
     let v = c.args.value in
     let is : postfix_written c.args.operator.now ≡ slice a b = ap postfix_written c.in-Range.is ∙ written-Slice c.in-Range.start c.in-Range.end in
     let from = c.in_ok-start-in-Range.start in
-    subst (λ p. Gives c.slice_to.result (AllowsPostfix host ctx p v)) (sym is) (
-    Gives-under c.slice_to.result (After (AllowsBound host ctx b) (λ to a. a ≡ sliced v from to)) (AllowsPostfix host ctx (slice a b) v) (
+    subst (λ p. Gives c.slice_to.result (AllowsPostfix world p v)) (sym is) (
+    Gives-under c.slice_to.result (After (AllowsBound world b) (λ to a. a ≡ sliced v from to)) (AllowsPostfix world (slice a b) v) (
     λ x p. (Ok from, c.in_ok-start-in-Range.ensures, p)
     ) c.slice_to.ensures
     )
 
 pub items-loop-node-preserved : goal.items-loop-node-preserved
 items-loop-node-preserved g t c =
-    let host : Host = g.H.Functions.host c.args.self.now.host.now in
-    let base : Context = g.P.ContextProvider.context c.args.self.now.provider in
-    let ctx : Context = inside c.args.scope.now base in
+    let world : World = here g.H.Functions.host g.P.ContextProvider.context c.args.self.now c.args.scope.now in
     let v = c.in_ok-keep.field-0 in
     let node = c.node-item.result in
-    let all = AllowsAll host ctx (terms_written c.args.nodes.now) in
+    let all = AllowsAll world (terms_written c.args.nodes.now) in
     λ rest p. subst (λ vs. all (prepended vs rest)) (sym c.in_ok-push.ensures.items) (
-    loop-step (λ ns. AllowsAll host ctx (terms_written ns)) all c.args.nodes.now c.loop-node.node-index c.loop-node.values.items c.loop-node.invariant node v c.node-item.is c.loop-node-test.true (AllowsAll-first host ctx (written node) (terms_written (drop (c.loop-node.node-index + 1) c.args.nodes.now)) v c.in_ok-keep.ensures) rest p
+    loop-step (λ ns. AllowsAll world (terms_written ns)) all c.args.nodes.now c.loop-node.node-index c.loop-node.values.items c.loop-node.invariant node v c.node-item.is c.loop-node-test.true (AllowsAll-first world (written node) (terms_written (drop (c.loop-node.node-index + 1) c.args.nodes.now)) v c.in_ok-keep.ensures) rest p
     )
 
 pub items-returns-in_err-keep : goal.items-returns-in_err-keep
 items-returns-in_err-keep g t c =
-    let host : Host = g.H.Functions.host c.args.self.now.host.now in
-    let base : Context = g.P.ContextProvider.context c.args.self.now.provider in
-    let ctx : Context = inside c.args.scope.now base in
+    let world : World = here g.H.Functions.host g.P.ContextProvider.context c.args.self.now c.args.scope.now in
     let k = fault_of c.in_err-keep.field-0.0 in
-    let all = AllowsAll host ctx (terms_written c.args.nodes.now) in
+    let all = AllowsAll world (terms_written c.args.nodes.now) in
     Gives-passed _ c.in_err-keep.field-0.0 all c.from_residual-in_err-keep.ensures.1 (
-    λ m. loop-failed (λ ns. AllowsAll host ctx (terms_written ns)) all c.args.nodes.now c.loop-node.node-index c.loop-node.values.items c.loop-node.invariant c.node-item.result k c.node-item.is c.loop-node-test.true (
+    λ m. loop-failed (λ ns. AllowsAll world (terms_written ns)) all c.args.nodes.now c.loop-node.node-index c.loop-node.values.items c.loop-node.invariant c.node-item.result k c.node-item.is c.loop-node-test.true (
       Err k,
       c.in_err-keep.ensures m,
       refl,
@@ -336,12 +188,10 @@ items-returns-in_err-keep g t c =
 
 pub items-returns : goal.items-returns
 items-returns g t c =
-    let host : Host = g.H.Functions.host c.args.self.now.host.now in
-    let base : Context = g.P.ContextProvider.context c.args.self.now.provider in
-    let ctx : Context = inside c.args.scope.now base in
-    let all = AllowsAll host ctx (terms_written c.args.nodes.now) in
+    let world : World = here g.H.Functions.host g.P.ContextProvider.context c.args.self.now c.args.scope.now in
+    let all = AllowsAll world (terms_written c.args.nodes.now) in
     subst (λ vs. all (Ok vs)) (sym c.from_vec.ensures) (
-    loop-done (λ ns. AllowsAll host ctx (terms_written ns)) all c.args.nodes.now c.loop-node.node-index c.loop-node.values.items c.loop-node.invariant c.loop-node-test.false refl
+    loop-done (λ ns. AllowsAll world (terms_written ns)) all c.args.nodes.now c.loop-node.node-index c.loop-node.values.items c.loop-node.invariant c.loop-node-test.false refl
     )
 
 pub entries-keep-requires : goal.entries-keep-requires
@@ -355,27 +205,23 @@ entries-keep-requires g t c κs within =
 
 pub entries-loop-key-preserved : goal.entries-loop-key-preserved
 entries-loop-key-preserved g t c =
-    let host : Host = g.H.Functions.host c.args.self.now.host.now in
-    let base : Context = g.P.ContextProvider.context c.args.self.now.provider in
-    let ctx : Context = inside c.args.scope.now base in
+    let world : World = here g.H.Functions.host g.P.ContextProvider.context c.args.self.now c.args.scope.now in
     let v = c.in_ok-value.value in
     let p = c.loop-key-item.result in
     let i = c.loop-key.key-index in
-    let all = AllowsPairs host ctx (pairs_written c.args.entries.now) in
+    let all = AllowsPairs world (pairs_written c.args.entries.now) in
     let pushed : c.push.new.self.items ≡ c.loop-key.pairs.items ++ (string_bytes p.0, v) ∷ [] = search rules in
     λ rest q. subst (λ ms. all (prepended ms rest)) (sym pushed) (
-    loop-step (λ ps. AllowsPairs host ctx (pairs_written ps)) all c.args.entries.now i c.loop-key.pairs.items c.loop-key.invariant p (string_bytes p.0, v) c.loop-key-item.is c.loop-key-test.true (AllowsPairs-first host ctx (string_bytes p.0) (written p.1) (pairs_written (drop (i + 1) c.args.entries.now)) v c.in_ok-value.ensures) rest q
+    loop-step (λ ps. AllowsPairs world (pairs_written ps)) all c.args.entries.now i c.loop-key.pairs.items c.loop-key.invariant p (string_bytes p.0, v) c.loop-key-item.is c.loop-key-test.true (AllowsPairs-first world (string_bytes p.0) (written p.1) (pairs_written (drop (i + 1) c.args.entries.now)) v c.in_ok-value.ensures) rest q
     )
 
 pub entries-returns-in_err-value : goal.entries-returns-in_err-value
 entries-returns-in_err-value g t c =
-    let host : Host = g.H.Functions.host c.args.self.now.host.now in
-    let base : Context = g.P.ContextProvider.context c.args.self.now.provider in
-    let ctx : Context = inside c.args.scope.now base in
+    let world : World = here g.H.Functions.host g.P.ContextProvider.context c.args.self.now c.args.scope.now in
     let k = fault_of c.in_err-value.field-0.0 in
-    let all = AllowsPairs host ctx (pairs_written c.args.entries.now) in
+    let all = AllowsPairs world (pairs_written c.args.entries.now) in
     Gives-passed _ c.in_err-value.field-0.0 all c.from_residual-in_err-value.ensures.1 (
-    λ m. loop-failed (λ ps. AllowsPairs host ctx (pairs_written ps)) all c.args.entries.now c.loop-key.key-index c.loop-key.pairs.items c.loop-key.invariant c.loop-key-item.result k c.loop-key-item.is c.loop-key-test.true (
+    λ m. loop-failed (λ ps. AllowsPairs world (pairs_written ps)) all c.args.entries.now c.loop-key.key-index c.loop-key.pairs.items c.loop-key.invariant c.loop-key-item.result k c.loop-key-item.is c.loop-key-test.true (
       Err k,
       c.in_err-value.ensures m,
       refl,
@@ -384,43 +230,35 @@ entries-returns-in_err-value g t c =
 
 pub entries-returns : goal.entries-returns
 entries-returns g t c =
-    let host : Host = g.H.Functions.host c.args.self.now.host.now in
-    let base : Context = g.P.ContextProvider.context c.args.self.now.provider in
-    let ctx : Context = inside c.args.scope.now base in
-    let all = AllowsPairs host ctx (pairs_written c.args.entries.now) in
+    let world : World = here g.H.Functions.host g.P.ContextProvider.context c.args.self.now c.args.scope.now in
+    let all = AllowsPairs world (pairs_written c.args.entries.now) in
     subst (λ ms. all (Ok ms)) (sym c.from_vec.ensures) (
-    loop-done (λ ps. AllowsPairs host ctx (pairs_written ps)) all c.args.entries.now c.loop-key.key-index c.loop-key.pairs.items c.loop-key.invariant c.loop-key-test.false refl
+    loop-done (λ ps. AllowsPairs world (pairs_written ps)) all c.args.entries.now c.loop-key.key-index c.loop-key.pairs.items c.loop-key.invariant c.loop-key-test.false refl
     )
 
 pub arguments-loop-node-init : goal.arguments-loop-node-init
 arguments-loop-node-init g t c =
-    let host : Host = g.H.Functions.host c.args.self.now.host.now in
-    let base : Context = g.P.ContextProvider.context c.args.self.now.provider in
-    let ctx : Context = inside c.args.scope.now base in
+    let world : World = here g.H.Functions.host g.P.ContextProvider.context c.args.self.now c.args.scope.now in
     let ts = terms_written c.args.nodes.now in
-    λ rest p. subst (λ vs. AllowsMore host ctx (listed c.args.first) ts (prepended vs rest)) (sym c.in_ok-values.ensures.ok) (AllowsMore-all host ctx (listed c.args.first) ts rest p)
+    λ rest p. subst (λ vs. AllowsMore world (listed c.args.first) ts (prepended vs rest)) (sym c.in_ok-values.ensures.ok) (AllowsMore-all world (listed c.args.first) ts rest p)
 
 pub arguments-loop-node-preserved : goal.arguments-loop-node-preserved
 arguments-loop-node-preserved g t c =
-    let host : Host = g.H.Functions.host c.args.self.now.host.now in
-    let base : Context = g.P.ContextProvider.context c.args.self.now.provider in
-    let ctx : Context = inside c.args.scope.now base in
+    let world : World = here g.H.Functions.host g.P.ContextProvider.context c.args.self.now c.args.scope.now in
     let v = c.in_ok-evaluate.field-0 in
     let node = c.node-item.result in
-    let whole = AllowsMore host ctx (listed c.args.first) (terms_written c.args.nodes.now) in
+    let whole = AllowsMore world (listed c.args.first) (terms_written c.args.nodes.now) in
     λ rest p. subst (λ vs. whole (prepended vs rest)) (sym c.in_ok-push.ensures.items) (
-    loop-step (λ ns. AllowsAll host ctx (terms_written ns)) whole c.args.nodes.now c.loop-node.node-index c.loop-node.values.items c.loop-node.invariant node v c.node-item.is c.loop-node-test.true (AllowsAll-first host ctx (written node) (terms_written (drop (c.loop-node.node-index + 1) c.args.nodes.now)) v c.in_ok-evaluate.ensures.answer) rest p
+    loop-step (λ ns. AllowsAll world (terms_written ns)) whole c.args.nodes.now c.loop-node.node-index c.loop-node.values.items c.loop-node.invariant node v c.node-item.is c.loop-node-test.true (AllowsAll-first world (written node) (terms_written (drop (c.loop-node.node-index + 1) c.args.nodes.now)) v c.in_ok-evaluate.ensures.answer) rest p
     )
 
 pub arguments-returns-in_err-evaluate : goal.arguments-returns-in_err-evaluate
 arguments-returns-in_err-evaluate g t c =
-    let host : Host = g.H.Functions.host c.args.self.now.host.now in
-    let base : Context = g.P.ContextProvider.context c.args.self.now.provider in
-    let ctx : Context = inside c.args.scope.now base in
+    let world : World = here g.H.Functions.host g.P.ContextProvider.context c.args.self.now c.args.scope.now in
     let k = fault_of c.in_err-evaluate.field-0.0 in
-    let whole = AllowsMore host ctx (listed c.args.first) (terms_written c.args.nodes.now) in
+    let whole = AllowsMore world (listed c.args.first) (terms_written c.args.nodes.now) in
     Gives-passed _ c.in_err-evaluate.field-0.0 whole c.from_residual-in_err-evaluate.ensures.1 (
-    λ m. loop-failed (λ ns. AllowsAll host ctx (terms_written ns)) whole c.args.nodes.now c.loop-node.node-index c.loop-node.values.items c.loop-node.invariant c.node-item.result k c.node-item.is c.loop-node-test.true (
+    λ m. loop-failed (λ ns. AllowsAll world (terms_written ns)) whole c.args.nodes.now c.loop-node.node-index c.loop-node.values.items c.loop-node.invariant c.node-item.result k c.node-item.is c.loop-node-test.true (
       Err k,
       c.in_err-evaluate.ensures.answer m,
       refl,
@@ -429,18 +267,15 @@ arguments-returns-in_err-evaluate g t c =
 
 pub arguments-returns : goal.arguments-returns
 arguments-returns g t c =
-    let host : Host = g.H.Functions.host c.args.self.now.host.now in
-    let base : Context = g.P.ContextProvider.context c.args.self.now.provider in
-    let ctx : Context = inside c.args.scope.now base in
-    let whole = AllowsMore host ctx (listed c.args.first) (terms_written c.args.nodes.now) in
+    let world : World = here g.H.Functions.host g.P.ContextProvider.context c.args.self.now c.args.scope.now in
+    let whole = AllowsMore world (listed c.args.first) (terms_written c.args.nodes.now) in
     subst (λ vs. whole (Ok vs)) (sym c.from_vec.ensures) (
-    loop-done (λ ns. AllowsAll host ctx (terms_written ns)) whole c.args.nodes.now c.loop-node.node-index c.loop-node.values.items c.loop-node.invariant c.loop-node-test.false refl
+    loop-done (λ ns. AllowsAll world (terms_written ns)) whole c.args.nodes.now c.loop-node.node-index c.loop-node.values.items c.loop-node.invariant c.loop-node-test.false refl
     )
 
 pub run_lines-loop-name-preserved : goal.run_lines-loop-name-preserved
 run_lines-loop-name-preserved g t c =
-    let host : Host = g.H.Functions.host c.args.self.now.host.now in
-    let base : Context = g.P.ContextProvider.context c.args.self.now.provider in
+    let world : World = outermost g.H.Functions.host g.P.ContextProvider.context c.args.self.now in
     let lines_of = λ (ls : List (String Global × Node)). block_of (map (λ p. (p.0, written p.1)) ls) (written c.args.program.now.expr) in
     let lines = c.args.program.now.lines.items in
     let i = c.loop-name.name-index in
@@ -454,8 +289,8 @@ run_lines-loop-name-preserved g t c =
     let after : Scope-F Scope = record { bindings = c.push.new.self; question = (out-Scope inner).question; outer = (out-Scope inner).outer } in
     let rolled = out-roll-Scope after in
     λ answer p. c.loop-name.invariant answer (
-    subst (λ ls. AllowsBlock host (inside inner base) (lines_of ls) answer) (sym at) (
-    AllowsBlock-line host base inner (roll-Scope after) b l.0 (written l.1) (lines_of (drop (i + 1) lines)) answer
+    subst (λ ls. AllowsBlock (with_context world (inside inner world.context)) (lines_of ls) answer) (sym at) (
+    AllowsBlock-line world inner (roll-Scope after) b l.0 (written l.1) (lines_of (drop (i + 1) lines)) answer
     (ap (λ (r : Scope-F Scope). r.bindings.items) rolled ∙ c.in_ok-push.ensures.items) (ap (λ (r : Scope-F Scope). r.question) rolled)
     (ap (λ (r : Scope-F Scope). r.outer) rolled) named c.in_ok-value.ensures p
     )
@@ -474,9 +309,9 @@ run_lines-returns-in_err-value g t c =
     let at : drop i lines ≡ l ∷ drop (i + 1) lines =
     subst (λ xs. drop i xs ≡ l ∷ drop (i + 1) xs) same (drop-at c.deref-name-items.result.now i l c.loop-name-item.is c.loop-name-test.true) in
     let k = fault_of c.in_err-value.field-0.0 in
-    Gives-passed _ c.in_err-value.field-0.0 (AllowsBlock host (inside c.args.scope.now base) (program_written c.args.program.now)) c.from_residual.ensures.1 (
+    Gives-passed _ c.in_err-value.field-0.0 (AllowsBlock (world_of host (inside c.args.scope.now base)) (program_written c.args.program.now)) c.from_residual.ensures.1 (
     λ m. c.loop-name.invariant (Err k) (
-    subst (λ ls. AllowsBlock host (inside inner base) (lines_of ls) (Err k)) (sym at) (Err k, c.in_err-value.ensures m, refl)
+    subst (λ ls. AllowsBlock (world_of host (inside inner base)) (lines_of ls) (Err k)) (sym at) (Err k, c.in_err-value.ensures m, refl)
     )
     )
 
@@ -490,177 +325,128 @@ run_lines-returns g t c =
     let inner = c.loop-name.inner in
     let same : c.deref-name-items.result.now ≡ lines = c.deref-name-items.ensures.value in
     let over : length lines ≤ i = subst (λ xs. length xs ≤ i) same c.loop-name-test.false in
-    let last = Allows host (inside inner base) (written c.args.program.now.expr) in
-    let whole = AllowsBlock host (inside c.args.scope.now base) (program_written c.args.program.now) in
+    let last = Allows (world_of host (inside inner base)) (written c.args.program.now.expr) in
+    let whole = AllowsBlock (world_of host (inside c.args.scope.now base)) (program_written c.args.program.now) in
     let on : (a : Answer) → last a → whole a =
-    λ a p. c.loop-name.invariant a (subst (λ ls. AllowsBlock host (inside inner base) (lines_of ls) a) (sym (drop_all i lines over)) p) in
+    λ a p. c.loop-name.invariant a (subst (λ ls. AllowsBlock (world_of host (inside inner base)) (lines_of ls) a) (sym (drop_all i lines over)) p) in
     Gives-under c.keep-2.result last whole on c.keep-2.ensures
 
-pub evaluate_form-returns-in_err-items-in-Array-clause-plain : goal.evaluate_form-returns-in_err-items-in-Array-clause-plain
-evaluate_form-returns-in_err-items-in-Array-clause-plain g t c = λ v p h. Array-plain _ c.args.node.now c.in-Array.is p
-
-pub evaluate_form-returns-in_err-pairs-in-Map-clause-plain : goal.evaluate_form-returns-in_err-pairs-in-Map-clause-plain
-evaluate_form-returns-in_err-pairs-in-Map-clause-plain g t c = λ v p h. Map-plain _ c.args.node.now c.in-Map.is p
-
-pub evaluate_form-returns-in_err-first-in-Range-clause-plain : goal.evaluate_form-returns-in_err-first-in-Range-clause-plain
-evaluate_form-returns-in_err-first-in-Range-clause-plain g t c = λ v p h. Range-plain c.args.node.now c.in-Range.is p
-
-pub evaluate_form-returns-in_err-args-in-Func-clause-plain : goal.evaluate_form-returns-in_err-args-in-Func-clause-plain
-evaluate_form-returns-in_err-args-in-Func-clause-plain g t c = λ v p h. Func-plain _ _ _ c.args.node.now c.in-Func.is p
-
-pub evaluate_form-returns-in_err-value-in-Postfix-clause-plain : goal.evaluate_form-returns-in_err-value-in-Postfix-clause-plain
-evaluate_form-returns-in_err-value-in-Postfix-clause-plain g t c = λ v p h. Postfix-plain c.args.node.now c.in-Postfix.is p
-
-pub evaluate_form-returns-in_err-condition-in-Conditional-clause-plain : goal.evaluate_form-returns-in_err-condition-in-Conditional-clause-plain
-evaluate_form-returns-in_err-condition-in-Conditional-clause-plain g t c = λ v p h. Conditional-plain _ _ _ c.args.node.now c.in-Conditional.is p
-
-pub evaluate_form-returns-in_err-holds-in-Conditional-clause-plain : goal.evaluate_form-returns-in_err-holds-in-Conditional-clause-plain
-evaluate_form-returns-in_err-holds-in-Conditional-clause-plain g t c = λ v p h. Conditional-plain _ _ _ c.args.node.now c.in-Conditional.is p
-
-pub evaluate-returns-in-Ident-clause-plain : goal.evaluate-returns-in-Ident-clause-plain
-evaluate-returns-in-Ident-clause-plain g t c = λ v p h. Ident-plain c.args.node.now c.in-Ident.is p
-
-pub evaluate_form-returns-in-Ident-clause-plain : goal.evaluate_form-returns-in-Ident-clause-plain
-evaluate_form-returns-in-Ident-clause-plain g t c = λ v p h. Ident-plain c.args.node.now c.in-Ident.is p
-
-pub evaluate_form-returns-in-Array-clause-plain : goal.evaluate_form-returns-in-Array-clause-plain
-evaluate_form-returns-in-Array-clause-plain g t c = λ v p h. Array-plain _ c.args.node.now c.in-Array.is p
-
-pub evaluate_form-returns-in-Range-clause-plain : goal.evaluate_form-returns-in-Range-clause-plain
-evaluate_form-returns-in-Range-clause-plain g t c = λ v p h. Range-plain c.args.node.now c.in-Range.is p
-
-pub evaluate_form-returns-in-Func-clause-plain : goal.evaluate_form-returns-in-Func-clause-plain
-evaluate_form-returns-in-Func-clause-plain g t c = λ v p h. Func-plain _ _ _ c.args.node.now c.in-Func.is p
-
-pub evaluate_form-returns-in-Postfix-clause-plain : goal.evaluate_form-returns-in-Postfix-clause-plain
-evaluate_form-returns-in-Postfix-clause-plain g t c = λ v p h. Postfix-plain c.args.node.now c.in-Postfix.is p
-
-pub evaluate_form-returns-then-branch-clause-plain : goal.evaluate_form-returns-then-branch-clause-plain
-evaluate_form-returns-then-branch-clause-plain g t c = λ v p h. Conditional-plain _ _ _ c.args.node.now c.in-Conditional.is p
-
-pub evaluate_form-returns-clause-plain : goal.evaluate_form-returns-clause-plain
-evaluate_form-returns-clause-plain g t c = λ v p h. Conditional-plain _ _ _ c.args.node.now c.in-Conditional.is p
-
 -- a map literal is the map of its pairs
-pub evaluate_form-returns-in-Map-clause-answer : goal.evaluate_form-returns-in-Map-clause-answer
-evaluate_form-returns-in-Map-clause-answer g t c =
-    let host : Host = g.H.Functions.host c.args.self.now.host.now in
-    let ctx : Context = inside c.args.scope.now (g.P.ContextProvider.context c.args.self.now.provider) in
+pub evaluate_form-returns-in-Map : goal.evaluate_form-returns-in-Map
+evaluate_form-returns-in-Map g t c =
+    let world : World = here g.H.Functions.host g.P.ContextProvider.context c.args.self.now c.args.scope.now in
     let ps = pairs_written c.in-Map.entries.items in
     let is : written c.args.node.now ≡ mapping ps = ap written c.in-Map.is ∙ written-pairs c.in-Map.entries in
     let ms = c.in_ok-pairs-in-Map.pairs in
-    let allowed = subst (λ ns. AllowsPairs host ctx (pairs_written ns) (Ok ms)) c.deref-in-Map.ensures.value c.in_ok-pairs-in-Map.ensures in
-    subst (λ n. Gives c.map_of.result (Allows host ctx n)) (sym is) (
-    Gives-of-Is c.map_of.result (Ok (value.Map (put_all [] ms))) (Allows host ctx (mapping ps)) c.map_of.ensures (Ok ms, allowed, refl)
-    )
+    let allowed = subst (λ ns. AllowsPairs world (pairs_written ns) (Ok ms)) c.deref-in-Map.ensures.value c.in_ok-pairs-in-Map.ensures in
+    record {
+      answer = subst (λ n. Gives c.map_of.result (Allows world n)) (sym is) (
+          Gives-of-Is c.map_of.result (Ok (value.Map (put_all [] ms))) (Allows world (mapping ps)) c.map_of.ensures (Ok ms, allowed, refl)
+          );
+    }
 
-pub evaluate_form-returns-in_err-pairs-in-Map-clause-answer : goal.evaluate_form-returns-in_err-pairs-in-Map-clause-answer
-evaluate_form-returns-in_err-pairs-in-Map-clause-answer g t c =
-    let host : Host = g.H.Functions.host c.args.self.now.host.now in
-    let ctx : Context = inside c.args.scope.now (g.P.ContextProvider.context c.args.self.now.provider) in
+pub evaluate_form-returns-in_err-pairs-in-Map : goal.evaluate_form-returns-in_err-pairs-in-Map
+evaluate_form-returns-in_err-pairs-in-Map g t c =
+    let world : World = here g.H.Functions.host g.P.ContextProvider.context c.args.self.now c.args.scope.now in
     let ps = pairs_written c.in-Map.entries.items in
     let is : written c.args.node.now ≡ mapping ps = ap written c.in-Map.is ∙ written-pairs c.in-Map.entries in
     let e = c.in_err-pairs-in-Map.field-0.0 in
-    subst (λ n. Gives c.from_residual-in_err-pairs-in-Map.result (Allows host ctx n)) (sym is) (
-    Gives-passed c.from_residual-in_err-pairs-in-Map.result e (Allows host ctx (mapping ps)) c.from_residual-in_err-pairs-in-Map.ensures.1 (
-    λ m. (Err (fault_of e), subst (λ ns. AllowsPairs host ctx (pairs_written ns) (Err (fault_of e))) c.deref-in-Map.ensures.value (c.in_err-pairs-in-Map.ensures m), refl)
-    )
-    )
+    record {
+      answer = subst (λ n. Gives c.from_residual-in_err-pairs-in-Map.result (Allows world n)) (sym is) (
+          Gives-passed c.from_residual-in_err-pairs-in-Map.result e (Allows world (mapping ps)) c.from_residual-in_err-pairs-in-Map.ensures.1 (
+          λ m. (Err (fault_of e), subst (λ ns. AllowsPairs world (pairs_written ns) (Err (fault_of e))) c.deref-in-Map.ensures.value (c.in_err-pairs-in-Map.ensures m), refl)
+          )
+          );
+    }
 
 -- what a call allows is what the call on its arguments' values allows
-pub evaluate_form-returns-in-Func-clause-answer : goal.evaluate_form-returns-in-Func-clause-answer
-evaluate_form-returns-in-Func-clause-answer g t c =
-    let host : Host = g.H.Functions.host c.args.self.now.host.now in
-    let ctx : Context = inside c.args.scope.now (g.P.ContextProvider.context c.args.self.now.provider) in
+pub evaluate_form-returns-in-Func : goal.evaluate_form-returns-in-Func
+evaluate_form-returns-in-Func g t c =
+    let world : World = here g.H.Functions.host g.P.ContextProvider.context c.args.self.now c.args.scope.now in
     let key = string_bytes c.in-Func.ident in
     let ts = terms_written c.in-Func.args.items in
     let p = predicate_written c.in-Func.predicate in
     let is : written c.args.node.now ≡ call key ts p = ap written c.in-Func.is ∙ written-Func c.in-Func.ident c.in-Func.args c.in-Func.predicate in
     let vs = c.in_ok-args-in-Func.args in
-    let more = subst (λ ns. AllowsMore host ctx [] (terms_written ns) (Ok vs)) c.deref-in-Func.ensures.value c.in_ok-args-in-Func.ensures in
-    let found = AllowsMore-rest host ctx [] ts vs more in
-    let asks : Question → Answer → Type 0 = AllowsAsked host ctx p in
-    subst (λ n. Gives c.call.result (Allows host ctx n)) (sym is) (
-    Gives-under c.call.result (AllowsCall host key vs (is_given p) asks) (Allows host ctx (call key ts p)) (
-    λ a q. (Ok found.0, found.1, subst (λ xs. AllowsCall host key xs (is_given p) asks a) found.2 q)
-    ) (subst (λ k. Gives c.call.result (AllowsCall host k vs (is_given p) asks)) c.deref-in-Func-2.ensures c.call.ensures)
-    )
+    let more = subst (λ ns. AllowsMore world [] (terms_written ns) (Ok vs)) c.deref-in-Func.ensures.value c.in_ok-args-in-Func.ensures in
+    let found = AllowsMore-rest world [] ts vs more in
+    let asks : Question → Answer → Type 0 = AllowsAsked world p in
+    record {
+      answer = subst (λ n. Gives c.call.result (Allows world n)) (sym is) (
+          Gives-under c.call.result (AllowsCall world.host key vs (is_given p) asks) (Allows world (call key ts p)) (
+          λ a q. (Ok found.0, found.1, subst (λ xs. AllowsCall world.host key xs (is_given p) asks a) found.2 q)
+          ) (subst (λ k. Gives c.call.result (AllowsCall world.host k vs (is_given p) asks)) c.deref-in-Func-2.ensures c.call.ensures)
+          );
+    }
 
 pub pipe-returns : goal.pipe-returns
 pipe-returns g t c =
-    let host : Host = g.H.Functions.host c.args.self.now.host.now in
-    let ctx : Context = inside c.args.scope.now (g.P.ContextProvider.context c.args.self.now.provider) in
+    let world : World = here g.H.Functions.host g.P.ContextProvider.context c.args.self.now c.args.scope.now in
     let key = string_bytes c.in-Func.ident in
     let ts = terms_written c.in-Func.args.items in
     let p = predicate_written c.in-Func.predicate in
     let v = c.args.value in
     let is : written c.args.node.now ≡ call key ts p = ap written c.in-Func.is ∙ written-Func c.in-Func.ident c.in-Func.args c.in-Func.predicate in
     let vs = c.in_ok-args.args in
-    let more = subst (λ ns. AllowsMore host ctx (v ∷ []) (terms_written ns) (Ok vs)) c.deref.ensures.value c.in_ok-args.ensures in
-    let found = AllowsMore-rest host ctx (v ∷ []) ts vs more in
-    let asks : Question → Answer → Type 0 = AllowsAsked host ctx p in
-    subst (λ n. Gives c.call.result (AllowsPiped host ctx n v)) (sym is) (
-    Gives-under c.call.result (AllowsCall host key vs (is_given p) asks) (AllowsPiped host ctx (call key ts p) v) (
-    λ a q. (Ok found.0, found.1, subst (λ xs. AllowsCall host key xs (is_given p) asks a) found.2 q)
-    ) (subst (λ k. Gives c.call.result (AllowsCall host k vs (is_given p) asks)) c.deref-2.ensures c.call.ensures)
+    let more = subst (λ ns. AllowsMore world (v ∷ []) (terms_written ns) (Ok vs)) c.deref.ensures.value c.in_ok-args.ensures in
+    let found = AllowsMore-rest world (v ∷ []) ts vs more in
+    let asks : Question → Answer → Type 0 = AllowsAsked world p in
+    subst (λ n. Gives c.call.result (AllowsPiped world n v)) (sym is) (
+    Gives-under c.call.result (AllowsCall world.host key vs (is_given p) asks) (AllowsPiped world (call key ts p) v) (
+    λ a q. (Ok found.0, found.1, subst (λ xs. AllowsCall world.host key xs (is_given p) asks a) found.2 q)
+    ) (subst (λ k. Gives c.call.result (AllowsCall world.host k vs (is_given p) asks)) c.deref-2.ensures c.call.ensures)
     )
 
 pub call-returns-in-None : goal.call-returns-in-None
 call-returns-in-None g t c =
-    let host : Host = g.H.Functions.host c.args.self.now.host.now in
-    let ctx : Context = inside c.args.scope.now (g.P.ContextProvider.context c.args.self.now.provider) in
-    subst (λ o. Gives c.call_alone.result (AllowsCall host c.args.ident.now c.args.args (is_given (predicate_written o)) (AllowsAsked host ctx (predicate_written o)))) (sym c.in-None.is) c.call_alone.ensures
+    let world : World = here g.H.Functions.host g.P.ContextProvider.context c.args.self.now c.args.scope.now in
+    subst (λ o. Gives c.call_alone.result (AllowsCall world.host c.args.ident.now c.args.args (is_given (predicate_written o)) (AllowsAsked world (predicate_written o)))) (sym c.in-None.is) c.call_alone.ensures
 
 pub call_with-returns-in_err-answer : goal.call_with-returns-in_err-answer
 call_with-returns-in_err-answer g t c =
-    let host : Host = g.H.Functions.host c.args.self.now.host.now in
-    let ctx : Context = inside c.args.scope.now (g.P.ContextProvider.context c.args.self.now.provider) in
-    let asks : Question → Answer → Type 0 = AllowsAsked host ctx (predicate (program_written c.args.program.now)) in
+    let world : World = here g.H.Functions.host g.P.ContextProvider.context c.args.self.now c.args.scope.now in
+    let asks : Question → Answer → Type 0 = AllowsAsked world (predicate (program_written c.args.program.now)) in
     let key = c.args.ident.now in
     let vs = c.args.args in
     let e = c.in_err-answer.field-0.0 in
-    Gives-passed _ e (AllowsCall host key vs true asks) c.from_residual.ensures.1 (λ m. AllowsCall-refused host key vs true asks (fault_of e) (c.in_err-answer.ensures.refused m))
+    Gives-passed _ e (AllowsCall world.host key vs true asks) c.from_residual.ensures.1 (λ m. AllowsCall-refused world.host key vs true asks (fault_of e) (c.in_err-answer.ensures.refused m))
 
 pub call_with-returns-in-Answered : goal.call_with-returns-in-Answered
 call_with-returns-in-Answered g t c =
-    let host : Host = g.H.Functions.host c.args.self.now.host.now in
-    let ctx : Context = inside c.args.scope.now (g.P.ContextProvider.context c.args.self.now.provider) in
-    let asks : Question → Answer → Type 0 = AllowsAsked host ctx (predicate (program_written c.args.program.now)) in
+    let world : World = here g.H.Functions.host g.P.ContextProvider.context c.args.self.now c.args.scope.now in
+    let asks : Question → Answer → Type 0 = AllowsAsked world (predicate (program_written c.args.program.now)) in
     let key = c.args.ident.now in
     let vs = c.args.args in
     let v = c.in-Answered.answer in
-    let begins = subst (λ b. Begins host key vs true b) c.in-Answered.is c.in_ok-answer.ensures.begun in
-    subst (λ w. AllowsCall host key vs true asks (Ok w)) (sym c.own.ensures) (AllowsCall-answered host key vs true asks v begins)
+    let begins = subst (λ b. Begins world.host key vs true b) c.in-Answered.is c.in_ok-answer.ensures.begun in
+    subst (λ w. AllowsCall world.host key vs true asks (Ok w)) (sym c.own.ensures) (AllowsCall-answered world.host key vs true asks v begins)
 
 pub call_with-returns-in_err-ask-in-Asks : goal.call_with-returns-in_err-ask-in-Asks
 call_with-returns-in_err-ask-in-Asks g t c =
-    let host : Host = g.H.Functions.host c.args.self.now.host.now in
-    let ctx : Context = inside c.args.scope.now (g.P.ContextProvider.context c.args.self.now.provider) in
-    let asks : Question → Answer → Type 0 = AllowsAsked host ctx (predicate (program_written c.args.program.now)) in
+    let world : World = here g.H.Functions.host g.P.ContextProvider.context c.args.self.now c.args.scope.now in
+    let asks : Question → Answer → Type 0 = AllowsAsked world (predicate (program_written c.args.program.now)) in
     let key = c.args.ident.now in
     let vs = c.args.args in
     let e = c.in_err-ask-in-Asks.field-0.0 in
-    let begins = subst (λ b. Begins host key vs true b) c.in-Asks.is c.in_ok-answer.ensures.begun in
-    Gives-passed _ e (AllowsCall host key vs true asks) c.from_residual-in_err-ask-in-Asks.ensures.1 (
-    λ m. AllowsCall-run host key vs true asks c.in-Asks.run' begins (Err (fault_of e)) (λ u s. c.in_err-ask-in-Asks.ensures u s m)
+    let begins = subst (λ b. Begins world.host key vs true b) c.in-Asks.is c.in_ok-answer.ensures.begun in
+    Gives-passed _ e (AllowsCall world.host key vs true asks) c.from_residual-in_err-ask-in-Asks.ensures.1 (
+    λ m. AllowsCall-run world.host key vs true asks c.in-Asks.run' begins (Err (fault_of e)) (λ u s. c.in_err-ask-in-Asks.ensures u s m)
     )
 
 pub call_with-returns-in_ok-ask-in-Asks : goal.call_with-returns-in_ok-ask-in-Asks
 call_with-returns-in_ok-ask-in-Asks g t c =
-    let host : Host = g.H.Functions.host c.args.self.now.host.now in
-    let ctx : Context = inside c.args.scope.now (g.P.ContextProvider.context c.args.self.now.provider) in
-    let asks : Question → Answer → Type 0 = AllowsAsked host ctx (predicate (program_written c.args.program.now)) in
+    let world : World = here g.H.Functions.host g.P.ContextProvider.context c.args.self.now c.args.scope.now in
+    let asks : Question → Answer → Type 0 = AllowsAsked world (predicate (program_written c.args.program.now)) in
     let key = c.args.ident.now in
     let vs = c.args.args in
     let v = c.in_ok-ask-in-Asks.field-0 in
-    let begins = subst (λ b. Begins host key vs true b) c.in-Asks.is c.in_ok-answer.ensures.begun in
-    subst (λ w. AllowsCall host key vs true asks (Ok w)) (sym c.own-in-Asks.ensures) (AllowsCall-run host key vs true asks c.in-Asks.run' begins (Ok v) c.in_ok-ask-in-Asks.ensures)
+    let begins = subst (λ b. Begins world.host key vs true b) c.in-Asks.is c.in_ok-answer.ensures.begun in
+    subst (λ w. AllowsCall world.host key vs true asks (Ok w)) (sym c.own-in-Asks.ensures) (AllowsCall-run world.host key vs true asks c.in-Asks.run' begins (Ok v) c.in_ok-ask-in-Asks.ensures)
 
 pub ask-loop-asked-preserved : goal.ask-loop-asked-preserved
 ask-loop-asked-preserved g t c = λ u s.
-    let host : Host = g.H.Functions.host c.args.self.now.host.now in
-    let ctx : Context = inside c.args.scope.now (g.P.ContextProvider.context c.args.self.now.provider) in
-    let asks : Question → Answer → Type 0 = AllowsAsked host ctx (predicate (program_written c.args.program.now)) in
+    let world : World = here g.H.Functions.host g.P.ContextProvider.context c.args.self.now c.args.scope.now in
+    let asks : Question → Answer → Type 0 = AllowsAsked world (predicate (program_written c.args.program.now)) in
     let at = c.loop-asked.invariant u s in
     let whole : Answer → Type 0 = Asks u asks (left c.args.run) [] in
     let run = c.loop-asked.run in
@@ -673,9 +459,8 @@ ask-loop-asked-preserved g t c = λ u s.
 
 pub ask-returns-in_err-answer : goal.ask-returns-in_err-answer
 ask-returns-in_err-answer g t c = λ u s.
-    let host : Host = g.H.Functions.host c.args.self.now.host.now in
-    let ctx : Context = inside c.args.scope.now (g.P.ContextProvider.context c.args.self.now.provider) in
-    let asks : Question → Answer → Type 0 = AllowsAsked host ctx (predicate (program_written c.args.program.now)) in
+    let world : World = here g.H.Functions.host g.P.ContextProvider.context c.args.self.now c.args.scope.now in
+    let asks : Question → Answer → Type 0 = AllowsAsked world (predicate (program_written c.args.program.now)) in
     let at = c.loop-asked.invariant u s in
     let whole : Answer → Type 0 = Asks u asks (left c.args.run) [] in
     let run = c.loop-asked.run in
@@ -689,9 +474,8 @@ ask-returns-in_err-answer g t c = λ u s.
 
 pub ask-returns-in_err-answer-2 : goal.ask-returns-in_err-answer-2
 ask-returns-in_err-answer-2 g t c = λ u s.
-    let host : Host = g.H.Functions.host c.args.self.now.host.now in
-    let ctx : Context = inside c.args.scope.now (g.P.ContextProvider.context c.args.self.now.provider) in
-    let asks : Question → Answer → Type 0 = AllowsAsked host ctx (predicate (program_written c.args.program.now)) in
+    let world : World = here g.H.Functions.host g.P.ContextProvider.context c.args.self.now c.args.scope.now in
+    let asks : Question → Answer → Type 0 = AllowsAsked world (predicate (program_written c.args.program.now)) in
     let at = c.loop-asked.invariant u s in
     let whole : Answer → Type 0 = Asks u asks (left c.args.run) [] in
     let run = c.loop-asked.run in
@@ -707,9 +491,8 @@ ask-returns-in_err-answer-2 g t c = λ u s.
 
 pub ask-returns : goal.ask-returns
 ask-returns g t c = λ u s.
-    let host : Host = g.H.Functions.host c.args.self.now.host.now in
-    let ctx : Context = inside c.args.scope.now (g.P.ContextProvider.context c.args.self.now.provider) in
-    let asks : Question → Answer → Type 0 = AllowsAsked host ctx (predicate (program_written c.args.program.now)) in
+    let world : World = here g.H.Functions.host g.P.ContextProvider.context c.args.self.now c.args.scope.now in
+    let asks : Question → Answer → Type 0 = AllowsAsked world (predicate (program_written c.args.program.now)) in
     let at = c.loop-asked.invariant u s in
     let whole : Answer → Type 0 = Asks u asks (left c.args.run) [] in
     let run = c.loop-asked.run in

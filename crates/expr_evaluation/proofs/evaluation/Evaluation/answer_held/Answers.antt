@@ -8,38 +8,36 @@ use Rattle.expr_value.specs.declared.error.Error.{Error}
 use Rattle.expr_value.specs.declared.value.Value.{Value}
 use Rattle.expr_value.proofs.Answered.{Gives-of-Is, Gives-passed}
 use Rattle.expr_meaning.specs.Allows.{AllowsAsked, AllowsCall, is_given}
-use Rattle.expr_steps.specs.Context.{Context}
-use Rattle.expr_meaning.specs.Host.{Host}
+use Rattle.expr_meaning.specs.World.{World}
+use Rattle.expr_evaluation.specs.Here.{outermost}
 use Rattle.expr_evaluation.specs.Several.{predicate_lent}
 use Rattle.expr_evaluation.proofs.evaluation.Evaluation.answer_held.Goals as goal
 
 -- the call on these values, by the predicate that it is lent
-abbrev Whole : Host → Context → List ℕ → List Value → Option (Bor Program) → Result Value Error → Type 0
-Whole host ctx key vs o r = Gives r (AllowsCall host key vs (is_given (predicate_lent o)) (AllowsAsked host ctx (predicate_lent o)))
+abbrev Whole : World → List ℕ → List Value → Option (Bor Program) → Result Value Error → Type 0
+Whole world key vs o r = Gives r (AllowsCall world.host key vs (is_given (predicate_lent o)) (AllowsAsked world (predicate_lent o)))
 
-lent_none : (host : Host) (ctx : Context) (key : List ℕ) (vs : List Value) (o : Option (Bor Program)) (r : Result Value Error) → o ≡ None → Gives r (AllowsCall host key vs false AsksItself) → Whole host ctx key vs o r
-lent_none host ctx key vs o r is p = subst (λ k. Whole host ctx key vs k r) (sym is) p
+lent_none : (world : World) (key : List ℕ) (vs : List Value) (o : Option (Bor Program)) (r : Result Value Error) → o ≡ None → Gives r (AllowsCall world.host key vs false AsksItself) → Whole world key vs o r
+lent_none world key vs o r is p = subst (λ k. Whole world key vs k r) (sym is) p
 
 pub returns-in_err-call_alone : goal.returns-in_err-call_alone
 returns-in_err-call_alone g c =
-    let host : Host = g.H.Functions.host c.args.self.now.host.now in
-    let ctx : Context = g.P.ContextProvider.context c.args.self.now.provider in
+    let world : World = outermost g.H.Functions.host g.P.ContextProvider.context c.args.self.now in
     let key = c.args.ident.now in
     let e = c.in_err-call_alone.field-0.0 in
-    lent_none host ctx key c.args.args.items c.args.predicate c.from_residual-in_err-call_alone.result c.in_default.is (
-    Gives-passed c.from_residual-in_err-call_alone.result e (AllowsCall host key c.args.args.items false AsksItself) c.from_residual-in_err-call_alone.ensures.1 (
-    λ m. subst (λ vs. AllowsCall host key vs false AsksItself (Err (fault_of e))) c.in_ok-args.ensures.ok (c.in_err-call_alone.ensures m)
+    lent_none world key c.args.args.items c.args.predicate c.from_residual-in_err-call_alone.result c.in_default.is (
+    Gives-passed c.from_residual-in_err-call_alone.result e (AllowsCall world.host key c.args.args.items false AsksItself) c.from_residual-in_err-call_alone.ensures.1 (
+    λ m. subst (λ vs. AllowsCall world.host key vs false AsksItself (Err (fault_of e))) c.in_ok-args.ensures.ok (c.in_err-call_alone.ensures m)
     )
     )
 
 pub returns-in_default : goal.returns-in_default
 returns-in_default g c =
-    let host : Host = g.H.Functions.host c.args.self.now.host.now in
-    let ctx : Context = g.P.ContextProvider.context c.args.self.now.provider in
+    let world : World = outermost g.H.Functions.host g.P.ContextProvider.context c.args.self.now in
     let key = c.args.ident.now in
     let v = c.in_ok-call_alone.field-0 in
-    lent_none host ctx key c.args.args.items c.args.predicate c.into_value.result c.in_default.is (
-    Gives-of-Is c.into_value.result (Ok v) (AllowsCall host key c.args.args.items false AsksItself) c.into_value.ensures.answer (
-    subst (λ vs. AllowsCall host key vs false AsksItself (Ok v)) c.in_ok-args.ensures.ok c.in_ok-call_alone.ensures
+    lent_none world key c.args.args.items c.args.predicate c.into_value.result c.in_default.is (
+    Gives-of-Is c.into_value.result (Ok v) (AllowsCall world.host key c.args.args.items false AsksItself) c.into_value.ensures.answer (
+    subst (λ vs. AllowsCall world.host key vs false AsksItself (Ok v)) c.in_ok-args.ensures.ok c.in_ok-call_alone.ensures
     )
     )

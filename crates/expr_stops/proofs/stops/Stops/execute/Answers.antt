@@ -5,6 +5,7 @@ use Rattle.expr_lowering.specs.Blocks.{blocks_of}
 use Rattle.expr_machine.specs.Texts.{text_of}
 use Rattle.expr_meaning.specs.Host.{Host}
 use Rattle.expr_steps.specs.Context.{Context}
+use Rattle.expr_meaning.specs.World.{world_of}
 use Rattle.expr_stops.specs.Stops.{CodeComes, EndsTurn, answered_by, is_named}
 use Rattle.expr_stops.proofs.Replied.{answers_by, refused_as, turned}
 use Rattle.expr_value.specs.Fault.{fault_of, pattern}
@@ -15,9 +16,9 @@ returns-clause-ends g c =
     let ctx : Context = g.P.ContextProvider.context c.args.provider in
     let code : List (List Op) = blocks_of g.L.Holder.held (text_of g.N.Holder.held) c.args.code.now in
     turned c.play_code-played.result.went c.turn.result (
-    CodeComes c.args.limits (answered_by (g.H.Functions.host c.args.host.now) (is_named c.args.names.now) c.args.self.now.given.items) ctx code
+    CodeComes c.args.limits (world_of (answered_by (g.H.Functions.host c.args.host.now) (is_named c.args.names.now) c.args.self.now.given.items) ctx) code
     ) (subst (λ given. Ends c.play_code-played.result.went (
-    CodeComes c.args.limits (answered_by (g.H.Functions.host c.args.host.now) (is_named c.args.names.now) given) ctx code
+    CodeComes c.args.limits (world_of (answered_by (g.H.Functions.host c.args.host.now) (is_named c.args.names.now) given) ctx) code
     )) c.deref.ensures.value c.play_code-played.ensures.ends) c.turn.ensures.went
 
 pub returns-clause-ended : goal.returns-clause-ended
@@ -25,8 +26,8 @@ returns-clause-ended g c =
     let ctx : Context = g.P.ContextProvider.context c.args.provider in
     let code : List (List Op) = blocks_of g.L.Holder.held (text_of g.N.Holder.held) c.args.code.now in
     let host : Host = answered_by (g.H.Functions.host c.args.host.now) (is_named c.args.names.now) c.args.self.now.given.items in
-    let ends : EndsTurn c.turn.result (CodeComes c.args.limits host ctx code) = returns-clause-ends g c in
-    answers_by c.args.limits host ctx code c.turn.result ends
+    let ends : EndsTurn c.turn.result (CodeComes c.args.limits (world_of host ctx) code) = returns-clause-ends g c in
+    answers_by c.args.limits (world_of host ctx) code c.turn.result ends
 
 pub returns-clause-pattern : goal.returns-clause-pattern
 returns-clause-pattern g c = λ none never keeps.

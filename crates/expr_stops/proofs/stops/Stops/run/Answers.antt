@@ -3,6 +3,7 @@ use Rattle.expr_limited.specs.Outcomes.{Ends}
 use Rattle.expr_meaning.specs.Allows.{AllowsBlock}
 use Rattle.expr_meaning.specs.Independence.{AgreeAt}
 use Rattle.expr_steps.specs.Context.{Context}
+use Rattle.expr_meaning.specs.World.{world_of}
 use Rattle.expr_stops.specs.Stops.{ComesTo, answered_by, is_named}
 use Rattle.expr_stops.proofs.Replied.{refused_as, turned}
 use Rattle.expr_tree.specs.Names.{AreNamesOf}
@@ -16,9 +17,9 @@ returns-clause-ended g c =
     let base : Context = asked.context c.args.ctx.now.1 in
     let b = program_written c.args.program.now in
     turned c.play-played.result.went c.turn.result (ComesTo (
-    AllowsBlock (answered_by (g.H.Functions.host c.args.host.now) (is_named c.args.names.now) c.args.self.now.given.items) base b
+    AllowsBlock (world_of (answered_by (g.H.Functions.host c.args.host.now) (is_named c.args.names.now) c.args.self.now.given.items) base) b
     )) (subst (λ given. Ends c.play-played.result.went (ComesTo (
-    AllowsBlock (answered_by (g.H.Functions.host c.args.host.now) (is_named c.args.names.now) given) base b
+    AllowsBlock (world_of (answered_by (g.H.Functions.host c.args.host.now) (is_named c.args.names.now) given) base) b
     ))) c.deref.ensures.value c.play-played.ensures.answer) c.turn.ensures.went
 
 pub returns-clause-independent : goal.returns-clause-independent
@@ -28,10 +29,10 @@ returns-clause-independent g c =
     let b = program_written c.args.program.now in
     turned c.play-played.result.went c.turn.result (ComesTo (
     λ a. (other : Context) (keys : List (List ℕ)) → AreNamesOf keys b → AgreeAt keys b base other
-    → AllowsBlock (answered_by (g.H.Functions.host c.args.host.now) (is_named c.args.names.now) c.args.self.now.given.items) other b a
+    → AllowsBlock (world_of (answered_by (g.H.Functions.host c.args.host.now) (is_named c.args.names.now) c.args.self.now.given.items) other) b a
     )) (subst (λ given. Ends c.play-played.result.went (ComesTo (
     λ a. (other : Context) (keys : List (List ℕ)) → AreNamesOf keys b → AgreeAt keys b base other
-    → AllowsBlock (answered_by (g.H.Functions.host c.args.host.now) (is_named c.args.names.now) given) other b a
+    → AllowsBlock (world_of (answered_by (g.H.Functions.host c.args.host.now) (is_named c.args.names.now) given) other) b a
     ))) c.deref.ensures.value c.play-played.ensures.independent) c.turn.ensures.went
 
 pub returns-clause-pattern : goal.returns-clause-pattern

@@ -1,0 +1,102 @@
+//! What takes no memory: nil, booleans and integers under prefixes, `+ - * %`, comparisons, equality, `and` and `or`.
+ghost use Rattle.std.specs.Prelude.{◌≡◌, IsFalse, MatchOption};
+ghost use Rattle.expr_evaluation.specs.Plain.{IsPlainTruth, IsPlainly, IsPlainlyAfter};
+ghost use Rattle.expr_operators.specs.Plain.{is_plain_value};
+ghost use Rattle.expr_tree.specs.Term.{operation};
+ghost use Rattle.expr_tree.specs.Written.{written};
+
+use expr_operators::{Sides, apply, as_truth, prefix, sides_asked};
+use expr_tree::node::Node;
+use expr_tree::operator::Operator;
+use expr_value::Value;
+use std::alloc::Global;
+
+/// The value of a node that takes no memory, if it has one. It asks neither a name nor a host.
+#[cycle(plain)]
+pub(crate) fn plain_value(alloc: Global, node: &Node) -> Option<Value>
+    ensures { IsPlainly result (written node.now) }
+{
+    match node {
+        Node::Value(value) => plain_literal(value),
+        Node::Unary { operator, node } => {
+            let value = plain_value(alloc, node)?;
+            match prefix(alloc, *operator, &value) {
+                Ok(answer) => Some(answer),
+                Err(_) => None,
+            }
+        }
+        Node::Operation {
+            operator,
+            left,
+            right,
+            ..
+        } => {
+            let first = plain_value(alloc, left)?;
+            plain_after(alloc, right, *operator, &first)
+        }
+        _ => None,
+    }
+}
+
+/// The value of an operator that takes no memory, with this value on the left, if it has one.
+#[cycle(plain)]
+pub(crate) fn plain_after(
+    alloc: Global,
+    right: &Node,
+    operator: Operator,
+    first: &Value,
+) -> Option<Value>
+    ensures { IsPlainlyAfter result operator first.now (written right.now) }
+{
+    match (sides_asked(operator), first) {
+        (Sides::Both, _) => {
+            let second = plain_value(alloc, right)?;
+            match apply(alloc, operator, first, &second) {
+                Ok(value) => Some(value),
+                Err(_) => None,
+            }
+        }
+        (Sides::EndsAtFalse, Value::Bool(true)) => plain_truth(alloc, right),
+        (Sides::EndsAtTrue, Value::Bool(false)) => plain_truth(alloc, right),
+        (Sides::EndsAtFalse, Value::Bool(false)) => Some(Value::Bool(false)),
+        (Sides::EndsAtTrue, Value::Bool(true)) => Some(Value::Bool(true)),
+        _ => None,
+    }
+}
+
+/// The value of an operator between two nodes that takes no memory, if it has one.
+pub(crate) fn plain_operation(
+    alloc: Global,
+    operator: Operator,
+    left: &Node,
+    right: &Node,
+) -> Option<Value>
+    ensures { IsPlainly result (operation operator (written left.now) (written right.now)) }
+{
+    let first = plain_value(alloc, left)?;
+    plain_after(alloc, right, operator, &first)
+}
+
+/// The boolean that a node is which takes no memory, if it is one.
+#[cycle(plain)]
+fn plain_truth(alloc: Global, node: &Node) -> Option<Value>
+    ensures { IsPlainTruth result (written node.now) }
+{
+    let value = plain_value(alloc, node)?;
+    match as_truth(alloc, &value) {
+        Ok(truth) => Some(truth),
+        Err(_) => None,
+    }
+}
+
+/// A literal of nil, a boolean or an integer.
+fn plain_literal(value: &Value) -> Option<Value>
+    ensures { MatchOption result (IsFalse (is_plain_value value.now)) (λ v. v ≡ value.now) }
+{
+    match value {
+        Value::Nil => Some(Value::Nil),
+        Value::Bool(b) => Some(Value::Bool(*b)),
+        Value::Integer(n) => Some(Value::Integer(*n)),
+        _ => None,
+    }
+}
