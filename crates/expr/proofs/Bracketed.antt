@@ -11,7 +11,7 @@ use Rattle.expr_grammar.specs.Grammar.{TreeProgram, IntegerFits, program_tokens}
 use Rattle.expr_grammar.specs.Machine.{parse, tree_of}
 use Rattle.expr_frames.specs.Programs.{program_of}
 use Rattle.expr_syntax.specs.Texts.{IsTreeOf}
-use Rattle.expr.specs.Bracketed.{HaveOneProgram, bracketed}
+use Rattle.expr.specs.Bracketed.{HaveOneProgram, bracketed_pairs}
 
 -- the tree that is read
 abbrev read : List ℕ → Option TreeProgram
@@ -55,7 +55,7 @@ one s r t u first second small smaller same =
       of_other = record { tree = u; is_tree = is_tree r u second; literals = all_fit (program_tokens u) smaller; same = same };
     }
 
-pub all_bracketed : AllByRecursion (λ p. HaveOneProgram p.0 p.1) bracketed
+pub all_bracketed : AllByRecursion (λ p. HaveOneProgram p.0 p.1) bracketed_pairs
 unfolding lex lex_at_most parse
 all_bracketed = (
   one _ _ _ _ refl refl refl refl refl,

@@ -6,10 +6,10 @@ use Rattle.expr_code.proofs.Correct.{exact_code}
 use Rattle.expr_code.specs.Codes.{IsCode}
 use Rattle.expr_code.specs.Machine.{CodeAnswers, Op}
 use Rattle.expr_costs.specs.Costs.{costs_in}
-use Rattle.expr_limited.specs.Outcomes.{Ends}
+use Rattle.expr_limited.specs.Outcomes.{ReturnsOutcome}
 use Rattle.expr_meaning.specs.Allows.{AllowsBlock}
 use Rattle.expr_meter.proofs.Forgotten.{code_forgets}
-use Rattle.expr_meter.specs.Counting.{ended}
+use Rattle.expr_meter.specs.Counting.{ending_of}
 use Rattle.expr_meter.specs.Rooms.{Room, rooms}
 use Rattle.expr_meter.specs.declared.limit.Limit.{Limit}
 use Rattle.expr_meter.specs.declared.limit.Limit.TheVariants.{Height, Patterns, Steps, Depth, Size}
@@ -21,9 +21,9 @@ use Rattle.expr_syntax.specs.Bounds.{IsCompiledBounded, IsHigher, IsLight}
 use Rattle.expr_syntax.specs.Texts.{IsPlaced, IsProgramOf, IsProgramWithin}
 use Rattle.expr_tree.specs.Term.{Block}
 use Rattle.expr_tree.specs.declared.node.Program.{Program}
-use Rattle.expr_value.specs.Fault.{Fault, evaluation, fault_of, literal, memory, pattern, syntax}
-use Rattle.expr_value.specs.declared.error.Error.{Error}
-use Rattle.expr_value.specs.declared.error.Error.TheVariants.{PestError, ParseError, ExprError, RegexError, MemoryError}
+use Rattle.expr_error.specs.ErrorKind.{ErrorKind, evaluation, error_kind, literal, memory, pattern, syntax}
+use Rattle.expr_error.specs.declared.error.Error.{Error}
+use Rattle.expr_error.specs.declared.error.Error.TheVariants.{PestError, ParseError, ExprError, RegexError, MemoryError}
 use Rattle.expr_value.specs.declared.value.Value.{Value}
 use Rattle.expr.specs.Limited.{CodeEnds, EndsText, IsCompiledLimited, MayGive, TextEnds, room_of}
 use Rattle.expr.specs.Texts.{IsOwnFault, IsRefused, IsRefusedWithin, MayAnswer, MayAnswerWithin}
@@ -49,15 +49,15 @@ module _ (text : List ℕ) (limits : Limits) where
 
 module _ (world : World) where
   -- what a code answers within limits, it may answer
-  pub code_answers : (blocks : List (List Op)) (limits : Limits) (r : Result (Outcome Value) Error) → Ends r (CodeEnds world blocks limits) → MayGive r (CodeAnswers world blocks)
+  pub code_answers : (blocks : List (List Op)) (limits : Limits) (r : Result (Outcome Value) Error) → ReturnsOutcome r (CodeEnds world blocks limits) → MayGive r (CodeAnswers world blocks)
   code_answers blocks limits (Ok (Answered v)) (left, p) = code_forgets rooms (costs_in world.host) world blocks (room_of limits) (Ok v) left p
   code_answers blocks limits (Ok (Stopped limit)) p = tt
-  code_answers blocks limits (Err e) p = λ m. code_forgets rooms (costs_in world.host) world blocks (room_of limits) (Err (fault_of e)) (room_of limits) (p m)
+  code_answers blocks limits (Err e) p = λ m. code_forgets rooms (costs_in world.host) world blocks (room_of limits) (Err (error_kind e)) (room_of limits) (p m)
 
   module _ (text : List ℕ) (limits : Limits) where
     -- a code of the text's program
     module _ (b : Block) (blocks : List (List Op)) (within : IsProgramWithin text limits.height b) (light : IsLight text limits.patterns) (code : IsCode b blocks) where
-      pub text_ends : (r : Result (Outcome Value) Error) → Ends r (CodeEnds world blocks limits) → EndsText world text limits r
+      pub text_ends : (r : Result (Outcome Value) Error) → ReturnsOutcome r (CodeEnds world blocks limits) → EndsText world text limits r
       text_ends (Ok (Answered v)) (left, p) = (left, (b, blocks, within, light, code, p))
       text_ends (Ok (Stopped Height)) p = absurd (stops_of_runs (costs_in world.host) world blocks (room_of limits) Height p)
       text_ends (Ok (Stopped Patterns)) p = absurd (stops_of_runs (costs_in world.host) world blocks (room_of limits) Patterns p)
@@ -66,20 +66,20 @@ module _ (world : World) where
       text_ends (Ok (Stopped Size)) p = (b, blocks, within, light, code, p)
       text_ends (Err e) p = λ m. inr (b, blocks, within, light, code, p m)
 
-      program_gives : (r : Result (Outcome Value) Error) → Ends r (CodeEnds world blocks limits) → MayGive r (AllowsBlock world b)
+      program_gives : (r : Result (Outcome Value) Error) → ReturnsOutcome r (CodeEnds world blocks limits) → MayGive r (AllowsBlock world b)
       program_gives (Ok (Answered v)) p = (exact_code world b blocks code (Ok v)).0 (code_answers blocks limits (Ok (Answered v)) p)
       program_gives (Ok (Stopped limit)) p = tt
-      program_gives (Err e) p = λ m. (exact_code world b blocks code (Err (fault_of e))).0 (code_answers blocks limits (Err e) p m)
+      program_gives (Err e) p = λ m. (exact_code world b blocks code (Err (error_kind e))).0 (code_answers blocks limits (Err e) p m)
 
       -- a syntax fault of the text's own is none of the code's
-      pub run_place : (r : Result (Outcome Value) Error) → Ends r (CodeEnds world blocks limits) → IsOwnFault text world.host → IsPlaced text r
+      pub run_place : (r : Result (Outcome Value) Error) → ReturnsOutcome r (CodeEnds world blocks limits) → IsOwnFault text world.host → IsPlaced text r
       run_place (Ok o) p own = tt
       run_place (Err e) p own = same_place Value (Outcome Value) text e (place_of_run text world b (of_within text limits.height b within) (Err e) (program_gives (Err e) p) own)
 
-      pub run_boundary : (r : Result (Outcome Value) Error) → Ends r (CodeEnds world blocks limits) → IsOwnFault text world.host → (place : ℕ) → r ≡ Err (PestError place) → IsCharBoundary text place
+      pub run_boundary : (r : Result (Outcome Value) Error) → ReturnsOutcome r (CodeEnds world blocks limits) → IsOwnFault text world.host → (place : ℕ) → r ≡ Err (PestError place) → IsCharBoundary text place
       run_boundary r p own place is =
           boundary_of_run text world b (of_within text limits.height b within) (Err (PestError place)) (
-          program_gives (Err (PestError place)) (subst (λ s. Ends s (CodeEnds world blocks limits)) is p)
+          program_gives (Err (PestError place)) (subst (λ s. ReturnsOutcome s (CodeEnds world blocks limits)) is p)
           ) own place refl
 
     -- what compiling refuses, and where it stops
@@ -105,32 +105,32 @@ module _ (world : World) where
     stopped_higher limit is h = subst (λ l. EndsText world text limits (Ok (Stopped l))) is h
 
     -- where memory is refused in between
-    pub memory_ends : (e : Error) → fault_of e ≡ memory → (r : Result (Outcome Value) Error) → IsErrAnd r (λ x. x ≡ e) → EndsText world text limits r
+    pub memory_ends : (e : Error) → error_kind e ≡ memory → (r : Result (Outcome Value) Error) → IsErrAnd r (λ x. x ≡ e) → EndsText world text limits r
     memory_ends e is_memory (Ok o) is = absurd is
-    memory_ends e is_memory (Err x) is = λ m. absurd (m (ap fault_of is ∙ is_memory))
+    memory_ends e is_memory (Err x) is = λ m. absurd (m (ap error_kind is ∙ is_memory))
 
     -- what such a run answers, the text's program allows
-    run_allowed : (a : Result Value Fault) (left : Room) → TextEnds world text limits (ended a left) → (b : Block) × IsProgramWithin text limits.height b × AllowsBlock world b a
+    run_allowed : (a : Result Value ErrorKind) (left : Room) → TextEnds world text limits (ending_of a left) → (b : Block) × IsProgramWithin text limits.height b × AllowsBlock world b a
     run_allowed a left (b, blocks, within, light, code, p) = (b, within, (exact_code world b blocks code a).0 (code_forgets rooms (costs_in world.host) world blocks (room_of limits) a left p))
 
-    run_answers : (a : Result Value Fault) (left : Room) → TextEnds world text limits (ended a left) → MayAnswer text world a
+    run_answers : (a : Result Value ErrorKind) (left : Room) → TextEnds world text limits (ending_of a left) → MayAnswer text world a
     run_answers a left p = let q = run_allowed a left p in inl (q.0, of_within text limits.height q.0 q.1, q.2)
 
-    run_answers_within : (a : Result Value Fault) (left : Room) → TextEnds world text limits (ended a left) → MayAnswerWithin limits.height text world a
+    run_answers_within : (a : Result Value ErrorKind) (left : Room) → TextEnds world text limits (ending_of a left) → MayAnswerWithin limits.height text world a
     run_answers_within a left p = inl (run_allowed a left p)
 
-    refused_within : (f : Fault) → IsRefused text (Err f) → IsRefusedWithin limits.height text (Err f)
+    refused_within : (f : ErrorKind) → IsRefused text (Err f) → IsRefusedWithin limits.height text (Err f)
     refused_within syntax h = h
     refused_within literal h = record { tree = h.tree; is_tree = h.is_tree; beyond = λ fits. h.literals fits.0 }
     refused_within evaluation h = h
     refused_within pattern h = h
     refused_within memory h = h
 
-    either_answers : (f : Fault) → IsRefused text (Err f) ⊎ TextEnds world text limits (ended (Err f) (room_of limits)) → MayAnswer text world (Err f)
+    either_answers : (f : ErrorKind) → IsRefused text (Err f) ⊎ TextEnds world text limits (ending_of (Err f) (room_of limits)) → MayAnswer text world (Err f)
     either_answers f (inl h) = inr h
     either_answers f (inr p) = run_answers (Err f) (room_of limits) p
 
-    either_within : (f : Fault) → IsRefused text (Err f) ⊎ TextEnds world text limits (ended (Err f) (room_of limits)) → MayAnswerWithin limits.height text world (Err f)
+    either_within : (f : ErrorKind) → IsRefused text (Err f) ⊎ TextEnds world text limits (ending_of (Err f) (room_of limits)) → MayAnswerWithin limits.height text world (Err f)
     either_within f (inl h) = inr (refused_within f h)
     either_within f (inr p) = run_answers_within (Err f) (room_of limits) p
 
@@ -138,14 +138,14 @@ module _ (world : World) where
     pub text_answers : (r : Result (Outcome Value) Error) → EndsText world text limits r → MayGive r (MayAnswer text world)
     text_answers (Ok (Answered v)) (left, p) = run_answers (Ok v) left p
     text_answers (Ok (Stopped limit)) p = tt
-    text_answers (Err e) p = λ m. either_answers (fault_of e) (p m)
+    text_answers (Err e) p = λ m. either_answers (error_kind e) (p m)
 
     -- and so it may where no tree is higher than is allowed
     module _ (height : ℕ) (same : limits.height ≡ height) where
       pub text_answers_within : (r : Result (Outcome Value) Error) → EndsText world text limits r → MayGive r (MayAnswerWithin height text world)
       text_answers_within (Ok (Answered v)) (left, p) = subst (λ n. MayAnswerWithin n text world (Ok v)) same (run_answers_within (Ok v) left p)
       text_answers_within (Ok (Stopped limit)) p = tt
-      text_answers_within (Err e) p = λ m. subst (λ n. MayAnswerWithin n text world (Err (fault_of e))) same (either_within (fault_of e) (p m))
+      text_answers_within (Err e) p = λ m. subst (λ n. MayAnswerWithin n text world (Err (error_kind e))) same (either_within (error_kind e) (p m))
 
       -- one that is higher is beyond what is allowed
       pub higher_answers : IsHigher text limits.height → MayAnswerWithin height text world (Err literal)

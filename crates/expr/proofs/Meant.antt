@@ -8,40 +8,40 @@ use Rattle.std.specs.Option.{is_none, option_map}
 use Rattle.std.proofs.lemmas.Bool.{and_parts, cases_Bool, cond-true, cond-false, false≢true, ltb-true, not-true}
 use Rattle.std.proofs.lemmas.Int.{wrapping_neg_is, int_wrap_fits}
 use mir.Syntax.{w64}
-use Rattle.expr_token.proofs.Such.{Such, values_of, pairs_of, bare, with_each, by_layers, readable_at}
-use Rattle.expr_token.specs.Printed.{is_above_least, are_distinct, readable_layer, is_readable}
+use Rattle.expr_printed.proofs.Such.{Such, values_of, pairs_of, bare, with_each, by_layers, readable_at}
+use Rattle.expr_printed.specs.Printed.{is_above_least, are_distinct, readable_layer, is_readable}
 use Rattle.expr_token.specs.Tokens.{is_word}
 use Rattle.expr_tree.specs.Term as terms
 use Rattle.expr_tree.specs.Term.{Term, name, literal, list, mapping, range, call, unary, operation, postfix, choice}
-use Rattle.expr_tree.specs.Written.{terms_of}
+use Rattle.expr_tree.specs.TermOf.{terms_of}
 use Rattle.expr_tree.specs.declared.operator.UnaryOperator.TheVariants as operator
 use Rattle.expr_parts.specs.Maps.{map_term, value_of, has_expression, literals}
 use Rattle.expr_syntax.specs.Printed.{integer_term, term_layer, printed_term}
-use Rattle.expr_value.specs.Answers.{After, Goes}
-use Rattle.expr_value.specs.Fault.{Fault}
+use Rattle.expr_value.specs.Answers.{Then, ThenIfOk}
+use Rattle.expr_error.specs.ErrorKind.{ErrorKind}
 use Rattle.expr_value.specs.Names.{put, put_all}
 use Rattle.expr_value.specs.declared.value.Value as value
 use Rattle.expr_value.specs.declared.value.Value.{Value, roll-Value, map-Value, fold-roll-Value, the_lemmas}
 use Rattle.expr_value.specs.declared.value.Value.TheOpen.{Value-F}
-use Rattle.expr_operators.specs.Operators.{prefixed}
+use Rattle.expr_operators.specs.Operators.{unary_answer}
 use Rattle.expr_meaning.specs.Allows.{Allows, AllowsAll, AllowsPairs}
 use Rattle.expr_meaning.specs.World.{World}
 
 -- a step that answers this value alone
-abbrev pub Only : {A : Type 0} → (Result A Fault → Type 0) → A → Type 0
-Only {A} step v = ((x : Result A Fault) → step x → x ≡ Ok v) × step (Ok v)
+abbrev pub Only : {A : Type 0} → (Result A ErrorKind → Type 0) → A → Type 0
+Only {A} step v = ((x : Result A ErrorKind) → step x → x ≡ Ok v) × step (Ok v)
 
 only_is : {A : Type 0} (v : A) → Only (λ x. x ≡ Ok v) v
 only_is v = (λ x e. e, refl)
 
-then_only : {A B : Type 0} (first : Result A Fault → Type 0) (next : A → Result B Fault → Type 0) (w : A) (v : B) → Only first w → Only (next w) v → Only (After first next) v
-then_only first next w v one two = (λ a p. two.0 a (subst (λ x. Goes x next a) (one.0 p.0 p.1) p.2), (Ok w, one.1, two.1))
+then_only : {A B : Type 0} (first : Result A ErrorKind → Type 0) (next : A → Result B ErrorKind → Type 0) (w : A) (v : B) → Only first w → Only (next w) v → Only (Then first next) v
+then_only first next w v one two = (λ a p. two.0 a (subst (λ x. ThenIfOk x next a) (one.0 p.0 p.1) p.2), (Ok w, one.1, two.1))
 
 -- a negative integer
-negated : (n : ℕ) → nat_lt (suc n) (2 ^ 63) ≡ true → prefixed operator.Negative (value.Integer (pos (suc n))) ≡ Ok (value.Integer (negsuc n))
+negated : (n : ℕ) → nat_lt (suc n) (2 ^ 63) ≡ true → unary_answer operator.Negative (value.Integer (pos (suc n))) ≡ Ok (value.Integer (negsuc n))
 negated n h = at_negative ∙ ap (λ z. Ok (value.Integer z)) wraps
   where
-    at_negative : prefixed operator.Negative (value.Integer (pos (suc n))) ≡ Ok (value.Integer (int_wrapping_neg w64 (pos (suc n))))
+    at_negative : unary_answer operator.Negative (value.Integer (pos (suc n))) ≡ Ok (value.Integer (int_wrapping_neg w64 (pos (suc n))))
     at_negative = search (rules, the_lemmas)
 
     wraps : int_wrapping_neg w64 (pos (suc n)) ≡ negsuc n
@@ -126,7 +126,7 @@ module _ (world : World) where
   integer_only : (n : ℤ) → is_above_least n ≡ true → Only (Allows world (integer_term n)) (value.Integer n)
   integer_only (pos n) h = only_is (value.Integer (pos n))
   integer_only (negsuc n) h =
-      then_only (Allows world (literal (value.Integer (pos (suc n))))) (λ v a. a ≡ prefixed operator.Negative v) (value.Integer (pos (suc n))) (value.Integer (negsuc n))
+      then_only (Allows world (literal (value.Integer (pos (suc n))))) (λ v a. a ≡ unary_answer operator.Negative v) (value.Integer (pos (suc n))) (value.Integer (negsuc n))
       (only_is (value.Integer (pos (suc n)))) (λ x e. e ∙ negated n h, sym (negated n h))
 
   -- arrays
@@ -135,7 +135,7 @@ module _ (world : World) where
   all_only (e ∷ es) h =
       let parts = and_parts _ _ h in
       let rest = AllowsAll world (terms_of (map printed_term (values_of es))) in
-      then_only (Allows world (printed_term e.0)) (λ v. After rest (λ vs a. a ≡ Ok (v ∷ vs))) e.0 (e.0 ∷ values_of es) (e.1 parts.0)
+      then_only (Allows world (printed_term e.0)) (λ v. Then rest (λ vs a. a ≡ Ok (v ∷ vs))) e.0 (e.0 ∷ values_of es) (e.1 parts.0)
       (then_only rest (λ vs a. a ≡ Ok (e.0 ∷ vs)) (values_of es) (e.0 ∷ values_of es) (all_only es parts.1) (only_is (e.0 ∷ values_of es)))
 
   items_only : (es : List (Such IsMeant)) → list_all (λ b. b) (map is_readable (values_of es)) ≡ true → Only (Allows world (list (terms_of (map printed_term (values_of es))))) (value.Array (values_of es))
@@ -156,7 +156,7 @@ module _ (world : World) where
       let parts = and_parts _ _ h in
       let rest = AllowsPairs world (terms.pairs_of (written ps)) in
       let all : List Named = (p.0, p.1.0) ∷ pairs_of ps in
-      then_only (Allows world (printed_term p.1.0)) (λ v. After rest (λ ms a. a ≡ Ok ((p.0, v) ∷ ms))) p.1.0 all (p.1.1 (and_parts _ _ parts.0).1)
+      then_only (Allows world (printed_term p.1.0)) (λ v. Then rest (λ ms a. a ≡ Ok ((p.0, v) ∷ ms))) p.1.0 all (p.1.1 (and_parts _ _ parts.0).1)
       (then_only rest (λ ms a. a ≡ Ok ((p.0, p.1.0) ∷ ms)) (pairs_of ps) all (pairs_only ps parts.1) (only_is all))
 
   map_only : (ps : List (List ℕ × Such IsMeant)) → are_distinct (keys_of (with_each is_readable (pairs_of ps))) ≡ true → ReadablePairs ps

@@ -1,7 +1,7 @@
 -- Readable values of one printed text are one.
 use Rattle.std.proofs.Common.{◌≡◌, ℕ, IsTrue, List, [], None, Ok, sym, ap, ◌∙◌, subst}
 use Rattle.expr_token.proofs.Lexing.{one_reading}
-use Rattle.expr_token.specs.Printed.{is_readable}
+use Rattle.expr_printed.specs.Printed.{is_readable}
 use Rattle.expr_tree.specs.Term.{Block, answers}
 use Rattle.expr_grammar.proofs.Complete.{one_tree}
 use Rattle.expr_grammar.specs.Grammar.{Spells}
@@ -12,7 +12,7 @@ use Rattle.expr_syntax.specs.Texts.{IsProgramOf}
 use Rattle.expr_value.specs.Values.{text_of}
 use Rattle.expr_value.specs.declared.value.Value.{Value}
 use Rattle.expr_meaning.specs.Allows.{AllowsBlock}
-use Rattle.expr_steps.specs.Context.{Context}
+use Rattle.expr_steps.specs.Context.{ContextView}
 use Rattle.expr_meaning.specs.Host.{no_host}
 use Rattle.expr_meaning.specs.World.{world_of}
 use Rattle.expr.proofs.Meant.{printed_only}
@@ -27,7 +27,7 @@ one_program text b c p q =
 
 pub same_text : (v w : Value) → IsTrue (is_readable v) → IsTrue (is_readable w) → text_of v ≡ text_of w → v ≡ w
 same_text v w p q same =
-    let ctx : Context = record { value_of = λ _. None; map = [] } in
+    let ctx : ContextView = record { value_of = λ _. None; map = [] } in
     let programs : answers (printed_term w) ≡ answers (printed_term v) = one_program (text_of v) _ _ (subst (λ s. IsProgramOf s (answers (printed_term w))) (sym same) (printed_program w q)) (printed_program v p) in
     let allowed : AllowsBlock (world_of no_host ctx) (answers (printed_term w)) (Ok v) = subst (λ b. AllowsBlock (world_of no_host ctx) b (Ok v)) (sym programs) (printed_only (world_of no_host ctx) v p).1 in
     let both : Ok v ≡ Ok w = (printed_only (world_of no_host ctx) w q).0 (Ok v) allowed in cc

@@ -1,22 +1,22 @@
 -- Where a counted run stops, a charge passed that limit.
 use Rattle.std.proofs.Common.{ℕ, zero, suc, Bool, true, false, List, [], ◌∷◌, ◌++◌, length, take, Result, Ok, Err, MatchBool, sym, subst, inl, inr, ◌≡◌}
 use Rattle.std.specs.Prelude.{if◌then◌else◌}
-use Rattle.expr_code.specs.Asked.{bound_values}
+use Rattle.expr_code.specs.CallBinds.{bound_values}
 use Rattle.expr_code.specs.Machine.{Op, push, load, look, look_with, env, store, act, asks, refuse, jump, jump_if_false, and_then, or_else, unless_nil, Move, onward, refused as refused_by, Step}
-use Rattle.expr_meaning.proofs.Beginning.{ByName-either}
+use Rattle.expr_meaning.proofs.Dispatching.{ByName-either}
 use Rattle.expr_meaning.specs.Calls.{AllowsOnValues, ByName}
 use Rattle.expr_meaning.specs.Host.{Host}
-use Rattle.expr_predicates.specs.Calls.{Start, begun}
-use Rattle.expr_predicates.specs.Tasks.{Question, Reply, Task, Outcome, about, stopped, refused}
-use Rattle.expr_sizes.specs.Sizes.{depth, inside, weight}
+use Rattle.expr_predicates.specs.Calls.{FoldOver, fold_of_call}
+use Rattle.expr_predicates.specs.Folds.{PredicateArgsView, ItemAnswer, Fold, FoldOutcome, args_about, has_stopped, refuses_answer}
+use Rattle.expr_sizes.specs.Sizes.{depth, inner_weight, weight}
 use Rattle.expr_meaning.specs.World.{World}
 use Rattle.expr_value.specs.Answers.{Answer}
-use Rattle.expr_value.specs.Fault.{Fault, evaluation}
+use Rattle.expr_error.specs.ErrorKind.{ErrorKind, evaluation}
 use Rattle.expr_value.specs.declared.value.Value.{Value}
-use Rattle.expr_meter.specs.Asking.{CountsAsks, CountsCall, CountsStart, Predicate, kept_first, kept_of, replaces}
-use Rattle.expr_meter.specs.Counting.{Answers, Charge, Counted, Counting, Ending, Following, Keeping, Then, ended, gives, refuses, stops}
-use Rattle.expr_meter.specs.Counts.{CodeCounts, Costs, Counts, CountsEnd, CountsLater, CountsMade, CountsMove, CountsRest, CountsRuns, CountsTop, Next, Whose, Working, lent, own, either, no_block, looked_at}
-use Rattle.expr_meter.specs.Rooms.{Begins, Holds, Room, Takes, rooms, unlimited, within}
+use Rattle.expr_meter.specs.HigherOrder.{CountsFold, CountsCall, CountsFoldStart, Predicate, retained_first, retained_of, replaces}
+use Rattle.expr_meter.specs.Counting.{EndsWithAnswer, Charge, ChargeThen, Counting, Ending, ThenIfGives, KeepAllThen, EndingThen, ending_of, gives, refuses, stops}
+use Rattle.expr_meter.specs.Counts.{CodeCounts, Costs, Counts, CountsEnd, CountsLater, CountsMade, CountsMove, CountsRest, CountsRuns, CountsTop, Next, Ownership, ChargeWorkThen, borrowed, owned, either, no_block, observed_values}
+use Rattle.expr_meter.specs.Rooms.{TakesWork, Holds, Room, Takes, rooms, unlimited, limited}
 use Rattle.expr_meter.specs.declared.limit.Limit.{Limit}
 use Rattle.expr_meter.specs.declared.limit.Limit.TheVariants.{Height, Patterns, Steps, Depth, Size}
 
@@ -43,56 +43,56 @@ module _ (counting : Counting) (such : Limit → Type 0) (by : AllPass counting 
   abbrev In : Ending Tally → Type 0
   In e = StopsAt such e
 
-  of_answer : (a : Answer) (now : Tally) → In (ended a now)
+  of_answer : (a : Answer) (now : Tally) → In (ending_of a now)
   of_answer (Ok v) now = tt
   of_answer (Err e) now = tt
 
-  answers : (allowed : Answer → Type 0) (now : Tally) (e : Ending Tally) → Answers allowed now e → In e
+  answers : (allowed : Answer → Type 0) (now : Tally) (e : Ending Tally) → EndsWithAnswer allowed now e → In e
   answers allowed now e (a, p, is) = subst In (sym is) (of_answer a now)
 
-  counted : (charge : Charge Tally) → Passes such charge → (now : Tally) (next : Tally → Ending Tally → Type 0) (e : Ending Tally) → ((u : Tally) → next u e → In e) → Counted charge now next e → In e
+  counted : (charge : Charge Tally) → Passes such charge → (now : Tally) (next : Tally → Ending Tally → Type 0) (e : Ending Tally) → ((u : Tally) → next u e → In e) → ChargeThen charge now next e → In e
   counted charge k now next e f (Ok u, c, p) = f u p
   counted charge k now next e f (Err limit, c, p) = subst In (sym p) (k now limit c)
 
-  following : (x : Ending Tally) (next : Value → Tally → Ending Tally → Type 0) (e : Ending Tally) → In x → ((v : Value) (u : Tally) → next v u e → In e) → Following x next e → In e
+  following : (x : Ending Tally) (next : Value → Tally → Ending Tally → Type 0) (e : Ending Tally) → In x → ((v : Value) (u : Tally) → next v u e → In e) → ThenIfGives x next e → In e
   following (gives v u) next e h f p = f v u p
   following (refuses b) next e h f p = subst In (sym p) tt
   following (stops limit) next e h f p = subst In (sym p) h
 
-  keeping : (vs : List Value) (now : Tally) (next : Tally → Ending Tally → Type 0) (e : Ending Tally) → ((u : Tally) → next u e → In e) → Keeping counting vs now next e → In e
+  keeping : (vs : List Value) (now : Tally) (next : Tally → Ending Tally → Type 0) (e : Ending Tally) → ((u : Tally) → next u e → In e) → KeepAllThen counting vs now next e → In e
   keeping [] now next e f p = f now p
-  keeping (v ∷ vs) now next e f p = counted (counting.keeps v) (by.keeps v) now (λ kept. Keeping counting vs kept next) e (λ u q. keeping vs u next e f q) p
+  keeping (v ∷ vs) now next e f p = counted (counting.keeps v) (by.keeps v) now (λ kept. KeepAllThen counting vs kept next) e (λ u q. keeping vs u next e f q) p
 
   one_of : (b : Bool) (P Q R : Type 0) → (P → R) → (Q → R) → MatchBool b P Q → R
   one_of true P Q R f g p = f p
   one_of false P Q R f g p = g p
 
   -- a call, where what is asked stops so
-  module _ (asks : Predicate Tally) (asked : (q : Question) (now : Tally) (e : Ending Tally) → asks q now e → In e) where
-    asks_stop : (t : Task) (first : Tally) (left : List Value) (rs : List Reply) (now : Tally) (e : Ending Tally) → CountsAsks counting t first asks left rs now e → In e
-    asks_stop t first [] rs now e p = answers (Outcome t rs) now e p
+  module _ (asks : Predicate Tally) (asked : (q : PredicateArgsView) (now : Tally) (e : Ending Tally) → asks q now e → In e) where
+    asks_stop : (t : Fold) (first : Tally) (left : List Value) (rs : List ItemAnswer) (now : Tally) (e : Ending Tally) → CountsFold counting t first asks left rs now e → In e
+    asks_stop t first [] rs now e p = answers (FoldOutcome t rs) now e p
     asks_stop t first (x ∷ left) rs now e p =
-        one_of (stopped t rs) (Answers (Outcome t rs) now e) (Then (asks (about t rs x) now) (λ v ran. Keeping counting (kept_of t (x, v)) (counting.freed (if replaces t then first else now) ran) (λ kept f. MatchBool (refused t v) (f ≡ refuses evaluation) (CountsAsks counting t first asks left (rs ++ (x, v) ∷ []) kept f))) e) (In e) (
-        answers (Outcome t rs) now e
+        one_of (has_stopped t rs) (EndsWithAnswer (FoldOutcome t rs) now e) (EndingThen (asks (args_about t rs x) now) (λ v ran. KeepAllThen counting (retained_of t (x, v)) (counting.freed (if replaces t then first else now) ran) (λ kept f. MatchBool (refuses_answer t v) (f ≡ refuses evaluation) (CountsFold counting t first asks left (rs ++ (x, v) ∷ []) kept f))) e) (In e) (
+        answers (FoldOutcome t rs) now e
         ) (
-        λ k. following k.0 (λ v ran. Keeping counting (kept_of t (x, v)) (counting.freed (if replaces t then first else now) ran) (λ kept f. MatchBool (refused t v) (f ≡ refuses evaluation) (CountsAsks counting t first asks left (rs ++ (x, v) ∷ []) kept f))) e (asked (about t rs x) now k.0 k.1) (
-        λ v u q. keeping (kept_of t (x, v)) (counting.freed (if replaces t then first else now) u) (λ kept f. MatchBool (refused t v) (f ≡ refuses evaluation) (CountsAsks counting t first asks left (rs ++ (x, v) ∷ []) kept f)) e (
-        λ w r. one_of (refused t v) (e ≡ refuses evaluation) (CountsAsks counting t first asks left (rs ++ (x, v) ∷ []) w e) (In e) (λ is. subst In (sym is) tt) (asks_stop t first left (rs ++ (x, v) ∷ []) w e) r
+        λ k. following k.0 (λ v ran. KeepAllThen counting (retained_of t (x, v)) (counting.freed (if replaces t then first else now) ran) (λ kept f. MatchBool (refuses_answer t v) (f ≡ refuses evaluation) (CountsFold counting t first asks left (rs ++ (x, v) ∷ []) kept f))) e (asked (args_about t rs x) now k.0 k.1) (
+        λ v u q. keeping (retained_of t (x, v)) (counting.freed (if replaces t then first else now) u) (λ kept f. MatchBool (refuses_answer t v) (f ≡ refuses evaluation) (CountsFold counting t first asks left (rs ++ (x, v) ∷ []) kept f)) e (
+        λ w r. one_of (refuses_answer t v) (e ≡ refuses evaluation) (CountsFold counting t first asks left (rs ++ (x, v) ∷ []) w e) (In e) (λ is. subst In (sym is) tt) (asks_stop t first left (rs ++ (x, v) ∷ []) w e) r
         ) q
         ) k.2
         ) p
 
-    start_stops : (s : Result Start Fault) (now : Tally) (e : Ending Tally) → CountsStart counting s asks now e → In e
-    start_stops (Ok s) now e p = keeping (kept_first s.task) now (λ kept. CountsAsks counting s.task now asks s.items [] kept) e (λ u q. asks_stop s.task now s.items [] u e q) p
+    start_stops : (s : Result FoldOver ErrorKind) (now : Tally) (e : Ending Tally) → CountsFoldStart counting s asks now e → In e
+    start_stops (Ok s) now e p = keeping (retained_first s.task) now (λ kept. CountsFold counting s.task now asks s.items [] kept) e (λ u q. asks_stop s.task now s.items [] u e q) p
     start_stops (Err b) now e p = subst In (sym p) tt
 
     call_stops : (host : Host) (key : List ℕ) (vs : List Value) (now : Tally) (e : Ending Tally) → CountsCall counting host key vs asks now e → In e
     call_stops host key vs now e p =
-        one_of (host.is_added key) (Answers (host.calls key vs) now e) (ByName key (e ≡ refuses evaluation) (λ c. Answers (AllowsOnValues host c vs) now e) (λ b. CountsStart counting (begun b vs true) asks now e)) (In e) (
+        one_of (host.is_added key) (EndsWithAnswer (host.calls key vs) now e) (ByName key (e ≡ refuses evaluation) (λ c. EndsWithAnswer (AllowsOnValues host c vs) now e) (λ b. CountsFoldStart counting (fold_of_call b vs true) asks now e)) (In e) (
         answers (host.calls key vs) now e
         ) (
-        ByName-either key (e ≡ refuses evaluation) (λ c. Answers (AllowsOnValues host c vs) now e) (λ b. CountsStart counting (begun b vs true) asks now e) (In e)
-        (λ is. subst In (sym is) tt) (λ c. answers (AllowsOnValues host c vs) now e) (λ b. start_stops (begun b vs true) now e)
+        ByName-either key (e ≡ refuses evaluation) (λ c. EndsWithAnswer (AllowsOnValues host c vs) now e) (λ b. CountsFoldStart counting (fold_of_call b vs true) asks now e) (In e)
+        (λ is. subst In (sym is) tt) (λ c. answers (AllowsOnValues host c vs) now e) (λ b. start_stops (fold_of_call b vs true) now e)
         ) p
 
   module _ (costs : Costs) (world : World) where
@@ -100,9 +100,9 @@ module _ (counting : Counting) (such : Limit → Type 0) (by : AllPass counting 
     top_stops (v ∷ stack) now next e f p = counted (counting.makes v) (by.makes v) now next e f p
     top_stops [] now next e f p = f now p
 
-    made_stops : (whose : Whose) (stack : List Value) (now : Tally) (next : Tally → Ending Tally → Type 0) (e : Ending Tally) → ((u : Tally) → next u e → In e) → CountsMade counting costs whose stack now next e → In e
-    made_stops lent stack now next e f p = f now p
-    made_stops own stack now next e f p = top_stops stack now next e f p
+    made_stops : (whose : Ownership) (stack : List Value) (now : Tally) (next : Tally → Ending Tally → Type 0) (e : Ending Tally) → ((u : Tally) → next u e → In e) → CountsMade counting costs whose stack now next e → In e
+    made_stops borrowed stack now next e f p = f now p
+    made_stops owned stack now next e f p = top_stops stack now next e f p
     made_stops either stack now next e f (inl p) = f now p
     made_stops either stack now next e f (inr p) = top_stops stack now next e f p
 
@@ -113,10 +113,10 @@ module _ (counting : Counting) (such : Limit → Type 0) (by : AllPass counting 
     module _ (counts : CountsLater counting costs) (later : (n : ℕ) (slots : List Value) (now : Tally) (e : Ending Tally) → counts n slots now e → In e) where
       module _ (next : Next counting costs) (e : Ending Tally) (f : (k : ℕ) (st sl : List Value) (u : Tally) → next k st sl u e → In e) where
         plain_stops : (op : Op) (stack slots : List Value) (now : Tally)
-            → Working counting costs op (looked_at op stack slots) now (λ begun g. (move : Move) × Step world no_block op stack slots move × CountsMove counting costs op move next begun g) e → In e
+            → ChargeWorkThen counting costs op (observed_values op stack slots) now (λ begun g. (move : Move) × Step world no_block op stack slots move × CountsMove counting costs op move next begun g) e → In e
         plain_stops op stack slots now p =
-            let n = costs.work op (looked_at op stack slots) in
-            let k = costs.room op (looked_at op stack slots) in
+            let n = costs.work op (observed_values op stack slots) in
+            let k = costs.room op (observed_values op stack slots) in
             counted (counting.works n k) (by.works n k) now (λ begun g. (move : Move) × Step world no_block op stack slots move × CountsMove counting costs op move next begun g) e (
             λ u q. move_stops op q.0 next u e f q.2
             ) p
@@ -126,9 +126,9 @@ module _ (counting : Counting) (such : Limit → Type 0) (by : AllPass counting 
             let w = costs.work (asks key n block slot binds) vs in
             let k = costs.room (asks key n block slot binds) vs in
             let call = λ (begun : Tally). CountsCall counting world.host key vs (λ q. counts block (take slot slots ++ bound_values binds q)) begun in
-            let after = λ (v : Value) (ran : Tally). Counted (counting.keeps v) (counting.freed now ran) (next 0 (v ∷ rest) (take slot slots)) in
-            keeping p.0 now (λ kept. Counted (counting.works w k) kept (λ begun. Then (call begun) after)) e (
-            λ kept c. counted (counting.works w k) (by.works w k) kept (λ begun. Then (call begun) after) e (
+            let after = λ (v : Value) (ran : Tally). ChargeThen (counting.keeps v) (counting.freed now ran) (next 0 (v ∷ rest) (take slot slots)) in
+            keeping p.0 now (λ kept. ChargeThen (counting.works w k) kept (λ begun. EndingThen (call begun) after)) e (
+            λ kept c. counted (counting.works w k) (by.works w k) kept (λ begun. EndingThen (call begun) after) e (
             λ b t. following t.0 after e (call_stops (λ q. counts block (take slot slots ++ bound_values binds q)) (λ q. later block (take slot slots ++ bound_values binds q)) world.host key vs b t.0 t.1) (
             λ v ran r. counted (counting.keeps v) (by.keeps v) (counting.freed now ran) (next 0 (v ∷ rest) (take slot slots)) e (f 0 (v ∷ rest) (take slot slots)) r
             ) t.2
@@ -170,7 +170,7 @@ module _ (counting : Counting) (such : Limit → Type 0) (by : AllPass counting 
 
     code_stops : (blocks : List (List Op)) (now : Tally) (e : Ending Tally) → CodeCounts counting costs world blocks now e → In e
     code_stops blocks now e (x, ran, p) =
-        following x (λ v u. Counted (counting.keeps v) (counting.freed now u) (λ last f. f ≡ gives v last)) e (runs_stop blocks 0 [] now x ran) (
+        following x (λ v u. ChargeThen (counting.keeps v) (counting.freed now u) (λ last f. f ≡ gives v last)) e (runs_stop blocks 0 [] now x ran) (
         λ v u q. counted (counting.keeps v) (by.keeps v) (counting.freed now u) (λ last f. f ≡ gives v last) e (λ last is. subst In (sym is) tt) q
         ) p
 
@@ -182,27 +182,27 @@ IsOfRuns limit = Unit {0}
 
 takes : (n k : ℕ) → Passes IsOfRuns (Takes n k)
 takes n k unlimited limit t = absurd (cc t)
-takes n k (within s w d) Height t = t
-takes n k (within s w d) Patterns t = t
-takes n k (within s w d) Steps t = tt
-takes n k (within s w d) Depth t = tt
-takes n k (within s w d) Size t = tt
+takes n k (limited s w d) Height t = t
+takes n k (limited s w d) Patterns t = t
+takes n k (limited s w d) Steps t = tt
+takes n k (limited s w d) Depth t = tt
+takes n k (limited s w d) Size t = tt
 
-begins : (n k : ℕ) → Passes IsOfRuns (Begins n k)
+begins : (n k : ℕ) → Passes IsOfRuns (TakesWork n k)
 begins n k unlimited limit t = absurd (cc t)
-begins n k (within s w d) Height t = t
-begins n k (within s w d) Patterns t = t
-begins n k (within s w d) Steps t = tt
-begins n k (within s w d) Depth t = tt
-begins n k (within s w d) Size t = tt
+begins n k (limited s w d) Height t = t
+begins n k (limited s w d) Patterns t = t
+begins n k (limited s w d) Steps t = tt
+begins n k (limited s w d) Depth t = tt
+begins n k (limited s w d) Size t = tt
 
 holds : (n e : ℕ) → Passes IsOfRuns (Holds n e)
 holds n e unlimited limit t = absurd (cc t)
-holds n e (within s w d) Height t = t
-holds n e (within s w d) Patterns t = t
-holds n e (within s w d) Steps t = tt
-holds n e (within s w d) Depth t = tt
-holds n e (within s w d) Size t = tt
+holds n e (limited s w d) Height t = t
+holds n e (limited s w d) Patterns t = t
+holds n e (limited s w d) Steps t = tt
+holds n e (limited s w d) Depth t = tt
+holds n e (limited s w d) Size t = tt
 
 -- a counted run within limits stops at one of these
 pub stops_of_runs : (costs : Costs) (world : World) (blocks : List (List Op)) (now : Room) (limit : Limit) → CodeCounts rooms costs world blocks now (stops limit) → IsOfRuns limit
@@ -210,6 +210,6 @@ stops_of_runs costs world blocks now limit p =
     code_stops rooms IsOfRuns (record {
       enters = λ n. takes n n;
       works = λ n k. begins n k;
-      makes = λ v. holds (inside v) (depth v);
+      makes = λ v. holds (inner_weight v) (depth v);
       keeps = λ v. holds (weight v) (depth v);
     }) costs world blocks now (stops limit) p

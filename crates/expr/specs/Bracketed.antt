@@ -9,8 +9,8 @@ pub record HaveOneProgram (one other : List ℕ) : Type 0 where
   pub of_one : IsProgramOf one program
   pub of_other : IsProgramOf other program
 
-abbrev pub bracketed : List (List ℕ × List ℕ)
-bracketed =
+abbrev pub bracketed_pairs : List (List ℕ × List ℕ)
+bracketed_pairs =
     (codes "a | f() * 2", codes "(a | f()) * 2")
     ∷ (codes "2 ^ not a * b", codes "2 ^ (not (a * b))")
     ∷ (codes "a ^ -b ^ c", codes "a ^ (-(b ^ c))")

@@ -3,24 +3,24 @@ use Rattle.jiff.specs.Types.{TimeZone as Rules}
 use Rattle.std.specs.Prelude.{◌≡◌, ℕ, List, Result, Ok, Err, Option, Some, IfSome, bytes_eq, if◌then◌else◌, is_some, option_map, string_bytes}
 use Rattle.std.specs.HashMap.{get_by_text}
 use Rattle.expr_value.specs.Answers.{Answer}
-use Rattle.expr_value.specs.Fault.{fault_of}
-use Rattle.expr_value.specs.Times.{rules_of, zone_name}
-use Rattle.expr_value.specs.declared.error.Error.{Error}
-use Rattle.expr_value.specs.declared.moment.DateTimeValue.{DateTimeValue}
+use Rattle.expr_error.specs.ErrorKind.{error_kind}
+use Rattle.expr_datetime.specs.Times.{rules_of, zone_name}
+use Rattle.expr_error.specs.declared.error.Error.{Error}
+use Rattle.expr_datetime.specs.declared.moment.DateTimeValue.{DateTimeValue}
 use Rattle.expr_value.specs.declared.value.Value.{Value}
-use Rattle.expr_value.specs.declared.zone.TimezoneValue.{TimezoneValue}
+use Rattle.expr_datetime.specs.declared.zone.TimezoneValue.{TimezoneValue}
 use Rattle.expr_meaning.specs.Host.{Host}
 use Rattle.expr_meaning.specs.declared.environment.ExprCall.{ExprCall}
 use Rattle.expr.specs.declared.environment.Environment.{Environment}
-use Rattle.expr.specs.declared.registered.Registered.{Registered}
+use Rattle.expr.specs.declared.boxed_function.BoxedFunction.{BoxedFunction}
 
 -- a result as an answer
 abbrev pub answer_of : Result Value Error → Answer
 answer_of (Ok v) = Ok v
-answer_of (Err e) = Err (fault_of e)
+answer_of (Err e) = Err (error_kind e)
 
 -- some call of this name on these values has, by the box's own relation of calls and results, a result that is this answer
-pub record Returns (relation : ExprCall → Result Value Error → Type 0) (key : List ℕ) (vs : List Value) (answer : Answer) : Type 0 where
+pub record FunctionMayReturn (relation : ExprCall → Result Value Error → Type 0) (key : List ℕ) (vs : List Value) (answer : Answer) : Type 0 where
   pub call : ExprCall
   pub result : Result Value Error
   pub name : string_bytes call.ident ≡ key
@@ -29,11 +29,11 @@ pub record Returns (relation : ExprCall → Result Value Error → Type 0) (key 
   pub stands : answer_of result ≡ answer
 
 -- what is kept of a function that is added
-abbrev pub registered : {x f g : _} → Environment x f g → List ℕ → Option (Registered x f g)
-registered env key = get_by_text env.functions key
+abbrev pub function_named : {x f g : _} → Environment x f g → List ℕ → Option (BoxedFunction x f g)
+function_named env key = get_by_text env.functions key
 
 -- the relation of calls and results that its own box has
-abbrev pub relation_of : {x f g : _} → Registered x f g → ExprCall → Result Value Error → Type 0
+abbrev pub relation_of : {x f g : _} → BoxedFunction x f g → ExprCall → Result Value Error → Type 0
 relation_of {g = g} r call result = g.post (r.function.vtable, r.function.value) (call, tt) result
 
 -- the zone of a name
@@ -51,14 +51,14 @@ pub record IsZoneAdded (name : List ℕ) (rules : Rules) (old new : List ℕ →
 abbrev pub moment_at : {x f g : _} → Environment x f g → Option DateTimeValue
 moment_at env = env.moment
 
-abbrev pub hosted : (List ℕ → Option TimezoneValue) → Option DateTimeValue → {x f g : _} → (List ℕ → Option (Registered x f g)) → Host
-hosted zones moment functions = record {
+abbrev pub host_with : (List ℕ → Option TimezoneValue) → Option DateTimeValue → {x f g : _} → (List ℕ → Option (BoxedFunction x f g)) → Host
+host_with zones moment functions = record {
   is_added = λ key. is_some (functions key);
-  calls = λ key vs answer. IfSome (functions key) (λ r. Returns (relation_of r) key vs answer);
+  calls = λ key vs answer. IfSome (functions key) (λ r. FunctionMayReturn (relation_of r) key vs answer);
   zones = zones;
   moment = moment;
 }
 
 -- what an environment has added
 abbrev pub host_of : {x f g : _} → Environment x f g → Host
-host_of env = hosted (zone_at env) (moment_at env) (registered env)
+host_of env = host_with (zone_at env) (moment_at env) (function_named env)

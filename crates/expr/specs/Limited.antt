@@ -5,7 +5,7 @@ use Rattle.expr_code.specs.Machine.{Op}
 use Rattle.expr_costs.specs.Costs.{costs_in}
 use Rattle.expr_meter.specs.Counting.{Ending, gives, refuses, stops}
 use Rattle.expr_meter.specs.Counts.{CodeCounts}
-use Rattle.expr_meter.specs.Rooms.{Room, rooms, within}
+use Rattle.expr_meter.specs.Rooms.{Room, rooms, limited}
 use Rattle.expr_meter.specs.declared.limit.Limit.TheVariants.{Height, Patterns}
 use Rattle.expr_meter.specs.declared.limits.Limits.{Limits}
 use Rattle.expr_meter.specs.declared.outcome.Outcome.{Outcome}
@@ -14,18 +14,18 @@ use Rattle.expr_meaning.specs.World.{World}
 use Rattle.expr_syntax.specs.Bounds.{IsHeavier, IsHigher, IsLight}
 use Rattle.expr_syntax.specs.Texts.{HasLargeLiteral, HasNoTree, IsProgramWithin}
 use Rattle.expr_tree.specs.Term.{Block}
-use Rattle.expr_tree.specs.Written.{program_written}
+use Rattle.expr_tree.specs.TermOf.{program_term}
 use Rattle.expr_tree.specs.declared.node.Program.{Program}
 use Rattle.expr_value.specs.Answers.{Answer}
-use Rattle.expr_value.specs.Fault.{fault_of, memory}
-use Rattle.expr_value.specs.declared.error.Error.{Error}
-use Rattle.expr_value.specs.declared.error.Error.TheVariants.{PestError, ParseError, ExprError, RegexError, MemoryError}
+use Rattle.expr_error.specs.ErrorKind.{error_kind, memory}
+use Rattle.expr_error.specs.declared.error.Error.{Error}
+use Rattle.expr_error.specs.declared.error.Error.TheVariants.{PestError, ParseError, ExprError, RegexError, MemoryError}
 use Rattle.expr_value.specs.declared.value.Value.{Value}
 use Rattle.expr.specs.Texts.{IsRefused}
 
 -- what each answer of `compile_limited` says of the text
 abbrev pub IsCompiledLimited : List ℕ → Limits → Result (Outcome Program) Error → Type 0
-IsCompiledLimited text limits (Ok (Answered p)) = IsProgramWithin text limits.height (program_written p) × IsLight text limits.patterns
+IsCompiledLimited text limits (Ok (Answered p)) = IsProgramWithin text limits.height (program_term p) × IsLight text limits.patterns
 IsCompiledLimited text limits (Ok (Stopped Height)) = IsHigher text limits.height
 IsCompiledLimited text limits (Ok (Stopped Patterns)) = IsHeavier text limits.patterns
 IsCompiledLimited text limits (Ok (Stopped limit)) = ⊥
@@ -42,7 +42,7 @@ OnProgram (Stopped limit) said = Unit {0}
 
 -- what limits leave a run
 abbrev pub room_of : Limits → Room
-room_of limits = within limits.steps limits.size limits.depth
+room_of limits = limited limits.steps limits.size limits.depth
 
 -- what a run of code may come to that counts within limits, as docs/LIMITS.md tells in words
 abbrev pub CodeEnds : World → List (List Op) → Limits → Ending Room → Type 0
@@ -60,10 +60,10 @@ EndsText world text limits (Ok (Answered v)) = (left : Room) × TextEnds world t
 EndsText world text limits (Ok (Stopped Height)) = IsHigher text limits.height
 EndsText world text limits (Ok (Stopped Patterns)) = IsHeavier text limits.patterns
 EndsText world text limits (Ok (Stopped limit)) = TextEnds world text limits (stops limit)
-EndsText world text limits (Err e) = fault_of e ≢ memory → IsRefused text (Err (fault_of e)) ⊎ TextEnds world text limits (refuses (fault_of e))
+EndsText world text limits (Err e) = error_kind e ≢ memory → IsRefused text (Err (error_kind e)) ⊎ TextEnds world text limits (refuses (error_kind e))
 
 -- What is answered is one of these answers, and so is what it is refused with, unless that is for want of memory. Nothing is said of where it stops.
 abbrev pub MayGive : Result (Outcome Value) Error → (Answer → Type 0) → Type 0
 MayGive (Ok (Answered v)) allowed = allowed (Ok v)
 MayGive (Ok (Stopped limit)) allowed = Unit {0}
-MayGive (Err e) allowed = fault_of e ≢ memory → allowed (Err (fault_of e))
+MayGive (Err e) allowed = error_kind e ≢ memory → allowed (Err (error_kind e))

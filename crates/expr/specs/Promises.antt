@@ -3,26 +3,26 @@ use Rattle.std.specs.Prelude.{◌≡◌, ℕ, IsTrue, List, Result, Ok, Err}
 use Rattle.std.specs.Str.{IsCharBoundary}
 use Rattle.expr.specs.Texts.{IsOwnFault, MayAnswer}
 use Rattle.expr_meaning.specs.World.{World, with_context}
-use Rattle.expr_steps.specs.Context.{Context}
+use Rattle.expr_steps.specs.Context.{ContextView}
 use Rattle.expr_syntax.specs.Texts.{IsPlaced, IsProgramOf}
-use Rattle.expr_token.specs.Printed.{is_readable}
+use Rattle.expr_printed.specs.Printed.{is_readable}
 use Rattle.expr_tree.specs.Context.{AgreeFor}
 use Rattle.expr_tree.specs.Term.{Block}
-use Rattle.expr_value.specs.Answers.{Gives, Is}
+use Rattle.expr_value.specs.Answers.{Returns, ReturnsExactly}
 use Rattle.expr_value.specs.Values.{text_of}
-use Rattle.expr_value.specs.declared.error.Error.{Error}
-use Rattle.expr_value.specs.declared.error.Error.TheVariants.{PestError}
+use Rattle.expr_error.specs.declared.error.Error.{Error}
+use Rattle.expr_error.specs.declared.error.Error.TheVariants.{PestError}
 use Rattle.expr_value.specs.declared.value.Value.{Value}
 
 -- what answering a text in a world comes to
 pub record AnswersText (world : World) (text : List ℕ) (result : Result Value Error) : Type 0 where
   -- it is one of the text's answers
-  pub answer : Gives result (MayAnswer text world)
+  pub answer : Returns result (MayAnswer text world)
   -- it is one in each context, too, that agrees with this one for the text's program
-  pub independent : Gives result (λ a. (other : Context) → ((b : Block) → IsProgramOf text b → AgreeFor world.context other b) → MayAnswer text (with_context world other) a)
+  pub independent : Returns result (λ a. (other : ContextView) → ((b : Block) → IsProgramOf text b → AgreeFor world.context other b) → MayAnswer text (with_context world other) a)
   -- a syntax fault that no function of the host answers is at the text's first fault, where the text may be cut
   pub place : IsOwnFault text world.host → IsPlaced text result
   pub boundary : IsOwnFault text world.host → (place : ℕ) → result ≡ Err (PestError place) → IsCharBoundary text place
   -- what a value prints as evaluates to that value: nil, booleans, integers above the least, texts, arrays, and maps whose keys
   -- are words, nested at will
-  pub reads_back : (v : Value) → IsTrue (is_readable v) → text ≡ text_of v → Is result (Ok v)
+  pub reads_back : (v : Value) → IsTrue (is_readable v) → text ≡ text_of v → ReturnsExactly result (Ok v)

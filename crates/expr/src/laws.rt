@@ -2,8 +2,8 @@
 
 ghost use Rattle.std.specs.List.{AllByRecursion};
 ghost use Rattle.std.specs.Prelude.{◌≡◌, IsTrue};
-ghost use Rattle.expr.specs.Bracketed.{HaveOneProgram, bracketed};
-ghost use Rattle.expr_token.specs.Printed.{is_readable};
+ghost use Rattle.expr.specs.Bracketed.{HaveOneProgram, bracketed_pairs};
+ghost use Rattle.expr_printed.specs.Printed.{is_readable};
 ghost use Rattle.expr_value.specs.Values.{text_of};
 
 use expr_value::Value;
@@ -17,5 +17,5 @@ pub fn equal_texts_mean_equal_values()
 
 /// Ten texts have one program each with the same texts in brackets: of pipes, prefixes, powers and conditionals.
 pub fn levels_are_as_in_brackets()
-    ensures { AllByRecursion (λ p. HaveOneProgram p.0 p.1) bracketed }
+    ensures { AllByRecursion (λ p. HaveOneProgram p.0 p.1) bracketed_pairs }
 {}

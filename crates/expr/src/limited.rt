@@ -5,7 +5,7 @@ ghost use Rattle.expr.specs.Hosted.{host_of};
 ghost use Rattle.expr.specs.Limited.{CodeEnds, EndsText, IsCompiledLimited, MayGive, OnProgram};
 ghost use Rattle.expr.specs.Texts.{IsOwnFault, MayAnswer};
 ghost use Rattle.expr_code.specs.Machine.{CodeAnswers};
-ghost use Rattle.expr_limited.specs.Outcomes.{Ends, OnAnswer};
+ghost use Rattle.expr_limited.specs.Outcomes.{ReturnsOutcome, OnAnswer};
 ghost use Rattle.expr_lowering.specs.Blocks.{blocks_of};
 ghost use Rattle.expr_meaning.specs.Host.{no_host};
 ghost use Rattle.expr_meaning.specs.World.{world_of};
@@ -13,17 +13,18 @@ ghost use Rattle.expr_machine.specs.Here.{here};
 ghost use Rattle.expr_parts.specs.Kept.{KeepPatterns};
 ghost use Rattle.expr_sizes.specs.Sizes.{depth};
 ghost use Rattle.expr_syntax.specs.Texts.{IsPlaced};
-ghost use Rattle.expr_tree.specs.Beside.{program_operations};
-ghost use Rattle.expr_value.specs.declared.error.Error.{Error as declared};
+ghost use Rattle.expr_tree.specs.KeptPatterns.{program_operations};
+ghost use Rattle.expr_error.specs.declared.error.Error.{Error as declared};
 
 use crate::environment::Environment;
-use expr_lowering::{Code, Holder};
+use expr_context::ContextProvider;
+use expr_lowering::{Code, Pointer};
 use expr_machine::Machine;
 use expr_meaning::{Functions, NoFunctions};
 use expr_meter::{Limit, Limits, Outcome};
-use expr_syntax::{Bounded, compile_bounded};
+use expr_syntax::{BoundedProgram, compile_bounded};
 use expr_tree::node::{Pattern, Program};
-use expr_value::{ContextProvider, Result, Value};
+use expr_value::{Result, Value};
 use std::alloc::Global;
 
 /// The program of a text within limits: its tree is no higher than `height`, as
@@ -45,9 +46,9 @@ pub fn compile_limited(alloc: Global, code: &str, limits: &Limits) -> Result<Out
 {
     let compiled = compile_bounded(alloc, code, limits.height, limits.patterns)?;
     match compiled {
-        Bounded::Program(program) => Ok(Outcome::Answered(program)),
-        Bounded::TooHigh => Ok(Outcome::Stopped(Limit::Height)),
-        Bounded::TooHeavy => Ok(Outcome::Stopped(Limit::Patterns)),
+        BoundedProgram::Program(program) => Ok(Outcome::Answered(program)),
+        BoundedProgram::TooHigh => Ok(Outcome::Stopped(Limit::Height)),
+        BoundedProgram::TooHeavy => Ok(Outcome::Stopped(Limit::Patterns)),
     }
 }
 
@@ -57,14 +58,14 @@ pub fn compile_limited(alloc: Global, code: &str, limits: &Limits) -> Result<Out
 /// # Errors
 ///
 /// What [`execute`](expr_machine::execute) refuses. That a limit is passed is no error, but [`Outcome::Stopped`].
-pub fn execute_limited<L: Holder<Value>, N: Holder<String>, P: Holder<Pattern>>(
+pub fn execute_limited<L: Pointer<Value>, N: Pointer<String>, P: Pointer<Pattern>>(
     alloc: Global,
     code: &Code<L, N, P>,
     ctx: &dyn ContextProvider,
     limits: &Limits,
 ) -> Result<Outcome<Value>>
     // It ends as a run of the code does that counts within these limits: where one answers, refuses or stops.
-    ensures outcome { Ends result (CodeEnds (world_of no_host (context ctx.now))
+    ensures outcome { ReturnsOutcome result (CodeEnds (world_of no_host (context ctx.now))
         (blocks_of L.held (λ n. string_bytes (N.held n)) code.now) limits.now) }
     // What it answers, `execute` may answer.
     ensures answer { MayGive result (CodeAnswers (world_of no_host (context ctx.now))
@@ -117,7 +118,7 @@ impl Environment {
     /// # Errors
     ///
     /// What [`Environment::execute`] refuses. That a limit is passed is no error, but [`Outcome::Stopped`].
-    pub fn execute_limited<L: Holder<Value>, N: Holder<String>, P: Holder<Pattern>>(
+    pub fn execute_limited<L: Pointer<Value>, N: Pointer<String>, P: Pointer<Pattern>>(
         &self,
         alloc: Global,
         code: &Code<L, N, P>,
@@ -125,7 +126,7 @@ impl Environment {
         limits: &Limits,
     ) -> Result<Outcome<Value>>
         // It ends as a run of the code does that counts within these limits: where one answers, refuses or stops.
-        ensures outcome { Ends result (CodeEnds (world_of (host_of self.now) (context ctx.now))
+        ensures outcome { ReturnsOutcome result (CodeEnds (world_of (host_of self.now) (context ctx.now))
             (blocks_of L.held (λ n. string_bytes (N.held n)) code.now) limits.now) }
         // What it answers, `execute` may answer.
         ensures answer { MayGive result (CodeAnswers (world_of (host_of self.now) (context ctx.now))

@@ -1,23 +1,24 @@
 //! The older way in: a parser that holds an environment.
 ghost use Rattle.std.specs.Prelude.{◌≡◌, ◌≢◌, ℕ, List, None, Err, Some, IfOk, OnErr, OnOk, bytes_eq, option_map};
-ghost use Rattle.expr.specs.Hosted.{host_of, moment_at, registered, zone_at};
+ghost use Rattle.expr.specs.Hosted.{host_of, moment_at, function_named, zone_at};
 ghost use Rattle.expr.specs.Parsers.{environment_of};
 ghost use Rattle.std.specs.Str.{IsCharBoundary};
 ghost use Rattle.expr_grammar.specs.Grammar.{TreeProgram};
 ghost use Rattle.expr_meaning.specs.World.{world_of};
 ghost use Rattle.expr_parts.specs.Kept.{KeepPatterns};
 ghost use Rattle.expr_syntax.specs.Texts.{IsAnswerFor, IsCompiled, IsPlaced, IsTreeOf};
-ghost use Rattle.expr_tree.specs.Beside.{program_operations};
-ghost use Rattle.expr_value.specs.Fault.{OnlyMemory};
+ghost use Rattle.expr_tree.specs.KeptPatterns.{program_operations};
+ghost use Rattle.expr_error.specs.ErrorKind.{OnlyMemory};
 ghost use Rattle.expr_value.specs.declared.value.Value.{Value};
 ghost use Rattle.expr_machine.specs.Promises.{RunsProgram};
 ghost use Rattle.expr.specs.Promises.{AnswersText};
 ghost use Rattle.expr_evaluation.specs.Promises.{AnswersNode};
 
+use crate::boxed_function::Function;
 use crate::environment::Environment;
-use crate::registered::Function;
+use expr_context::ContextProvider;
 use expr_tree::node::{Node, Program};
-use expr_value::{ContextProvider, Error, Result, Value};
+use expr_value::{Error, Result, Value};
 use std::alloc::Global;
 
 /// An environment, and `compile` beside it.
@@ -31,7 +32,7 @@ pub struct Parser {
 impl Parser {
     /// A parser without additions. It takes no memory.
     pub fn new(alloc: Global) -> Parser
-        ensures functions { (key : List ℕ) → registered (environment_of result) key ≡ None }
+        ensures functions { (key : List ℕ) → function_named (environment_of result) key ≡ None }
         ensures zones { (key : List ℕ) → zone_at (environment_of result) key ≡ None }
         ensures moment { moment_at (environment_of result) ≡ None }
     {
@@ -49,11 +50,11 @@ impl Parser {
     pub fn add_function(&mut self, name: &str, function: Function) -> Result<()>
         requires { Function.IsAlwaysCallable function }
         ensures added { OnOk result ((key : List ℕ)
-            → option_map (λ r. r.function) (registered (environment_of self.new) key)
+            → option_map (λ r. r.function) (function_named (environment_of self.new) key)
             ≡ (if bytes_eq name.now key then Some function else option_map
-            (λ r. r.function) (registered (environment_of self.old) key))) }
+            (λ r. r.function) (function_named (environment_of self.old) key))) }
         ensures err { OnErr result ((key : List ℕ) →
-            registered (environment_of self.new) key ≡ registered (environment_of self.old) key) }
+            function_named (environment_of self.new) key ≡ function_named (environment_of self.old) key) }
         ensures zones { (key : List ℕ)
             → zone_at (environment_of self.new) key ≡ zone_at (environment_of self.old) key }
         ensures moment { moment_at (environment_of self.new) ≡ moment_at (environment_of self.old) }

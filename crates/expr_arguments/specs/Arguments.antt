@@ -1,15 +1,15 @@
 -- The arguments of a call, by number and kinds. A call with others is refused.
 use Rattle.std.specs.Prelude.{ℤ, negsuc, ℕ, List, [], ◌∷◌, Option, Some, None, Ok, Err}
 use Rattle.std.specs.Option.{option_and_then, option_map}
-use Rattle.expr_value.specs.Fault.{evaluation}
+use Rattle.expr_error.specs.ErrorKind.{evaluation}
 use Rattle.expr_value.specs.Values.{duration_of, string_of, integer_of, items_of}
 use Rattle.expr_value.specs.declared.value.Value.{Value}
 use Rattle.expr_value.specs.Answers.{Answer}
 
 -- what a call answers on arguments of its kinds
-abbrev pub asked : {A : Type 0} → Option A → (A → Answer) → Answer
-asked None answers = Err evaluation
-asked (Some x) answers = answers x
+abbrev pub answer_on : {A : Type 0} → Option A → (A → Answer) → Answer
+answer_on None answers = Err evaluation
+answer_on (Some x) answers = answers x
 
 abbrev pub both : {A B : Type 0} → Option A → Option B → Option (A × B)
 both None b = None
@@ -38,9 +38,9 @@ all_of kind [] = Some []
 all_of kind (v ∷ vs) = option_and_then (λ x. option_map (λ xs. x ∷ xs) (all_of kind vs)) (kind v)
 
 -- no argument
-abbrev pub alone : List Value → Value → Answer
-alone [] v = Ok v
-alone (w ∷ more) v = Err evaluation
+abbrev pub without_arguments : List Value → Value → Answer
+without_arguments [] v = Ok v
+without_arguments (w ∷ more) v = Err evaluation
 
 abbrev pub one_duration : List Value → Option ℤ
 one_duration = one_of duration_of

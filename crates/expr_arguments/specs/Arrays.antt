@@ -2,8 +2,8 @@
 use Rattle.std.specs.Prelude.{List}
 use Rattle.expr_value.specs.declared.value.Value.{Value}
 use Rattle.expr_arguments.specs.declared.array.Array.{Array}
-use Rattle.expr_arguments.specs.declared.array.Array.TheVariants.{Own, Lent}
+use Rattle.expr_arguments.specs.declared.array.Array.TheVariants.{Owned, Borrowed}
 
-abbrev pub items_held : Array → List Value
-items_held (Own items) = items
-items_held (Lent items) = items.now
+abbrev pub array_items : Array → List Value
+array_items (Owned items) = items
+array_items (Borrowed items) = items.now

@@ -1,19 +1,19 @@
 //! The arguments of a call, by number and kinds.
 ghost use Rattle.std.specs.Prelude.{◌≡◌};
-ghost use Rattle.expr_value.specs.Answers.{Is};
+ghost use Rattle.expr_value.specs.Answers.{ReturnsExactly};
 ghost use Rattle.std.specs.Option.{option_copied, option_map};
 ghost use Rattle.expr_value.specs.Values.{integer_of, items_of};
-ghost use Rattle.expr_arguments.specs.Arrays.{items_held};
-ghost use Rattle.expr_arguments.specs.Arguments.{alone, one_duration, one_integer, two_integers, one_text, two_texts, two_texts_and_limit, one_or_two_texts, text_and_integer, three_texts_and_limit, array_and_text, one_of, two_of, any_value};
+ghost use Rattle.expr_arguments.specs.Arrays.{array_items};
+ghost use Rattle.expr_arguments.specs.Arguments.{without_arguments, one_duration, one_integer, two_integers, one_text, two_texts, two_texts_and_limit, one_or_two_texts, text_and_integer, three_texts_and_limit, array_and_text, one_of, two_of, any_value};
 
 use crate::array::{Array, array_of};
-use expr_held::Held;
+use expr_cow::CowValue;
 use expr_value::{Result, Value, refusal};
 use std::alloc::Global;
 
 /// An answer that goes with no arguments; with any it is a refusal.
-pub fn without(alloc: Global, arguments: &[Held<'_>], answer: Value) -> Result<Value>
-    ensures { Is result (alone arguments.now answer) }
+pub fn without_arguments(alloc: Global, arguments: &[CowValue<'_>], answer: Value) -> Result<Value>
+    ensures { ReturnsExactly result (without_arguments arguments.now answer) }
 {
     match arguments {
         [] => Ok(answer),
@@ -22,7 +22,7 @@ pub fn without(alloc: Global, arguments: &[Held<'_>], answer: Value) -> Result<V
 }
 
 /// The argument, if it is one length of time, in nanoseconds.
-pub fn one_duration(arguments: &[Held<'_>]) -> Option<i64>
+pub fn one_duration(arguments: &[CowValue<'_>]) -> Option<i64>
     ensures { result ≡ one_duration arguments.now }
 {
     match arguments {
@@ -32,7 +32,7 @@ pub fn one_duration(arguments: &[Held<'_>]) -> Option<i64>
 }
 
 /// The argument, if it is one integer.
-pub fn one_integer(arguments: &[Held<'_>]) -> Option<i64>
+pub fn one_integer(arguments: &[CowValue<'_>]) -> Option<i64>
     ensures { result ≡ one_integer arguments.now }
 {
     match arguments {
@@ -42,7 +42,7 @@ pub fn one_integer(arguments: &[Held<'_>]) -> Option<i64>
 }
 
 /// The arguments, if they are two integers.
-pub fn two_integers(arguments: &[Held<'_>]) -> Option<(i64, i64)>
+pub fn two_integers(arguments: &[CowValue<'_>]) -> Option<(i64, i64)>
     ensures { result ≡ two_integers arguments.now }
 {
     match arguments {
@@ -52,7 +52,7 @@ pub fn two_integers(arguments: &[Held<'_>]) -> Option<(i64, i64)>
 }
 
 /// The argument, if it is one text.
-pub fn one_text<'a>(arguments: &'a [Held<'_>]) -> Option<&'a str>
+pub fn one_text<'a>(arguments: &'a [CowValue<'_>]) -> Option<&'a str>
     ensures { option_map (λ s. s.now) result ≡ one_text arguments.now }
 {
     match arguments {
@@ -62,7 +62,7 @@ pub fn one_text<'a>(arguments: &'a [Held<'_>]) -> Option<&'a str>
 }
 
 /// The arguments, if they are two texts.
-pub fn two_texts<'a>(arguments: &'a [Held<'_>]) -> Option<(&'a str, &'a str)>
+pub fn two_texts<'a>(arguments: &'a [CowValue<'_>]) -> Option<(&'a str, &'a str)>
     ensures { option_map (λ p. (p.0.now, p.1.now)) result ≡ two_texts arguments.now }
 {
     match arguments {
@@ -72,7 +72,7 @@ pub fn two_texts<'a>(arguments: &'a [Held<'_>]) -> Option<(&'a str, &'a str)>
 }
 
 /// Two texts and a limit, which is -1 where it isn't given.
-pub fn two_texts_and_limit<'a>(arguments: &'a [Held<'_>]) -> Option<(&'a str, &'a str, i64)>
+pub fn two_texts_and_limit<'a>(arguments: &'a [CowValue<'_>]) -> Option<(&'a str, &'a str, i64)>
     ensures { option_map (λ p. (p.0.now, p.1.now, p.2)) result ≡ two_texts_and_limit arguments.now }
 {
     let [first, second, rest @ ..] = arguments else {
@@ -87,7 +87,7 @@ pub fn two_texts_and_limit<'a>(arguments: &'a [Held<'_>]) -> Option<(&'a str, &'
 }
 
 /// A text, and another that is empty where it isn't given.
-pub fn one_or_two_texts<'a>(arguments: &'a [Held<'_>]) -> Option<(&'a str, &'a str)>
+pub fn one_or_two_texts<'a>(arguments: &'a [CowValue<'_>]) -> Option<(&'a str, &'a str)>
     ensures { option_map (λ p. (p.0.now, p.1.now)) result ≡ one_or_two_texts arguments.now }
 {
     match arguments {
@@ -98,7 +98,7 @@ pub fn one_or_two_texts<'a>(arguments: &'a [Held<'_>]) -> Option<(&'a str, &'a s
 }
 
 /// A text and an integer.
-pub fn text_and_integer<'a>(arguments: &'a [Held<'_>]) -> Option<(&'a str, i64)>
+pub fn text_and_integer<'a>(arguments: &'a [CowValue<'_>]) -> Option<(&'a str, i64)>
     ensures { option_map (λ p. (p.0.now, p.1)) result ≡ text_and_integer arguments.now }
 {
     match arguments {
@@ -109,7 +109,7 @@ pub fn text_and_integer<'a>(arguments: &'a [Held<'_>]) -> Option<(&'a str, i64)>
 
 /// Three texts and a limit, which is -1 where it isn't given.
 pub fn three_texts_and_limit<'a>(
-    arguments: &'a [Held<'_>],
+    arguments: &'a [CowValue<'_>],
 ) -> Option<(&'a str, &'a str, &'a str, i64)>
     ensures { option_map (λ p. ((p.0.now, p.1.now), (p.2.now, p.3))) result
         ≡ three_texts_and_limit arguments.now }
@@ -128,7 +128,7 @@ pub fn three_texts_and_limit<'a>(
 }
 
 /// The argument, if it is one.
-pub fn one_value<'a>(arguments: &'a [Held<'_>]) -> Option<&'a Value>
+pub fn one_value<'a>(arguments: &'a [CowValue<'_>]) -> Option<&'a Value>
     ensures { option_copied result ≡ one_of any_value arguments.now }
 {
     match arguments {
@@ -138,7 +138,7 @@ pub fn one_value<'a>(arguments: &'a [Held<'_>]) -> Option<&'a Value>
 }
 
 /// The arguments, if they are two.
-pub fn two_values<'a>(arguments: &'a [Held<'_>]) -> Option<(&'a Value, &'a Value)>
+pub fn two_values<'a>(arguments: &'a [CowValue<'_>]) -> Option<(&'a Value, &'a Value)>
     ensures { option_map (λ p. (p.0.now, p.1.now)) result ≡ two_of any_value any_value arguments.now }
 {
     match arguments {
@@ -148,7 +148,7 @@ pub fn two_values<'a>(arguments: &'a [Held<'_>]) -> Option<(&'a Value, &'a Value
 }
 
 /// An array, and a text that is empty where it isn't given.
-pub fn array_and_text<'a>(arguments: &'a [Held<'_>]) -> Option<(&'a [Value], &'a str)>
+pub fn array_and_text<'a>(arguments: &'a [CowValue<'_>]) -> Option<(&'a [Value], &'a str)>
     ensures { option_map (λ p. (p.0.now, p.1.now)) result ≡ array_and_text arguments.now }
 {
     match arguments {
@@ -159,22 +159,22 @@ pub fn array_and_text<'a>(arguments: &'a [Held<'_>]) -> Option<(&'a [Value], &'a
 }
 
 /// The argument, moved out, if it is one array.
-pub fn one_array<'a>(arguments: &mut [Held<'a>]) -> Option<Array<'a>>
-    ensures { option_map items_held result ≡ one_of items_of arguments.old }
+pub fn one_array<'a>(arguments: &mut [CowValue<'a>]) -> Option<Array<'a>>
+    ensures { option_map array_items result ≡ one_of items_of arguments.old }
 {
     match arguments {
-        [array] => array_of(array.take_holding()),
+        [array] => array_of(array.take_cow()),
         _ => None,
     }
 }
 
 /// An array, moved out, and an integer.
-pub fn array_and_integer<'a>(arguments: &mut [Held<'a>]) -> Option<(Array<'a>, i64)>
-    ensures { option_map (λ p. (items_held p.0, p.1)) result ≡ two_of items_of integer_of arguments.old }
+pub fn array_and_integer<'a>(arguments: &mut [CowValue<'a>]) -> Option<(Array<'a>, i64)>
+    ensures { option_map (λ p. (array_items p.0, p.1)) result ≡ two_of items_of integer_of arguments.old }
 {
     let [_, number] = &*arguments else {
         return None;
     };
     let number = number.get().as_integer()?;
-    Some((array_of(arguments[0].take_holding())?, number))
+    Some((array_of(arguments[0].take_cow())?, number))
 }

@@ -2,12 +2,12 @@
 //! they are kept.
 ghost use Rattle.std.specs.Prelude.{◌≡◌, length, IfOk};
 ghost use Rattle.std.specs.Option.{option_map};
-ghost use Rattle.expr_held.specs.Holdings.{value_held};
+ghost use Rattle.expr_cow.specs.Cow.{cow_value};
 ghost use Rattle.expr_value.specs.Values.{items_of};
-ghost use Rattle.expr_arguments.specs.Arrays.{items_held};
-ghost use Rattle.expr_value.specs.Fault.{OnlyMemory};
+ghost use Rattle.expr_arguments.specs.Arrays.{array_items};
+ghost use Rattle.expr_error.specs.ErrorKind.{OnlyMemory};
 
-use expr_held::{Held, Holding};
+use expr_cow::{Cow, CowValue};
 use expr_value::{Items, Result, Value};
 use std::alloc::Global;
 
@@ -15,79 +15,79 @@ use std::alloc::Global;
 #[derive(Drop)]
 pub enum Array<'a> {
     /// Of the call's own.
-    Own(Items<Value>),
+    Owned(Items<Value>),
     /// Of an array that stands elsewhere.
-    Lent(&'a Items<Value>),
+    Borrowed(&'a Items<Value>),
 }
 
 /// The array that a value is.
-pub fn array_of(value: Holding<'_>) -> Option<Array<'_>>
-    ensures { option_map items_held result ≡ items_of (value_held value.entry) }
+pub fn array_of(value: Cow<'_>) -> Option<Array<'_>>
+    ensures { option_map array_items result ≡ items_of (cow_value value.entry) }
 {
     match value {
-        Holding::Own(Value::Array(items)) => Some(Array::Own(items)),
-        Holding::Lent(Value::Array(items)) => Some(Array::Lent(items)),
+        Cow::Owned(Value::Array(items)) => Some(Array::Owned(items)),
+        Cow::Borrowed(Value::Array(items)) => Some(Array::Borrowed(items)),
         _ => None,
     }
 }
 
 /// How many items there are.
 pub fn count_items(array: &Array<'_>) -> usize
-    ensures { result ≡ length (items_held array.now) }
+    ensures { result ≡ length (array_items array.now) }
 {
     match array {
-        Array::Own(items) => items.len(),
-        Array::Lent(items) => items.len(),
+        Array::Owned(items) => items.len(),
+        Array::Borrowed(items) => items.len(),
     }
 }
 
 /// All the items, to be kept.
 pub fn into_items<'a>(alloc: Global, array: Array<'a>) -> Result<Vec<Value>>
-    ensures ok { IfOk result (λ all. all.items ≡ items_held array.entry) }
+    ensures ok { IfOk result (λ all. all.items ≡ array_items array.entry) }
     ensures err { OnlyMemory result }
 {
     match array {
-        Array::Own(items) => Ok(items.into_vec()),
-        Array::Lent(items) => Ok(items.as_slice().to_vec(alloc)?),
+        Array::Owned(items) => Ok(items.into_vec()),
+        Array::Borrowed(items) => Ok(items.as_slice().to_vec(alloc)?),
     }
 }
 
 /// The items, each held as the array is.
-pub fn each_held(alloc: Global, array: Array<'_>) -> Result<Vec<Held<'_>>>
-    ensures ok { IfOk result (λ held. held.items ≡ items_held array.entry) }
+pub fn each_cow(alloc: Global, array: Array<'_>) -> Result<Vec<CowValue<'_>>>
+    ensures ok { IfOk result (λ held. held.items ≡ array_items array.entry) }
     ensures err { OnlyMemory result }
 {
     let held = array;
     match held {
-        Array::Own(items) => each_own(alloc, items.into_vec()),
-        Array::Lent(items) => each_lent(alloc, items.as_slice()),
+        Array::Owned(items) => each_own(alloc, items.into_vec()),
+        Array::Borrowed(items) => each_lent(alloc, items.as_slice()),
     }
 }
 
-fn each_own<'a>(alloc: Global, items: Vec<Value>) -> Result<Vec<Held<'a>>>
+fn each_own<'a>(alloc: Global, items: Vec<Value>) -> Result<Vec<CowValue<'a>>>
     ensures ok { IfOk result (λ held. held.items ≡ items.items) }
     ensures err { OnlyMemory result }
 {
     let mut held = Vec::with_capacity(alloc, items.len())?;
     for item in items {
-        held.push(Held::own(item))?;
+        held.push(CowValue::from_owned(item))?;
     }
     Ok(held)
 }
 
-fn each_lent(alloc: Global, items: &[Value]) -> Result<Vec<Held<'_>>>
+fn each_lent(alloc: Global, items: &[Value]) -> Result<Vec<CowValue<'_>>>
     ensures ok { IfOk result (λ held. held.items ≡ items.now) }
     ensures err { OnlyMemory result }
 {
     let mut held = Vec::with_capacity(alloc, items.len())?;
     for item in items {
-        held.push(Held::lent(item))?;
+        held.push(CowValue::from_borrowed(item))?;
     }
     Ok(held)
 }
 
 /// Values that are held, to be kept.
-pub fn each_kept(alloc: Global, held: Vec<Held<'_>>) -> Result<Vec<Value>>
+pub fn values_of_cows(alloc: Global, held: Vec<CowValue<'_>>) -> Result<Vec<Value>>
     ensures ok { IfOk result (λ values. values.items ≡ held.entry.items) }
     ensures err { OnlyMemory result }
 {

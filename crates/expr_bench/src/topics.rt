@@ -1,11 +1,13 @@
 //! What only code can see of a topic.
 use crate::engine;
+use expr::value;
 use expr_bench_answers::{answers, deep, reading_back, values};
 use expr_bench_hosts::{additions, hosts, served};
 use expr_bench_programs::{parts, plain, programs, sizes, tokens};
 use expr_bench_values::page::Page;
 use expr_bench_values::{collections, macros};
-use expr_value::{Context, Result, value};
+use expr_context::Context;
+use expr_value::Result;
 use std::alloc::Global;
 
 /// Puts each public call that answers otherwise than it should.

@@ -32,7 +32,7 @@ impl ContextProvider for Odd {
     }
 }
 
-fn disagreeing(alloc: Global) -> Result<Odd> {
+fn odd_provider(alloc: Global) -> Result<Odd> {
     let names = Context::try_from(alloc, value!(in alloc; {"#": {"x": 7}, "$env": 1, "a": 2})?)?;
     let shown = Context::try_from(alloc, value!(in alloc; {"a": 3})?)?;
     Ok(Odd {
@@ -58,7 +58,7 @@ const UNDER_ODD_PROVIDERS: &[(&str, bool, &str)] = &[
 
 /// Puts what is wrong of these answers.
 pub fn put_answers(alloc: Global, wrong: &mut Page) -> Result<()> {
-    let mut odd = disagreeing(alloc)?;
+    let mut odd = odd_provider(alloc)?;
     for (code, refuses, expected) in UNDER_ODD_PROVIDERS {
         odd.refuses = *refuses;
         wrong.answer(code, eval(alloc, code, &odd), expected);

@@ -1,7 +1,8 @@
 //! Each public call on texts, environments and parsers that takes memory, by its name and with memory to spare.
 use expr::{
     Code, Context, Environment, ExprCall, KeptMachine, Limit, Limits, Node, Outcome, Parser,
-    Result, Value, compile, compile_limited, eval, eval_limited, execute_limited, run, spot_of,
+    Result, Value, compile, compile_limited, eval, eval_limited, execute_limited, line_column_of,
+    run,
 };
 use expr_bench_values::page::Page;
 use jiff::Timestamp;
@@ -130,7 +131,7 @@ fn put_parser(alloc: Global, context: &Context, wrong: &mut Page) -> Result<()> 
 }
 
 /// What a limited call answered; that it was stopped is told as a text.
-fn answered(alloc: Global, outcome: Result<Outcome<Value>>) -> Result<Value> {
+fn value_of_outcome(alloc: Global, outcome: Result<Outcome<Value>>) -> Result<Value> {
     match outcome? {
         Outcome::Answered(value) => Ok(value),
         Outcome::Stopped(Limit::Steps) => Value::text(alloc, "steps"),
@@ -160,22 +161,26 @@ fn put_limited(alloc: Global, context: &Context, wrong: &mut Page) -> Result<()>
     limits.size = 10_000;
     for (code, answer) in LIMITED {
         let outcome = eval_limited(alloc, code, context, &limits);
-        wrong.answer("eval_limited", answered(alloc, outcome), answer);
+        wrong.answer("eval_limited", value_of_outcome(alloc, outcome), answer);
     }
     let host = Environment::new(alloc);
     let outcome = host.eval_limited(alloc, "a", context, &limits);
-    wrong.answer("Environment::eval_limited", answered(alloc, outcome), "2");
+    wrong.answer(
+        "Environment::eval_limited",
+        value_of_outcome(alloc, outcome),
+        "2",
+    );
     let Outcome::Answered(program) = compile_limited(alloc, "a + 1", &limits)? else {
         wrong.put("compile_limited\n");
         return Ok(());
     };
     let code = Code::lower(alloc, &program)?;
     let outcome = execute_limited(alloc, &code, context, &limits);
-    wrong.answer("execute_limited", answered(alloc, outcome), "3");
+    wrong.answer("execute_limited", value_of_outcome(alloc, outcome), "3");
     let outcome = host.execute_limited(alloc, &code, context, &limits);
     wrong.answer(
         "Environment::execute_limited",
-        answered(alloc, outcome),
+        value_of_outcome(alloc, outcome),
         "3",
     );
     wrong.fact("compile_limited", true);
@@ -185,9 +190,9 @@ fn put_limited(alloc: Global, context: &Context, wrong: &mut Page) -> Result<()>
 fn put_texts(alloc: Global, context: &Context, wrong: &mut Page) -> Result<()> {
     put_limited(alloc, context, wrong)?;
     wrong.answer("eval", eval(alloc, "a * 10", context), "20");
-    let spot = spot_of(alloc, "a\nb c", 4)?;
+    let spot = line_column_of(alloc, "a\nb c", 4)?;
     let is_there = spot.line == 2 && spot.column == 3 && spot.shown.as_str() == "b c\n  ^";
-    wrong.fact("spot_of", is_there);
+    wrong.fact("line_column_of", is_there);
     Ok(())
 }
 

@@ -23,7 +23,7 @@ struct Kinds {
 }
 
 /// No damage yet.
-fn nothing() -> Kinds {
+fn no_kinds() -> Kinds {
     Kinds {
         values: 0,
         syntax: 0,
@@ -94,7 +94,7 @@ pub fn put_damaged(
     context: &Context,
     page: &mut Page,
 ) -> std::result::Result<(), AllocError> {
-    let mut kinds = nothing();
+    let mut kinds = no_kinds();
     let mut bytes = text.as_bytes().to_vec(alloc)?;
     kinds.try_cuts(alloc, bytes.as_slice(), context);
     kinds.try_places(alloc, bytes.as_mut_slice(), context);

@@ -2,16 +2,16 @@
 use crate::damaged::put_damaged;
 use crate::ways::agrees;
 use expr::{Context, Result, eval};
-use expr_bench_values::lines::{answer_text, unescaped};
+use expr_bench_values::lines::{answer_text, unescape};
 use expr_bench_values::page::Page;
 use std::alloc::Global;
 
 /// Binds a name as a part of a row says, `NAME=CODE`. The code is evaluated in an empty context.
 fn bind(alloc: Global, part: &str, context: &mut Context) -> Result<()> {
     let (name, code) = part.split_once('=').unwrap_or((part, ""));
-    let code = unescaped(alloc, code)?;
+    let code = unescape(alloc, code)?;
     let value = eval(alloc, &code, &Context::new(alloc))?;
-    context.insert(unescaped(alloc, name)?, value)?;
+    context.insert(unescape(alloc, name)?, value)?;
     Ok(())
 }
 
@@ -19,7 +19,7 @@ fn bind(alloc: Global, part: &str, context: &mut Context) -> Result<()> {
 fn read(alloc: Global, row: &str) -> Result<(String, Context)> {
     let mut context = Context::new(alloc);
     let mut parts = row.split('\t');
-    let code = unescaped(alloc, parts.next().unwrap_or(""))?;
+    let code = unescape(alloc, parts.next().unwrap_or(""))?;
     for part in parts {
         bind(alloc, part, &mut context)?;
     }

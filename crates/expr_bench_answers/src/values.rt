@@ -1,7 +1,7 @@
 //! What values answer that no text makes, and what values and contexts lend.
 use expr::{Context, ContextProvider, Result, Value, eval, value};
 use expr_bench_values::lent::{has_name, is_no_context, put_lent};
-use expr_bench_values::made::{made, named};
+use expr_bench_values::made::{made_context, made_pairs};
 use expr_bench_values::page::Page;
 use std::alloc::Global;
 
@@ -35,7 +35,7 @@ fn put_list(alloc: Global, names: &Context, wrong: &mut Page) -> Result<()> {
 
 /// Puts what is wrong of the answers.
 fn put_answers(alloc: Global, wrong: &mut Page) -> Result<()> {
-    let names = made(alloc)?;
+    let names = made_context(alloc)?;
     for (code, answer) in ANSWERS {
         wrong.answer(code, eval(alloc, code, &names), answer);
     }
@@ -52,7 +52,7 @@ fn put_context(alloc: Global, page: &mut Page) -> Result<()> {
 
 /// Puts a context of pairs, with one name more, and the facts of it that don't hold.
 fn put_contexts(alloc: Global, page: &mut Page) -> Result<()> {
-    let mut context = Context::from_pairs(alloc, named(alloc)?)?;
+    let mut context = Context::from_pairs(alloc, made_pairs(alloc)?)?;
     context.insert(String::from_str(alloc, "c")?, Value::Nil)?;
     page.put_answer(eval(alloc, "$env", &context));
     page.fact("a context has a name", has_name(alloc, &context, "a")?);

@@ -13,7 +13,7 @@ enum Kind {
 }
 
 /// The text that asks for the number of a name, function or zone.
-fn asking(alloc: Global, kind: Kind, name: &str) -> std::result::Result<String, AllocError> {
+fn text_asking(alloc: Global, kind: Kind, name: &str) -> std::result::Result<String, AllocError> {
     match kind {
         Kind::Names => String::from_str(alloc, name),
         Kind::Functions => format!(in alloc; "{name}()"),
@@ -34,14 +34,14 @@ fn numbers(alloc: Global, kind: Kind, host: &Environment, context: &Context) -> 
     let mut page = Page::new(alloc);
     for name in NAMES {
         page.put(name);
-        let code = asking(alloc, kind, name)?;
+        let code = text_asking(alloc, kind, name)?;
         page.put_answer(host.eval(alloc, &code, context));
     }
     Ok(page)
 }
 
 /// What each name's number is where the first ones are added, and one has the number that was tried.
-fn expected(alloc: Global, count: usize, tried: Option<&str>) -> Page {
+fn expected_page(alloc: Global, count: usize, tried: Option<&str>) -> Page {
     let mut page = Page::new(alloc);
     let mut place = 0_usize;
     for name in NAMES {
@@ -68,8 +68,8 @@ fn judge(
     wrong: &mut Page,
 ) -> Result<()> {
     let expected = match &added {
-        Ok(()) => expected(alloc, count, Some(tried)),
-        Err(_) => expected(alloc, count, None),
+        Ok(()) => expected_page(alloc, count, Some(tried)),
+        Err(_) => expected_page(alloc, count, None),
     };
     if given.text() == expected.text() {
         return added;
@@ -111,7 +111,7 @@ fn put_function(alloc: Global, count: usize, tried: &str, wrong: &mut Page) -> R
 }
 
 /// The rules of a zone that is so many minutes ahead.
-fn ahead(minutes: i64) -> TimeZone<'static> {
+fn zone_ahead(minutes: i64) -> TimeZone<'static> {
     let seconds = i32::try_from(minutes).unwrap_or(0).wrapping_mul(60);
     match Offset::from_seconds(seconds) {
         Ok(offset) => TimeZone::fixed(offset),
@@ -124,10 +124,10 @@ fn put_zone(alloc: Global, count: usize, tried: &str, wrong: &mut Page) -> Resul
     let mut host = Environment::new(alloc);
     let mut number = 0_i64;
     for name in NAMES.iter().take(count) {
-        host.add_timezone(name, ahead(number))?;
+        host.add_timezone(name, zone_ahead(number))?;
         number = number.wrapping_add(1);
     }
-    let added = host.add_timezone(tried, ahead(TRIED));
+    let added = host.add_timezone(tried, zone_ahead(TRIED));
     let given = numbers(alloc, Kind::Zones, &host, &Context::new(alloc))?;
     judge(alloc, count, tried, added, &given, wrong)
 }

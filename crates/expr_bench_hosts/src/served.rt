@@ -62,7 +62,7 @@ struct ProgramRun {
 
 /// The run of a line's words on two streams that take so many writes, of each so many bytes at most. Where the run says
 /// that it has no memory, there is none.
-fn served(
+fn run_line(
     alloc: Global,
     line: &str,
     out_writes: u32,
@@ -80,7 +80,7 @@ fn served(
 }
 
 /// What a run said on both streams, and its status, with bars between.
-fn shown(alloc: Global, run: &ProgramRun) -> Page {
+fn run_page(alloc: Global, run: &ProgramRun) -> Page {
     let mut page = Page::new(alloc);
     page.put(std::str::from_utf8(&run.out.said).unwrap_or("no text"));
     page.put("|");
@@ -131,7 +131,7 @@ const LONGER: &[&str] = &[
 ];
 
 /// A line with 1 in so many pairs of brackets.
-fn bracketed(alloc: Global, pairs: usize) -> Result<String, AllocError> {
+fn in_brackets(alloc: Global, pairs: usize) -> Result<String, AllocError> {
     let front = "(".repeat(alloc, pairs)?;
     let back = ")".repeat(alloc, pairs)?;
     format!(in alloc; "|{front}1{back}")
@@ -148,7 +148,7 @@ fn put_failing_out(
     wrong: &mut Page,
 ) -> Result<(), AllocError> {
     for writes in 0..AMPLE.saturating_sub(whole.out.left) {
-        let cut = served(alloc, line, writes, AMPLE, WHOLE)?;
+        let cut = run_line(alloc, line, writes, AMPLE, WHOLE)?;
         wrong.fact(line, cut.status == 1);
     }
     Ok(())
@@ -162,7 +162,7 @@ fn put_failing_err(
     wrong: &mut Page,
 ) -> Result<(), AllocError> {
     for writes in 0..AMPLE.saturating_sub(whole.err.left) {
-        let cut = served(alloc, line, AMPLE, writes, WHOLE)?;
+        let cut = run_line(alloc, line, AMPLE, writes, WHOLE)?;
         let is_same = cut.status == whole.status
             && cut.out.said.as_slice() == whole.out.said.as_slice();
         wrong.fact(line, is_same);
@@ -172,19 +172,19 @@ fn put_failing_err(
 
 /// Puts a line whose run gives something else where streams fail, or take a byte of each write.
 fn put_narrow(alloc: Global, line: &str, wrong: &mut Page) -> Result<(), AllocError> {
-    let whole = served(alloc, line, AMPLE, AMPLE, WHOLE)?;
+    let whole = run_line(alloc, line, AMPLE, AMPLE, WHOLE)?;
     put_failing_out(alloc, line, &whole, wrong)?;
     put_failing_err(alloc, line, &whole, wrong)?;
-    let short = served(alloc, line, AMPLE, AMPLE, 1)?;
-    wrong.same(line, &shown(alloc, &short), &shown(alloc, &whole));
+    let short = run_line(alloc, line, AMPLE, AMPLE, 1)?;
+    wrong.same(line, &run_page(alloc, &short), &run_page(alloc, &whole));
     Ok(())
 }
 
 /// Puts what is wrong of these runs.
 fn put_runs(alloc: Global, wrong: &mut Page) -> Result<(), AllocError> {
     for (line, out_writes, err_writes, expected) in RUNS {
-        let given = served(alloc, line, *out_writes, *err_writes, WHOLE)?;
-        wrong.row(line, shown(alloc, &given).text(), expected);
+        let given = run_line(alloc, line, *out_writes, *err_writes, WHOLE)?;
+        wrong.row(line, run_page(alloc, &given).text(), expected);
         put_narrow(alloc, line, wrong)?;
     }
     Ok(())
@@ -197,9 +197,9 @@ pub fn put_served(alloc: Global, wrong: &mut Page) -> Result<(), AllocError> {
         put_narrow(alloc, line, wrong)?;
     }
     for (pairs, expected) in HEIGHTS {
-        let line = bracketed(alloc, *pairs)?;
-        let given = served(alloc, &line, AMPLE, AMPLE, WHOLE)?;
-        wrong.row("brackets", shown(alloc, &given).text(), expected);
+        let line = in_brackets(alloc, *pairs)?;
+        let given = run_line(alloc, &line, AMPLE, AMPLE, WHOLE)?;
+        wrong.row("brackets", run_page(alloc, &given).text(), expected);
     }
     Ok(())
 }

@@ -1,6 +1,8 @@
 //! Each public call on patterns, programs, nodes and code that takes memory, by its name and with memory to spare.
+use expr::value;
 use expr_bench_values::calls::one;
 use expr_bench_values::page::Page;
+use expr_context::Context;
 use expr_evaluation::{
     eval_expr, eval_func, eval_operator, eval_postfix_operator, eval_unary_operator,
 };
@@ -8,7 +10,7 @@ use expr_lowering::Code;
 use expr_machine::{execute, run};
 use expr_syntax::{compile, compile_within};
 use expr_tree::node::{Node, Pattern, PostfixOperator, Program, Unbuilt};
-use expr_value::{Context, Error, Result, Value, value};
+use expr_value::{Error, Result, Value};
 use std::alloc::Global;
 
 /// Puts what is wrong of the pattern `^f`.

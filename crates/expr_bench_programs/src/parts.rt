@@ -1,12 +1,13 @@
 //! Answers by the calls for one node, operator or call.
 use expr_bench_values::page::Page;
+use expr_context::Context;
 use expr_evaluation::{
     eval_expr, eval_func, eval_operator, eval_postfix_operator, eval_unary_operator,
 };
 use expr_machine::run;
 use expr_syntax::compile;
 use expr_tree::node::{Node, Pattern, Program};
-use expr_value::{Context, Result, Value};
+use expr_value::{Result, Value};
 use std::alloc::Global;
 
 /// What a program answers, by the call for nodes of its last node's kind, with a pattern handed in.

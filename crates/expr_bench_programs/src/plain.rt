@@ -1,9 +1,10 @@
 //! Which calls on `1 + 2` ask for memory: reading it does and running it may, and evaluating its node doesn't.
 use expr_bench_values::page::{NO_MEMORY, Page};
+use expr_context::Context;
 use expr_evaluation::eval_expr;
 use expr_machine::run;
 use expr_syntax::compile;
-use expr_value::{Context, Error, Result, Value};
+use expr_value::{Error, Result, Value};
 use std::alloc::Global;
 
 /// Puts a call and its answer, or the word for its refusal, want of memory too.

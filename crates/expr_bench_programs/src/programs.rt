@@ -1,14 +1,15 @@
 //! Programs of texts, their refusals and their names.
 use crate::shown::show_program;
 use expr_bench_values::page::{Page, word_of};
+use expr_context::Context;
 use expr_machine::run;
 use expr_syntax::{compile, compile_within};
 use expr_tree::node::Program;
-use expr_value::{Context, Error, Result};
+use expr_value::{Error, Result};
 use std::alloc::Global;
 
 /// A program with each of its brackets, or its refusal.
-fn shown(alloc: Global, program: Result<Program>) -> Page {
+fn program_page(alloc: Global, program: Result<Program>) -> Page {
     let mut page = Page::new(alloc);
     match program {
         Ok(program) => show_program(&program, &mut page),
@@ -166,7 +167,7 @@ const COPIES: &[(&str, &str, &str)] = &[
 fn put_copy(alloc: Global, text: &str, shape: &str, answer: &str, page: &mut Page) -> Result<()> {
     let copy = compile(alloc, text)?.clone()?;
     page.answer(text, run(alloc, &copy, &Context::new(alloc)), answer);
-    page.row(text, shown(alloc, Ok(copy)).text(), shape);
+    page.row(text, program_page(alloc, Ok(copy)).text(), shape);
     Ok(())
 }
 
@@ -174,12 +175,16 @@ fn put_copy(alloc: Global, text: &str, shape: &str, answer: &str, page: &mut Pag
 pub fn put_programs(alloc: Global, page: &mut Page) -> Result<()> {
     for (texts, program) in PROGRAMS {
         for text in *texts {
-            page.row(text, shown(alloc, compile(alloc, text)).text(), program);
+            page.row(
+                text,
+                program_page(alloc, compile(alloc, text)).text(),
+                program,
+            );
         }
     }
     for (text, height, program) in HEIGHTS {
         let within = compile_within(alloc, text, *height);
-        page.row(text, shown(alloc, within).text(), program);
+        page.row(text, program_page(alloc, within).text(), program);
     }
     for text in NAMES {
         put_names(alloc, text, page)?;

@@ -81,7 +81,7 @@ fn show_node(node: &Node, page: &mut Page) {
             show_behind("(", left, page);
             page.put_made(format!(in page.allocator(); " {operator} "));
             show_node(right, page);
-            if let Some(pattern) = compiled_regex.built() {
+            if let Some(pattern) = compiled_regex.pattern() {
                 page.put(" by ");
                 page.put(pattern.text());
             }

@@ -1,8 +1,9 @@
 //! How many bytes the types take.
 use expr_bench_values::page::Page;
+use expr_context::Context;
 use expr_lowering::Instruction;
 use expr_tree::node::{Node, Pattern};
-use expr_value::{Context, Error, Key, KeyedMap, Result, Value, ValueMap};
+use expr_value::{Error, Key, KeyedMap, Result, Value, ValueMap};
 use std::mem::size_of;
 
 /// Bytes of a type, and how many they may be at most.

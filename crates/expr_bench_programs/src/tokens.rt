@@ -28,7 +28,7 @@ fn put_between(front: &str, middle: &str, back: &str, page: &mut Page) {
 }
 
 /// The tokens of a text, each with a space after it, the place of the fault, after `?`, and after `@` where they start.
-fn shown(alloc: Global, text: &str, with_starts: bool) -> Page {
+fn token_page(alloc: Global, text: &str, with_starts: bool) -> Page {
     let mut page = Page::new(alloc);
     match read(alloc, text) {
         Ok(reading) => {
@@ -110,9 +110,9 @@ const STARTS: &[(&str, &str)] = &[("'é' /* é */ ab+1", "q<é> ab + 1 @[0, 14, 
 /// Puts what is wrong of these readings.
 pub fn put_readings(alloc: Global, wrong: &mut Page) {
     for (text, tokens) in READINGS {
-        wrong.row(text, shown(alloc, text, false).text(), tokens);
+        wrong.row(text, token_page(alloc, text, false).text(), tokens);
     }
     for (text, tokens) in STARTS {
-        wrong.row(text, shown(alloc, text, true).text(), tokens);
+        wrong.row(text, token_page(alloc, text, true).text(), tokens);
     }
 }

@@ -1,9 +1,10 @@
 //! Each public call on values that takes memory, by its name and with memory to spare; `bin/called` holds this table, and
 //! those of the same name in the crates above, to the sources.
 use crate::page::Page;
+use expr::value;
+use expr_context::{Context, ContextProvider};
 use expr_value::{
-    Context, ContextProvider, DateTimeValue, Items, Key, KeyedMap, Result, Text, TimezoneValue,
-    Value, ValueMap, value,
+    DateTimeValue, Items, Key, KeyedMap, Result, Text, TimezoneValue, Value, ValueMap,
 };
 use jiff::Timestamp;
 use jiff::tz::{Offset, TimeZone};
@@ -17,7 +18,7 @@ pub fn one(alloc: Global, value: Value) -> Result<Vec<Value>> {
 }
 
 /// Names and values with a name twice.
-fn named(alloc: Global) -> Result<Vec<(String, Value)>> {
+fn name_pairs(alloc: Global) -> Result<Vec<(String, Value)>> {
     let mut pairs = Vec::new(alloc);
     pairs.push((String::from_str(alloc, "a")?, Value::Integer(1)))?;
     pairs.push((String::from_str(alloc, "b")?, Value::text(alloc, "x")?))?;
@@ -29,7 +30,7 @@ fn named(alloc: Global) -> Result<Vec<(String, Value)>> {
 const NAMED: &str = "{a: 2, b: \"x\"}";
 
 /// Scalars and values, with a scalar twice.
-fn keyed(alloc: Global) -> Result<Vec<(Value, Value)>> {
+fn key_pairs(alloc: Global) -> Result<Vec<(Value, Value)>> {
     let mut pairs = Vec::new(alloc);
     pairs.push((Value::Integer(2), Value::text(alloc, "a")?))?;
     pairs.push((Value::text(alloc, "x")?, Value::Integer(1)))?;
@@ -41,7 +42,7 @@ fn keyed(alloc: Global) -> Result<Vec<(Value, Value)>> {
 const KEYED: &str = "{2: \"b\", \"x\": 1}";
 
 /// The value of the names of a provider.
-fn shown(context: Context) -> Value {
+fn names_value(context: Context) -> Value {
     Value::from(context.into_map())
 }
 
@@ -55,7 +56,7 @@ fn put_list(alloc: Global, list: &Value, wrong: &mut Page) -> Result<()> {
 
 fn put_values(alloc: Global, wrong: &mut Page) -> Result<()> {
     wrong.answer("Value::text", Value::text(alloc, "a"), "\"a\"");
-    let pairs = Value::from_pairs(alloc, named(alloc)?);
+    let pairs = Value::from_pairs(alloc, name_pairs(alloc)?);
     wrong.answer("Value::from_pairs", pairs, NAMED);
     let list = value!(in alloc; [1, {"a": nil}])?;
     put_list(alloc, &list, wrong)
@@ -95,13 +96,13 @@ fn put_new_maps(alloc: Global, wrong: &mut Page) -> Result<()> {
     wrong.answer("ValueMap::new", Ok(Value::Map(map)), "{}");
     let map = ValueMap::with_capacity(alloc, 2)?;
     wrong.answer("ValueMap::with_capacity", Ok(Value::Map(map)), "{}");
-    let map = ValueMap::from_pairs(alloc, named(alloc)?)?;
+    let map = ValueMap::from_pairs(alloc, name_pairs(alloc)?)?;
     wrong.answer("ValueMap::from_pairs", Ok(Value::Map(map)), NAMED);
     Ok(())
 }
 
 fn put_keyed_map(alloc: Global, wrong: &mut Page) -> Result<()> {
-    let map = KeyedMap::from_pairs(alloc, keyed(alloc)?)?;
+    let map = KeyedMap::from_pairs(alloc, key_pairs(alloc)?)?;
     let copy = Value::KeyedMap(map.clone()?);
     wrong.answer("KeyedMap::clone", Ok(copy), KEYED);
     let value = Value::KeyedMap(map);
@@ -124,7 +125,7 @@ fn put_new_keyed_map(alloc: Global, wrong: &mut Page) -> Result<()> {
 
 /// Puts the answer to pairs of which one's key is a list.
 fn put_refused_key(alloc: Global, wrong: &mut Page) -> Result<()> {
-    let mut pairs = keyed(alloc)?;
+    let mut pairs = key_pairs(alloc)?;
     pairs.push((value!(in alloc; [3])?, Value::Nil))?;
     let answer = match KeyedMap::from_pairs(alloc, pairs) {
         Ok(map) => Ok(Value::KeyedMap(map)),
@@ -136,11 +137,23 @@ fn put_refused_key(alloc: Global, wrong: &mut Page) -> Result<()> {
 
 /// Puts what is wrong of the copies of a context where `a` is 1.
 fn put_copies(alloc: Global, context: &Context, wrong: &mut Page) -> Result<()> {
-    wrong.answer("Context::clone", Ok(shown(context.clone()?)), "{a: 1}");
+    wrong.answer(
+        "Context::clone",
+        Ok(names_value(context.clone()?)),
+        "{a: 1}",
+    );
     let copy = context.to_context(alloc)?;
-    wrong.answer("ContextProvider::to_context", Ok(shown(copy)), "{a: 1}");
+    wrong.answer(
+        "ContextProvider::to_context",
+        Ok(names_value(copy)),
+        "{a: 1}",
+    );
     let copy = context.environment(alloc)?;
-    wrong.answer("ContextProvider::environment", Ok(shown(copy)), "{a: 1}");
+    wrong.answer(
+        "ContextProvider::environment",
+        Ok(names_value(copy)),
+        "{a: 1}",
+    );
     Ok(())
 }
 
@@ -149,13 +162,13 @@ fn put_context(alloc: Global, wrong: &mut Page) -> Result<()> {
     wrong.fact("Context::new", context.is_empty());
     context.insert(String::from_str(alloc, "a")?, Value::Integer(1))?;
     put_copies(alloc, &context, wrong)?;
-    wrong.answer("Context::insert", Ok(shown(context)), "{a: 1}");
+    wrong.answer("Context::insert", Ok(names_value(context)), "{a: 1}");
     Ok(())
 }
 
 fn put_made_contexts(alloc: Global, wrong: &mut Page) -> Result<()> {
-    let context = Context::from_pairs(alloc, named(alloc)?)?;
-    wrong.answer("Context::from_pairs", Ok(shown(context)), NAMED);
+    let context = Context::from_pairs(alloc, name_pairs(alloc)?)?;
+    wrong.answer("Context::from_pairs", Ok(names_value(context)), NAMED);
     let value = value!(in alloc; {"a": 1})?;
     let first = match value.as_map() {
         Some(map) => map.get("a"),
@@ -163,7 +176,7 @@ fn put_made_contexts(alloc: Global, wrong: &mut Page) -> Result<()> {
     };
     wrong.fact("as_map", matches!(first, Some(Value::Integer(1))));
     let context = Context::try_from(alloc, value)?;
-    wrong.answer("Context::try_from", Ok(shown(context)), "{a: 1}");
+    wrong.answer("Context::try_from", Ok(names_value(context)), "{a: 1}");
     Ok(())
 }
 

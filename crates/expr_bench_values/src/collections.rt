@@ -1,6 +1,8 @@
 //! What collections, texts and contexts give to who walks, asks, copies and prints them.
 use crate::page::Page;
-use expr_value::{Boxed, Context, Items, Key, KeyedMap, Result, Text, Value, ValueMap, value};
+use expr::value;
+use expr_context::Context;
+use expr_value::{Boxed, Items, Key, KeyedMap, Result, Text, Value, ValueMap};
 use std::alloc::Global;
 
 /// Puts the items of a list, its copy, and the facts of it that don't hold.

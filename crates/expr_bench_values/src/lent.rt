@@ -1,6 +1,7 @@
 //! What values and contexts lend.
 use crate::page::Page;
-use expr_value::{Context, ContextProvider, Error, Result, Value};
+use expr_context::{Context, ContextProvider};
+use expr_value::{Error, Result, Value};
 use std::alloc::Global;
 
 /// Whether a value makes no context.

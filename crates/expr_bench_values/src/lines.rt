@@ -4,7 +4,7 @@ use expr_value::{Result, Value};
 use std::alloc::{AllocError, Global};
 
 /// The text that a line writes.
-pub fn unescaped(alloc: Global, line: &str) -> std::result::Result<String, AllocError> {
+pub fn unescape(alloc: Global, line: &str) -> std::result::Result<String, AllocError> {
     let mut text = String::with_capacity(alloc, line.len())?;
     let mut is_escaped = false;
     for c in line.chars() {
@@ -26,7 +26,7 @@ pub fn unescaped(alloc: Global, line: &str) -> std::result::Result<String, Alloc
 }
 
 /// The line that writes a text.
-fn escaped(alloc: Global, text: &str) -> std::result::Result<String, AllocError> {
+fn escape(alloc: Global, text: &str) -> std::result::Result<String, AllocError> {
     let mut line = String::with_capacity(alloc, text.len())?;
     for c in text.chars() {
         match c {
@@ -46,7 +46,7 @@ pub fn answer_text(
     answer: &Result<Value>,
 ) -> std::result::Result<String, AllocError> {
     match answer {
-        Ok(value) => escaped(alloc, value.to_string(alloc)?.as_str()),
+        Ok(value) => escape(alloc, value.to_string(alloc)?.as_str()),
         Err(error) => String::from_str(alloc, word_of(error)),
     }
 }

@@ -1,6 +1,7 @@
 //! What `value!` and `bail!` make.
 use crate::page::Page;
-use expr_value::{Error, Result, Value, bail, refusal, value};
+use expr::{bail, value};
+use expr_value::{Error, Result, Value, refusal};
 use std::alloc::Global;
 
 /// A list of literals of each form.

@@ -1,11 +1,13 @@
 //! Values that no text makes.
-use expr_value::{Context, Result, Value, value};
+use expr::value;
+use expr_context::Context;
+use expr_value::{Result, Value};
 use std::alloc::Global;
 
 /// Names and integers, a name of them twice.
 const NUMBERED: &[(&str, i64)] = &[("b", 1), ("a", 2), ("b", 3)];
 
-pub fn named(alloc: Global) -> Result<Vec<(String, Value)>> {
+pub fn made_pairs(alloc: Global) -> Result<Vec<(String, Value)>> {
     let mut pairs = Vec::new(alloc);
     for (name, number) in NUMBERED {
         pairs.push((String::from_str(alloc, name)?, Value::from(*number)))?;
@@ -14,8 +16,8 @@ pub fn named(alloc: Global) -> Result<Vec<(String, Value)>> {
 }
 
 /// Values that no text makes, by name.
-pub fn made(alloc: Global) -> Result<Context> {
-    let named = Value::from_pairs(alloc, named(alloc)?)?;
+pub fn made_context(alloc: Global) -> Result<Context> {
+    let named = Value::from_pairs(alloc, made_pairs(alloc)?)?;
     let bytes = vec![in alloc; 1_u8, 2]?;
     let names = value!(in alloc; {
         "default": Value::default(),

@@ -1,5 +1,5 @@
 //! Values of seeds.
-use expr_value::assembly::{IntoName, array, map, no_items, no_pairs, placed, pushed};
+use expr_value::assembly::{IntoName, array, map, no_items, no_pairs, push_item, put_pair};
 use expr_value::{Result, Value};
 use std::alloc::Global;
 
@@ -95,11 +95,11 @@ fn leaf(alloc: Global, dice: &mut Dice) -> Result<Value> {
 fn list(alloc: Global, dice: &mut Dice, inside: Result<Value>) -> Result<Value> {
     let mut items = no_items(alloc);
     for _ in 0..dice.next() % 3 {
-        items = pushed(items, leaf(alloc, dice));
+        items = push_item(items, leaf(alloc, dice));
     }
-    items = pushed(items, inside);
+    items = push_item(items, inside);
     for _ in 0..dice.next() % 3 {
-        items = pushed(items, leaf(alloc, dice));
+        items = push_item(items, leaf(alloc, dice));
     }
     array(items)
 }
@@ -109,14 +109,14 @@ fn pairs(alloc: Global, dice: &mut Dice, inside: Result<Value>) -> Result<Value>
     let mut pairs = no_pairs(alloc);
     for _ in 0..dice.next() % 4 {
         let key = dice.pick(WORDS, "a").into_name(alloc);
-        pairs = placed(pairs, key, leaf(alloc, dice));
+        pairs = put_pair(pairs, key, leaf(alloc, dice));
     }
     let key = dice.pick(WORDS, "a").into_name(alloc);
-    map(placed(pairs, key, inside))
+    map(put_pair(pairs, key, inside))
 }
 
 /// A value of a seed: a leaf in up to four lists and maps.
-pub fn made(alloc: Global, seed: u64) -> Result<Value> {
+pub fn value_of_seed(alloc: Global, seed: u64) -> Result<Value> {
     let mut dice = Dice { state: seed };
     let mut value = leaf(alloc, &mut dice);
     for _ in 0..dice.next() % 5 {

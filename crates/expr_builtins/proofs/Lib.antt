@@ -1,13 +1,5 @@
-pub mod Afters
 pub mod Each
-pub mod Ending
-pub mod Ends
-pub mod Extremes
 pub mod Keyed
-pub mod Matching
 pub mod Opening
 pub mod PairsBack
-pub mod Searching
-pub mod Standing
-pub mod Rejoined
 pub mod Unlike

@@ -5,14 +5,14 @@ use Rattle.std.specs.Map.{keys_of}
 use Rattle.std.specs.Option.{option_and_then, option_map}
 use Rattle.std.proofs.lemmas.List.{append-nil}
 use Rattle.std.proofs.lemmas.Map.Keys.{IsDistinct-head, IsDistinct-tail}
-use Rattle.expr_value.specs.Answers.{Answer, After}
+use Rattle.expr_value.specs.Answers.{Answer, Then}
 use Rattle.expr_value.specs.Keys.{key_eq, key_eq_equiv, key_put, key_put_all}
 use Rattle.expr_value.specs.Values.{items_of, key_of, of_key, scalar_pairs}
 use Rattle.expr_value.specs.declared.key.Key.{Key}
 use Rattle.expr_value.specs.declared.value.Value as value
 use Rattle.expr_value.specs.declared.value.Value.{Value, out-Value, the_lemmas}
 use Rattle.expr_value.specs.declared.value.Value.TheOpen.{Value-F}
-use Rattle.expr_arguments.specs.Arguments.{all_of, asked}
+use Rattle.expr_arguments.specs.Arguments.{all_of, answer_on}
 use Rattle.expr_builtins.specs.Collections.{from_pairs, keyed_pair, pair_of, to_pairs, to_pairs_layer, two_items}
 
 abbrev Entry : Type 0
@@ -91,15 +91,15 @@ pairs_back (e ∷ m) =
     ∙ ap (option_map (λ ps. as_values e ∷ ps)) (pairs_back m)
 
 abbrev made_of : Option (List (Value × Value)) → Answer
-made_of o = asked o (λ ps. asked (option_map (key_put_all []) (scalar_pairs ps)) (λ m. Ok (value.KeyedMap m)))
+made_of o = answer_on o (λ ps. answer_on (option_map (key_put_all []) (scalar_pairs ps)) (λ m. Ok (value.KeyedMap m)))
 
-pub back : (m : Entries) → IsDistinct key_eq (keys_of m) → After (λ answer. answer ≡ to_pairs (value.KeyedMap m ∷ [])) (λ pairs answer. answer ≡ from_pairs (pairs ∷ [])) (Ok (value.KeyedMap m))
+pub back : (m : Entries) → IsDistinct key_eq (keys_of m) → Then (λ answer. answer ≡ to_pairs (value.KeyedMap m ∷ [])) (λ pairs answer. answer ≡ from_pairs (pairs ∷ [])) (Ok (value.KeyedMap m))
 back m apart = (
   Ok (value.Array (map keyed_pair m)),
   sym (ap to_pairs_layer (out-KeyedMap m)),
   sym (
       ap (λ o. made_of (option_and_then (all_of pair_of) o)) (items-Array (map keyed_pair m)) ∙ ap made_of (pairs_back m)
-      ∙ ap (λ o. asked (option_map (key_put_all []) o) (λ e. Ok (value.KeyedMap e))) (keys_back m)
+      ∙ ap (λ o. answer_on (option_map (key_put_all []) o) (λ e. Ok (value.KeyedMap e))) (keys_back m)
       ∙ ap (λ e. Ok (value.KeyedMap e)) (put_apart [] m (all_from_none m) apart)
       ),
 )

@@ -1,17 +1,17 @@
 -- What the calls on bits give: an integer is its 64 bits, of which the first is the sign.
 use Rattle.std.specs.Prelude.{◌≡◌, ℕ, ◌/◌, ◌^◌, ℤ, pos, negsuc, nat_lt, int_lt, List, Ok, Err, if◌then◌else◌}
 use Rattle.std.specs.Int.{w64, cast_signed, cast_unsigned, int_bit_and, int_bit_or, int_bit_xor, int_bit_not, int_shl, int_shr}
-use Rattle.expr_value.specs.Fault.{evaluation}
+use Rattle.expr_error.specs.ErrorKind.{evaluation}
 use Rattle.expr_value.specs.declared.value.Value as value
 use Rattle.expr_value.specs.declared.value.Value.{Value}
 use Rattle.expr_value.specs.Answers.{Answer}
-use Rattle.expr_arguments.specs.Arguments.{asked, one_integer, two_integers}
+use Rattle.expr_arguments.specs.Arguments.{answer_on, one_integer, two_integers}
 use Rattle.expr_functions.specs.declared.functions.BitCall.{BitCall}
 use Rattle.expr_functions.specs.declared.functions.BitCall.TheVariants as is
 
 -- two integers, bit by bit
 abbrev pub of_two : (ℤ → ℤ → ℤ) → List Value → Answer
-of_two combined arguments = asked (two_integers arguments) (λ p. Ok (value.Integer (combined p.0 p.1)))
+of_two combined arguments = answer_on (two_integers arguments) (λ p. Ok (value.Integer (combined p.0 p.1)))
 
 abbrev pub bitand : List Value → Answer
 bitand = of_two (int_bit_and w64)
@@ -27,15 +27,15 @@ abbrev pub bitnand : List Value → Answer
 bitnand = of_two (λ a b. int_bit_and w64 a (int_bit_not w64 b))
 
 abbrev pub bitnot : List Value → Answer
-bitnot arguments = asked (one_integer arguments) (λ a. Ok (value.Integer (int_bit_not w64 a)))
+bitnot arguments = answer_on (one_integer arguments) (λ a. Ok (value.Integer (int_bit_not w64 a)))
 
 -- shifted by a count, which isn't below 0
-abbrev pub counted : (ℕ → ℤ) → ℤ → Answer
-counted shifted (pos n) = Ok (value.Integer (shifted n))
-counted shifted (negsuc n) = Err evaluation
+abbrev pub shift_by_count : (ℕ → ℤ) → ℤ → Answer
+shift_by_count shifted (pos n) = Ok (value.Integer (shifted n))
+shift_by_count shifted (negsuc n) = Err evaluation
 
 abbrev pub of_count : (ℤ → ℕ → ℤ) → List Value → Answer
-of_count shifted arguments = asked (two_integers arguments) (λ p. counted (shifted p.0) p.1)
+of_count shifted arguments = answer_on (two_integers arguments) (λ p. shift_by_count (shifted p.0) p.1)
 
 -- bits shifted out are lost, and from a count of 64 on none is left
 abbrev pub shifted_left : ℤ → ℕ → ℤ

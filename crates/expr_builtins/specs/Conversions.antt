@@ -3,13 +3,13 @@ use Rattle.std.specs.Prelude.{◌≡◌, ℕ, List, Option, None, Some, Ok, Err,
 use Rattle.std.specs.Int.{w64}
 use Rattle.std.specs.Prelude.{FitsSigned}
 use Rattle.std.specs.Str.Parse.{IsNumeral, without_leading_sign, signed_digits_value}
-use Rattle.expr_value.specs.Fault.{evaluation}
+use Rattle.expr_error.specs.ErrorKind.{evaluation}
 use Rattle.expr_value.specs.Strings.{string_text}
 use Rattle.expr_value.specs.declared.value.Value as value
 use Rattle.expr_value.specs.declared.value.Value.{Value, out-Value}
 use Rattle.expr_value.specs.declared.value.Value.TheOpen.{Value-F}
 use Rattle.expr_value.specs.Answers.{Answer}
-use Rattle.expr_arguments.specs.Arguments.{asked, one_of, any_value}
+use Rattle.expr_arguments.specs.Arguments.{answer_on, one_of, any_value}
 use Rattle.expr_functions.specs.declared.functions.ConversionCall.{ConversionCall}
 use Rattle.expr_functions.specs.declared.functions.ConversionCall.TheVariants as is
 
@@ -18,13 +18,13 @@ abbrev pub IsInteger : List ℕ → Type 0
 IsInteger s = IsNumeral 10 (without_leading_sign s) × FitsSigned w64 (signed_digits_value 10 s)
 
 -- the integer of a text that is one; any other is refused
-abbrev pub Read : List ℕ → Answer → Type 0
-Read s (Ok v) = IsInteger s × (v ≡ value.Integer (signed_digits_value 10 s))
-Read s (Err e) = (IsInteger s → ⊥) × (e ≡ evaluation)
+abbrev pub ReadsInteger : List ℕ → Answer → Type 0
+ReadsInteger s (Ok v) = IsInteger s × (v ≡ value.Integer (signed_digits_value 10 s))
+ReadsInteger s (Err e) = (IsInteger s → ⊥) × (e ≡ evaluation)
 
 abbrev pub IntLayer : Value-F Value → Answer → Type 0
 IntLayer (Value-F.Integer n) answer = answer ≡ Ok (value.Integer n)
-IntLayer (Value-F.String s) answer = Read s answer
+IntLayer (Value-F.String s) answer = ReadsInteger s answer
 IntLayer v answer = answer ≡ Err evaluation
 
 abbrev pub IntOne : Option Value → Answer → Type 0
@@ -36,7 +36,7 @@ abbrev pub Int : List Value → Answer → Type 0
 Int arguments = IntOne (one_of any_value arguments)
 
 abbrev pub string : List Value → Answer
-string arguments = asked (one_of any_value arguments) (λ v. Ok (value.String (string_text v)))
+string arguments = answer_on (one_of any_value arguments) (λ v. Ok (value.String (string_text v)))
 
 abbrev pub kind_text : Value-F Value → List ℕ
 kind_text Value-F.Nil = codes "nil"
@@ -54,7 +54,7 @@ kind_text (Value-F.DateTime t) = codes "time.Time"
 kind_text (Value-F.Timezone z) = codes "time.Location"
 
 abbrev pub type_name : List Value → Answer
-type_name arguments = asked (one_of any_value arguments) (λ v. Ok (value.String (kind_text (out-Value v))))
+type_name arguments = answer_on (one_of any_value arguments) (λ v. Ok (value.String (kind_text (out-Value v))))
 
 -- what a call of conversion may answer
 abbrev pub Called : ConversionCall → List Value → Answer → Type 0

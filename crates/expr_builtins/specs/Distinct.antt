@@ -6,7 +6,7 @@ use Rattle.expr_value.specs.declared.key.Key.{Key}
 use Rattle.expr_value.specs.declared.value.Value as value
 use Rattle.expr_value.specs.declared.value.Value.{Value}
 use Rattle.expr_value.specs.Answers.{Answer}
-use Rattle.expr_arguments.specs.Arguments.{asked, one_of}
+use Rattle.expr_arguments.specs.Arguments.{answer_on, one_of}
 
 -- the first, and of the others those that don't equal it
 abbrev pub distinct : List Value → List Value
@@ -22,4 +22,4 @@ abbrev pub keys_among : List Value → List Key
 keys_among vs = filter_map key_of vs
 
 abbrev pub uniq : List Value → Answer
-uniq arguments = asked (one_of items_of arguments) (λ xs. Ok (value.Array (distinct xs)))
+uniq arguments = answer_on (one_of items_of arguments) (λ xs. Ok (value.Array (distinct xs)))

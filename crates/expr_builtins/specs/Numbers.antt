@@ -2,19 +2,19 @@
 use Rattle.std.specs.Prelude.{◌≡◌, ℤ, ◌==◌, if◌then◌else◌, unsigned_abs, List, [], ◌∷◌, length, Ok, Err}
 use Rattle.std.specs.Int.{w64, cast_signed, int_max, int_min}
 use Rattle.std.specs.List.{fold}
-use Rattle.expr_value.specs.Fault.{evaluation}
+use Rattle.expr_error.specs.ErrorKind.{evaluation}
 use Rattle.expr_value.specs.declared.value.Value as value
 use Rattle.expr_value.specs.declared.value.Value.{Value}
 use Rattle.expr_value.specs.Answers.{Answer}
 use Rattle.expr_value.specs.Values.{integer_of}
-use Rattle.expr_arguments.specs.Arguments.{asked, one_integer, all_of}
-use Rattle.expr_builtins.specs.Nested.{all_opened}
+use Rattle.expr_arguments.specs.Arguments.{answer_on, one_integer, all_of}
+use Rattle.expr_builtins.specs.Nested.{all_flat_items}
 use Rattle.expr_functions.specs.declared.functions.NumberCall.{NumberCall}
 use Rattle.expr_functions.specs.declared.functions.NumberCall.TheVariants as is
 
 -- without its sign; the least integer is its own
 abbrev pub abs : List Value → Answer
-abs arguments = asked (one_integer arguments) (λ a. Ok (value.Integer (cast_signed w64 (unsigned_abs a))))
+abs arguments = answer_on (one_integer arguments) (λ a. Ok (value.Integer (cast_signed w64 (unsigned_abs a))))
 
 -- of numbers with fractions, which there aren't: always refused
 abbrev pub of_fractions : List Value → Answer
@@ -27,7 +27,7 @@ chosen choice (n ∷ ns) = value.Integer (fold choice n ns)
 
 -- of integers and of arrays of them, at every depth; at least one argument
 abbrev pub chosen_among : (ℤ → ℤ → ℤ) → List Value → Answer
-chosen_among choice arguments = if length arguments == 0 then Err evaluation else asked (all_of integer_of (all_opened arguments)) (λ ns. Ok (chosen choice ns))
+chosen_among choice arguments = if length arguments == 0 then Err evaluation else answer_on (all_of integer_of (all_flat_items arguments)) (λ ns. Ok (chosen choice ns))
 
 abbrev pub greatest : List Value → Answer
 greatest = chosen_among int_max

@@ -1,8 +1,8 @@
 //! Items of an array among the arguments: of the call's own they are moved out, and of a lent one copied.
 ghost use Rattle.std.specs.Prelude.{◌≡◌, take, IfOk};
-ghost use Rattle.expr_arguments.specs.Arrays.{items_held};
+ghost use Rattle.expr_arguments.specs.Arrays.{array_items};
 ghost use Rattle.expr_builtins.specs.Collections.{item_or_nil};
-ghost use Rattle.expr_value.specs.Fault.{OnlyMemory};
+ghost use Rattle.expr_error.specs.ErrorKind.{OnlyMemory};
 
 use expr_arguments::Array;
 use expr_value::{Result, Value};
@@ -10,12 +10,12 @@ use std::alloc::Global;
 
 /// The item at a place, or nil.
 pub(crate) fn item_at(array: Array<'_>, place: usize) -> Result<Value>
-    ensures ok { IfOk result (λ v. v ≡ item_or_nil (items_held array.entry) place) }
+    ensures ok { IfOk result (λ v. v ≡ item_or_nil (array_items array.entry) place) }
     ensures err { OnlyMemory result }
 {
     match array {
-        Array::Own(items) => Ok(item_moved(items.into_vec(), place)),
-        Array::Lent(items) => item_copied(items.as_slice(), place),
+        Array::Owned(items) => Ok(item_moved(items.into_vec(), place)),
+        Array::Borrowed(items) => item_copied(items.as_slice(), place),
     }
 }
 
@@ -42,16 +42,16 @@ fn item_copied(items: &[Value], place: usize) -> Result<Value>
 
 /// The first items, so many.
 pub(crate) fn first_items(alloc: Global, array: Array<'_>, count: usize) -> Result<Vec<Value>>
-    ensures ok { IfOk result (λ first. first.items ≡ take count (items_held array.entry)) }
+    ensures ok { IfOk result (λ first. first.items ≡ take count (array_items array.entry)) }
     ensures err { OnlyMemory result }
 {
     match array {
-        Array::Own(items) => {
+        Array::Owned(items) => {
             let mut items = items.into_vec();
             items.truncate(count);
             Ok(items)
         }
-        Array::Lent(items) => first_copied(alloc, items.as_slice(), count),
+        Array::Borrowed(items) => first_copied(alloc, items.as_slice(), count),
     }
 }
 

@@ -1,18 +1,18 @@
 //! The calls on bits.
 ghost use Rattle.std.specs.Prelude.{◌≡◌};
-ghost use Rattle.expr_value.specs.Answers.{Gives};
+ghost use Rattle.expr_value.specs.Answers.{Returns};
 ghost use Rattle.expr_builtins.specs.Bits.{Called, bitand, bitor, bitxor, bitnand, bitnot, bitshl, bitshr, bitushr, shifted_left, shifted_right, shifted_unsigned};
 
 use expr_arguments::{one_integer, two_integers};
+use expr_cow::CowValue;
 use expr_functions::BitCall;
-use expr_held::Held;
 use expr_value::{Result, Value, refusal};
 use std::alloc::Global;
 
 /// What a call on bits gives on these arguments. Other numbers and kinds of arguments than it takes are refused with
 /// [`expr_value::Error::ExprError`].
-pub fn call_on_bits(alloc: Global, call: BitCall, arguments: &[Held<'_>]) -> Result<Value>
-    ensures { Gives result (Called call arguments.now) }
+pub fn call_on_bits(alloc: Global, call: BitCall, arguments: &[CowValue<'_>]) -> Result<Value>
+    ensures { Returns result (Called call arguments.now) }
 {
     match call {
         BitCall::Bitand => bitand(alloc, arguments),
@@ -27,8 +27,8 @@ pub fn call_on_bits(alloc: Global, call: BitCall, arguments: &[Held<'_>]) -> Res
 }
 
 /// The bits that are set in both integers.
-fn bitand(alloc: Global, arguments: &[Held<'_>]) -> Result<Value>
-    ensures { Gives result (λ answer. answer ≡ bitand arguments.now) }
+fn bitand(alloc: Global, arguments: &[CowValue<'_>]) -> Result<Value>
+    ensures { Returns result (λ answer. answer ≡ bitand arguments.now) }
 {
     let Some((a, b)) = two_integers(arguments) else {
         return Err(refusal(alloc, "bitand takes two integers"));
@@ -37,8 +37,8 @@ fn bitand(alloc: Global, arguments: &[Held<'_>]) -> Result<Value>
 }
 
 /// The bits that are set in either integer.
-fn bitor(alloc: Global, arguments: &[Held<'_>]) -> Result<Value>
-    ensures { Gives result (λ answer. answer ≡ bitor arguments.now) }
+fn bitor(alloc: Global, arguments: &[CowValue<'_>]) -> Result<Value>
+    ensures { Returns result (λ answer. answer ≡ bitor arguments.now) }
 {
     let Some((a, b)) = two_integers(arguments) else {
         return Err(refusal(alloc, "bitor takes two integers"));
@@ -47,8 +47,8 @@ fn bitor(alloc: Global, arguments: &[Held<'_>]) -> Result<Value>
 }
 
 /// The bits that are set in one integer alone.
-fn bitxor(alloc: Global, arguments: &[Held<'_>]) -> Result<Value>
-    ensures { Gives result (λ answer. answer ≡ bitxor arguments.now) }
+fn bitxor(alloc: Global, arguments: &[CowValue<'_>]) -> Result<Value>
+    ensures { Returns result (λ answer. answer ≡ bitxor arguments.now) }
 {
     let Some((a, b)) = two_integers(arguments) else {
         return Err(refusal(alloc, "bitxor takes two integers"));
@@ -57,8 +57,8 @@ fn bitxor(alloc: Global, arguments: &[Held<'_>]) -> Result<Value>
 }
 
 /// The first integer with the bits of the second cleared.
-fn bitnand(alloc: Global, arguments: &[Held<'_>]) -> Result<Value>
-    ensures { Gives result (λ answer. answer ≡ bitnand arguments.now) }
+fn bitnand(alloc: Global, arguments: &[CowValue<'_>]) -> Result<Value>
+    ensures { Returns result (λ answer. answer ≡ bitnand arguments.now) }
 {
     let Some((a, b)) = two_integers(arguments) else {
         return Err(refusal(alloc, "bitnand takes two integers"));
@@ -67,8 +67,8 @@ fn bitnand(alloc: Global, arguments: &[Held<'_>]) -> Result<Value>
 }
 
 /// The bits that are not set in an integer.
-fn bitnot(alloc: Global, arguments: &[Held<'_>]) -> Result<Value>
-    ensures { Gives result (λ answer. answer ≡ bitnot arguments.now) }
+fn bitnot(alloc: Global, arguments: &[CowValue<'_>]) -> Result<Value>
+    ensures { Returns result (λ answer. answer ≡ bitnot arguments.now) }
 {
     let Some(a) = one_integer(arguments) else {
         return Err(refusal(alloc, "bitnot takes an integer"));
@@ -109,8 +109,8 @@ fn shifted_unsigned(a: i64, count: u64) -> i64
 }
 
 /// An integer shifted to the left. A count below 0 is refused; bits shifted out are lost.
-fn bitshl(alloc: Global, arguments: &[Held<'_>]) -> Result<Value>
-    ensures { Gives result (λ answer. answer ≡ bitshl arguments.now) }
+fn bitshl(alloc: Global, arguments: &[CowValue<'_>]) -> Result<Value>
+    ensures { Returns result (λ answer. answer ≡ bitshl arguments.now) }
 {
     let Some((a, count)) = two_integers(arguments) else {
         return Err(refusal(alloc, "bitshl takes two integers"));
@@ -122,8 +122,8 @@ fn bitshl(alloc: Global, arguments: &[Held<'_>]) -> Result<Value>
 }
 
 /// An integer shifted to the right, with its sign kept. A count below 0 is refused.
-fn bitshr(alloc: Global, arguments: &[Held<'_>]) -> Result<Value>
-    ensures { Gives result (λ answer. answer ≡ bitshr arguments.now) }
+fn bitshr(alloc: Global, arguments: &[CowValue<'_>]) -> Result<Value>
+    ensures { Returns result (λ answer. answer ≡ bitshr arguments.now) }
 {
     let Some((a, count)) = two_integers(arguments) else {
         return Err(refusal(alloc, "bitshr takes two integers"));
@@ -135,8 +135,8 @@ fn bitshr(alloc: Global, arguments: &[Held<'_>]) -> Result<Value>
 }
 
 /// An integer shifted to the right, with zeros from the left. A count below 0 is refused.
-fn bitushr(alloc: Global, arguments: &[Held<'_>]) -> Result<Value>
-    ensures { Gives result (λ answer. answer ≡ bitushr arguments.now) }
+fn bitushr(alloc: Global, arguments: &[CowValue<'_>]) -> Result<Value>
+    ensures { Returns result (λ answer. answer ≡ bitushr arguments.now) }
 {
     let Some((a, count)) = two_integers(arguments) else {
         return Err(refusal(alloc, "bitushr takes two integers"));

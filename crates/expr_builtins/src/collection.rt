@@ -2,22 +2,22 @@
 ghost use Rattle.std.specs.Prelude.{◌≡◌, ◌≢◌, ◌-◌, ◌++◌, None, Some, Ok, map, length, unwrap_or, IfOk, OnOk};
 ghost use Rattle.std.specs.Option.{option_copied, option_map};
 ghost use Rattle.std.specs.Str.{chars};
-ghost use Rattle.expr_value.specs.Fault.{fault_of, memory, evaluation, OnlyMemory};
+ghost use Rattle.expr_error.specs.ErrorKind.{error_kind, memory, evaluation, OnlyMemory};
 ghost use Rattle.expr_value.specs.Values.{of_key, string_of, items_of};
-ghost use Rattle.expr_value.specs.Answers.{Gives};
+ghost use Rattle.expr_value.specs.Answers.{Returns};
 ghost use Rattle.expr_arguments.specs.Arguments.{all_of};
-ghost use Rattle.expr_arguments.specs.Arrays.{items_held};
-ghost use Rattle.expr_builtins.specs.Collections.{Called, len, size_of, first, last, item_or_nil, take_items, taken, reversed, keys, values, to_pairs, from_pairs, get, join, concat, pair_of, two_items, in_a_row, item_from, or_nil, pair, named_pair, keyed_pair};
+ghost use Rattle.expr_arguments.specs.Arrays.{array_items};
+ghost use Rattle.expr_builtins.specs.Collections.{Called, len, size_of, first, last, item_or_nil, take_items, taken_items, reversed_array, keys, values, to_pairs, from_pairs, get, join, concat, pair_of, two_items, in_a_row, item_from, or_nil, pair, named_pair, keyed_pair};
 
 use crate::array::{first_items, item_at};
-use crate::cuts::joined;
 use crate::{distinct, nested};
 use expr_arguments::{
-    Array, array_and_integer, array_and_text, array_of, count_items, each_held, into_items,
+    Array, array_and_integer, array_and_text, array_of, count_items, each_cow, into_items,
     one_array, one_value, two_values,
 };
+use expr_cow::CowValue;
 use expr_functions::CollectionCall;
-use expr_held::Held;
+use expr_strings::join_texts;
 use expr_value::{Items, Key, KeyedMap, Result, Text, Value, ValueMap, refusal};
 use std::alloc::{AllocError, Global};
 use std::mem;
@@ -28,16 +28,16 @@ use std::mem;
 pub fn call_on_collections(
     alloc: Global,
     call: CollectionCall,
-    arguments: &mut Vec<Held<'_>>,
+    arguments: &mut Vec<CowValue<'_>>,
 ) -> Result<Value>
-    ensures { Gives result (Called call arguments.old.items) }
+    ensures { Returns result (Called call arguments.old.items) }
 {
     match call {
         CollectionCall::Len => len(alloc, arguments),
         CollectionCall::First => first(alloc, arguments),
         CollectionCall::Last => last(alloc, arguments),
         CollectionCall::Take => take_items(alloc, arguments),
-        CollectionCall::Reverse => reversed(alloc, arguments),
+        CollectionCall::Reverse => reverse(alloc, arguments),
         CollectionCall::Uniq => distinct::uniq(alloc, arguments),
         CollectionCall::Flatten => nested::flatten(alloc, arguments),
         CollectionCall::Concat => concat(alloc, mem::replace(arguments, Vec::new(alloc))),
@@ -51,8 +51,8 @@ pub fn call_on_collections(
 }
 
 /// How many items, characters, bytes or pairs there are.
-fn len(alloc: Global, arguments: &[Held<'_>]) -> Result<Value>
-    ensures { Gives result (λ answer. answer ≡ len arguments.now) }
+fn len(alloc: Global, arguments: &[CowValue<'_>]) -> Result<Value>
+    ensures { Returns result (λ answer. answer ≡ len arguments.now) }
 {
     let Some(value) = one_value(arguments) else {
         return Err(refusal(alloc, "len takes one value"));
@@ -83,8 +83,8 @@ fn characters(text: &str) -> usize
 }
 
 /// The first item of an array, or nil.
-fn first(alloc: Global, arguments: &mut [Held<'_>]) -> Result<Value>
-    ensures { Gives result (λ answer. answer ≡ first arguments.old) }
+fn first(alloc: Global, arguments: &mut [CowValue<'_>]) -> Result<Value>
+    ensures { Returns result (λ answer. answer ≡ first arguments.old) }
 {
     let Some(array) = one_array(arguments) else {
         return Err(refusal(alloc, "first takes an array"));
@@ -93,8 +93,8 @@ fn first(alloc: Global, arguments: &mut [Held<'_>]) -> Result<Value>
 }
 
 /// The last item of an array, or nil.
-fn last(alloc: Global, arguments: &mut [Held<'_>]) -> Result<Value>
-    ensures { Gives result (λ answer. answer ≡ last arguments.old) }
+fn last(alloc: Global, arguments: &mut [CowValue<'_>]) -> Result<Value>
+    ensures { Returns result (λ answer. answer ≡ last arguments.old) }
 {
     let Some(array) = one_array(arguments) else {
         return Err(refusal(alloc, "last takes an array"));
@@ -104,8 +104,8 @@ fn last(alloc: Global, arguments: &mut [Held<'_>]) -> Result<Value>
 }
 
 /// The first items of an array, so many.
-fn take_items(alloc: Global, arguments: &mut [Held<'_>]) -> Result<Value>
-    ensures { Gives result (λ answer. answer ≡ take_items arguments.old) }
+fn take_items(alloc: Global, arguments: &mut [CowValue<'_>]) -> Result<Value>
+    ensures { Returns result (λ answer. answer ≡ take_items arguments.old) }
 {
     let Some((array, count)) = array_and_integer(arguments) else {
         return Err(refusal(alloc, "take takes an array and an integer"));
@@ -118,8 +118,8 @@ fn take_items(alloc: Global, arguments: &mut [Held<'_>]) -> Result<Value>
 }
 
 /// The items of an array, the last first.
-fn reversed(alloc: Global, arguments: &mut [Held<'_>]) -> Result<Value>
-    ensures { Gives result (λ answer. answer ≡ reversed arguments.old) }
+fn reverse(alloc: Global, arguments: &mut [CowValue<'_>]) -> Result<Value>
+    ensures { Returns result (λ answer. answer ≡ reversed_array arguments.old) }
 {
     let Some(array) = one_array(arguments) else {
         return Err(refusal(alloc, "reverse takes an array"));
@@ -130,8 +130,8 @@ fn reversed(alloc: Global, arguments: &mut [Held<'_>]) -> Result<Value>
 }
 
 /// The keys of a map, in its order.
-fn keys(alloc: Global, arguments: &[Held<'_>]) -> Result<Value>
-    ensures { Gives result (λ answer. answer ≡ keys arguments.now) }
+fn keys(alloc: Global, arguments: &[CowValue<'_>]) -> Result<Value>
+    ensures { Returns result (λ answer. answer ≡ keys arguments.now) }
 {
     let Some(value) = one_value(arguments) else {
         return Err(refusal(alloc, "keys takes a map"));
@@ -166,8 +166,8 @@ fn scalars(alloc: Global, keys: &[Key]) -> Result<Value>
 }
 
 /// The values of a map, in its order.
-fn values(alloc: Global, arguments: &[Held<'_>]) -> Result<Value>
-    ensures { Gives result (λ answer. answer ≡ values arguments.now) }
+fn values(alloc: Global, arguments: &[CowValue<'_>]) -> Result<Value>
+    ensures { Returns result (λ answer. answer ≡ values arguments.now) }
 {
     let Some(value) = one_value(arguments) else {
         return Err(refusal(alloc, "values takes a map"));
@@ -186,8 +186,8 @@ fn values(alloc: Global, arguments: &[Held<'_>]) -> Result<Value>
 }
 
 /// What a value has at a key, or nil.
-fn get(alloc: Global, arguments: &[Held<'_>]) -> Result<Value>
-    ensures { Gives result (λ answer. answer ≡ get arguments.now) }
+fn get(alloc: Global, arguments: &[CowValue<'_>]) -> Result<Value>
+    ensures { Returns result (λ answer. answer ≡ get arguments.now) }
 {
     let Some((value, key)) = two_values(arguments) else {
         return Err(refusal(alloc, "get takes a value and a key"));
@@ -231,8 +231,8 @@ fn item<T>(items: &[T], place: i64) -> Option<&T>
 }
 
 /// The texts of an array, with a separator between.
-fn join(alloc: Global, arguments: &[Held<'_>]) -> Result<Value>
-    ensures { Gives result (λ answer. answer ≡ join arguments.now) }
+fn join(alloc: Global, arguments: &[CowValue<'_>]) -> Result<Value>
+    ensures { Returns result (λ answer. answer ≡ join arguments.now) }
 {
     let Some((items, separator)) = array_and_text(arguments) else {
         return Err(refusal(alloc, "join takes an array, and perhaps a text"));
@@ -240,7 +240,7 @@ fn join(alloc: Global, arguments: &[Held<'_>]) -> Result<Value>
     let Some(parts) = texts(alloc, items)? else {
         return Err(refusal(alloc, "join takes an array of texts"));
     };
-    let text = joined(alloc, &parts, separator)?;
+    let text = join_texts(alloc, &parts, separator)?;
     Ok(Value::String(Text::from_string(text)))
 }
 
@@ -261,8 +261,8 @@ fn texts(alloc: Global, items: &[Value]) -> Result<Option<Vec<&str>>>
 }
 
 /// The pairs of a map, in its order, as arrays of two.
-fn to_pairs(alloc: Global, arguments: &[Held<'_>]) -> Result<Value>
-    ensures { Gives result (λ answer. answer ≡ to_pairs arguments.now) }
+fn to_pairs(alloc: Global, arguments: &[CowValue<'_>]) -> Result<Value>
+    ensures { Returns result (λ answer. answer ≡ to_pairs arguments.now) }
 {
     let Some(value) = one_value(arguments) else {
         return Err(refusal(alloc, "toPairs takes a map"));
@@ -313,27 +313,27 @@ fn pair(alloc: Global, key: Value, value: &Value) -> Result<Value>
 }
 
 /// A map of arrays of two. A repeated key stays as first given, in its place, and takes the later value.
-fn from_pairs(alloc: Global, arguments: &mut [Held<'_>]) -> Result<Value>
-    ensures { Gives result (λ answer. answer ≡ from_pairs arguments.old) }
+fn from_pairs(alloc: Global, arguments: &mut [CowValue<'_>]) -> Result<Value>
+    ensures { Returns result (λ answer. answer ≡ from_pairs arguments.old) }
 {
     let Some(array) = one_array(arguments) else {
         return Err(refusal(alloc, "fromPairs takes an array"));
     };
-    let items = each_held(alloc, array)?;
-    let Some(pairs) = pairs_kept(alloc, items)? else {
+    let items = each_cow(alloc, array)?;
+    let Some(pairs) = pairs_of_items(alloc, items)? else {
         return Err(refusal(alloc, "fromPairs takes an array of arrays of two"));
     };
     let map = KeyedMap::from_pairs(alloc, pairs)?;
     Ok(Value::KeyedMap(map))
 }
 
-fn pairs_kept(alloc: Global, items: Vec<Held<'_>>) -> Result<Option<Vec<(Value, Value)>>>
+fn pairs_of_items(alloc: Global, items: Vec<CowValue<'_>>) -> Result<Option<Vec<(Value, Value)>>>
     ensures ok { IfOk result (λ found. option_map (λ v. v.items) found ≡ all_of pair_of items.entry.items) }
     ensures err { OnlyMemory result }
 {
     let mut pairs = Vec::with_capacity(alloc, items.len())?;
     for item in items {
-        let Some(pair) = pair_kept(item)? else {
+        let Some(pair) = pair_of_item(item)? else {
             return Ok(None);
         };
         pairs.push(pair)?;
@@ -341,13 +341,13 @@ fn pairs_kept(alloc: Global, items: Vec<Held<'_>>) -> Result<Option<Vec<(Value, 
     Ok(Some(pairs))
 }
 
-fn pair_kept(value: Held<'_>) -> Result<Option<(Value, Value)>>
+fn pair_of_item(value: CowValue<'_>) -> Result<Option<(Value, Value)>>
     ensures ok { IfOk result (λ found. found ≡ pair_of value.entry) }
     ensures err { OnlyMemory result }
 {
-    match array_of(value.into_holding()) {
-        Some(Array::Own(items)) => Ok(both_moved(&mut items.into_vec())),
-        Some(Array::Lent(items)) => both_copied(items.as_slice()),
+    match array_of(value.into_cow()) {
+        Some(Array::Owned(items)) => Ok(both_moved(&mut items.into_vec())),
+        Some(Array::Borrowed(items)) => both_copied(items.as_slice()),
         None => Ok(None),
     }
 }
@@ -372,20 +372,20 @@ fn both_copied(items: &[Value]) -> Result<Option<(Value, Value)>>
 }
 
 /// The items of some arrays, one array after the other.
-fn concat(alloc: Global, arguments: Vec<Held<'_>>) -> Result<Value>
-    ensures { Gives result (λ answer. answer ≡ concat arguments.entry.items) }
+fn concat(alloc: Global, arguments: Vec<CowValue<'_>>) -> Result<Value>
+    ensures { Returns result (λ answer. answer ≡ concat arguments.entry.items) }
 {
     if arguments.is_empty() {
         return Err(refusal(alloc, "concat takes at least one array"));
     }
-    let Some(items) = appended(Vec::new(alloc), arguments)? else {
+    let Some(items) = append_all(Vec::new(alloc), arguments)? else {
         return Err(refusal(alloc, "concat takes arrays"));
     };
     Ok(Value::Array(Items::from_vec(items)))
 }
 
 // Grows once, by what there is in all the arrays.
-fn appended(front: Vec<Value>, arrays: Vec<Held<'_>>) -> Result<Option<Vec<Value>>>
+fn append_all(front: Vec<Value>, arrays: Vec<CowValue<'_>>) -> Result<Option<Vec<Value>>>
     ensures ok { IfOk result (λ found. option_map (λ v. v.items) found ≡ option_map
         (λ rows. front.items ++ in_a_row rows) (all_of items_of arrays.entry.items)) }
     ensures err { OnlyMemory result }
@@ -395,7 +395,7 @@ fn appended(front: Vec<Value>, arrays: Vec<Held<'_>>) -> Result<Option<Vec<Value
     let mut all = front;
     all.reserve(more)?;
     for value in arrays {
-        let Some(array) = array_of(value.into_holding()) else {
+        let Some(array) = array_of(value.into_cow()) else {
             return Ok(None);
         };
         append(&mut all, array)?;
@@ -404,10 +404,10 @@ fn appended(front: Vec<Value>, arrays: Vec<Held<'_>>) -> Result<Option<Vec<Value
 }
 
 fn append(all: &mut Vec<Value>, array: Array<'_>) -> std::result::Result<(), AllocError>
-    ensures { OnOk result (all.new.items ≡ all.old.items ++ items_held array.entry) }
+    ensures { OnOk result (all.new.items ≡ all.old.items ++ array_items array.entry) }
 {
     match array {
-        Array::Own(items) => all.append(&mut items.into_vec()),
-        Array::Lent(items) => all.extend_from_slice(items.as_slice()),
+        Array::Owned(items) => all.append(&mut items.into_vec()),
+        Array::Borrowed(items) => all.extend_from_slice(items.as_slice()),
     }
 }

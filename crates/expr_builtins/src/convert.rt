@@ -1,19 +1,23 @@
 //! The calls of conversion.
 ghost use Rattle.std.specs.Prelude.{◌≡◌};
 ghost use Rattle.expr_value.specs.declared.value.Value.{out-Value};
-ghost use Rattle.expr_value.specs.Answers.{Gives};
-ghost use Rattle.expr_builtins.specs.Conversions.{Called, Int, Read, string, kind_text, type_name};
+ghost use Rattle.expr_value.specs.Answers.{Returns};
+ghost use Rattle.expr_builtins.specs.Conversions.{Called, Int, ReadsInteger, string, kind_text, type_name};
 
 use expr_arguments::one_value;
+use expr_cow::CowValue;
 use expr_functions::ConversionCall;
-use expr_held::Held;
 use expr_value::{Result, Text, Value, refusal};
 use std::alloc::Global;
 
 /// What a call of conversion gives on these arguments. Other numbers and kinds of arguments than it takes are refused with
 /// [`expr_value::Error::ExprError`].
-pub fn call_conversion(alloc: Global, call: ConversionCall, arguments: &[Held<'_>]) -> Result<Value>
-    ensures { Gives result (Called call arguments.now) }
+pub fn call_conversion(
+    alloc: Global,
+    call: ConversionCall,
+    arguments: &[CowValue<'_>],
+) -> Result<Value>
+    ensures { Returns result (Called call arguments.now) }
 {
     match call {
         ConversionCall::Int => int(alloc, arguments),
@@ -23,8 +27,8 @@ pub fn call_conversion(alloc: Global, call: ConversionCall, arguments: &[Held<'_
 }
 
 /// An integer itself, or the integer of a text: an optional sign and ASCII digits, within 64 bits.
-fn int(alloc: Global, arguments: &[Held<'_>]) -> Result<Value>
-    ensures { Gives result (Int arguments.now) }
+fn int(alloc: Global, arguments: &[CowValue<'_>]) -> Result<Value>
+    ensures { Returns result (Int arguments.now) }
 {
     let Some(value) = one_value(arguments) else {
         return Err(refusal(alloc, "int takes one value"));
@@ -37,7 +41,7 @@ fn int(alloc: Global, arguments: &[Held<'_>]) -> Result<Value>
 }
 
 fn read(alloc: Global, text: &str) -> Result<Value>
-    ensures { Gives result (Read text.now) }
+    ensures { Returns result (ReadsInteger text.now) }
 {
     match text.parse::<i64>() {
         Ok(number) => Ok(Value::Integer(number)),
@@ -46,8 +50,8 @@ fn read(alloc: Global, text: &str) -> Result<Value>
 }
 
 /// The text of a value: a text itself, and the pairs of a map in the order of their keys.
-fn string(alloc: Global, arguments: &[Held<'_>]) -> Result<Value>
-    ensures { Gives result (λ answer. answer ≡ string arguments.now) }
+fn string(alloc: Global, arguments: &[CowValue<'_>]) -> Result<Value>
+    ensures { Returns result (λ answer. answer ≡ string arguments.now) }
 {
     let Some(value) = one_value(arguments) else {
         return Err(refusal(alloc, "string takes one value"));
@@ -57,8 +61,8 @@ fn string(alloc: Global, arguments: &[Held<'_>]) -> Result<Value>
 }
 
 /// The name of a value's kind.
-fn type_name(alloc: Global, arguments: &[Held<'_>]) -> Result<Value>
-    ensures { Gives result (λ answer. answer ≡ type_name arguments.now) }
+fn type_name(alloc: Global, arguments: &[CowValue<'_>]) -> Result<Value>
+    ensures { Returns result (λ answer. answer ≡ type_name arguments.now) }
 {
     let Some(value) = one_value(arguments) else {
         return Err(refusal(alloc, "type takes one value"));

@@ -1,13 +1,13 @@
 //! Items without those that equal an earlier one.
 ghost use Rattle.std.specs.Prelude.{◌≡◌, is_some, IfOk, OnOk};
 ghost use Rattle.std.specs.Map.{keys_of};
-ghost use Rattle.expr_value.specs.Answers.{Gives};
+ghost use Rattle.expr_value.specs.Answers.{Returns};
 ghost use Rattle.expr_value.specs.Values.{at_key, key_of};
 ghost use Rattle.expr_builtins.specs.Distinct.{uniq, distinct, keys_among, with_new};
-ghost use Rattle.expr_value.specs.Fault.{OnlyMemory};
+ghost use Rattle.expr_error.specs.ErrorKind.{OnlyMemory};
 
-use expr_arguments::{each_held, one_array};
-use expr_held::Held;
+use expr_arguments::{each_cow, one_array};
+use expr_cow::CowValue;
 use expr_value::{Items, Key, OrderedMap, Result, Value, refusal};
 use std::alloc::Global;
 
@@ -15,17 +15,17 @@ use std::alloc::Global;
 const FEW: usize = 32;
 
 /// The items of an array that equal no earlier one.
-pub(crate) fn uniq(alloc: Global, arguments: &mut [Held<'_>]) -> Result<Value>
-    ensures { Gives result (λ answer. answer ≡ uniq arguments.old) }
+pub(crate) fn uniq(alloc: Global, arguments: &mut [CowValue<'_>]) -> Result<Value>
+    ensures { Returns result (λ answer. answer ≡ uniq arguments.old) }
 {
     let Some(array) = one_array(arguments) else {
         return Err(refusal(alloc, "uniq takes an array"));
     };
-    let items = distinct(alloc, each_held(alloc, array)?)?;
+    let items = distinct(alloc, each_cow(alloc, array)?)?;
     Ok(Value::Array(Items::from_vec(items)))
 }
 
-fn distinct(alloc: Global, items: Vec<Held<'_>>) -> Result<Vec<Value>>
+fn distinct(alloc: Global, items: Vec<CowValue<'_>>) -> Result<Vec<Value>>
     ensures ok { IfOk result (λ kept. kept.items ≡ distinct items.entry.items) }
     ensures err { OnlyMemory result }
 {
@@ -36,7 +36,7 @@ fn distinct(alloc: Global, items: Vec<Held<'_>>) -> Result<Vec<Value>>
 }
 
 // Each item is compared with all that are kept before it.
-fn distinct_few(alloc: Global, items: Vec<Held<'_>>) -> Result<Vec<Value>>
+fn distinct_few(alloc: Global, items: Vec<CowValue<'_>>) -> Result<Vec<Value>>
     ensures ok { IfOk result (λ kept. kept.items ≡ distinct items.entry.items) }
     ensures err { OnlyMemory result }
 {
@@ -48,7 +48,7 @@ fn distinct_few(alloc: Global, items: Vec<Held<'_>>) -> Result<Vec<Value>>
 }
 
 // Each scalar is looked up among the keys of the scalars that are kept before it.
-fn distinct_many(alloc: Global, items: Vec<Held<'_>>) -> Result<Vec<Value>>
+fn distinct_many(alloc: Global, items: Vec<CowValue<'_>>) -> Result<Vec<Value>>
     ensures ok { IfOk result (λ kept. kept.items ≡ distinct items.entry.items) }
     ensures err { OnlyMemory result }
 {
@@ -60,7 +60,11 @@ fn distinct_many(alloc: Global, items: Vec<Held<'_>>) -> Result<Vec<Value>>
     Ok(kept)
 }
 
-fn keep_by_key(keys: &mut OrderedMap<Key, ()>, kept: &mut Vec<Value>, item: Held<'_>) -> Result<()>
+fn keep_by_key(
+    keys: &mut OrderedMap<Key, ()>,
+    kept: &mut Vec<Value>,
+    item: CowValue<'_>,
+) -> Result<()>
     requires { keys_of keys.old ≡ keys_among kept.old.items }
     ensures keys { OnOk result (keys_of keys.new ≡ keys_among kept.new.items) }
     ensures kept { OnOk result (kept.new.items ≡ with_new kept.old.items item.entry) }
@@ -97,7 +101,7 @@ fn key_copied(value: &Value) -> Result<Option<Key>>
 }
 
 // The item is compared with all that are kept.
-fn keep(kept: &mut Vec<Value>, item: Held<'_>) -> Result<()>
+fn keep(kept: &mut Vec<Value>, item: CowValue<'_>) -> Result<()>
     ensures ok { OnOk result (kept.new.items ≡ with_new kept.old.items item.entry) }
     ensures err { OnlyMemory result }
 {

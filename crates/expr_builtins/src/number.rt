@@ -2,17 +2,17 @@
 ghost use Rattle.std.specs.Prelude.{◌≡◌, Err, IfOk};
 ghost use Rattle.std.specs.Int.{int_max, int_min};
 ghost use Rattle.std.specs.Option.{option_map};
-ghost use Rattle.expr_value.specs.Answers.{Gives};
-ghost use Rattle.expr_value.specs.Fault.{evaluation, OnlyMemory};
+ghost use Rattle.expr_value.specs.Answers.{Returns};
+ghost use Rattle.expr_error.specs.ErrorKind.{evaluation, OnlyMemory};
 ghost use Rattle.expr_value.specs.Values.{integer_of};
 ghost use Rattle.expr_arguments.specs.Arguments.{all_of};
-ghost use Rattle.expr_builtins.specs.Nested.{all_opened};
+ghost use Rattle.expr_builtins.specs.Nested.{all_flat_items};
 ghost use Rattle.expr_builtins.specs.Numbers.{Called, abs, chosen, greatest, least};
 
-use crate::nested::all_opened;
+use crate::nested::flat_items;
 use expr_arguments::one_integer;
+use expr_cow::CowValue;
 use expr_functions::NumberCall;
-use expr_held::Held;
 use expr_value::{Result, Value, refusal};
 use std::alloc::Global;
 use std::mem;
@@ -23,9 +23,9 @@ use std::mem;
 pub fn call_on_numbers(
     alloc: Global,
     call: NumberCall,
-    arguments: &mut Vec<Held<'_>>,
+    arguments: &mut Vec<CowValue<'_>>,
 ) -> Result<Value>
-    ensures { Gives result (Called call arguments.old.items) }
+    ensures { Returns result (Called call arguments.old.items) }
 {
     match call {
         NumberCall::Abs => abs(alloc, arguments),
@@ -41,8 +41,8 @@ pub fn call_on_numbers(
 }
 
 /// An integer without its sign. The least integer is its own.
-fn abs(alloc: Global, arguments: &[Held<'_>]) -> Result<Value>
-    ensures { Gives result (λ answer. answer ≡ abs arguments.now) }
+fn abs(alloc: Global, arguments: &[CowValue<'_>]) -> Result<Value>
+    ensures { Returns result (λ answer. answer ≡ abs arguments.now) }
 {
     let Some(a) = one_integer(arguments) else {
         return Err(refusal(alloc, "abs takes an integer"));
@@ -52,49 +52,49 @@ fn abs(alloc: Global, arguments: &[Held<'_>]) -> Result<Value>
 
 /// A call on numbers with fractions, which there aren't. It is always refused.
 fn of_fractions(alloc: Global) -> Result<Value>
-    ensures { Gives result (λ answer. answer ≡ Err evaluation) }
+    ensures { Returns result (λ answer. answer ≡ Err evaluation) }
 {
     Err(refusal(alloc, "there are no numbers with fractions"))
 }
 
 /// The greatest of integers and of arrays of them, at every depth, or nil where there are none.
-fn greatest(alloc: Global, arguments: Vec<Held<'_>>) -> Result<Value>
-    ensures { Gives result (λ answer. answer ≡ greatest arguments.entry.items) }
+fn greatest(alloc: Global, arguments: Vec<CowValue<'_>>) -> Result<Value>
+    ensures { Returns result (λ answer. answer ≡ greatest arguments.entry.items) }
 {
     if arguments.is_empty() {
         return Err(refusal(alloc, "max takes at least one argument"));
     }
-    let Some(numbers) = opened_integers(alloc, arguments)? else {
+    let Some(numbers) = flat_integers(alloc, arguments)? else {
         return Err(refusal(alloc, "max takes integers and arrays of them"));
     };
     Ok(greatest_of(&numbers))
 }
 
 /// The least of integers and of arrays of them, at every depth, or nil where there are none.
-fn least(alloc: Global, arguments: Vec<Held<'_>>) -> Result<Value>
-    ensures { Gives result (λ answer. answer ≡ least arguments.entry.items) }
+fn least(alloc: Global, arguments: Vec<CowValue<'_>>) -> Result<Value>
+    ensures { Returns result (λ answer. answer ≡ least arguments.entry.items) }
 {
     if arguments.is_empty() {
         return Err(refusal(alloc, "min takes at least one argument"));
     }
-    let Some(numbers) = opened_integers(alloc, arguments)? else {
+    let Some(numbers) = flat_integers(alloc, arguments)? else {
         return Err(refusal(alloc, "min takes integers and arrays of them"));
     };
     Ok(least_of(&numbers))
 }
 
 // The integers that some values are with each array opened, at every depth, if nothing else is there.
-fn opened_integers(alloc: Global, values: Vec<Held<'_>>) -> Result<Option<Vec<i64>>>
+fn flat_integers(alloc: Global, values: Vec<CowValue<'_>>) -> Result<Option<Vec<i64>>>
     ensures ok { IfOk result (λ found. option_map
-        (λ v. v.items) found ≡ all_of integer_of (all_opened values.entry.items)) }
+        (λ v. v.items) found ≡ all_of integer_of (all_flat_items values.entry.items)) }
     ensures err { OnlyMemory result }
 {
-    let opened = all_opened(alloc, values)?;
+    let opened = flat_items(alloc, values)?;
     integers(alloc, &opened)
 }
 
 // The integers that some values are, if each is one.
-fn integers(alloc: Global, values: &[Held<'_>]) -> Result<Option<Vec<i64>>>
+fn integers(alloc: Global, values: &[CowValue<'_>]) -> Result<Option<Vec<i64>>>
     ensures ok { IfOk result (λ found. option_map (λ v. v.items) found ≡ all_of integer_of values.now) }
     ensures err { OnlyMemory result }
 {

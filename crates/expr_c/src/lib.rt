@@ -23,10 +23,10 @@ pub unsafe extern "C" fn expr_c_open(alloc: Global, at: *mut u8)
     requires* { sem 𝓛 (room_at engine_row at) }
     ensures* { ∃ₛ (λ after. sem 𝓛 (lies_at engine_row full_share at after) ∗ ⌜ IsNew after ⌝) }
 {
-    std::ptr::write(at as *mut Engine, fresh(alloc));
+    std::ptr::write(at as *mut Engine, new_engine(alloc));
 }
 
-fn fresh(alloc: Global) -> Engine
+fn new_engine(alloc: Global) -> Engine
     ensures { IsNew result }
 {
     Engine::new(alloc)

@@ -8,7 +8,7 @@ use Rattle.std.proofs.Math.Bool.{or_comm}
 use Rattle.std.proofs.lemmas.Bool.{false≢true}
 use Rattle.std.proofs.lemmas.List.{reverse-append}
 use Rattle.std.proofs.lemmas.List.Folds.{list_any-append}
-use Rattle.expr_operators.specs.Operators.{applied, belongs, belongs_layers, judged, verdict}
+use Rattle.expr_operators.specs.Operators.{operator_answer, belongs, belongs_layers, truth_or_refusal, verdict}
 use Rattle.expr_tree.specs.declared.operator.Operator.{Operator}
 use Rattle.expr_tree.specs.declared.operator.Operator.TheVariants.{In, NotIn}
 use Rattle.expr_value.specs.Answers.{Answer}
@@ -19,8 +19,8 @@ use Rattle.expr_value.specs.declared.value.Value as value
 use Rattle.expr_value.specs.declared.value.Value.{Value, out-Value, map-Value, fold_out-Value, the_lemmas}
 use Rattle.expr_value.specs.declared.value.Value.TheOpen.{Value-F}
 use Rattle.expr_value.proofs.FirstPlaces.{with_last_values}
-use Rattle.expr_code.specs.Literals.{Seeks, StandsFor, as_array, as_keys, keyed}
-use Rattle.expr_code.specs.Machine.{Operated}
+use Rattle.expr_code.specs.Literals.{Seeks, StandsFor, as_array, as_keys, keyed_map}
+use Rattle.expr_code.specs.Machine.{OperatorMayReturn}
 use Rattle.expr_code.proofs.Steps.{same, itself}
 
 -- the key that one layer is
@@ -121,7 +121,7 @@ map_has : (ps : List (Key × Value)) (o : Option Key) → is_some (option_and_th
 map_has ps (Some k) = ap is_some (with_last_values key_eq key_eq_equiv k ps) ∙ found_any k (reverse ps) ∙ any_reversed (λ p. key_eq k p.0) ps
 map_has ps None = refl
 
-keys_have : (w : Value) (vs : List Value) (ps : List (Key × Value)) → keyed vs ≡ Some ps → list_any (λ v. equals v w) vs ≡ is_some (at_key w ps)
+keys_have : (w : Value) (vs : List Value) (ps : List (Key × Value)) → keyed_map vs ≡ Some ps → list_any (λ v. equals v w) vs ≡ is_some (at_key w ps)
 keys_have w vs ps e = by (scalar_pairs (with_nil vs)) refl e
   where
     by : (r : Option (List (Key × Value))) → scalar_pairs (with_nil vs) ≡ r → option_map (key_put_all []) r ≡ Some ps → list_any (λ v. equals v w) vs ≡ is_some (at_key w ps)
@@ -136,18 +136,18 @@ array_kind vs = search (rules, the_lemmas)
 keyed_kind : (ps : List (Key × Value)) → out-Value (value.KeyedMap ps) ≡ Value-F.KeyedMap ps
 keyed_kind ps = search (rules, the_lemmas)
 
-belongs_alike : (w : Value) (vs : List Value) (ps : List (Key × Value)) → keyed vs ≡ Some ps → belongs w (value.Array vs) ≡ belongs w (value.KeyedMap ps)
+belongs_alike : (w : Value) (vs : List Value) (ps : List (Key × Value)) → keyed_map vs ≡ Some ps → belongs w (value.Array vs) ≡ belongs w (value.KeyedMap ps)
 belongs_alike w vs ps e =
     ap (belongs_layers w (out-Value w)) (array_kind vs) ∙ ap Some (keys_have w vs ps e) ∙ ap (belongs_layers w (out-Value w)) (sym (keyed_kind ps))
 
 -- an operator gives the same with either value on its right
 abbrev pub IsAlike : Operator → Value → Value → Type 0
-IsAlike o r v = (w : Value) (a : Answer) → Operated o w r a ↔ Operated o w v a
+IsAlike o r v = (w : Value) (a : Answer) → OperatorMayReturn o w r a ↔ OperatorMayReturn o w v a
 
-keys_alike : (o : Operator) → Seeks o → (vs : List Value) (ps : List (Key × Value)) → keyed vs ≡ Some ps → IsAlike o (value.Array vs) (value.KeyedMap ps)
-unfolding applied verdict
-keys_alike In seeks vs ps e = λ w a. same (ap (λ x. a ≡ judged x) (belongs_alike w vs ps e))
-keys_alike NotIn seeks vs ps e = λ w a. same (ap (λ x. a ≡ judged (option_map not x)) (belongs_alike w vs ps e))
+keys_alike : (o : Operator) → Seeks o → (vs : List Value) (ps : List (Key × Value)) → keyed_map vs ≡ Some ps → IsAlike o (value.Array vs) (value.KeyedMap ps)
+unfolding operator_answer verdict
+keys_alike In seeks vs ps e = λ w a. same (ap (λ x. a ≡ truth_or_refusal x) (belongs_alike w vs ps e))
+keys_alike NotIn seeks vs ps e = λ w a. same (ap (λ x. a ≡ truth_or_refusal (option_map not x)) (belongs_alike w vs ps e))
 keys_alike o seeks vs ps e = absurd seeks
 
 pub stands_alike : (o : Operator) (vs : List Value) (v : Value) → StandsFor o vs v → IsAlike o (value.Array vs) v

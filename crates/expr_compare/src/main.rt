@@ -11,16 +11,17 @@
 //! held at the end; and the nanoseconds of compiling and of running it.
 #![tactic(auto)]
 
+use expr_context::{Context, ContextProvider};
 use expr_limited::{execute_limited, run_code};
-use expr_lowering::{Code, Holder};
+use expr_lowering::{Code, Pointer};
 use expr_machine::{KeptMachine, Machine, execute, run};
 use expr_meaning::NoFunctions;
 use expr_meter::{Budget, Limit, Limits, Meter};
 use expr_pattern::{Matchers, Pattern};
-use expr_syntax::{Bounded, compile, compile_bounded};
+use expr_syntax::{BoundedProgram, compile, compile_bounded};
 use expr_tree::node::Program;
-use expr_turns::Carried;
-use expr_value::{Context, ContextProvider, Result, Value};
+use expr_turns::RunResources;
+use expr_value::{Result, Value};
 use std::alloc::Global;
 use std::env;
 use std::io::{Read, Write};
@@ -29,7 +30,7 @@ use std::time::Instant;
 
 /// A part of evaluating a text.
 #[derive(Clone, Copy)]
-enum Part {
+enum Stage {
     Compile,
     Bounded,
     Lower,
@@ -40,21 +41,21 @@ enum Part {
 }
 
 /// The part that a word names.
-fn part_named(word: &str) -> Option<Part> {
+fn stage_named(word: &str) -> Option<Stage> {
     match word {
-        "compile" => Some(Part::Compile),
-        "bounded" => Some(Part::Bounded),
-        "lower" => Some(Part::Lower),
-        "machine" => Some(Part::Machine),
-        "execute" => Some(Part::Execute),
-        "limited" => Some(Part::Limited),
-        "run" => Some(Part::Run),
+        "compile" => Some(Stage::Compile),
+        "bounded" => Some(Stage::Bounded),
+        "lower" => Some(Stage::Lower),
+        "machine" => Some(Stage::Machine),
+        "execute" => Some(Stage::Execute),
+        "limited" => Some(Stage::Limited),
+        "run" => Some(Stage::Run),
         _ => None,
     }
 }
 
 /// The names of words `NAME=CODE`. Each code is evaluated in an empty context.
-fn bound(alloc: Global, words: &[String]) -> Result<Context> {
+fn context_of(alloc: Global, words: &[String]) -> Result<Context> {
     let mut names = Context::new(alloc);
     for word in words {
         let (name, code) = word.split_once('=').unwrap_or((word.as_str(), ""));
@@ -68,44 +69,44 @@ fn bound(alloc: Global, words: &[String]) -> Result<Context> {
 /// Does a part so many times, and lets go of what each turn makes.
 fn turn(
     alloc: Global,
-    part: Part,
+    part: Stage,
     turns: u64,
     text: &str,
     program: &Program,
     names: &Context,
 ) -> Result<()> {
     match part {
-        Part::Compile => {
+        Stage::Compile => {
             for _ in 0..turns {
                 let _ = compile(alloc, text)?;
             }
         }
-        Part::Bounded => {
+        Stage::Bounded => {
             let limits = Limits::for_strangers();
             for _ in 0..turns {
                 let _ = compile_bounded(alloc, text, limits.height, limits.patterns)?;
             }
         }
-        Part::Lower => {
+        Stage::Lower => {
             for _ in 0..turns {
                 let program = compile(alloc, text)?;
                 let _ = Code::lower(alloc, &program)?;
             }
         }
-        Part::Machine => {
+        Stage::Machine => {
             let code = Code::lower(alloc, program)?;
             let mut machine = KeptMachine::new(alloc, &code);
             for _ in 0..turns {
                 let _ = machine.execute(&NoFunctions, names)?;
             }
         }
-        Part::Execute => {
+        Stage::Execute => {
             let code = Code::lower(alloc, program)?;
             for _ in 0..turns {
                 let _ = execute(alloc, &code, names)?;
             }
         }
-        Part::Limited => {
+        Stage::Limited => {
             let code = Code::lower(alloc, program)?;
             let limits = Limits::for_strangers();
             let provider: &dyn ContextProvider = names;
@@ -118,7 +119,7 @@ fn turn(
                 let _ = execute_limited(&machine, &code, &limits)?;
             }
         }
-        Part::Run => {
+        Stage::Run => {
             for _ in 0..turns {
                 let _ = run(alloc, program, names)?;
             }
@@ -172,23 +173,23 @@ fn hostile(rt: &HostRuntime, words: &[String]) -> Option<()> {
     let alloc = rt.alloc();
     let limits = limits_of(words.get(1)?.as_str())?;
     let text = text_of(rt, words.get(2)?.as_str())?;
-    let names = bound(alloc, words.get(3..)?).ok()?;
+    let names = context_of(alloc, words.get(3..)?).ok()?;
     let start = Instant::now(rt).ok()?;
     let compiled = compile_bounded(alloc, text.as_str(), limits.height, limits.patterns);
     let compiling = start.elapsed(rt).ok()?.as_nanos();
     let word = match compiled {
-        Ok(Bounded::Program(program)) => {
+        Ok(BoundedProgram::Program(program)) => {
             return run_hostile(rt, &program, &names, &limits, compiling);
         }
-        Ok(Bounded::TooHigh) => "height",
-        Ok(Bounded::TooHeavy) => "patterns",
+        Ok(BoundedProgram::TooHigh) => "height",
+        Ok(BoundedProgram::TooHeavy) => "patterns",
         Err(_) => "refused",
     };
     println!(rt; "{word} 0 0 {compiling} 0").ok()
 }
 
 /// How a run within limits ended, the steps that were taken, and the size that is held at the end.
-struct Ending {
+struct RunEnding {
     word: &'static str,
     steps: u64,
     size: u64,
@@ -199,25 +200,25 @@ fn run_within<'a, 's, P, L, N, K>(
     machine: &'s Machine<'a, NoFunctions, P>,
     code: &'s Code<L, N, K>,
     limits: &Limits,
-) -> Ending
+) -> RunEnding
 where
     P: ContextProvider,
-    L: Holder<Value>,
-    N: Holder<String>,
-    K: Holder<Pattern>,
+    L: Pointer<Value>,
+    N: Pointer<String>,
+    K: Pointer<Pattern>,
 {
-    let mut carried = Carried {
+    let mut carried = RunResources {
         matchers: Matchers::with_room(machine.alloc, &code.room),
         budget: Budget::new(limits),
     };
     let is_answered = run_code(machine, code, &mut carried).is_ok();
-    let word = match carried.budget.stopped() {
+    let word = match carried.budget.passed_limit() {
         Some(limit) => name_of(limit),
         None => { if is_answered { "answered" } else { "refused" } }
     };
-    Ending {
+    RunEnding {
         word,
-        steps: limits.steps.saturating_sub(carried.budget.left()),
+        steps: limits.steps.saturating_sub(carried.budget.steps_left()),
         size: limits.size.saturating_sub(carried.budget.mark()),
     }
 }
@@ -239,7 +240,7 @@ fn run_hostile(
         provider,
     };
     let start = Instant::now(rt).ok()?;
-    let Ending { word, steps, size } = run_within(&machine, &code, limits);
+    let RunEnding { word, steps, size } = run_within(&machine, &code, limits);
     let running = start.elapsed(rt).ok()?.as_nanos();
     println!(rt; "{word} {steps} {size} {compiling} {running}").ok()
 }
@@ -250,10 +251,10 @@ fn measure(rt: &HostRuntime, words: &[String]) -> Option<()> {
         return hostile(rt, words);
     }
     let alloc = rt.alloc();
-    let part = part_named(words.first()?.as_str())?;
+    let part = stage_named(words.first()?.as_str())?;
     let turns = words.get(1)?.parse::<u64>().ok()?;
     let text = words.get(2)?.as_str();
-    let names = bound(alloc, words.get(3..)?).ok()?;
+    let names = context_of(alloc, words.get(3..)?).ok()?;
     let program = compile(alloc, text).ok()?;
     let answer = run(alloc, &program, &names).ok()?;
     let start = Instant::now(rt).ok()?;

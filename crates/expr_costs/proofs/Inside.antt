@@ -2,7 +2,7 @@
 use Rattle.std.proofs.Common.{ℕ, suc, ◌+◌, ◌≤◌, ◌<◌, List, [], ◌∷◌, length, map, subst, arith}
 use Rattle.std.specs.List.{fold}
 use Rattle.std.specs.Map.{values_of}
-use Rattle.expr_sizes.specs.Sizes.{inside, inside_layer, weight}
+use Rattle.expr_sizes.specs.Sizes.{inner_weight, inner_weight_layer, weight}
 use Rattle.expr_value.specs.declared.value.Value.{Value, roll-Value, ind-Value, map-Value, fold-roll-Value}
 use Rattle.expr_value.specs.declared.value.Value.TheOpen.{Value-F}
 use Rattle.expr_costs.specs.Measures.{entries_inside, entries_inside_layer}
@@ -13,22 +13,22 @@ known f m = map (λ p. (p.0, f p.1)) m
 
 -- each entry weighs a unit and more
 abbrev Few : Type 0
-Few = (v : Value) × (entries_inside v ≤ inside v)
+Few = (v : Value) × (entries_inside v ≤ inner_weight v)
 
 abbrev bare : Value-F Few → Value-F Value
 bare layer = map-Value Few Value (λ e. e.0) layer
 
-items_few : (es : List Few) (b a : ℕ) → b ≤ a → fold (λ n m. n + m) b (map entries_inside (map (λ e. e.0) es)) ≤ fold (λ n m. n + suc m) a (map inside (map (λ e. e.0) es))
+items_few : (es : List Few) (b a : ℕ) → b ≤ a → fold (λ n m. n + m) b (map entries_inside (map (λ e. e.0) es)) ≤ fold (λ n m. n + suc m) a (map inner_weight (map (λ e. e.0) es))
 items_few [] b a l = l
-items_few (e ∷ es) b a l = items_few es (b + entries_inside e.0) (a + suc (inside e.0)) (omega (arith, l, e.1))
+items_few (e ∷ es) b a l = items_few es (b + entries_inside e.0) (a + suc (inner_weight e.0)) (omega (arith, l, e.1))
 
 pairs_few : {K : Type 0} (es : List (K × Few)) (c b a : ℕ) → c + b ≤ a
     → length (known entries_inside (map (λ (p : K × Few). (p.0, p.1.0)) es)) + (c + fold (λ n m. n + m) b (values_of (known entries_inside (map (λ (p : K × Few). (p.0, p.1.0)) es))))
-    ≤ fold (λ n m. n + suc m) a (values_of (known inside (map (λ (p : K × Few). (p.0, p.1.0)) es)))
+    ≤ fold (λ n m. n + suc m) a (values_of (known inner_weight (map (λ (p : K × Few). (p.0, p.1.0)) es)))
 pairs_few [] c b a l = omega (arith, l)
-pairs_few (e ∷ es) c b a l = omega (arith, pairs_few es (suc c) (b + entries_inside e.1.0) (a + suc (inside e.1.0)) (omega (arith, l, e.1.1)))
+pairs_few (e ∷ es) c b a l = omega (arith, pairs_few es (suc c) (b + entries_inside e.1.0) (a + suc (inner_weight e.1.0)) (omega (arith, l, e.1.1)))
 
-layer_few : (y : Value-F Few) → entries_inside_layer (map-Value Value ℕ entries_inside (bare y)) ≤ inside_layer (map-Value Value ℕ inside (bare y))
+layer_few : (y : Value-F Few) → entries_inside_layer (map-Value Value ℕ entries_inside (bare y)) ≤ inner_weight_layer (map-Value Value ℕ inner_weight (bare y))
 layer_few (Value-F.Integer n) = omega arith
 layer_few (Value-F.Bool b) = omega arith
 layer_few Value-F.Nil = omega arith
@@ -43,11 +43,11 @@ layer_few (Value-F.Bytes bs) = omega arith
 layer_few (Value-F.Map es) = omega (arith, pairs_few es 0 0 0 (omega arith))
 layer_few (Value-F.KeyedMap es) = omega (arith, pairs_few es 0 0 0 (omega arith))
 
-rolled_few : (y : Value-F Few) → entries_inside (roll-Value (bare y)) ≤ inside (roll-Value (bare y))
-rolled_few y = omega (arith, fold-roll-Value ℕ entries_inside_layer (bare y), fold-roll-Value ℕ inside_layer (bare y), layer_few y)
+rolled_few : (y : Value-F Few) → entries_inside (roll-Value (bare y)) ≤ inner_weight (roll-Value (bare y))
+rolled_few y = omega (arith, fold-roll-Value ℕ entries_inside_layer (bare y), fold-roll-Value ℕ inner_weight_layer (bare y), layer_few y)
 
-pub few : (v : Value) → entries_inside v ≤ inside v
-few = ind-Value (λ v. entries_inside v ≤ inside v) (λ x y is. subst (λ l. entries_inside (roll-Value l) ≤ inside (roll-Value l)) is (rolled_few y))
+pub few : (v : Value) → entries_inside v ≤ inner_weight v
+few = ind-Value (λ v. entries_inside v ≤ inner_weight v) (λ x y is. subst (λ l. entries_inside (roll-Value l) ≤ inner_weight (roll-Value l)) is (rolled_few y))
 
 -- where there are too many, it weighs too much as well, alone and with more
 pub too_many : (v : Value) (bound more : ℕ) → bound < entries_inside v → bound < weight v + more

@@ -1,5 +1,5 @@
 pub mod Calls
 pub mod Costs
-pub mod Keeping
 pub mod Measures
 pub mod Operators
+pub mod Retention

@@ -1,7 +1,7 @@
 -- What the work of an instruction is told by: the bytes, the parts and the weights of its values.
 use Rattle.std.specs.Prelude.{ℕ, zero, suc, ◌+◌, ◌*◌, ◌/◌, ◌<◌, ◌≡◌, ◌==◌, List, [], ◌∷◌, count_by, length, max, sum, sum_by, Option, MatchOption}
 use Rattle.std.specs.Map.{values_of}
-use Rattle.expr_sizes.specs.Sizes.{load, weight}
+use Rattle.expr_sizes.specs.Sizes.{byte_units, weight}
 use Rattle.expr_costs.specs.declared.cost.Cost.{Cost}
 use Rattle.expr_value.specs.declared.value.Value as value
 use Rattle.expr_value.specs.declared.value.Value.{Value, fold-Value, out-Value}
@@ -17,11 +17,11 @@ abbrev pub bytes_of : Value → ℕ
 bytes_of v = bytes_layer (out-Value v)
 
 -- the same in units of 16 bytes
-abbrev pub load_of : Value → ℕ
-load_of v = load (bytes_of v)
+abbrev pub byte_units_of : Value → ℕ
+byte_units_of v = byte_units (bytes_of v)
 
-abbrev pub loads : List Value → ℕ
-loads vs = sum_by load_of vs
+abbrev pub all_byte_units : List Value → ℕ
+all_byte_units vs = sum_by byte_units_of vs
 
 -- how many of some bytes are colons
 abbrev pub colons : List ℕ → ℕ
@@ -61,8 +61,8 @@ abbrev pub count_of : Value → ℕ
 count_of v = length_of v + entries_of v
 
 -- so many keys are put into a map, where all of them may have one hash
-abbrev pub putting : ℕ → ℕ
-putting n = n * n / 64
+abbrev pub insertion_work : ℕ → ℕ
+insertion_work n = n * n / 64
 
 -- how many entries the maps of one layer have together, where each value inside is known by its own
 abbrev pub entries_inside_layer : Value-F ℕ → ℕ
@@ -79,34 +79,34 @@ abbrev pub entries_within : List Value → ℕ
 entries_within vs = sum_by entries_inside vs
 
 -- what is left of a bound once so much is taken of it: nothing is told where that is more
-abbrev pub Leaves : (bound taken : ℕ) → Option ℕ → Type 0
-Leaves bound taken told = MatchOption told (bound < taken) (λ left. taken + left ≡ bound)
+abbrev pub IsRemainder : (bound taken : ℕ) → Option ℕ → Type 0
+IsRemainder bound taken told = MatchOption told (bound < taken) (λ left. taken + left ≡ bound)
 
 -- a value is read whole, and each entry of a map in it is a look-up too
-abbrev pub reading : Value → ℕ
-reading v = weight v + putting (entries_inside v)
+abbrev pub read_work : Value → ℕ
+read_work v = weight v + insertion_work (entries_inside v)
 
 -- what a value holds is read for a comparison, bytes by 16
-abbrev pub holding_layer : (whole : ℕ) → Value-F Value → ℕ
-holding_layer n (Value-F.Bytes bs) = load (length bs)
-holding_layer n (Value-F.Array vs) = n
-holding_layer n (Value-F.Map m) = n
-holding_layer n (Value-F.KeyedMap m) = n
-holding_layer n layer = 0
+abbrev pub content_work_layer : (whole : ℕ) → Value-F Value → ℕ
+content_work_layer n (Value-F.Bytes bs) = byte_units (length bs)
+content_work_layer n (Value-F.Array vs) = n
+content_work_layer n (Value-F.Map m) = n
+content_work_layer n (Value-F.KeyedMap m) = n
+content_work_layer n layer = 0
 
-abbrev pub holding : Value → ℕ
-holding v = holding_layer (reading v) (out-Value v)
+abbrev pub content_work : Value → ℕ
+content_work v = content_work_layer (read_work v) (out-Value v)
 
-abbrev pub holdings : List Value → ℕ
-holdings vs = sum_by holding vs
+abbrev pub all_content_work : List Value → ℕ
+all_content_work vs = sum_by content_work vs
 
 -- each of some values is compared with the others
-abbrev pub pairwise : List Value → ℕ
-pairwise vs = holdings vs + length vs * holdings vs
+abbrev pub pairwise_work : List Value → ℕ
+pairwise_work vs = all_content_work vs + length vs * all_content_work vs
 
 -- the part of a value at a key is sought: among the keys of a map, which may all have one hash
-abbrev pub seeking : Value → Value → ℕ
-seeking v key = entries_of v / 32 + load_of key
+abbrev pub lookup_work : Value → Value → ℕ
+lookup_work v key = entries_of v / 32 + byte_units_of key
 
 -- the argument of a place, and nil where there are fewer
 abbrev pub argument : ℕ → List Value → Value
@@ -123,5 +123,5 @@ abbrev pub UpTo : ℕ → ℕ → {A : Type 0} → (A → ℕ) → Option A → 
 UpTo bound n number told = MatchOption told (bound < n) (λ m. number m ≡ n)
 
 -- a cost is told up to a bound: nothing is told where there is more work, with the room that there must be, than that
-abbrev pub Costing : ℕ → (work room : ℕ) → Option Cost → Type 0
-Costing bound work room told = MatchOption told (bound < work + room) (λ cost. (cost.work ≡ work) × (cost.room ≡ room))
+abbrev pub CostUpTo : ℕ → (work room : ℕ) → Option Cost → Type 0
+CostUpTo bound work room told = MatchOption told (bound < work + room) (λ cost. (cost.work ≡ work) × (cost.room ≡ room))

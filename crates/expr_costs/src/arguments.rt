@@ -1,20 +1,21 @@
 //! How much there is to look at in the arguments of a call.
 ghost use Rattle.std.specs.Prelude.{MatchOption, ◌≡◌, ◌+◌, ◌<◌, ◌^◌, IfSome};
 ghost use Rattle.expr_costs.specs.Calls.{first_count as parts_of_first, times_of as times};
-ghost use Rattle.expr_costs.specs.Measures.{UpTo, argument as told, bytes_of as bytes, colons_of as all_colons, items_in as parts, load_of as units, loads as reads, pairwise, pieces as cuts, seeking as seeks};
+ghost use Rattle.expr_costs.specs.Measures.{UpTo, argument as told, bytes_of as bytes, colons_of as all_colons, items_in as parts, byte_units_of as units, all_byte_units as reads, pairwise_work, pieces as cuts, lookup_work as seeks};
 ghost use Rattle.expr_sizes.specs.Sizes.{weights as all_weigh};
 ghost use Rattle.expr_value.specs.declared.value.Value as value;
 
 use crate::measures::{
-    bytes_of, colons_of, count_of, entries_of, load_of, pairwise_of, seeking, weight_of,
+    byte_units_of, bytes_of, colons_of, count_of, entries_of, lookup_work, pairwise_work_of,
+    weight_of,
 };
-use expr_held::Held;
+use expr_cow::CowValue;
 use expr_value::Value;
 
 /// The argument at a place, if there are so many.
 #[inline(always)]
 #[tactic(auto, using(crate::proofs::Places::argument_is, crate::proofs::Places::argument_none))]
-fn argument<'v>(arguments: &'v [Held<'_>], place: usize) -> Option<&'v Value>
+fn argument<'v>(arguments: &'v [CowValue<'_>], place: usize) -> Option<&'v Value>
     ensures { MatchOption result (told place arguments.now ≡ value.Nil)
         (λ v. told place arguments.now ≡ v.now) }
 {
@@ -26,7 +27,7 @@ fn argument<'v>(arguments: &'v [Held<'_>], place: usize) -> Option<&'v Value>
 
 /// The bytes of the argument at a place.
 #[inline(always)]
-pub(crate) fn bytes_at(arguments: &[Held<'_>], place: usize) -> u64
+pub(crate) fn bytes_at(arguments: &[CowValue<'_>], place: usize) -> u64
     ensures bytes { result ≡ bytes (told place arguments.now) }
     ensures small { result < 2 ^ 63 }
 {
@@ -38,7 +39,7 @@ pub(crate) fn bytes_at(arguments: &[Held<'_>], place: usize) -> u64
 
 /// The same in units of 16 bytes.
 #[inline(always)]
-pub(crate) fn load_at(arguments: &[Held<'_>], place: usize) -> u64
+pub(crate) fn byte_units_at(arguments: &[CowValue<'_>], place: usize) -> u64
     ensures load { result ≡ units (told place arguments.now) }
     ensures small { result < 2 ^ 60 }
 {
@@ -46,7 +47,7 @@ pub(crate) fn load_at(arguments: &[Held<'_>], place: usize) -> u64
 }
 
 /// The colons of the argument at a place.
-pub(crate) fn colons_at(arguments: &[Held<'_>], place: usize) -> u64
+pub(crate) fn colons_at(arguments: &[CowValue<'_>], place: usize) -> u64
     ensures { result ≡ all_colons (told place arguments.now) }
 {
     match argument(arguments, place) {
@@ -57,7 +58,7 @@ pub(crate) fn colons_at(arguments: &[Held<'_>], place: usize) -> u64
 
 /// How often the first argument is to be repeated.
 #[inline(always)]
-pub(crate) fn times_of(arguments: &[Held<'_>]) -> u64
+pub(crate) fn times_of(arguments: &[CowValue<'_>]) -> u64
     ensures times { result ≡ times arguments.now }
     ensures small { result < 2 ^ 63 }
 {
@@ -68,20 +69,20 @@ pub(crate) fn times_of(arguments: &[Held<'_>]) -> u64
 }
 
 /// The units of texts and bytes among arguments, up to a bound.
-pub(crate) fn loads(arguments: &[Held<'_>], bound: u64) -> Option<u128>
-    ensures loads { UpTo bound (reads arguments.now) (λ n. n) result }
+pub(crate) fn all_byte_units(arguments: &[CowValue<'_>], bound: u64) -> Option<u128>
+    ensures all_byte_units { UpTo bound (reads arguments.now) (λ n. n) result }
     ensures small { IfSome result (λ n. n < 2 ^ 64) }
 {
     let mut left = bound;
     for argument in arguments {
-        left = left.checked_sub(load_of(argument.get()))?;
+        left = left.checked_sub(byte_units_of(argument.get()))?;
     }
     Some((bound - left) as u128)
 }
 
 /// How many items the array has that a call begins with, or entries the map.
 #[inline(always)]
-pub(crate) fn first_count(arguments: &[Held<'_>]) -> u64
+pub(crate) fn first_count(arguments: &[CowValue<'_>]) -> u64
     ensures count { result ≡ parts_of_first arguments.now }
 {
     match arguments.first() {
@@ -91,7 +92,7 @@ pub(crate) fn first_count(arguments: &[Held<'_>]) -> u64
 }
 
 /// How much arguments weigh together, up to a bound.
-pub(crate) fn weights(arguments: &[Held<'_>], bound: u64) -> Option<u64>
+pub(crate) fn weights(arguments: &[CowValue<'_>], bound: u64) -> Option<u64>
     ensures weights { UpTo bound (all_weigh arguments.now) (λ n. n) result }
 {
     let mut left = bound;
@@ -103,22 +104,22 @@ pub(crate) fn weights(arguments: &[Held<'_>], bound: u64) -> Option<u64>
 }
 
 /// The work of comparing each item of the first argument with the others, up to a bound.
-pub(crate) fn first_pairwise(arguments: &[Held<'_>], bound: u64) -> Option<u128>
-    ensures work { UpTo bound (pairwise (parts (told 0 arguments.now))) (λ n. n) result }
+pub(crate) fn first_pairwise(arguments: &[CowValue<'_>], bound: u64) -> Option<u128>
+    ensures work { UpTo bound (pairwise_work (parts (told 0 arguments.now))) (λ n. n) result }
     ensures small { IfSome result (λ n. n < 2 ^ 65) }
 {
     let [array, ..] = arguments else {
         return Some(0);
     };
     match array.get() {
-        Value::Array(items) => pairwise_of(items.as_slice(), bound),
+        Value::Array(items) => pairwise_work_of(items.as_slice(), bound),
         _ => Some(0),
     }
 }
 
 /// The most pieces that stand between the matches of the second text in the first.
 #[inline(always)]
-pub(crate) fn pieces(arguments: &[Held<'_>]) -> u64
+pub(crate) fn pieces(arguments: &[CowValue<'_>]) -> u64
     ensures pieces { result ≡ cuts arguments.now }
     ensures small { result < 2 ^ 63 + 2 }
 {
@@ -127,13 +128,13 @@ pub(crate) fn pieces(arguments: &[Held<'_>]) -> u64
 
 /// The work of seeking the second argument among the keys of the first.
 #[inline(always)]
-pub(crate) fn seeking_of(arguments: &[Held<'_>]) -> u64
+pub(crate) fn lookup_work_of(arguments: &[CowValue<'_>]) -> u64
     ensures work { result ≡ seeks (told 0 arguments.now) (told 1 arguments.now) }
     ensures small { result < 2 ^ 61 }
 {
     match arguments {
         [] => 0,
         [value] => entries_of(value.get()) / 32,
-        [value, key, ..] => seeking(value.get(), key.get()),
+        [value, key, ..] => lookup_work(value.get(), key.get()),
     }
 }

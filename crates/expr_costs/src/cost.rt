@@ -1,8 +1,8 @@
 //! What is counted before an instruction or a call is done.
 ghost use Rattle.std.specs.Prelude.{◌≡◌, ℕ, Some};
-ghost use Rattle.expr_costs.specs.Measures.{Costing};
-ghost use Rattle.expr_meter.specs.Metered.{Charges};
-ghost use Rattle.expr_meter.specs.Rooms.{Begins, steps_left};
+ghost use Rattle.expr_costs.specs.Measures.{CostUpTo};
+ghost use Rattle.expr_meter.specs.MeterView.{Charges};
+ghost use Rattle.expr_meter.specs.Rooms.{TakesWork, steps_left};
 
 use expr_meter::Meter;
 use std::alloc::AllocError;
@@ -21,8 +21,8 @@ pub struct Cost {
 #[tactic(auto, using(crate::proofs::Charging::overrun_begins))]
 pub fn charge<M: Meter>(meter: &mut M, cost: Option<Cost>, bound: u64) -> Result<(), AllocError>
     requires { Some bound ≡ steps_left (M.metered meter.old).room }
-    ensures { (work room : ℕ) → Costing bound work room cost
-        → Charges result (Begins work room) (M.metered meter.old) (M.metered meter.new) }
+    ensures { (work room : ℕ) → CostUpTo bound work room cost
+        → Charges result (TakesWork work room) (M.metered meter.old) (M.metered meter.new) }
 {
     let Some(cost) = cost else {
         return meter.overrun();

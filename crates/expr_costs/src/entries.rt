@@ -1,6 +1,6 @@
 //! How many entries a value has and all that it holds.
 ghost use Rattle.std.specs.Prelude.{◌≡◌};
-ghost use Rattle.expr_costs.specs.Measures.{Leaves, UpTo, entries_inside as inside, entries_within as within};
+ghost use Rattle.expr_costs.specs.Measures.{IsRemainder, UpTo, entries_inside as inside, entries_within as within};
 
 use expr_value::Value;
 
@@ -17,7 +17,7 @@ pub fn entries_inside(value: &Value, bound: u64) -> Option<u64>
 #[cycle(walk)]
 #[inline(always)]
 fn take_entries(value: &Value, bound: u64) -> Option<u64>
-    ensures { Leaves bound (inside value.now) result }
+    ensures { IsRemainder bound (inside value.now) result }
 {
     match value {
         Value::Array(items) => take_from_all(items.as_slice(), bound),
@@ -36,7 +36,7 @@ fn take_entries(value: &Value, bound: u64) -> Option<u64>
 /// The same of each of some values.
 #[cycle(walk)]
 fn take_from_all(values: &[Value], bound: u64) -> Option<u64>
-    ensures { Leaves bound (within values.now) result }
+    ensures { IsRemainder bound (within values.now) result }
 {
     let mut left = bound;
     for value in values {

@@ -4,15 +4,15 @@
 mod arguments;
 mod calls;
 mod cost;
+mod cost_kind;
 mod entries;
-mod keeps;
-mod kind;
 mod measures;
 mod operators;
+mod retention;
 
 pub use calls::{array_cost, call_cost, map_cost, method_cost};
 pub use cost::{Cost, charge};
-pub use keeps::{Keeps, first_kept};
-pub use kind::Kind;
-pub use measures::{look_work, seeking};
+pub use cost_kind::CostKind;
+pub use measures::{look_work, lookup_work};
 pub use operators::{operator_cost, short_work, span_room};
+pub use retention::{Retention, first_retained};

@@ -1,10 +1,10 @@
 //! How much there is to look at in values.
 ghost use Rattle.std.specs.Prelude.{◌≡◌, ◌+◌, ◌*◌, ◌/◌, ◌<◌, ◌≤◌, ◌^◌, IfSome};
-ghost use Rattle.expr_costs.specs.Measures.{UpTo, bytes_of as bytes, colons, colons_of as value_colons, count_of as parts, entries_of as entries, holding as holds, holdings as all_hold, length_of as items, load_of as units, pairwise, putting as puts, reading, seeking as seeks};
-ghost use Rattle.expr_sizes.specs.Sizes.{load as units_of, weight};
+ghost use Rattle.expr_costs.specs.Measures.{UpTo, bytes_of as bytes, colons, colons_of as value_colons, count_of as parts, entries_of as entries, content_work as holds, all_content_work as all_hold, length_of as items, byte_units_of as units, pairwise_work, insertion_work as puts, read_work, lookup_work as seeks};
+ghost use Rattle.expr_sizes.specs.Sizes.{byte_units as units_of, weight};
 
 use crate::entries::entries_inside;
-use expr_sizes::{load, weigh};
+use expr_sizes::{byte_units, weigh};
 use expr_value::Value;
 
 /// How many bytes a text or bytes have.
@@ -22,8 +22,8 @@ pub fn bytes_of(value: &Value) -> u64
 
 /// The same in units of 16 bytes.
 #[inline(always)]
-pub fn load_of(value: &Value) -> u64
-    ensures load { result ≡ units value.now }
+pub fn byte_units_of(value: &Value) -> u64
+    ensures byte_units { result ≡ units value.now }
     ensures small { result < 2 ^ 60 }
 {
     bytes_of(value) / 16
@@ -109,7 +109,7 @@ pub fn times(left: u64, right: u64, bound: u64) -> Option<u64>
 
 /// The work of putting so many keys into a map.
 #[inline(always)]
-pub fn putting(count: u64) -> u128
+pub fn insertion_work(count: u64) -> u128
     ensures work { result ≡ puts count }
     ensures small { result < 2 ^ 122 }
 {
@@ -118,11 +118,11 @@ pub fn putting(count: u64) -> u128
 
 /// The work of seeking the part of a value at a key.
 #[inline(always)]
-pub fn seeking(value: &Value, key: &Value) -> u64
+pub fn lookup_work(value: &Value, key: &Value) -> u64
     ensures work { result ≡ seeks value.now key.now }
     ensures small { result < 2 ^ 61 }
 {
-    entries_of(value) / 32 + load_of(key)
+    entries_of(value) / 32 + byte_units_of(key)
 }
 
 /// How much a value weighs, up to a bound.
@@ -139,34 +139,34 @@ pub fn weight_of(value: &Value, bound: u64) -> Option<u64>
 }
 
 /// The work of reading a value whole, with a look-up for each entry of a map in it, up to a bound.
-fn reading_of(value: &Value, bound: u64) -> Option<u128>
-    ensures work { UpTo bound (reading value.now) (λ n. n) result }
+fn read_work_of(value: &Value, bound: u64) -> Option<u128>
+    ensures work { UpTo bound (read_work value.now) (λ n. n) result }
     ensures small { IfSome result (λ n. n < 2 ^ 123) }
 {
     let weight = weight_of(value, bound)?;
     let entries = entries_inside(value, bound)?;
-    Some(weight as u128 + putting(entries))
+    Some(weight as u128 + insertion_work(entries))
 }
 
 /// The work of reading what a value holds for a comparison, up to a bound.
-pub fn holding_of(value: &Value, bound: u64) -> Option<u128>
+pub fn content_work_of(value: &Value, bound: u64) -> Option<u128>
     ensures work { UpTo bound (holds value.now) (λ n. n) result }
     ensures small { IfSome result (λ n. n < 2 ^ 123) }
 {
     match value {
-        Value::Bytes(bytes) => Some(load(bytes.len()) as u128),
-        Value::Array(_) | Value::Map(_) | Value::KeyedMap(_) => reading_of(value, bound),
+        Value::Bytes(bytes) => Some(byte_units(bytes.len()) as u128),
+        Value::Array(_) | Value::Map(_) | Value::KeyedMap(_) => read_work_of(value, bound),
         _ => Some(0),
     }
 }
 
 /// The same for each of some values, up to a bound.
-pub fn holdings_of(values: &[Value], bound: u64) -> Option<u64>
+pub fn all_content_work_of(values: &[Value], bound: u64) -> Option<u64>
     ensures work { UpTo bound (all_hold values.now) (λ n. n) result }
 {
     let mut left = bound;
     for value in values {
-        let holding = holding_of(value, left)?;
+        let holding = content_work_of(value, left)?;
         if holding > left as u128 {
             return None;
         }
@@ -176,11 +176,11 @@ pub fn holdings_of(values: &[Value], bound: u64) -> Option<u64>
 }
 
 /// The work of comparing each of some values with the others, up to a bound.
-pub fn pairwise_of(values: &[Value], bound: u64) -> Option<u128>
-    ensures work { UpTo bound (pairwise values.now) (λ n. n) result }
+pub fn pairwise_work_of(values: &[Value], bound: u64) -> Option<u128>
+    ensures work { UpTo bound (pairwise_work values.now) (λ n. n) result }
     ensures small { IfSome result (λ n. n < 2 ^ 65) }
 {
-    let once = holdings_of(values, bound)?;
+    let once = all_content_work_of(values, bound)?;
     let others = times(values.len() as u64, once, bound)?;
     Some(once as u128 + others as u128)
 }
@@ -191,5 +191,5 @@ pub fn look_work(bytes: usize, item: &Value) -> u64
     ensures work { result ≡ units_of bytes + entries item.now / 32 }
     ensures small { result < 2 ^ 61 }
 {
-    load(bytes) + entries_of(item) / 32
+    byte_units(bytes) + entries_of(item) / 32
 }

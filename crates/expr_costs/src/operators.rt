@@ -1,35 +1,35 @@
 //! What operators cost.
 ghost use Rattle.std.specs.Prelude.{◌≡◌, ◌+◌, ◌*◌, ◌<◌, ◌^◌, IfSome};
-ghost use Rattle.expr_costs.specs.Operators.{between, comparing, finding, joined, operator_room, operator_work, pattern_weight, searching};
-ghost use Rattle.expr_costs.specs.Measures.{Costing, UpTo};
+ghost use Rattle.expr_costs.specs.Operators.{range_count, comparison_work, membership_work, sum_room, operator_room, operator_work, pattern_weight, match_work};
+ghost use Rattle.expr_costs.specs.Measures.{CostUpTo, UpTo};
 ghost use Rattle.expr_operators.specs.Positions.{how_many};
 ghost use Rattle.expr_value.specs.declared.value.Value.{out-Value};
 
 use crate::cost::Cost;
-use crate::measures::{holding_of, length_of, load_of, seeking, times};
+use crate::measures::{byte_units_of, content_work_of, length_of, lookup_work, times};
 use expr_sizes::weigh_pattern;
 use expr_tree::operator::Operator;
 use expr_value::Value;
 
 /// What an operator costs on two values, up to a bound.
 pub fn operator_cost(operator: Operator, left: &Value, right: &Value, bound: u64) -> Option<Cost>
-    ensures { Costing bound (operator_work operator left.now right.now)
+    ensures { CostUpTo bound (operator_work operator left.now right.now)
         (operator_room operator left.now right.now) result }
 {
     let work = match operator {
-        Operator::Equal | Operator::NotEqual => comparing_of(left, right, bound)?,
+        Operator::Equal | Operator::NotEqual => comparison_work_of(left, right, bound)?,
         Operator::GreaterThan
         | Operator::GreaterThanOrEqual
         | Operator::LessThan
-        | Operator::LessThanOrEqual => load_of(left).min(load_of(right)) as u128,
-        Operator::In | Operator::NotIn => finding_of(right, left, bound)?,
-        Operator::Contains => finding_of(left, right, bound)?,
-        Operator::StartsWith | Operator::EndsWith => load_of(right) as u128,
-        Operator::Matches => searching_of(left, right, bound)?,
+        | Operator::LessThanOrEqual => byte_units_of(left).min(byte_units_of(right)) as u128,
+        Operator::In | Operator::NotIn => membership_work_of(right, left, bound)?,
+        Operator::Contains => membership_work_of(left, right, bound)?,
+        Operator::StartsWith | Operator::EndsWith => byte_units_of(right) as u128,
+        Operator::Matches => match_work_of(left, right, bound)?,
         _ => 0,
     };
     let room = match operator {
-        Operator::Add => joined_load(left, right),
+        Operator::Add => sum_room_of(left, right),
         Operator::Matches => weight_of_pattern(right, bound)? as u128,
         _ => 0,
     };
@@ -58,44 +58,44 @@ pub fn short_work(operator: Operator, left: &Value, right: &Value) -> Option<u64
 
 /// The room for the text that two are made into: 0 where the left is no text.
 #[inline(always)]
-fn joined_load(left: &Value, right: &Value) -> u128
-    ensures { result ≡ joined left.now right.now }
+fn sum_room_of(left: &Value, right: &Value) -> u128
+    ensures { result ≡ sum_room left.now right.now }
 {
     match left {
-        Value::String(_) => 2 + (load_of(left) + load_of(right)) as u128,
+        Value::String(_) => 2 + (byte_units_of(left) + byte_units_of(right)) as u128,
         _ => 0,
     }
 }
 
 /// The work of comparing two values, up to a bound.
-fn comparing_of(left: &Value, right: &Value, bound: u64) -> Option<u128>
-    ensures work { UpTo bound (comparing left.now right.now) (λ n. n) result }
+fn comparison_work_of(left: &Value, right: &Value, bound: u64) -> Option<u128>
+    ensures work { UpTo bound (comparison_work left.now right.now) (λ n. n) result }
     ensures small { IfSome result (λ n. n < 2 ^ 124) }
 {
-    let texts = load_of(left).min(load_of(right)) as u128;
-    Some(texts + holding_of(left, bound)?)
+    let texts = byte_units_of(left).min(byte_units_of(right)) as u128;
+    Some(texts + content_work_of(left, bound)?)
 }
 
 /// The work of seeking a value in another, up to a bound.
-fn finding_of(value: &Value, sought: &Value, bound: u64) -> Option<u128>
-    ensures work { UpTo bound (finding value.now sought.now) (λ n. n) result }
+fn membership_work_of(value: &Value, sought: &Value, bound: u64) -> Option<u128>
+    ensures work { UpTo bound (membership_work value.now sought.now) (λ n. n) result }
 {
-    let one = 1 + comparing_of(sought, sought, bound)?;
+    let one = 1 + comparison_work_of(sought, sought, bound)?;
     if one > bound as u128 {
         return None;
     }
     let others = times(length_of(value), one as u64, bound)? as u128;
-    let texts = (seeking(value, sought) + 2 * load_of(value)) as u128;
+    let texts = (lookup_work(value, sought) + 2 * byte_units_of(value)) as u128;
     Some(texts + (one + others))
 }
 
 /// The work of making what searches for a pattern, and of leading it over a text, up to a bound.
-fn searching_of(text: &Value, pattern: &Value, bound: u64) -> Option<u128>
-    ensures work { UpTo bound (searching text.now pattern.now) (λ n. n) result }
+fn match_work_of(text: &Value, pattern: &Value, bound: u64) -> Option<u128>
+    ensures work { UpTo bound (match_work text.now pattern.now) (λ n. n) result }
     ensures small { IfSome result (λ n. n < 2 ^ 66) }
 {
     let weight = weight_of_pattern(pattern, bound)?;
-    let reading = times(load_of(text), 1 + weight / 64, bound)?;
+    let reading = times(byte_units_of(text), 1 + weight / 64, bound)?;
     Some(500 + (weight as u128 + reading as u128))
 }
 
@@ -114,7 +114,7 @@ fn weight_of_pattern(pattern: &Value, bound: u64) -> Option<u64>
 
 /// What a range costs.
 pub fn span_room(first: &Value, last: &Value) -> u128
-    ensures room { result ≡ 4 + between (out-Value first.now) (out-Value last.now) }
+    ensures room { result ≡ 4 + range_count (out-Value first.now) (out-Value last.now) }
 {
     match (first, last) {
         (Value::Integer(first), Value::Integer(last)) => 4 + integers_between(*first, *last),

@@ -12,9 +12,9 @@ use Rattle.std.specs.Fmt.{decimal}
 use Rattle.std.specs.Char.{digit_value}
 use Rattle.std.specs.List.{AllByRecursion}
 use Rattle.std.specs.Str.Parse.{AllDigits, digits_value, digits_value_after}
-use Rattle.expr_duration.specs.Durations.{Scale, nanosecond, microsecond, millisecond, second, minute, hour, scale_name, scale_size, Part, part_text, IsPart, part_size, parts_text, parts_size, none, minus, Spells}
-use Rattle.expr_clock.specs.Digits.{fraction_digits}
-use Rattle.expr_clock.specs.Durations.{in_units, clock_text, length_text, duration_text}
+use Rattle.expr_duration.specs.Durations.{Scale, nanosecond, microsecond, millisecond, second, minute, hour, scale_name, scale_size, LengthPart, part_text, IsPart, part_size, parts_text, parts_size, none, minus, Spells}
+use Rattle.expr_datetime.specs.Digits.{fraction_digits}
+use Rattle.expr_datetime.specs.Durations.{in_units, clock_text, length_text, duration_text}
 
 -- the digits of a number of one digit
 digit_same : (q : ℕ) → q < 10 → digit_value (48 + q) ≡ q
@@ -71,7 +71,7 @@ fraction (suc n) (suc m) h =
 
 -- so many parts of a unit as a number with that unit
 abbrev IsSpelled : List ℕ → ℕ → Type 0
-IsSpelled text n = (p : Part) × IsPart p × (text ≡ part_text p) × (part_size p ≡ n)
+IsSpelled text n = (p : LengthPart) × IsPart p × (text ≡ part_text p) × (part_size p ≡ n)
 
 bare : (v S : ℕ) → v * S + 0 * S / 1 ≡ v * S
 bare v S = let none_of : 0 * S ≡ 0 = omega arith in ap (λ m. v * S + m / 1) none_of ∙ omega arith
@@ -92,7 +92,7 @@ broken : (n q r : ℕ) (s : Scale) (ds : List ℕ) → q < 2 ^ 64 → n ≤ 18 �
     → IsSpelled (decimal q ++ (codes "." ++ ds) ++ scale_name s) (q * 10 ^ n + r)
 broken n q r s ds h small size digits k long value =
     let is = decimal_is_IsNumeral q h in
-    let p : Part = record { whole = decimal q; fraction = Some ds; scale = s } in
+    let p : LengthPart = record { whole = decimal q; fraction = Some ds; scale = s } in
     let all : take 18 ds ≡ ds = take_all 18 ds (omega arith) in
     let power : 10 ^ n ≡ 10 ^ length ds * 10 ^ k = sym (ap (λ e. 10 ^ e) long) ∙ pow-add 10 (length ds) k in
     let V = digits_value 10 ds in
@@ -126,7 +126,7 @@ units n parts s h size small =
 
 -- parts, one after another
 abbrev AreSpelled : List ℕ → ℕ → Type 0
-AreSpelled text n = (ps : List Part) × (0 < length ps) × AllByRecursion IsPart ps × (text ≡ parts_text ps) × (parts_size ps ≡ n)
+AreSpelled text n = (ps : List LengthPart) × (0 < length ps) × AllByRecursion IsPart ps × (text ≡ parts_text ps) × (parts_size ps ≡ n)
 
 one : (text : List ℕ) (n : ℕ) → IsSpelled text n → AreSpelled text n
 one text n (p, is, same, size) = (p ∷ [], omega arith, (is, tt), same ∙ sym (append-nil (part_text p)), omega (arith, size))

@@ -12,8 +12,8 @@ use Rattle.std.specs.Cmp.Lexicographic.{pointwise, same_text, other_text}
 use Rattle.std.specs.Prelude.{Option, MatchOption, FitsSigned}
 use Rattle.std.specs.List.{AllByRecursion}
 use Rattle.std.specs.Str.Parse.{AllDigits}
-use Rattle.expr_duration.specs.Reading.{head, Stops, IsFresh, NoPoint, Splits, IsLongest, Names, Begins, Fills, greatest_size}
-use Rattle.expr_duration.specs.Durations.{Scale, nanosecond, microsecond, greek_microsecond, ascii_microsecond, millisecond, second, minute, hour, scale_name, Part, fraction_text, fraction_digits_of, part_text, IsPart, part_size, parts_text, parts_size, Sign, none, plus, minus, sign_name, with_sign, Spells}
+use Rattle.expr_duration.specs.Reading.{head, Stops, IsFresh, NoPoint, Splits, IsLongest, NamesUnit, BeginsWithPart, Fills, greatest_size}
+use Rattle.expr_duration.specs.Durations.{Scale, nanosecond, microsecond, greek_microsecond, ascii_microsecond, millisecond, second, minute, hour, scale_name, LengthPart, fraction_text, fraction_digits_of, part_text, IsPart, part_size, parts_text, parts_size, LengthSign, none, plus, minus, sign_name, with_sign, Spells}
 use Rattle.expr_duration.proofs.Unique.{span, one_part, fresh_parts, part_long, parts_long, part_before_same, unsigned, no_plus, no_minus, scale_no_point, scale_stops, behind_stops, scale_at, scale_again, tail, one_meaning}
 
 -- the parts of a whole text are those that were read, and those of the rest
@@ -24,13 +24,13 @@ pub leads_first : (text : List ℕ) → Leads text text 0
 leads_first text = (λ n f. (f.0, f.1, f.2, omega (arith, f.3)), λ n f. (n, f, omega arith))
 
 -- the first part of parts is the part at the front
-pub front : (rest behind : List ℕ) (p : Part) (m : ℕ) → Begins rest p behind → Fills rest m → (k : ℕ) × Fills behind k × (m ≡ part_size p + k)
+pub front : (rest behind : List ℕ) (p : LengthPart) (m : ℕ) → BeginsWithPart rest p behind → Fills rest m → (k : ℕ) × Fills behind k × (m ≡ part_size p + k)
 front rest behind p m b ([], a, same, is) = absurd (omega (arith, part_long p b.0, length-append (part_text p) behind, ap length (sym b.2 ∙ same)))
 front rest behind p m b (q ∷ qs, a, same, is) =
     let o = one_part q p (parts_text qs) behind a.0 b.0 (fresh_parts qs a.1) b.1 (sym same ∙ b.2) in
     (parts_size qs, (qs, a.1, sym o.1, refl), is ∙ ap (λ r. part_size r + parts_size qs) o.0)
 
-pub leads_more : (text rest behind : List ℕ) (sum : ℕ) (p : Part) → Begins rest p behind → Leads text rest sum → Leads text behind (sum + part_size p)
+pub leads_more : (text rest behind : List ℕ) (sum : ℕ) (p : LengthPart) → BeginsWithPart rest p behind → Leads text rest sum → Leads text behind (sum + part_size p)
 leads_more text rest behind sum p b l = (
   λ n f. let whole : Fills text (sum + (part_size p + n)) = l.0 (part_size p + n) (p ∷ f.0, (b.0, f.1), b.2 ∙ ap (λ t. part_text p ++ t) f.2, ap (λ m. part_size p + m) f.3) in
       (whole.0, whole.1, whole.2, omega (arith, whole.3)),
@@ -45,19 +45,19 @@ leads_last text rest sum l e =
     (whole.0, whole.1, whole.2, omega (arith, whole.3))
 
 -- what fills a text begins with a part
-pub begins_of : (rest : List ℕ) (m : ℕ) → 0 < length rest → Fills rest m → (p : Part) × (t : List ℕ) × Begins rest p t × (part_size p ≤ m)
+pub begins_of : (rest : List ℕ) (m : ℕ) → 0 < length rest → Fills rest m → (p : LengthPart) × (t : List ℕ) × BeginsWithPart rest p t × (part_size p ≤ m)
 begins_of rest m h ([], a, same, is) = absurd (omega (arith, h, ap length same))
 begins_of rest m h (q ∷ qs, a, same, is) = (q, parts_text qs, (a.0, fresh_parts qs a.1, same), omega (arith, is))
 
 -- no part is at the front, or one that is too large
-pub stuck : (text rest : List ℕ) (sum : ℕ) → Leads text rest sum → 0 < length rest → ((p : Part) (t : List ℕ) → Begins rest p t → greatest_size < part_size p) → (n : ℕ) → n ≤ greatest_size → ¬ (Fills text n)
+pub stuck : (text rest : List ℕ) (sum : ℕ) → Leads text rest sum → 0 < length rest → ((p : LengthPart) (t : List ℕ) → BeginsWithPart rest p t → greatest_size < part_size p) → (n : ℕ) → n ≤ greatest_size → ¬ (Fills text n)
 stuck text rest sum l h none_of n small f =
     let r = l.1 n f in
     let b = begins_of rest r.0 h r.1 in
     omega (arith, none_of b.0 b.1 b.2, b.3, r.2, small)
 
 -- the sum is too large
-pub too_large : (text rest behind : List ℕ) (sum : ℕ) (p : Part) → Leads text rest sum → Begins rest p behind → greatest_size < sum + part_size p → (n : ℕ) → n ≤ greatest_size → ¬ (Fills text n)
+pub too_large : (text rest behind : List ℕ) (sum : ℕ) (p : LengthPart) → Leads text rest sum → BeginsWithPart rest p behind → greatest_size < sum + part_size p → (n : ℕ) → n ≤ greatest_size → ¬ (Fills text n)
 too_large text rest behind sum p l b h n small f =
     let r = l.1 n f in
     let k = front rest behind p r.0 b r.1 in
@@ -80,7 +80,7 @@ one_fraction (Some ds) (Some es) s text rest t p a stops e =
     drop_one (c ∷ cs) = cs
 
 -- the digits, the fraction and the unit at the front of a part are those that were found
-pub found_same : (text whole behind rest t : List ℕ) (f : Option (List ℕ)) (q : Part) → AllDigits 10 whole → Stops behind → text ≡ whole ++ behind → Splits behind f rest → Begins text q t
+pub found_same : (text whole behind rest t : List ℕ) (f : Option (List ℕ)) (q : LengthPart) → AllDigits 10 whole → Stops behind → text ≡ whole ++ behind → Splits behind f rest → BeginsWithPart text q t
     → (whole ≡ q.whole) × (f ≡ q.fraction) × (rest ≡ scale_name q.scale ++ t)
 found_same text whole behind rest t f q a stops e p b =
     let digits = span whole q.whole behind _ a b.0.0 stops (behind_stops q.fraction q.scale t) (sym e ∙ b.2 ∙ part_before_same q t) in
@@ -88,14 +88,14 @@ found_same text whole behind rest t f q a stops e p b =
     (digits.0, rests.0, rests.1)
 
 -- a part has a digit
-pub has_digits : (text whole behind rest t : List ℕ) (f : Option (List ℕ)) (q : Part) → AllDigits 10 whole → Stops behind → text ≡ whole ++ behind → Splits behind f rest → Begins text q t
+pub has_digits : (text whole behind rest t : List ℕ) (f : Option (List ℕ)) (q : LengthPart) → AllDigits 10 whole → Stops behind → text ≡ whole ++ behind → Splits behind f rest → BeginsWithPart text q t
     → length whole ≡ 0 → length (fraction_digits_of f) ≡ 0 → ⊥
 has_digits text whole behind rest t f q a stops e p b n m =
     let same = found_same text whole behind rest t f q a stops e p b in
     omega (arith, b.0.2, length-append q.whole (fraction_digits_of q.fraction), n, m, ap length same.0, ap (λ g. length (fraction_digits_of g)) same.1)
 
 -- a unit that goes on as far as it can is the one before a fresh text
-pub one_name : (text rest t : List ℕ) (s r : Scale) → Names text s rest → IsFresh t → text ≡ scale_name r ++ t → (s ≡ r) × (rest ≡ t)
+pub one_name : (text rest t : List ℕ) (s r : Scale) → NamesUnit text s rest → IsFresh t → text ≡ scale_name r ++ t → (s ≡ r) × (rest ≡ t)
 one_name text rest t s r n f e =
     let same : (s, rest) ≡ (r, t) = sym (names_again s rest n.1) ∙ ap scale_at (sym n.0 ∙ e) ∙ scale_again r t f in
     (ap (λ p. p.0) same, ap (λ p. p.1) same)
@@ -112,7 +112,7 @@ one_name text rest t s r n f e =
 
 -- what was found is a part
 pub part_found : (text whole behind rest end : List ℕ) (f : Option (List ℕ)) (s : Scale) → AllDigits 10 whole → text ≡ whole ++ behind → Splits behind f rest → rest ≡ scale_name s ++ end → IsFresh end
-    → 0 < length (whole ++ fraction_digits_of f) → Begins text (record { whole = whole; fraction = f; scale = s }) end
+    → 0 < length (whole ++ fraction_digits_of f) → BeginsWithPart text (record { whole = whole; fraction = f; scale = s }) end
 part_found text whole behind rest end f s a e p n fresh some =
     ((a, p.1, some), fresh, e ∙ ap (λ t. whole ++ t) (p.0 ∙ ap (λ t. fraction_text f ++ t) n) ∙ sym (part_before_same (record { whole = whole; fraction = f; scale = s }) end))
 
@@ -143,28 +143,28 @@ pub no_second : (text rest : List ℕ) → text ≡ 109 ∷ rest → ((t : List 
 no_second text [] e n h = absurd (omega (arith, h))
 no_second text (c ∷ cs) e n h = n cs (e ∙ ap (λ d. 109 ∷ d ∷ cs) h)
 
-some_parts : (ps : List Part) (text : List ℕ) → text ≡ parts_text ps → 0 < length text → 0 < length ps
+some_parts : (ps : List LengthPart) (text : List ℕ) → text ≡ parts_text ps → 0 < length text → 0 < length ps
 some_parts [] text e h = omega (arith, ap length e, h)
 some_parts (p ∷ ps) text e h = omega arith
 
 -- parts behind a sign
-pub meant : (s : Sign) (text rest : List ℕ) (n : ℕ) → text ≡ sign_name s ++ rest → Fills rest n → 0 < length rest → Spells text (with_sign s n)
+pub meant : (s : LengthSign) (text rest : List ℕ) (n : ℕ) → text ≡ sign_name s ++ rest → Fills rest n → 0 < length rest → Spells text (with_sign s n)
 meant s text rest n e f h = inr (s, f.0, some_parts f.0 rest f.2 h, f.1, e ∙ ap (λ t. sign_name s ++ t) f.2, ap (with_sign s) f.3)
 
 -- a sign that isn't there stands nowhere
-abbrev pub IsUnsigned : Sign → List ℕ → Type 0
+abbrev pub IsUnsigned : LengthSign → List ℕ → Type 0
 IsUnsigned none rest = ((t : List ℕ) → rest ≢ 43 ∷ t) × ((t : List ℕ) → rest ≢ 45 ∷ t) × (rest ≢ codes "0")
 IsUnsigned s rest = Unit {0}
 
-abbrev Read : Sign → List ℕ → ℤ → Type 0
+abbrev Read : LengthSign → List ℕ → ℤ → Type 0
 Read s rest z = (n : ℕ) × Fills rest n × (0 < length rest) × (z ≡ with_sign s n)
 
-filled : (s : Sign) (rest : List ℕ) (z : ℤ) (ps : List Part) → 0 < length ps → AllByRecursion IsPart ps → rest ≡ parts_text ps → z ≡ with_sign s (parts_size ps) → Read s rest z
+filled : (s : LengthSign) (rest : List ℕ) (z : ℤ) (ps : List LengthPart) → 0 < length ps → AllByRecursion IsPart ps → rest ≡ parts_text ps → z ≡ with_sign s (parts_size ps) → Read s rest z
 filled s rest z [] h a same is = absurd (omega (arith, h))
 filled s rest z (p ∷ ps) h a same is = (parts_size (p ∷ ps), (p ∷ ps, a, same, refl), omega (arith, parts_long p ps a.0, ap length same), is)
 
 -- what a text spells is by its sign and its parts
-pub by_sign : (s : Sign) (rest : List ℕ) (z : ℤ) → IsUnsigned s rest → Spells (sign_name s ++ rest) z → Read s rest z
+pub by_sign : (s : LengthSign) (rest : List ℕ) (z : ℤ) → IsUnsigned s rest → Spells (sign_name s ++ rest) z → Read s rest z
 by_sign none rest z u (inl p) = absurd (u.2 p.0)
 by_sign plus rest z u (inl p) = absurd (omega (arith, ap head p.0))
 by_sign minus rest z u (inl p) = absurd (omega (arith, ap head p.0))
@@ -178,19 +178,19 @@ by_sign minus rest z u (inr (none, ps, h, a, same, is)) = absurd (unsigned ps 45
 by_sign minus rest z u (inr (plus, ps, h, a, same, is)) = absurd (omega (arith, ap head same))
 by_sign minus rest z u (inr (minus, ps, h, a, same, is)) = filled minus rest z ps h a (ap tail same) is
 
-absolute : (s : Sign) (n : ℕ) → nat_abs (with_sign s n) ≡ n
+absolute : (s : LengthSign) (n : ℕ) → nat_abs (with_sign s n) ≡ n
 absolute none n = refl
 absolute plus n = refl
 absolute minus zero = refl
 absolute minus (suc n) = omega arith
 
-within : (s : Sign) (n : ℕ) (z : ℤ) → FitsSigned w64 z → z ≡ with_sign s n → n ≤ greatest_size
+within : (s : LengthSign) (n : ℕ) (z : ℤ) → FitsSigned w64 z → z ≡ with_sign s n → n ≤ greatest_size
 within s n z h e =
     let small : nat_abs z ≤ greatest_size = nat_abs-le z h.sfits in
     omega (arith, small, ap nat_abs e, absolute s n)
 
 -- where no parts of a size that fits are behind the sign, nothing that fits is spelled
-pub unspelled : (s : Sign) (text rest : List ℕ) → text ≡ sign_name s ++ rest → IsUnsigned s rest → ((n : ℕ) → n ≤ greatest_size → ¬ (Fills rest n × (0 < length rest))) → (z : ℤ) → FitsSigned w64 z → ¬ (Spells text z)
+pub unspelled : (s : LengthSign) (text rest : List ℕ) → text ≡ sign_name s ++ rest → IsUnsigned s rest → ((n : ℕ) → n ≤ greatest_size → ¬ (Fills rest n × (0 < length rest))) → (z : ℤ) → FitsSigned w64 z → ¬ (Spells text z)
 unspelled s text rest e u no_parts z fits spells =
     let r = by_sign s rest z u (subst (λ t. Spells t z) e spells) in
     no_parts r.0 (within s r.0 z fits r.3) (r.1, r.2)

@@ -8,7 +8,7 @@ use Rattle.std.specs.Prelude.{Option}
 use Rattle.std.specs.List.{AllByRecursion}
 use Rattle.std.specs.Str.Parse.{AllDigits}
 use Rattle.expr_duration.specs.Reading.{head, Stops, IsFresh}
-use Rattle.expr_duration.specs.Durations.{Scale, nanosecond, microsecond, greek_microsecond, ascii_microsecond, millisecond, second, minute, hour, scale_name, Part, fraction_text, fraction_digits_of, part_text, IsPart, part_size, parts_text, parts_size, Sign, none, plus, minus, sign_name, with_sign, Spells}
+use Rattle.expr_duration.specs.Durations.{Scale, nanosecond, microsecond, greek_microsecond, ascii_microsecond, millisecond, second, minute, hour, scale_name, LengthPart, fraction_text, fraction_digits_of, part_text, IsPart, part_size, parts_text, parts_size, LengthSign, none, plus, minus, sign_name, with_sign, Spells}
 
 abbrev pub tail : List ℕ → List ℕ
 tail [] = []
@@ -107,13 +107,13 @@ one_behind (Some ds) (Some es) s r t u a b k l e =
     ((λ i. Some (digits.0 i)), o.0, o.1)
 
 -- a part and what stands behind it
-abbrev pub part_before : Part → List ℕ → List ℕ
+abbrev pub part_before : LengthPart → List ℕ → List ℕ
 part_before p t = p.whole ++ behind p.fraction p.scale t
 
-pub part_before_same : (p : Part) (t : List ℕ) → part_text p ++ t ≡ part_before p t
+pub part_before_same : (p : LengthPart) (t : List ℕ) → part_text p ++ t ≡ part_before p t
 part_before_same p t = append_assoc (p.whole ++ fraction_text p.fraction) (scale_name p.scale) t ∙ append_assoc p.whole (fraction_text p.fraction) (scale_name p.scale ++ t)
 
-pub one_part : (p q : Part) (t u : List ℕ) → IsPart p → IsPart q → IsFresh t → IsFresh u → part_text p ++ t ≡ part_text q ++ u → (p ≡ q) × (t ≡ u)
+pub one_part : (p q : LengthPart) (t u : List ℕ) → IsPart p → IsPart q → IsFresh t → IsFresh u → part_text p ++ t ≡ part_text q ++ u → (p ≡ q) × (t ≡ u)
 one_part p q t u a b k l e =
     let digits = span p.whole q.whole _ _ a.0 b.0 (behind_stops p.fraction p.scale t) (behind_stops q.fraction q.scale u) (sym (part_before_same p t) ∙ e ∙ part_before_same q u) in
     let o = one_behind p.fraction q.fraction p.scale q.scale t u a.1 b.1 k l digits.1 in
@@ -125,12 +125,12 @@ fresh_part [] None t a h = absurd (omega (arith, h))
 fresh_part [] (Some ds) t a h = inr refl
 fresh_part (c ∷ cs) f t a h = inl a.0
 
-pub fresh_parts : (ps : List Part) → AllByRecursion IsPart ps → IsFresh (parts_text ps)
+pub fresh_parts : (ps : List LengthPart) → AllByRecursion IsPart ps → IsFresh (parts_text ps)
 fresh_parts [] a = tt
 fresh_parts (p ∷ ps) a = subst IsFresh (sym (part_before_same p (parts_text ps))) (fresh_part p.whole p.fraction _ a.0.0 a.0.2)
 
 -- a part has a digit and a unit
-pub part_long : (p : Part) → IsPart p → 2 ≤ length (part_text p)
+pub part_long : (p : LengthPart) → IsPart p → 2 ≤ length (part_text p)
 part_long p is =
     omega (arith, scale_long p.scale, length-append (p.whole ++ fraction_text p.fraction) (scale_name p.scale), length-append p.whole (fraction_text p.fraction), length-append p.whole (fraction_digits_of p.fraction), is.2, shorter p.fraction)
   where
@@ -138,10 +138,10 @@ part_long p is =
     shorter None = omega arith
     shorter (Some ds) = omega arith
 
-pub parts_long : (p : Part) (ps : List Part) → IsPart p → 2 ≤ length (parts_text (p ∷ ps))
+pub parts_long : (p : LengthPart) (ps : List LengthPart) → IsPart p → 2 ≤ length (parts_text (p ∷ ps))
 parts_long p ps is = omega (arith, part_long p is, length-append (part_text p) (parts_text ps))
 
-one_size : (ps qs : List Part) → AllByRecursion IsPart ps → AllByRecursion IsPart qs → parts_text ps ≡ parts_text qs → parts_size ps ≡ parts_size qs
+one_size : (ps qs : List LengthPart) → AllByRecursion IsPart ps → AllByRecursion IsPart qs → parts_text ps ≡ parts_text qs → parts_size ps ≡ parts_size qs
 one_size [] [] a b e = refl
 one_size [] (q ∷ qs) a b e = absurd (omega (arith, parts_long q qs b.0, ap length e))
 one_size (p ∷ ps) [] a b e = absurd (omega (arith, parts_long p ps a.0, ap length e))
@@ -150,7 +150,7 @@ one_size (p ∷ ps) (q ∷ qs) a b e =
     λ i. part_size (o.0 i) + one_size ps qs a.1 b.1 o.1 i
 
 -- parts begin with no sign
-pub unsigned : (ps : List Part) (c : ℕ) (t : List ℕ) → AllByRecursion IsPart ps → 0 < length ps → ¬ (IsFresh (c ∷ t)) → parts_text ps ≡ c ∷ t → ⊥
+pub unsigned : (ps : List LengthPart) (c : ℕ) (t : List ℕ) → AllByRecursion IsPart ps → 0 < length ps → ¬ (IsFresh (c ∷ t)) → parts_text ps ≡ c ∷ t → ⊥
 unsigned ps c t a h n e = n (subst IsFresh e (fresh_parts ps a))
 
 pub no_plus : (t : List ℕ) → ¬ (IsFresh (43 ∷ t))
@@ -161,7 +161,7 @@ pub no_minus : (t : List ℕ) → ¬ (IsFresh (45 ∷ t))
 no_minus t (inl h) = omega (arith, h)
 no_minus t (inr h) = omega (arith, h)
 
-one_signed : (s r : Sign) (ps qs : List Part) → 0 < length ps → 0 < length qs → AllByRecursion IsPart ps → AllByRecursion IsPart qs → sign_name s ++ parts_text ps ≡ sign_name r ++ parts_text qs
+one_signed : (s r : LengthSign) (ps qs : List LengthPart) → 0 < length ps → 0 < length qs → AllByRecursion IsPart ps → AllByRecursion IsPart qs → sign_name s ++ parts_text ps ≡ sign_name r ++ parts_text qs
     → with_sign s (parts_size ps) ≡ with_sign r (parts_size qs)
 one_signed none none ps qs h k a b e = ap pos (one_size ps qs a b e)
 one_signed plus plus ps qs h k a b e = ap pos (one_size ps qs a b (ap tail e))
@@ -174,7 +174,7 @@ one_signed plus minus ps qs h k a b e = absurd (omega (arith, ap head e))
 one_signed minus plus ps qs h k a b e = absurd (omega (arith, ap head e))
 
 -- parts are longer than `0`
-pub no_zero : (s : Sign) (ps : List Part) → 0 < length ps → AllByRecursion IsPart ps → codes "0" ≡ sign_name s ++ parts_text ps → ⊥
+pub no_zero : (s : LengthSign) (ps : List LengthPart) → 0 < length ps → AllByRecursion IsPart ps → codes "0" ≡ sign_name s ++ parts_text ps → ⊥
 no_zero s [] h a e = omega (arith, h)
 no_zero s (p ∷ ps) h a e = omega (arith, parts_long p ps a.0, ap length e, length-append (sign_name s) (parts_text (p ∷ ps)))
 

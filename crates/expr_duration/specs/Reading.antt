@@ -3,7 +3,7 @@ use Rattle.std.specs.Prelude.{◌≡◌, ◌≢◌, ℕ, ◌<◌, ◌⊎◌, Lis
 use Rattle.std.specs.Char.{digit_value}
 use Rattle.std.specs.List.{AllByRecursion}
 use Rattle.std.specs.Str.Parse.{AllDigits}
-use Rattle.expr_duration.specs.Durations.{Scale, minute, scale_name, fraction_text, fraction_digits_of, Part, part_text, IsPart, parts_text, parts_size}
+use Rattle.expr_duration.specs.Durations.{Scale, minute, scale_name, fraction_text, fraction_digits_of, LengthPart, part_text, IsPart, parts_text, parts_size}
 
 abbrev pub IsDigit : ℕ → Type 0
 IsDigit c = digit_value c < 10
@@ -41,16 +41,16 @@ IsLongest minute rest = head rest ≢ 115
 IsLongest s rest = Unit {0}
 
 -- a unit's name, and what stands behind it
-abbrev pub Names : List ℕ → Scale → List ℕ → Type 0
-Names text s rest = (text ≡ scale_name s ++ rest) × IsLongest s rest
+abbrev pub NamesUnit : List ℕ → Scale → List ℕ → Type 0
+NamesUnit text s rest = (text ≡ scale_name s ++ rest) × IsLongest s rest
 
 -- a part, and what stands behind it
-abbrev pub Begins : List ℕ → Part → List ℕ → Type 0
-Begins text p rest = IsPart p × IsFresh rest × (text ≡ part_text p ++ rest)
+abbrev pub BeginsWithPart : List ℕ → LengthPart → List ℕ → Type 0
+BeginsWithPart text p rest = IsPart p × IsFresh rest × (text ≡ part_text p ++ rest)
 
 -- parts that are the whole text, and their sum
 abbrev pub Fills : List ℕ → ℕ → Type 0
-Fills text n = (parts : List Part) × AllByRecursion IsPart parts × (text ≡ parts_text parts) × (n ≡ parts_size parts)
+Fills text n = (parts : List LengthPart) × AllByRecursion IsPart parts × (text ≡ parts_text parts) × (n ≡ parts_size parts)
 
 -- the size of the least 64-bit integer
 abbrev pub greatest_size : ℕ

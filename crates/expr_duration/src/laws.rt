@@ -2,7 +2,7 @@
 ghost use Rattle.std.specs.Prelude.{◌≡◌, ℕ, ℤ, List, FitsSigned};
 ghost use Rattle.std.specs.Int.{w64};
 ghost use Rattle.expr_duration.specs.Durations.{Spells};
-ghost use Rattle.expr_clock.specs.Durations.{duration_text};
+ghost use Rattle.expr_datetime.specs.Durations.{duration_text};
 
 /// A text spells at most one length of time.
 pub fn texts_have_one_meaning()

@@ -7,4 +7,4 @@ mod spelling;
 
 pub use laws::{texts_have_one_meaning, texts_spell_lengths};
 pub use method::{DurationMethod, duration};
-pub use spelling::spelled;
+pub use spelling::parse_length;

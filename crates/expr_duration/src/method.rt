@@ -1,15 +1,15 @@
 //! Methods of lengths of time, and the built-in that reads one.
 ghost use Rattle.std.specs.Prelude.{◌≡◌, ◌≢◌, ◌<◌, ◌≤◌, Some, IfOk, MatchOption, string_bytes};
-ghost use Rattle.expr_value.specs.Answers.{Gives, Is};
-ghost use Rattle.expr_arguments.specs.Arguments.{alone, one_duration};
-ghost use Rattle.expr_clock.specs.Durations.{duration_text};
-ghost use Rattle.expr_duration.specs.Methods.{Duration, Read, absolute, answered, by_step, held, name_of, nearest, rounded, truncated};
-ghost use Rattle.expr_value.specs.Fault.{OnlyMemory};
+ghost use Rattle.expr_value.specs.Answers.{Returns, ReturnsExactly};
+ghost use Rattle.expr_arguments.specs.Arguments.{without_arguments, one_duration};
+ghost use Rattle.expr_datetime.specs.Durations.{duration_text};
+ghost use Rattle.expr_duration.specs.Methods.{Duration, ReadsLength, absolute, method_answer, by_step, saturated_nanos, name_of, nearest, rounded_nanos, truncated_nanos};
+ghost use Rattle.expr_error.specs.ErrorKind.{OnlyMemory};
 
-use crate::spelling::spelled;
-use expr_arguments::{one_duration, one_text, without};
-use expr_clock::show_duration;
-use expr_held::Held;
+use crate::spelling::parse_length;
+use expr_arguments::{one_duration, one_text, without_arguments};
+use expr_cow::CowValue;
+use expr_datetime::show_duration;
 use expr_value::{Result, Text, Value, refusal};
 use std::alloc::Global;
 use std::fmt;
@@ -29,7 +29,7 @@ pub enum DurationMethod {
 
 impl DurationMethod {
     /// The method of a name.
-    pub fn named(name: &str) -> Option<DurationMethod>
+    pub fn from_name(name: &str) -> Option<DurationMethod>
         ensures { MatchOption result ((m : DurationMethod) → name_of m ≢ name.now)
             (λ m. name_of m ≡ name.now) }
     {
@@ -47,11 +47,11 @@ impl DurationMethod {
 
     /// What the method answers of so many nanoseconds. Other numbers and kinds of arguments than it takes are refused with
     /// [`expr_value::Error::ExprError`].
-    pub fn call(self, alloc: Global, nanoseconds: i64, arguments: &[Held<'_>]) -> Result<Value>
-        ensures { Is result (answered self nanoseconds arguments.now) }
+    pub fn call(self, alloc: Global, nanoseconds: i64, arguments: &[CowValue<'_>]) -> Result<Value>
+        ensures { ReturnsExactly result (method_answer self nanoseconds arguments.now) }
     {
         match self {
-            DurationMethod::Abs => without(
+            DurationMethod::Abs => without_arguments(
                 alloc,
                 arguments,
                 Value::Duration(absolute(nanoseconds)),
@@ -59,26 +59,31 @@ impl DurationMethod {
             DurationMethod::Round => round(alloc, nanoseconds, arguments),
             DurationMethod::Truncate => truncate(alloc, nanoseconds, arguments),
             DurationMethod::Milliseconds => {
-                without(alloc, arguments, Value::Integer(nanoseconds / 1_000_000))
+                without_arguments(alloc, arguments, Value::Integer(nanoseconds / 1_000_000))
             }
             DurationMethod::Microseconds => {
-                without(alloc, arguments, Value::Integer(nanoseconds / 1_000))
+                without_arguments(alloc, arguments, Value::Integer(nanoseconds / 1_000))
             }
-            DurationMethod::Nanoseconds => without(alloc, arguments, Value::Integer(nanoseconds)),
+            DurationMethod::Nanoseconds => without_arguments(
+                alloc,
+                arguments,
+                Value::Integer(nanoseconds),
+            ),
             DurationMethod::String => string(alloc, nanoseconds, arguments),
         }
     }
 }
 
-fn string(alloc: Global, nanoseconds: i64, arguments: &[Held<'_>]) -> Result<Value>
-    ensures { Is result (alone arguments.now (Value.String (duration_text nanoseconds))) }
+fn string(alloc: Global, nanoseconds: i64, arguments: &[CowValue<'_>]) -> Result<Value>
+    ensures { ReturnsExactly result
+        (without_arguments arguments.now (Value.String (duration_text nanoseconds))) }
 {
-    let answer = written(alloc, &nanoseconds)?;
-    without(alloc, arguments, answer)
+    let answer = string_value(alloc, &nanoseconds)?;
+    without_arguments(alloc, arguments, answer)
 }
 
 // The text of a length of time.
-fn written(alloc: Global, nanoseconds: &i64) -> Result<Value>
+fn string_value(alloc: Global, nanoseconds: &i64) -> Result<Value>
     ensures ok { IfOk result (λ v. v ≡ Value.String (duration_text nanoseconds.now)) }
     ensures err { OnlyMemory result }
 {
@@ -118,18 +123,18 @@ fn absolute(nanoseconds: i64) -> i64
     nanoseconds.abs()
 }
 
-fn truncate(alloc: Global, nanoseconds: i64, arguments: &[Held<'_>]) -> Result<Value>
-    ensures { Is result (by_step (one_duration arguments.now) (truncated nanoseconds)) }
+fn truncate(alloc: Global, nanoseconds: i64, arguments: &[CowValue<'_>]) -> Result<Value>
+    ensures { ReturnsExactly result (by_step (one_duration arguments.now) (truncated_nanos nanoseconds)) }
 {
     let Some(step) = one_duration(arguments) else {
         return Err(refusal(alloc, "Truncate takes a duration"));
     };
-    Ok(Value::Duration(truncated(nanoseconds, step)))
+    Ok(Value::Duration(truncated_to(nanoseconds, step)))
 }
 
 // Cut toward zero to a multiple of a step, where that is above zero.
-fn truncated(nanoseconds: i64, step: i64) -> i64
-    ensures { result ≡ truncated nanoseconds step }
+fn truncated_to(nanoseconds: i64, step: i64) -> i64
+    ensures { result ≡ truncated_nanos nanoseconds step }
 {
     if step <= 0 {
         return nanoseconds;
@@ -137,27 +142,27 @@ fn truncated(nanoseconds: i64, step: i64) -> i64
     nanoseconds / step * step
 }
 
-fn round(alloc: Global, nanoseconds: i64, arguments: &[Held<'_>]) -> Result<Value>
-    ensures { Is result (by_step (one_duration arguments.now) (rounded nanoseconds)) }
+fn round(alloc: Global, nanoseconds: i64, arguments: &[CowValue<'_>]) -> Result<Value>
+    ensures { ReturnsExactly result (by_step (one_duration arguments.now) (rounded_nanos nanoseconds)) }
 {
     let Some(step) = one_duration(arguments) else {
         return Err(refusal(alloc, "Round takes a duration"));
     };
-    Ok(Value::Duration(rounded(nanoseconds, step)))
+    Ok(Value::Duration(rounded_to(nanoseconds, step)))
 }
 
 // The nearest multiple of a step, where that is above zero; halves go away from zero.
-fn rounded(nanoseconds: i64, step: i64) -> i64
-    ensures { result ≡ rounded nanoseconds step }
+fn rounded_to(nanoseconds: i64, step: i64) -> i64
+    ensures { result ≡ rounded_nanos nanoseconds step }
 {
     if step <= 0 {
         return nanoseconds;
     }
     let size = nearest(nanoseconds.unsigned_abs(), step.unsigned_abs());
     if nanoseconds < 0 {
-        return held(-(size as i128));
+        return saturate(-(size as i128));
     }
-    held(size as i128)
+    saturate(size as i128)
 }
 
 fn nearest(size: u64, step: u64) -> u128
@@ -170,8 +175,8 @@ fn nearest(size: u64, step: u64) -> u128
 }
 
 // Held at the ends of 64 bits.
-fn held(nanoseconds: i128) -> i64
-    ensures { result ≡ held nanoseconds }
+fn saturate(nanoseconds: i128) -> i64
+    ensures { result ≡ saturated_nanos nanoseconds }
 {
     if nanoseconds > i64::MAX as i128 {
         return i64::MAX;
@@ -183,8 +188,8 @@ fn held(nanoseconds: i128) -> i64
 }
 
 /// The built-in `duration`: the length of time that a text spells, within 64 bits of nanoseconds.
-pub fn duration(alloc: Global, arguments: &[Held<'_>]) -> Result<Value>
-    ensures { Gives result (Duration arguments.now) }
+pub fn duration(alloc: Global, arguments: &[CowValue<'_>]) -> Result<Value>
+    ensures { Returns result (Duration arguments.now) }
 {
     let Some(text) = one_text(arguments) else {
         return Err(refusal(alloc, "duration takes a text"));
@@ -193,9 +198,9 @@ pub fn duration(alloc: Global, arguments: &[Held<'_>]) -> Result<Value>
 }
 
 fn read(alloc: Global, text: &str) -> Result<Value>
-    ensures { Gives result (Read text.now) }
+    ensures { Returns result (ReadsLength text.now) }
 {
-    match spelled(text) {
+    match parse_length(text) {
         Some(nanoseconds) => Ok(Value::Duration(nanoseconds)),
         None => Err(refusal(alloc, "duration reads numbers with units, within 64 bits")),
     }

@@ -2,15 +2,15 @@
 ghost use Rattle.std.specs.Prelude.{◌≡◌, ◌≢◌, ◌⊎◌, ℕ, ℤ, pos, neg_ℤ, ◌<◌, ◌≤◌, ◌^◌, ◌∷◌, ◌++◌, List, Option, None, Some, length, take, MatchBool, MatchOption, FitsSigned};
 ghost use Rattle.std.specs.Int.{w64};
 ghost use Rattle.std.specs.Str.Parse.{AllDigits, digits_value};
-ghost use Rattle.expr_duration.specs.Durations.{Part, Scale, Spells, fraction_digits_of, part_size, scale_name, scale_size, sized};
-ghost use Rattle.expr_duration.specs.Reading.{Begins, Fills, IsDigit, IsFresh, Names, Splits, Stops, greatest_size};
+ghost use Rattle.expr_duration.specs.Durations.{LengthPart, Scale, Spells, fraction_digits_of, part_size, scale_name, scale_size, part_nanos};
+ghost use Rattle.expr_duration.specs.Reading.{BeginsWithPart, Fills, IsDigit, IsFresh, NamesUnit, Splits, Stops, greatest_size};
 
 // The size of the least length of time, in nanoseconds.
 const GREATEST_SIZE: u64 = 1 << 63;
 
 /// The length of time that a text spells, in nanoseconds, if it spells one within 64 bits: `0`, or a sign that may be left
 /// out and one or more decimal numbers, each with its unit, as in `1h30m`, `-1.5ms`.
-pub fn spelled(text: &str) -> Option<i64>
+pub fn parse_length(text: &str) -> Option<i64>
     ensures { MatchOption result ((n : ℤ) → FitsSigned w64 n → ¬ (Spells text.now n))
         (λ n. Spells text.now n) }
 {
@@ -24,10 +24,10 @@ fn read(text: &[u8]) -> Option<i64>
     if text == b"0".as_slice() {
         return Some(0);
     }
-    if let Some(rest) = after("-", text) {
+    if let Some(rest) = behind_name("-", text) {
         return below_zero(parts(rest)?);
     }
-    match after("+", text) {
+    match behind_name("+", text) {
         Some(rest) => from_zero(parts(rest)?),
         None => from_zero(parts(text)?),
     }
@@ -71,9 +71,9 @@ fn parts(text: &[u8]) -> Option<u64>
 
 // The size of the part at the front of a text, and what stands behind it.
 fn part(text: &[u8]) -> Option<(u64, &[u8])>
-    ensures { MatchOption result ((p : Part) (rest : List ℕ) → Begins text.now p rest
+    ensures { MatchOption result ((p : LengthPart) (rest : List ℕ) → BeginsWithPart text.now p rest
         → greatest_size < part_size p)
-        (λ found. (p : Part) × Begins text.now p found.1.now × (found.0 ≡ part_size p)
+        (λ found. (p : LengthPart) × BeginsWithPart text.now p found.1.now × (found.0 ≡ part_size p)
         × (found.0 ≤ greatest_size)) }
 {
     let (whole, behind) = digits(text);
@@ -113,7 +113,7 @@ fn fraction(text: &[u8]) -> (&[u8], &[u8])
     requires { Stops text.now }
     ensures { (f : Option (List ℕ)) × (result.0.now ≡ fraction_digits_of f) × Splits text.now f result.1.now }
 {
-    match after(".", text) {
+    match behind_name(".", text) {
         Some(rest) => digits(rest),
         None => text.split_at(0),
     }
@@ -122,35 +122,35 @@ fn fraction(text: &[u8]) -> (&[u8], &[u8])
 // The nanoseconds of the unit at the front of a text, and what stands behind it.
 fn unit(text: &[u8]) -> Option<(u64, &[u8])>
     ensures { MatchOption result ((s : Scale) (rest : List ℕ) → text.now ≢ scale_name s ++ rest)
-        (λ found. (s : Scale) × (found.0 ≡ scale_size s) × Names text.now s found.1.now) }
+        (λ found. (s : Scale) × (found.0 ≡ scale_size s) × NamesUnit text.now s found.1.now) }
 {
-    if let Some(rest) = after("ns", text) {
+    if let Some(rest) = behind_name("ns", text) {
         return Some((1, rest));
     }
-    if let Some(rest) = after("us", text) {
+    if let Some(rest) = behind_name("us", text) {
         return Some((1_000, rest));
     }
-    if let Some(rest) = after("\u{b5}s", text) {
+    if let Some(rest) = behind_name("\u{b5}s", text) {
         return Some((1_000, rest));
     }
-    if let Some(rest) = after("\u{3bc}s", text) {
+    if let Some(rest) = behind_name("\u{3bc}s", text) {
         return Some((1_000, rest));
     }
-    if let Some(rest) = after("ms", text) {
+    if let Some(rest) = behind_name("ms", text) {
         return Some((1_000_000, rest));
     }
-    if let Some(rest) = after("s", text) {
+    if let Some(rest) = behind_name("s", text) {
         return Some((1_000_000_000, rest));
     }
-    if let Some(rest) = after("m", text) {
+    if let Some(rest) = behind_name("m", text) {
         return Some((60_000_000_000, rest));
     }
-    let rest = after("h", text)?;
+    let rest = behind_name("h", text)?;
     Some((3_600_000_000_000, rest))
 }
 
 // What stands behind a name at the front of a text.
-fn after<'a>(name: &str, text: &'a [u8]) -> Option<&'a [u8]>
+fn behind_name<'a>(name: &str, text: &'a [u8]) -> Option<&'a [u8]>
     ensures { MatchOption result ((rest : List ℕ) → text.now ≢ name.now ++ rest)
         (λ rest. text.now ≡ name.now ++ rest.now) }
 {
@@ -172,11 +172,11 @@ fn size(whole: &[u8], fraction: &[u8], unit: u64) -> Option<u64>
     requires whole { AllDigits 10 whole.now }
     requires fraction { AllDigits 10 fraction.now }
     requires unit { (0 < unit) × (unit ≤ 3600000000000) }
-    ensures { MatchOption result (greatest_size < sized whole.now fraction.now unit)
-        (λ n. (n ≡ sized whole.now fraction.now unit) × (n ≤ greatest_size)) }
+    ensures { MatchOption result (greatest_size < part_nanos whole.now fraction.now unit)
+        (λ n. (n ≡ part_nanos whole.now fraction.now unit) × (n ≤ greatest_size)) }
 {
     let whole = number(whole)?;
-    let counting = counting(fraction);
+    let counting = counted_digits(fraction);
     let parts = number(counting)?;
     let places = 10_u64.pow(counting.len() as u32);
     let sum = whole as u128 * unit as u128 + parts as u128 * unit as u128 / places as u128;
@@ -187,7 +187,7 @@ fn size(whole: &[u8], fraction: &[u8], unit: u64) -> Option<u64>
 }
 
 // The digits of a fraction that count.
-fn counting(fraction: &[u8]) -> &[u8]
+fn counted_digits(fraction: &[u8]) -> &[u8]
     ensures value { result.now ≡ take 18 fraction.now }
     ensures short { length result.now ≤ 18 }
 {

@@ -15,7 +15,7 @@ use Rattle.expr_value.specs.Values.{equals, equals_layer, items_pass, passes_at,
 use Rattle.expr_value.specs.declared.value.Value as value
 use Rattle.expr_value.specs.declared.value.Value.{Value, ind-Value, map-Value, out-Value, roll-Value, fold-roll-Value, the_lemmas}
 use Rattle.expr_value.specs.declared.value.Value.TheOpen.{Value-F}
-use Rattle.expr_encoding.specs.ReadBack.{ReadsEqual, apart, fits, in_json, layer_in_json}
+use Rattle.expr_encoding.specs.ReadBack.{ReadsEqual, has_distinct_names, fits, in_json, layer_in_json}
 use Rattle.expr_encoding.specs.Reading.{json_value, value_of, values_of}
 use Rattle.expr_encoding.specs.Writing.{all_of, data_of, layer_data}
 use Rattle.expr_encoding.proofs.Written.{AreRead, Made, Pairs, Read, made, member_read, placed}
@@ -149,7 +149,7 @@ layer_read (Value-F.Bytes bs) h = absurd (false≢true h)
 layer_read (Value-F.Map es) h =
     let ps = named es in
     let all = all_read es (second_so _ _ h) in
-    let m = made ps no_members [] all (ap apart (sym (names-truths ps)) ∙ first_so _ _ h) refl in (
+    let m = made ps no_members [] all (ap has_distinct_names (sym (names-truths ps)) ∙ first_so _ _ h) refl in (
       Data.object m.0,
       ap (option_map Data.object) m.1,
       value.Map m.2,

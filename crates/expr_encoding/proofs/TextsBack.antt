@@ -4,7 +4,7 @@ use Rattle.base64.specs.Engines.{standard}
 use Rattle.base64.specs.GeneralPurpose.{decode_of, encode_of}
 use Rattle.base64.specs.declared.decode.DecodeError.{DecodeError}
 use Rattle.base64.proofs.EngineFacts.{decode_of-encode_of}
-use Rattle.expr_value.specs.Answers.{After, Answer, Goes}
+use Rattle.expr_value.specs.Answers.{Then, Answer, ThenIfOk}
 use Rattle.expr_value.specs.declared.value.Value as value
 use Rattle.expr_value.specs.declared.value.Value.{Value, out-Value, the_lemmas}
 use Rattle.expr_value.specs.declared.value.Value.TheOpen.{Value-F}
@@ -27,9 +27,9 @@ from_text : (s : List ℕ) (answer : Answer) → IsUtf8 s → FromText (encode_o
 from_text s (Ok v) u q = ap Ok (q.2 ∙ ap value.String (sym (same_text s q.0 u q.1.0 q.1.1)))
 from_text s (Err e) u q = absurd (q.1 s u refl)
 
-pub text_back : (s : List ℕ) (answer : Answer) → IsUtf8 s → After (λ written. written ≡ in_base64 (value.String s)) FromBase64 answer → answer ≡ Ok (value.String s)
+pub text_back : (s : List ℕ) (answer : Answer) → IsUtf8 s → Then (λ written. written ≡ in_base64 (value.String s)) FromBase64 answer → answer ≡ Ok (value.String s)
 text_back s answer u p =
     let code = encode_of standard s in
     let written : p.0 ≡ Ok (value.String code) = p.1 ∙ ap text_in_base64 (out-String s) in
-    let read : FromBase64 (value.String code) answer = subst (λ (x : Answer). Goes x FromBase64 answer) written p.2 in
+    let read : FromBase64 (value.String code) answer = subst (λ (x : Answer). ThenIfOk x FromBase64 answer) written p.2 in
     from_text s answer u (subst (λ layer. FromBase64Layer layer answer) (out-String code) read)

@@ -15,7 +15,7 @@ use Rattle.serde_json.specs.Read.{converted, number_of, of_items, of_json, of_me
 use Rattle.expr_value.specs.declared.value.Value as value
 use Rattle.expr_value.specs.declared.value.Value.{Value}
 use Rattle.expr_encoding.specs.Reading.{pairs_of, value_of, values_of}
-use Rattle.expr_encoding.specs.Tokens.{named}
+use Rattle.expr_encoding.specs.Tokens.{lent_pairs}
 
 -- ---- under the conversion to data
 
@@ -140,13 +140,13 @@ pairs_of-put k d v h (member l e ms) ps is =
 pub pairs_over : (old : Members) (ps : Pairs) (r : List Token) → pairs_of old ≡ Some ps → converted pairs_of (Some (old, r)) ≡ Some (ps, r)
 pairs_over old ps r e = ap (option_map {U = Pairs × List Token} (λ qs. (qs, r))) e
 
-named-match_ordering : (o : Ordering) (a b c : List Entry) → named (match_ordering o a b c) ≡ match_ordering o (named a) (named b) (named c)
-named-match_ordering Less a b c = refl
-named-match_ordering Equal a b c = refl
-named-match_ordering Greater a b c = refl
+lent_pairs-match_ordering : (o : Ordering) (a b c : List Entry) → lent_pairs (match_ordering o a b c) ≡ match_ordering o (lent_pairs a) (lent_pairs b) (lent_pairs c)
+lent_pairs-match_ordering Less a b c = refl
+lent_pairs-match_ordering Equal a b c = refl
+lent_pairs-match_ordering Greater a b c = refl
 
-pub named-insert_entry : (es : List Entry) (k : Bor (List ℕ)) (v : Value) → named (insert_entry (λ x y. slice_cmp nat_cmp x.now y.now) es k v) ≡ insert_entry (slice_cmp nat_cmp) (named es) k.now v
-named-insert_entry [] k v = refl
-named-insert_entry (e ∷ es) k v =
-    named-match_ordering (slice_cmp nat_cmp k.now e.0.now) _ _ _
-    ∙ ap (λ rest. match_ordering (slice_cmp nat_cmp k.now e.0.now) ((k.now, v) ∷ (e.0.now, e.1) ∷ named es) ((e.0.now, v) ∷ named es) ((e.0.now, e.1) ∷ rest)) (named-insert_entry es k v)
+pub lent_pairs-insert_entry : (es : List Entry) (k : Bor (List ℕ)) (v : Value) → lent_pairs (insert_entry (λ x y. slice_cmp nat_cmp x.now y.now) es k v) ≡ insert_entry (slice_cmp nat_cmp) (lent_pairs es) k.now v
+lent_pairs-insert_entry [] k v = refl
+lent_pairs-insert_entry (e ∷ es) k v =
+    lent_pairs-match_ordering (slice_cmp nat_cmp k.now e.0.now) _ _ _
+    ∙ ap (λ rest. match_ordering (slice_cmp nat_cmp k.now e.0.now) ((k.now, v) ∷ (e.0.now, e.1) ∷ lent_pairs es) ((e.0.now, v) ∷ lent_pairs es) ((e.0.now, e.1) ∷ rest)) (lent_pairs-insert_entry es k v)

@@ -16,7 +16,7 @@ use Rattle.serde_json.proofs.Views.{get_member-put, get_member-put_other}
 use Rattle.expr_value.specs.Values.{equals}
 use Rattle.expr_value.specs.declared.value.Value.{Value}
 use Rattle.expr_encoding.specs.Reading.{value_of, pairs_of}
-use Rattle.expr_encoding.specs.ReadBack.{apart}
+use Rattle.expr_encoding.specs.ReadBack.{has_distinct_names}
 use Rattle.expr_encoding.specs.Writing.{data_of, members_all, pair_data}
 
 -- the value has data that are read as an equal value
@@ -103,7 +103,7 @@ abbrev pub Made : Pairs → Members → Type 0
 Made ps done = (ms : Members) × (members_all (map pair_data ps) done ≡ Some ms) × (rs : Pairs) × (pairs_of ms ≡ Some rs)
     × ((k : List ℕ) → get_member k ms ≡ placed (lookup (bytes_eq k) ps) (get_member k done))
 
-pub made : (ps : Pairs) (done : Members) (qs : Pairs) → AreRead ps → apart (keys_of ps) ≡ true → pairs_of done ≡ Some qs → Made ps done
+pub made : (ps : Pairs) (done : Members) (qs : Pairs) → AreRead ps → has_distinct_names (keys_of ps) ≡ true → pairs_of done ≡ Some qs → Made ps done
 made [] done qs all once e = (done, refl, qs, e, λ k. refl)
 made (p ∷ ps) done qs all once e =
     let d = all.0.0 in

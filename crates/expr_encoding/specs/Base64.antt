@@ -3,16 +3,16 @@ use Rattle.std.specs.Prelude.{◌≡◌, ℕ, List, IsUtf8, Result, Ok, Err}
 use Rattle.base64.specs.Engines.{standard}
 use Rattle.base64.specs.GeneralPurpose.{encode_of}
 use Rattle.expr_value.specs.Answers.{Answer}
-use Rattle.expr_value.specs.Fault.{Fault, evaluation}
+use Rattle.expr_error.specs.ErrorKind.{ErrorKind, evaluation}
 use Rattle.expr_value.specs.declared.value.Value as value
 use Rattle.expr_value.specs.declared.value.Value.{Value, out-Value}
 use Rattle.expr_value.specs.declared.value.Value.TheOpen.{Value-F}
 
-abbrev pub encoded : List ℕ → Result (List ℕ) Fault
-encoded s = Ok (encode_of standard s)
+abbrev pub encoded_text : List ℕ → Result (List ℕ) ErrorKind
+encoded_text s = Ok (encode_of standard s)
 
 -- The text whose standard encoding this is. A text that is the standard encoding of no text is refused.
-abbrev pub Decodes : List ℕ → Result (List ℕ) Fault → Type 0
+abbrev pub Decodes : List ℕ → Result (List ℕ) ErrorKind → Type 0
 Decodes text (Ok s) = IsUtf8 s × (text ≡ encode_of standard s)
 Decodes text (Err e) = (e ≡ evaluation) × ((s : List ℕ) → IsUtf8 s → ¬ (text ≡ encode_of standard s))
 

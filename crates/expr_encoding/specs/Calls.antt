@@ -1,19 +1,19 @@
 -- What the calls of encodings may answer on their arguments.
 use Rattle.std.specs.Prelude.{◌≡◌, List, [], ◌∷◌, Err, option_map}
 use Rattle.expr_value.specs.Answers.{Answer}
-use Rattle.expr_value.specs.Fault.{evaluation}
+use Rattle.expr_error.specs.ErrorKind.{evaluation}
 use Rattle.expr_value.specs.declared.value.Value as value
 use Rattle.expr_value.specs.declared.value.Value.{Value, out-Value}
 use Rattle.expr_value.specs.declared.value.Value.TheOpen.{Value-F}
 use Rattle.expr_encoding.specs.Base64.{FromBase64, in_base64}
-use Rattle.expr_encoding.specs.Optional.{given}
+use Rattle.expr_encoding.specs.Optional.{value_or_refusal}
 use Rattle.expr_encoding.specs.Reading.{json_value}
 use Rattle.expr_encoding.specs.Writing.{json_text}
 use Rattle.expr_functions.specs.declared.functions.EncodingCall.{EncodingCall}
 use Rattle.expr_functions.specs.declared.functions.EncodingCall.TheVariants as is
 
 abbrev pub of_json_layer : Value-F Value → Answer
-of_json_layer (Value-F.String text) = given (json_value text)
+of_json_layer (Value-F.String text) = value_or_refusal (json_value text)
 of_json_layer v = Err evaluation
 
 -- the value that a JSON text holds; other kinds are refused
@@ -22,7 +22,7 @@ of_json v = of_json_layer (out-Value v)
 
 -- the JSON text of a value, where it has one
 abbrev pub in_json_text : Value → Answer
-in_json_text v = given (option_map value.String (json_text v))
+in_json_text v = value_or_refusal (option_map value.String (json_text v))
 
 -- what an encoding may answer of a value
 abbrev pub Encodes : EncodingCall → Value → Answer → Type 0
@@ -32,7 +32,7 @@ Encodes is.ToBase64 v answer = answer ≡ in_base64 v
 Encodes is.FromBase64 v answer = FromBase64 v answer
 
 -- each call takes one argument
-abbrev pub Called : EncodingCall → List Value → Answer → Type 0
-Called e [] answer = answer ≡ Err evaluation
-Called e (v ∷ []) answer = Encodes e v answer
-Called e (v ∷ w ∷ more) answer = answer ≡ Err evaluation
+abbrev pub EncodingMayReturn : EncodingCall → List Value → Answer → Type 0
+EncodingMayReturn e [] answer = answer ≡ Err evaluation
+EncodingMayReturn e (v ∷ []) answer = Encodes e v answer
+EncodingMayReturn e (v ∷ w ∷ more) answer = answer ≡ Err evaluation

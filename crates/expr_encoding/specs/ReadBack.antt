@@ -16,9 +16,9 @@ fits (pos n) = nat_lt n (2 ^ 63)
 fits (negsuc n) = nat_lt n (2 ^ 63)
 
 -- whether no name is there twice, as in each map of a program
-abbrev pub apart : List (List ℕ) → Bool
-apart [] = true
-apart (name ∷ names) = not (list_any (bytes_eq name) names) && apart names
+abbrev pub has_distinct_names : List (List ℕ) → Bool
+has_distinct_names [] = true
+has_distinct_names (name ∷ names) = not (list_any (bytes_eq name) names) && has_distinct_names names
 
 abbrev pub layer_in_json : Value-F Bool → Bool
 layer_in_json (Value-F.Integer n) = fits n
@@ -26,7 +26,7 @@ layer_in_json (Value-F.Bool b) = true
 layer_in_json Value-F.Nil = true
 layer_in_json (Value-F.String s) = true
 layer_in_json (Value-F.Array items) = list_all (λ b. b) items
-layer_in_json (Value-F.Map pairs) = apart (keys_of pairs) && list_all (λ p. p.1) pairs
+layer_in_json (Value-F.Map pairs) = has_distinct_names (keys_of pairs) && list_all (λ p. p.1) pairs
 layer_in_json v = false
 
 -- whether a value is made of nil, booleans, integers, texts, arrays and maps by names alone

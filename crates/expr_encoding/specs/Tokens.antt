@@ -22,5 +22,5 @@ first_pairs levels tokens =
     converted pairs_of (converted (λ ms. of_members ms no_members) (members (value levels) (length tokens) tokens))
 
 -- members whose names a text lends
-abbrev pub named : List (Bor (List ℕ) × Value) → List (List ℕ × Value)
-named ms = map (λ m. (m.0.now, m.1)) ms
+abbrev pub lent_pairs : List (Bor (List ℕ) × Value) → List (List ℕ × Value)
+lent_pairs ms = map (λ m. (m.0.now, m.1)) ms

@@ -1,19 +1,19 @@
 //! The calls of encodings.
-ghost use Rattle.expr_value.specs.Answers.{Gives, Is};
-ghost use Rattle.expr_encoding.specs.Calls.{Called, Encodes, in_json_text, of_json};
+ghost use Rattle.expr_value.specs.Answers.{Returns, ReturnsExactly};
+ghost use Rattle.expr_encoding.specs.Calls.{EncodingMayReturn, Encodes, in_json_text, of_json};
 
 use crate::radix64::{from_base64, to_base64};
 use crate::reading::from_json;
 use crate::writing::to_json;
+use expr_cow::CowValue;
 use expr_functions::EncodingCall;
-use expr_held::Held;
 use expr_value::{Result, Value, refusal};
 use std::alloc::Global;
 
 /// What a call that reads or writes an encoding gives on these arguments, of which it takes one. Other numbers and kinds of
 /// arguments than it takes, and what has no such encoding, are refused with [`expr_value::Error::ExprError`].
-pub fn call_encoding(alloc: Global, call: EncodingCall, arguments: &[Held<'_>]) -> Result<Value>
-    ensures { Gives result (Called call arguments.now) }
+pub fn call_encoding(alloc: Global, call: EncodingCall, arguments: &[CowValue<'_>]) -> Result<Value>
+    ensures { Returns result (EncodingMayReturn call arguments.now) }
 {
     match arguments {
         [value] => encode(alloc, call, value.get()),
@@ -22,7 +22,7 @@ pub fn call_encoding(alloc: Global, call: EncodingCall, arguments: &[Held<'_>]) 
 }
 
 fn encode(alloc: Global, call: EncodingCall, value: &Value) -> Result<Value>
-    ensures { Gives result (Encodes call value.now) }
+    ensures { Returns result (Encodes call value.now) }
 {
     match call {
         EncodingCall::FromJson => read_json(alloc, value),
@@ -33,7 +33,7 @@ fn encode(alloc: Global, call: EncodingCall, value: &Value) -> Result<Value>
 }
 
 fn read_json(alloc: Global, value: &Value) -> Result<Value>
-    ensures { Is result (of_json value.now) }
+    ensures { ReturnsExactly result (of_json value.now) }
 {
     match value {
         Value::String(text) => from_json(alloc, text.as_str()),
@@ -42,7 +42,7 @@ fn read_json(alloc: Global, value: &Value) -> Result<Value>
 }
 
 fn write_json(alloc: Global, value: &Value) -> Result<Value>
-    ensures { Is result (in_json_text value.now) }
+    ensures { ReturnsExactly result (in_json_text value.now) }
 {
     let text = to_json(alloc, value)?;
     Ok(Value::String(text))

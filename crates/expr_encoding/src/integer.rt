@@ -15,7 +15,7 @@ pub(crate) fn integer_of(text: &str) -> Option<i64>
     if has_minus(bytes) {
         below_zero(&Numeral::scan(&bytes[1..]))
     } else {
-        within(from_zero(&Numeral::scan(bytes))?)
+        signed_of(from_zero(&Numeral::scan(bytes))?)
     }
 }
 
@@ -29,7 +29,7 @@ fn has_minus(bytes: &[u8]) -> bool
 
 /// The number, where it fits a sign and 63 bits.
 #[inline(always)]
-fn within(n: u64) -> Option<i64>
+fn signed_of(n: u64) -> Option<i64>
     ensures { result ≡ as_i64 (unsigned n) }
 {
     if n <= i64::MAX as u64 {

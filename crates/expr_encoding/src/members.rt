@@ -1,28 +1,29 @@
 //! Members of an object whose names are lent.
 ghost use Rattle.std.specs.Prelude.{◌≡◌, IfOk};
 ghost use Rattle.std.specs.Option.{option_copied};
-ghost use Rattle.expr_encoding.specs.Tokens.{named};
+ghost use Rattle.expr_encoding.specs.Tokens.{lent_pairs};
 ghost use Rattle.expr_value.specs.Names.{find};
-ghost use Rattle.expr_value.specs.Fault.{OnlyMemory};
+ghost use Rattle.expr_error.specs.ErrorKind.{OnlyMemory};
 
-use crate::tokens::Lent;
-use expr_value::{Context, Result, Value};
+use crate::tokens::BorrowedMembers;
+use expr_context::Context;
+use expr_value::{Result, Value};
 use std::alloc::Global;
 use std::marker::Model;
 
 /// The members of an object. Contracts see the list of their pairs.
 #[derive(Drop)]
 pub struct Members<'t> {
-    place: Place<'t>,
+    place: MembersSource<'t>,
 }
 
 /// Where members stand.
 #[derive(Drop)]
-pub(crate) enum Place<'t> {
+pub(crate) enum MembersSource<'t> {
     /// By rising names, which a text lends.
-    Text(Lent<'t>),
+    Text(BorrowedMembers<'t>),
     /// In a context of their own.
-    Own(Context),
+    Owned(Context),
 }
 
 impl<'t> Model for Members<'t> {
@@ -41,11 +42,11 @@ impl<'t> Model for Members<'t> {
 
 impl<'t> Members<'t> {
     /// Members whose names are lent.
-    pub(crate) fn of_text(lent: Lent<'t>) -> Members<'t>
-        ensures { result ≡ named lent.entry.entries }
+    pub(crate) fn of_text(lent: BorrowedMembers<'t>) -> Members<'t>
+        ensures { result ≡ lent_pairs lent.entry.entries }
     {
         Members {
-            place: Place::Text(lent),
+            place: MembersSource::Text(lent),
         }
     }
 
@@ -54,7 +55,7 @@ impl<'t> Members<'t> {
         ensures { result ≡ own }
     {
         Members {
-            place: Place::Own(own),
+            place: MembersSource::Owned(own),
         }
     }
 
@@ -63,8 +64,8 @@ impl<'t> Members<'t> {
         ensures { option_copied result ≡ find name.now self.now }
     {
         match &self.place {
-            Place::Text(lent) => find_lent(lent, name),
-            Place::Own(own) => own.get(name),
+            MembersSource::Text(lent) => find_lent(lent, name),
+            MembersSource::Owned(own) => own.get(name),
         }
     }
 
@@ -74,22 +75,22 @@ impl<'t> Members<'t> {
         ensures err { OnlyMemory result }
     {
         match &self.place {
-            Place::Text(lent) => copied(alloc, lent),
-            Place::Own(own) => Ok(own.clone()?),
+            MembersSource::Text(lent) => context_of(alloc, lent),
+            MembersSource::Owned(own) => Ok(own.clone()?),
         }
     }
 }
 
 /// The value under a name, where a text lends the names.
-fn find_lent<'m>(lent: &'m Lent<'_>, name: &str) -> Option<&'m Value>
-    ensures { option_copied result ≡ find name.now (named lent.now.entries) }
+fn find_lent<'m>(lent: &'m BorrowedMembers<'_>, name: &str) -> Option<&'m Value>
+    ensures { option_copied result ≡ find name.now (lent_pairs lent.now.entries) }
 {
     lent.get(name)
 }
 
 /// A context with copies of the names and values.
-fn copied(alloc: Global, lent: &Lent<'_>) -> Result<Context>
-    ensures ok { IfOk result (λ c. c ≡ named lent.now.entries) }
+fn context_of(alloc: Global, lent: &BorrowedMembers<'_>) -> Result<Context>
+    ensures ok { IfOk result (λ c. c ≡ lent_pairs lent.now.entries) }
     ensures err { OnlyMemory result }
 {
     let mut context = Context::new(alloc);

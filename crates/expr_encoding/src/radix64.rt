@@ -1,7 +1,7 @@
 //! Base64 of texts, by the standard alphabet with padding.
 ghost use Rattle.std.specs.Prelude.{◌≡◌};
-ghost use Rattle.expr_value.specs.Answers.{Gives, Is};
-ghost use Rattle.expr_encoding.specs.Base64.{Decodes, FromBase64, encoded, in_base64};
+ghost use Rattle.expr_value.specs.Answers.{Returns, ReturnsExactly};
+ghost use Rattle.expr_encoding.specs.Base64.{Decodes, FromBase64, encoded_text, in_base64};
 
 use base64::DecodeAllocError;
 use base64::engine::general_purpose::STANDARD;
@@ -10,7 +10,7 @@ use std::alloc::Global;
 
 /// A text as Base64, by the standard alphabet with padding. Other kinds are refused.
 pub fn to_base64(alloc: Global, value: &Value) -> Result<Value>
-    ensures { Is result (in_base64 value.now) }
+    ensures { ReturnsExactly result (in_base64 value.now) }
 {
     match value {
         Value::String(text) => Ok(Value::String(encode(alloc, text.as_str())?)),
@@ -20,7 +20,7 @@ pub fn to_base64(alloc: Global, value: &Value) -> Result<Value>
 
 /// The text of which a text is the Base64. A text that is the standard encoding of no text, and other kinds, are refused.
 pub fn from_base64(alloc: Global, value: &Value) -> Result<Value>
-    ensures { Gives result (FromBase64 value.now) }
+    ensures { Returns result (FromBase64 value.now) }
 {
     match value {
         Value::String(text) => Ok(Value::String(decode(alloc, text.as_str())?)),
@@ -29,13 +29,13 @@ pub fn from_base64(alloc: Global, value: &Value) -> Result<Value>
 }
 
 fn encode(alloc: Global, text: &str) -> Result<Text>
-    ensures { Is result (encoded text.now) }
+    ensures { ReturnsExactly result (encoded_text text.now) }
 {
     Ok(Text::from_string(STANDARD.encode(alloc, text.as_bytes())?))
 }
 
 fn decode(alloc: Global, text: &str) -> Result<Text>
-    ensures { Gives result (Decodes text.now) }
+    ensures { Returns result (Decodes text.now) }
 {
     let bytes = match STANDARD.decode(alloc, text.as_bytes()) {
         Ok(bytes) => bytes,

@@ -4,14 +4,15 @@
 //! a text's nesting, which the reading bounds: at most 127 levels are read.
 ghost use Rattle.std.specs.Prelude.{◌≡◌, option_map};
 ghost use Rattle.serde_json.specs.View.{view, items_view, members_view};
-ghost use Rattle.expr_value.specs.Answers.{Is};
-ghost use Rattle.expr_encoding.specs.Optional.{given};
+ghost use Rattle.expr_value.specs.Answers.{ReturnsExactly};
+ghost use Rattle.expr_encoding.specs.Optional.{value_or_refusal};
 ghost use Rattle.expr_encoding.specs.Reading.{json_value, pairs_of, value_of, values_of};
 ghost use Rattle.expr_value.specs.Values.{map_of};
 
 use crate::members::Members;
 use crate::tokens::{members_in, value_in};
-use expr_value::{Context, Error, Items, Result, Text, Value, ValueMap, refusal};
+use expr_context::Context;
+use expr_value::{Error, Items, Result, Text, Value, ValueMap, refusal};
 use json::Scratch;
 use serde_json::{Map, Value as Json};
 use std::alloc::Global;
@@ -32,7 +33,7 @@ impl JsonReader {
 
     /// The value that a JSON text holds, as [`from_json`] reads it.
     pub fn read(&mut self, alloc: Global, text: &str) -> Result<Value>
-        ensures { Is result (given (json_value text.now)) }
+        ensures { ReturnsExactly result (value_or_refusal (json_value text.now)) }
     {
         match value_in(alloc, text, &mut self.scratch) {
             Some(value) => Ok(value),
@@ -43,7 +44,7 @@ impl JsonReader {
     /// The members of the object that a JSON text holds, or None where its value is no map. What has no value is refused,
     /// as by [`from_json`].
     pub fn members<'t>(&'t mut self, alloc: Global, text: &'t str) -> Result<Option<Members<'t>>>
-        ensures { Is result (given (option_map map_of (json_value text.now))) }
+        ensures { ReturnsExactly result (value_or_refusal (option_map map_of (json_value text.now))) }
     {
         match members_in(alloc, text, &mut self.scratch) {
             Some(lent) => Ok(Some(Members::of_text(lent))),
@@ -56,14 +57,14 @@ impl JsonReader {
 /// name has its last value. What is no JSON text, what nests deeper than 127 levels, and what holds a number that is no
 /// integer of 64 bits with a sign is refused; `1.0`, `1e2` and `-0` are none, since `serde_json` reads them as floats.
 pub fn from_json(alloc: Global, text: &str) -> Result<Value>
-    ensures { Is result (given (json_value text.now)) }
+    ensures { ReturnsExactly result (value_or_refusal (json_value text.now)) }
 {
     JsonReader::new(alloc).read(alloc, text)
 }
 
 /// The value of the data that `serde_json` reads.
 fn read_data(alloc: Global, text: &str) -> Result<Value>
-    ensures { Is result (given (json_value text.now)) }
+    ensures { ReturnsExactly result (value_or_refusal (json_value text.now)) }
 {
     match Json::from_str(alloc, text) {
         Ok(json) => value_of(alloc, json),
@@ -79,7 +80,7 @@ fn read_data(alloc: Global, text: &str) -> Result<Value>
 
 /// The members of the data that `serde_json` reads, or None where its value is no map.
 fn data_members<'t>(alloc: Global, text: &str) -> Result<Option<Members<'t>>>
-    ensures { Is result (given (option_map map_of (json_value text.now))) }
+    ensures { ReturnsExactly result (value_or_refusal (option_map map_of (json_value text.now))) }
 {
     match read_data(alloc, text) {
         Ok(value) => Ok(members_of(alloc, value)),
@@ -99,7 +100,7 @@ fn members_of<'t>(alloc: Global, value: Value) -> Option<Members<'t>>
 
 #[cycle(reading)]
 fn value_of(alloc: Global, json: Json) -> Result<Value>
-    ensures { Is result (given (value_of (view json))) }
+    ensures { ReturnsExactly result (value_or_refusal (value_of (view json))) }
 {
     match json {
         Json::Null => Ok(Value::Nil),
@@ -116,7 +117,7 @@ fn value_of(alloc: Global, json: Json) -> Result<Value>
 
 #[cycle(reading)]
 fn values_of(alloc: Global, items: Vec<Json>) -> Result<Items<Value>>
-    ensures { Is result (given (values_of (items_view items.items))) }
+    ensures { ReturnsExactly result (value_or_refusal (values_of (items_view items.items))) }
 {
     let mut values = Vec::with_capacity(alloc, items.len())?;
     for item in items {
@@ -127,7 +128,7 @@ fn values_of(alloc: Global, items: Vec<Json>) -> Result<Items<Value>>
 
 #[cycle(reading)]
 fn pairs_of(alloc: Global, members: Map<String, Json>) -> Result<ValueMap>
-    ensures { Is result (given (pairs_of (members_view members.entries))) }
+    ensures { ReturnsExactly result (value_or_refusal (pairs_of (members_view members.entries))) }
 {
     let mut pairs = ValueMap::with_capacity(alloc, members.len())?;
     for (key, member) in members {

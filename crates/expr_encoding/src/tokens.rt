@@ -4,7 +4,7 @@
 //! may stand in its place: [`crate::reading`] asks `serde_json` about those, and about what isn't JSON.
 ghost use Rattle.std.specs.Prelude.{◌≡◌, ◌<◌, length, Some, IfSome};
 ghost use Rattle.expr_encoding.specs.Reading.{json_value};
-ghost use Rattle.expr_encoding.specs.Tokens.{first_pairs, first_value, first_values, named};
+ghost use Rattle.expr_encoding.specs.Tokens.{first_pairs, first_value, first_values, lent_pairs};
 ghost use Rattle.expr_value.specs.declared.value.Value.{Map as map_value, String as text_value};
 
 use crate::integer::integer_of;
@@ -17,7 +17,7 @@ use std::collections::BTreeMap;
 const LEVELS: usize = 127;
 
 /// The members of an object by their names, which the text lends.
-pub(crate) type Lent<'a> = BTreeMap<&'a str, Value>;
+pub(crate) type BorrowedMembers<'a> = BTreeMap<&'a str, Value>;
 
 /// The value that a text holds, if it can be made of the tokens and no growth is refused.
 pub(crate) fn value_in(alloc: Global, text: &str, scratch: &mut Scratch) -> Option<Value>
@@ -38,8 +38,8 @@ pub(crate) fn members_in<'a>(
     alloc: Global,
     text: &'a str,
     scratch: &'a mut Scratch,
-) -> Option<Lent<'a>>
-    ensures { IfSome result (λ m. json_value text.now ≡ Some (map_value (named m.entries))) }
+) -> Option<BorrowedMembers<'a>>
+    ensures { IfSome result (λ m. json_value text.now ≡ Some (map_value (lent_pairs m.entries))) }
 {
     let Ok(mut reader) = Reader::new(text, scratch) else {
         return None;
@@ -51,9 +51,9 @@ pub(crate) fn members_in<'a>(
     Some(members)
 }
 
-fn read_object<'a>(alloc: Global, reader: &mut Reader<'a>) -> Option<Lent<'a>>
+fn read_object<'a>(alloc: Global, reader: &mut Reader<'a>) -> Option<BorrowedMembers<'a>>
     ensures { IfSome result
-        (λ m. first_value 127 reader.old ≡ Some (map_value (named m.entries), reader.new)) }
+        (λ m. first_value 127 reader.old ≡ Some (map_value (lent_pairs m.entries), reader.new)) }
 {
     let token = reader.next()?;
     match token {
@@ -96,7 +96,7 @@ fn read_value(alloc: Global, reader: &mut Reader<'_>, levels: usize) -> Option<V
                 return None;
             }
             let members = read_members(alloc, reader, levels - 1)?;
-            Some(Value::Map(owned(alloc, members)?))
+            Some(Value::Map(map_of(alloc, members)?))
         }
     }
 }
@@ -119,8 +119,13 @@ fn read_items(alloc: Global, reader: &mut Reader<'_>, levels: usize) -> Option<I
 
 #[cycle(tokens)]
 #[inline(never)]
-fn read_members<'a>(alloc: Global, reader: &mut Reader<'a>, levels: usize) -> Option<Lent<'a>>
-    ensures pairs { IfSome result (λ m. first_pairs levels reader.old ≡ Some (named m.entries, reader.new)) }
+fn read_members<'a>(
+    alloc: Global,
+    reader: &mut Reader<'a>,
+    levels: usize,
+) -> Option<BorrowedMembers<'a>>
+    ensures pairs { IfSome result
+        (λ m. first_pairs levels reader.old ≡ Some (lent_pairs m.entries, reader.new)) }
     ensures shorter { IfSome result (λ _. length reader.new < length reader.old) }
 {
     let mut found = BTreeMap::new(alloc);
@@ -140,8 +145,8 @@ fn read_members<'a>(alloc: Global, reader: &mut Reader<'a>, levels: usize) -> Op
 }
 
 /// A map of its own, with the names copied.
-fn owned(alloc: Global, members: Lent<'_>) -> Option<ValueMap>
-    ensures { IfSome result (λ pairs. pairs ≡ named members.entry.entries) }
+fn map_of(alloc: Global, members: BorrowedMembers<'_>) -> Option<ValueMap>
+    ensures { IfSome result (λ pairs. pairs ≡ lent_pairs members.entry.entries) }
 {
     let Ok(mut pairs) = ValueMap::with_capacity(alloc, members.len()) else {
         return None;

@@ -4,9 +4,9 @@
 ghost use Rattle.serde_json.specs.View.{view, members_view};
 ghost use Rattle.std.specs.Prelude.{◌≡◌, ◌≢◌, None, Some, map, IfOk, IfErr};
 ghost use Rattle.serde_json.specs.Data.{no_members, string};
-ghost use Rattle.expr_value.specs.Answers.{Is};
-ghost use Rattle.expr_value.specs.Fault.{evaluation, fault_of, memory, OnlyMemory};
-ghost use Rattle.expr_encoding.specs.Optional.{Refuses, given};
+ghost use Rattle.expr_value.specs.Answers.{ReturnsExactly};
+ghost use Rattle.expr_error.specs.ErrorKind.{evaluation, error_kind, memory, OnlyMemory};
+ghost use Rattle.expr_encoding.specs.Optional.{RefusesIfNone, value_or_refusal};
 ghost use Rattle.expr_layout.specs.Layouts.{stamp_text};
 ghost use Rattle.expr_encoding.specs.ReadBack.{ReadsEqual};
 ghost use Rattle.expr_encoding.specs.Writing.{ReadsBack, all_of, data_of, json_text, members_all, pair_data};
@@ -22,7 +22,7 @@ use std::alloc::Global;
 /// A map by keys anywhere in the value is refused. What is made of nil, booleans, integers, texts, arrays and
 /// maps by names is read from its text as an equal value, unless it nests deeper than 127 levels.
 pub fn to_json(alloc: Global, value: &Value) -> Result<Text>
-    ensures text { Is result (given (json_text value.now)) }
+    ensures text { ReturnsExactly result (value_or_refusal (json_text value.now)) }
     ensures reads_back { IfOk result (λ s. ReadsBack s value.now) }
     ensures reads_equal { IfOk result (λ s. ReadsEqual s value.now) }
 {
@@ -33,7 +33,7 @@ pub fn to_json(alloc: Global, value: &Value) -> Result<Text>
 #[cycle(writing)]
 fn data_of(alloc: Global, value: &Value) -> Result<Json>
     ensures ok { IfOk result (λ d. data_of value.now ≡ Some (view d)) }
-    ensures err { IfErr result (λ e. Refuses e (data_of value.now)) }
+    ensures err { IfErr result (λ e. RefusesIfNone e (data_of value.now)) }
 {
     match value {
         Value::Integer(n) => Ok(Json::from(*n)),
@@ -64,7 +64,7 @@ fn stamp_data(alloc: Global, moment: &DateTimeValue) -> Result<Json>
 #[cycle(writing)]
 fn items_data(alloc: Global, values: &[Value]) -> Result<Vec<Json>>
     ensures ok { IfOk result (λ ds. all_of (map data_of values.now) ≡ Some (map view ds.items)) }
-    ensures err { IfErr result (λ e. Refuses e (all_of (map data_of values.now))) }
+    ensures err { IfErr result (λ e. RefusesIfNone e (all_of (map data_of values.now))) }
 {
     let mut items = Vec::with_capacity(alloc, values.len())?;
     for value in values {
@@ -77,7 +77,7 @@ fn items_data(alloc: Global, values: &[Value]) -> Result<Vec<Json>>
 fn members_data(alloc: Global, pairs: &ValueMap) -> Result<Map<String, Json>>
     ensures ok { IfOk result (λ ms. members_all (map pair_data pairs.now) no_members
         ≡ Some (members_view ms.entries)) }
-    ensures err { IfErr result (λ e. Refuses e (members_all (map pair_data pairs.now) no_members)) }
+    ensures err { IfErr result (λ e. RefusesIfNone e (members_all (map pair_data pairs.now) no_members)) }
 {
     let names = pairs.keys();
     let values = pairs.values();

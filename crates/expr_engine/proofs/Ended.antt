@@ -1,40 +1,39 @@
 -- How a run ends, by the number of its ending.
-use Rattle.std.proofs.Common.{◌≡◌, ◌≢◌, ◌⊎◌, ◌∙◌, ℕ, List, Option, None, Some, MatchOption, Result, Ok, Err, OnErr, OnOk, IfErr, IsOk, inl, inr, ap, arith, refl, rules, subst, sym}
+use Rattle.std.proofs.Common.{◌≡◌, ◌≢◌, ◌⊎◌, ◌∙◌, ℕ, List, Option, None, Some, MatchOption, Result, Ok, Err, OnErr, OnOk, IfErr, IsOk, inl, inr, arith, refl, rules, subst, sym}
 use Rattle.std.proofs.lemmas.Bool.{false≢true}
-use Rattle.expr_engine.specs.Doings.{Does, Reply}
+use Rattle.expr_engine.specs.Effects.{Does, CallResult}
 use Rattle.expr.proofs.Stopping.{IsOfRuns, stops_of_runs}
 use Rattle.expr_costs.specs.Costs.{costs_in}
 use Rattle.expr_engine.specs.Codes.{code_of}
-use Rattle.expr_engine.specs.Engines.{Asked, CompileRefuses, MayAnswer, MayEnd}
+use Rattle.expr_engine.specs.Engines.{RunInputs, CompileRefuses, MayAnswer, MayEnd}
 use Rattle.expr_engine.specs.Limiting.{LimitsBy, limits_asked}
 use Rattle.expr_engine.specs.Runs.{context_of, host_with}
-use Rattle.expr_engine.specs.Served.{Answers, Ends, Runs, Says, number_of}
+use Rattle.expr_engine.specs.Served.{AnswersNumber, EndsCall, RunServes, Says, number_of}
 use Rattle.expr_engine.specs.Turns.{Turns}
 use Rattle.expr_engine.specs.declared.call.Ask.{Ask}
 use Rattle.expr_engine.specs.declared.call.Ask.TheVariants as is
 use Rattle.expr_engine.specs.declared.call.Call.{Call}
 use Rattle.expr_engine.specs.declared.engine.Engine.{Engine}
-use Rattle.expr_engine.specs.declared.waiting.Waiting.{Waiting}
-use Rattle.expr_exchange.specs.Looked.{part_of}
-use Rattle.expr_exchange.specs.declared.looked.Looked.{Looked}
+use Rattle.expr_engine.specs.declared.waiting_run.WaitingRun.{WaitingRun}
+use Rattle.expr_exchange.specs.Cursor.{part_of}
+use Rattle.expr_exchange.specs.declared.cursor.ValueCursor.{ValueCursor}
 use Rattle.expr_exchange.specs.Refusals.{ends_at, ends_by, status_of}
-use Rattle.expr_exchange.specs.declared.refused.Refused.{Refused}
-use Rattle.expr_exchange.specs.declared.refused.Refused.TheVariants.{Language, Unknown, Misuse, Asks, Differs, Stopped}
-use Rattle.expr_exchange.specs.declared.refused.Status.{Status}
-use Rattle.expr_exchange.specs.declared.refused.Status.TheVariants as ends
+use Rattle.expr_exchange.specs.declared.host_error.HostError.{HostError}
+use Rattle.expr_exchange.specs.declared.host_error.HostError.TheVariants.{Language, Unknown, Misuse, Asks, Differs, Stopped}
+use Rattle.expr_exchange.specs.declared.host_error.Status.TheVariants as ends
 use Rattle.expr_code.specs.Machine.{Op}
 use Rattle.expr_meter.specs.Counting.{stops}
-use Rattle.expr_meter.specs.Rooms.{within}
+use Rattle.expr_meter.specs.Rooms.{limited}
 use Rattle.expr_meter.specs.declared.limit.Limit.{Limit}
 use Rattle.expr_meter.specs.declared.limit.Limit.TheVariants.{Height, Patterns, Steps, Depth, Size}
 use Rattle.expr_meter.specs.declared.limits.Limits.{Limits}
 use Rattle.expr_stops.specs.Stops.{CodeComes}
-use Rattle.expr_stops.specs.declared.given.Given.{Given}
+use Rattle.expr_stops.specs.declared.replies.CallReply.{CallReply}
 use Rattle.expr_meaning.specs.World.{World, world_of}
-use Rattle.expr_value.specs.Fault.{Fault, fault_of, syntax, literal, evaluation, pattern, memory}
+use Rattle.expr_error.specs.ErrorKind.{ErrorKind, error_kind, syntax, literal, evaluation, pattern, memory}
 use Rattle.expr_value.specs.declared.value.Value.{Value}
 
-said_by : (q : Asked) (given : List Given) (value : Value) (fault : Fault) → (fault ≢ memory → MayAnswer q given (Err fault)) → Says q given (ends_by fault) value
+said_by : (q : RunInputs) (given : List CallReply) (value : Value) (fault : ErrorKind) → (fault ≢ memory → MayAnswer q given (Err fault)) → Says q given (ends_by fault) value
 said_by q given value syntax m = m (search rules)
 said_by q given value literal m = m (search rules)
 said_by q given value evaluation m = m (search rules)
@@ -43,13 +42,13 @@ said_by q given value memory m = tt
 
 -- code stops at a limit of runs, and at none where there are no limits
 stops_at_runs : (limits : Option Limits) (world : World) (code : List (List Op)) (limit : Limit) → CodeComes limits world code (stops limit) → IsOfRuns limit
-stops_at_runs (Some limits) world code limit p = stops_of_runs (costs_in world.host) world code (within limits.steps limits.size limits.depth) limit p
+stops_at_runs (Some limits) world code limit p = stops_of_runs (costs_in world.host) world code (limited limits.steps limits.size limits.depth) limit p
 stops_at_runs None world code limit p = absurd p
 
-of_runs : (q : Asked) (given : List Given) (limit : Limit) → MayEnd q given (stops limit) → IsOfRuns limit
+of_runs : (q : RunInputs) (given : List CallReply) (limit : Limit) → MayEnd q given (stops limit) → IsOfRuns limit
 of_runs q given limit p = stops_at_runs q.limits (world_of (host_with q.added given) (context_of q.names)) (code_of q.rule.code) limit p
 
-said_at : (q : Asked) (given : List Given) (value : Value) (limit : Limit) → MayEnd q given (stops limit) → Says q given (ends_at limit) value
+said_at : (q : RunInputs) (given : List CallReply) (value : Value) (limit : Limit) → MayEnd q given (stops limit) → Says q given (ends_at limit) value
 said_at q given value Height p = of_runs q given Height p
 said_at q given value Patterns p = of_runs q given Patterns p
 said_at q given value Steps p = p
@@ -57,9 +56,9 @@ said_at q given value Depth p = p
 said_at q given value Size p = p
 
 -- what a run gives, its ending says
-pub answers_by : {A : Type 0} (q : Asked) (given : List Given) (done : Result A Refused) (value : Value) (number : ℕ) → Runs q given done value → Ends done number → Answers q given number value
+pub answers_by : {A : Type 0} (q : RunInputs) (given : List CallReply) (done : Result A HostError) (value : Value) (number : ℕ) → RunServes q given done value → EndsCall done number → AnswersNumber q given number value
 answers_by q given (Ok shown) value number r e = record { status = ends.Done; is = e; says = r }
-answers_by q given (Err (Language error)) value number r (inl e) = record { status = ends_by (fault_of error); is = e; says = said_by q given value (fault_of error) r }
+answers_by q given (Err (Language error)) value number r (inl e) = record { status = ends_by (error_kind error); is = e; says = said_by q given value (error_kind error) r }
 answers_by q given (Err (Language error)) value number r (inr e) = record { status = ends.Memory; is = e; says = tt }
 answers_by q given (Err Unknown) value number r e = absurd r
 answers_by q given (Err Misuse) value number r e = absurd r
@@ -71,29 +70,22 @@ answers_by q given (Err (Stopped limit)) value number r (inl e) = record { statu
 answers_by q given (Err (Stopped limit)) value number r (inr e) = record { status = ends.Memory; is = e; says = tt }
 
 -- the same where a handle may find nothing
-pub served_by : {A : Type 0} (o : Option Asked) (given : List Given) (done : Result A Refused) (value : Value) (number : ℕ) → MatchOption o (done ≡ Err Unknown) (λ q. Runs q given done value) → (done ≡ Err Unknown → number ≡ 6) → Ends done number → MatchOption o (number ≡ 6) (λ q. Answers q given number value)
+pub served_by : {A : Type 0} (o : Option RunInputs) (given : List CallReply) (done : Result A HostError) (value : Value) (number : ℕ) → MatchOption o (done ≡ Err Unknown) (λ q. RunServes q given done value) → (done ≡ Err Unknown → number ≡ 6) → EndsCall done number → MatchOption o (number ≡ 6) (λ q. AnswersNumber q given number value)
 served_by None given done value number m unknown e = unknown m
 served_by (Some q) given done value number m unknown e = answers_by q given done value number m e
 
 -- how the run stands that waits, where the engine keeps that and its answer after
-pub turns_on : (ask : Ask) (old : Engine) (call : Call) (done : Result (Unit {0}) Refused) (mid new : Engine) → Turns ask old call done mid.waits (part_of mid.answer) → new.waits ≡ mid.waits → new.answer ≡ mid.answer → Turns ask old call done new.waits (part_of new.answer)
+pub turns_on : (ask : Ask) (old : Engine) (call : Call) (done : Result (Unit {0}) HostError) (mid new : Engine) → Turns ask old call done mid.waits (part_of mid.answer) → new.waits ≡ mid.waits → new.answer ≡ mid.answer → Turns ask old call done new.waits (part_of new.answer)
 turns_on ask old call done mid new t w a =
-    subst (λ (x : Waiting). Turns ask old call done x (part_of new.answer)) (sym w) (subst (λ (x : Looked). Turns ask old call done mid.waits (part_of x)) (sym a) t)
+    subst (λ (x : WaitingRun). Turns ask old call done x (part_of new.answer)) (sym w) (subst (λ (x : ValueCursor). Turns ask old call done mid.waits (part_of x)) (sym a) t)
 
 -- a refusal of the language ends otherwise than done, and otherwise than by a handle that finds nothing
-not_done : (fault : Fault) → number_of (ends_by fault) ≡ 0 → ⊥
+not_done : (fault : ErrorKind) → number_of (ends_by fault) ≡ 0 → ⊥
 not_done syntax e = omega arith
 not_done literal e = omega arith
 not_done evaluation e = omega arith
 not_done pattern e = omega arith
 not_done memory e = omega arith
-
-not_unknown : (fault : Fault) → number_of (ends_by fault) ≡ 6 → ⊥
-not_unknown syntax e = omega arith
-not_unknown literal e = omega arith
-not_unknown evaluation e = omega arith
-not_unknown pattern e = omega arith
-not_unknown memory e = omega arith
 
 -- nor does a stop at a limit
 not_done_at : (limit : Limit) → number_of (ends_at limit) ≡ 0 → ⊥
@@ -103,15 +95,8 @@ not_done_at Steps e = omega arith
 not_done_at Depth e = omega arith
 not_done_at Size e = omega arith
 
-not_unknown_at : (limit : Limit) → number_of (ends_at limit) ≡ 6 → ⊥
-not_unknown_at Height e = omega arith
-not_unknown_at Patterns e = omega arith
-not_unknown_at Steps e = omega arith
-not_unknown_at Depth e = omega arith
-not_unknown_at Size e = omega arith
-
-never_done : (refused : Refused) (number : ℕ) → (number ≡ number_of (status_of refused)) ⊎ (number ≡ 5) → number ≡ 0 → ⊥
-never_done (Language error) number (inl e) z = not_done (fault_of error) (sym e ∙ z)
+never_done : (refused : HostError) (number : ℕ) → (number ≡ number_of (status_of refused)) ⊎ (number ≡ 5) → number ≡ 0 → ⊥
+never_done (Language error) number (inl e) z = not_done (error_kind error) (sym e ∙ z)
 never_done Unknown number (inl e) z = omega arith
 never_done Misuse number (inl e) z = omega arith
 never_done Asks number (inl e) z = omega arith
@@ -119,26 +104,12 @@ never_done Differs number (inl e) z = omega arith
 never_done (Stopped limit) number (inl e) z = not_done_at limit (sym e ∙ z)
 never_done refused number (inr e) z = omega arith
 
--- only a handle that finds nothing ends by this number
-pub unknown_by : (status : Status) (refused : Refused) (number : ℕ) → (status ≡ status_of refused) ⊎ (status ≡ ends.Memory) → number ≡ number_of status → number ≡ 6 → refused ≡ Unknown
-unknown_by status Unknown number s n z = refl
-unknown_by status (Language error) number (inl e) n z = absurd (not_unknown (fault_of error) (sym (ap (λ s. number_of s) e) ∙ sym n ∙ z))
-unknown_by status Misuse number (inl e) n z = let k : number_of status ≡ 7 = ap (λ s. number_of s) e in absurd (omega (arith, k, n, z))
-unknown_by status Asks number (inl e) n z = let k : number_of status ≡ 8 = ap (λ s. number_of s) e in absurd (omega (arith, k, n, z))
-unknown_by status Differs number (inl e) n z = let k : number_of status ≡ 9 = ap (λ s. number_of s) e in absurd (omega (arith, k, n, z))
-unknown_by status (Stopped limit) number (inl e) n z = absurd (not_unknown_at limit (sym (ap (λ s. number_of s) e) ∙ sym n ∙ z))
-unknown_by status (Language error) number (inr e) n z = let k : number_of status ≡ 5 = ap (λ s. number_of s) e in absurd (omega (arith, k, n, z))
-unknown_by status Misuse number (inr e) n z = let k : number_of status ≡ 5 = ap (λ s. number_of s) e in absurd (omega (arith, k, n, z))
-unknown_by status Asks number (inr e) n z = let k : number_of status ≡ 5 = ap (λ s. number_of s) e in absurd (omega (arith, k, n, z))
-unknown_by status Differs number (inr e) n z = let k : number_of status ≡ 5 = ap (λ s. number_of s) e in absurd (omega (arith, k, n, z))
-unknown_by status (Stopped limit) number (inr e) n z = let k : number_of status ≡ 5 = ap (λ s. number_of s) e in absurd (omega (arith, k, n, z))
-
 -- what holds where a call is done, or refused, by the number of its ending
-pub done_by : {A P : Type 0} (done : Result A Refused) (number : ℕ) → OnOk done P → Ends done number → number ≡ 0 → P
+pub done_by : {A P : Type 0} (done : Result A HostError) (number : ℕ) → OnOk done P → EndsCall done number → number ≡ 0 → P
 done_by (Ok shown) number p e z = p
 done_by (Err refused) number p e z = absurd (never_done refused number e z)
 
-pub refused_by : {A P : Type 0} (done : Result A Refused) (number : ℕ) → OnErr done P → Ends done number → number ≢ 0 → P
+pub refused_by : {A P : Type 0} (done : Result A HostError) (number : ℕ) → OnErr done P → EndsCall done number → number ≢ 0 → P
 refused_by (Ok shown) number p e n = absurd (n e)
 refused_by (Err refused) number p e n = p
 
@@ -147,34 +118,34 @@ pub asked_for : (N : Type 0) (o : Option Ask) (ask : Ask) (P : Ask → Type 0) �
 asked_for N o ask P is p = subst (λ (x : Option Ask). MatchOption x N P) (sym is) p
 
 -- what a call has done it has done as it is answered
-pub does_by : (ask : Ask) (old mid new : Engine) (call : Call) (m n : Reply) → Does ask old mid call m → new ≡ mid → n ≡ m → Does ask old new call n
-does_by ask old mid new call m n d e r = subst (λ (x : Engine). Does ask old x call n) (sym e) (subst (λ (x : Reply). Does ask old mid call x) (sym r) d)
+pub does_by : (ask : Ask) (old mid new : Engine) (call : Call) (m n : CallResult) → Does ask old mid call m → new ≡ mid → n ≡ m → Does ask old new call n
+does_by ask old mid new call m n d e r = subst (λ (x : Engine). Does ask old x call n) (sym e) (subst (λ (x : CallResult). Does ask old mid call x) (sym r) d)
 
 -- a result that is never refused so isn't refused so
-pub never_unknown : {A : Type 0} (r : Result A Refused) → IfErr r (λ e. e ≢ Unknown) → r ≡ Err Unknown → ⊥
-never_unknown {A} r f e = let n : Unknown ≢ Unknown = subst (λ (x : Result A Refused). IfErr x (λ e. e ≢ Unknown)) e f in n refl
+pub never_unknown : {A : Type 0} (r : Result A HostError) → IfErr r (λ e. e ≢ Unknown) → r ≡ Err Unknown → ⊥
+never_unknown {A} r f e = let n : Unknown ≢ Unknown = subst (λ (x : Result A HostError). IfErr x (λ e. e ≢ Unknown)) e f in n refl
 
-pub compile_never_unknown : {A : Type 0} (limits : Option Limits) (text : List ℕ) (r : Result A Refused) → IfErr r (CompileRefuses limits text) → r ≡ Err Unknown → ⊥
-compile_never_unknown {A} limits text r f e = subst (λ (x : Result A Refused). IfErr x (CompileRefuses limits text)) e f
+pub compile_never_unknown : {A : Type 0} (limits : Option Limits) (text : List ℕ) (r : Result A HostError) → IfErr r (CompileRefuses limits text) → r ≡ Err Unknown → ⊥
+compile_never_unknown {A} limits text r f e = subst (λ (x : Result A HostError). IfErr x (CompileRefuses limits text)) e f
 
 -- a result that is none of a refusal
-pub always_ok : {A : Type 0} (P : Type 0) (r : Result A Refused) → IsOk r → OnErr r P
+pub always_ok : {A : Type 0} (P : Type 0) (r : Result A HostError) → IsOk r → OnErr r P
 always_ok P (Ok v) k = tt
 always_ok P (Err e) k = absurd (false≢true k)
 
-pub ok_never_unknown : {A : Type 0} (r : Result A Refused) → IsOk r → r ≡ Err Unknown → ⊥
-ok_never_unknown {A} r k e = false≢true (subst (λ (x : Result A Refused). IsOk x) e k)
+pub ok_never_unknown : {A : Type 0} (r : Result A HostError) → IsOk r → r ≡ Err Unknown → ⊥
+ok_never_unknown {A} r k e = false≢true (subst (λ (x : Result A HostError). IsOk x) e k)
 
 -- how a call leaves the limits, by the number of its ending
-limits_set : (o : Option Limits) (old new : Option Limits) (done : Result (Unit {0}) Refused) (number : ℕ) → Ends done number → (done ≡ Err Misuse → number ≡ 7)
+limits_set : (o : Option Limits) (old new : Option Limits) (done : Result (Unit {0}) HostError) (number : ℕ) → EndsCall done number → (done ≡ Err Misuse → number ≡ 7)
     → MatchOption o ((done ≡ Err Misuse) × (new ≡ old)) (λ limits. (done ≡ Ok tt) × (new ≡ Some limits)) → MatchOption o ((number ≡ 7) × (new ≡ old)) (λ limits. (number ≡ 0) × (new ≡ Some limits))
 limits_set None old new done number e misuse (is, same) = (misuse is, same)
-limits_set (Some limits) old new done number e misuse (is, set) = (subst (λ (d : Result (Unit {0}) Refused). Ends d number) is e, set)
+limits_set (Some limits) old new done number e misuse (is, set) = (subst (λ (d : Result (Unit {0}) HostError). EndsCall d number) is e, set)
 
-limits_on : (ask : Ask) (old : Option Limits) (call : Call) (done : Result (Unit {0}) Refused) (number : ℕ) (new : Option Limits) → Ends done number → (done ≡ Err Misuse → number ≡ 7)
+limits_on : (ask : Ask) (old : Option Limits) (call : Call) (done : Result (Unit {0}) HostError) (number : ℕ) (new : Option Limits) → EndsCall done number → (done ≡ Err Misuse → number ≡ 7)
     → LimitsBy ask old call (done ≡ Ok tt) (done ≡ Err Misuse) new → LimitsBy ask old call (number ≡ 0) (number ≡ 7) new
 limits_on is.Limit old call done number new e misuse l = limits_set (limits_asked old call.kind call.number) old new done number e misuse l
-limits_on is.Unlimited old call done number new e misuse l = (subst (λ (d : Result (Unit {0}) Refused). Ends d number) l.0 e, l.1)
+limits_on is.Unlimited old call done number new e misuse l = (subst (λ (d : Result (Unit {0}) HostError). EndsCall d number) l.0 e, l.1)
 limits_on is.Compile old call done number new e misuse l = l
 limits_on is.Names old call done number new e misuse l = l
 limits_on is.Run old call done number new e misuse l = l
@@ -204,9 +175,9 @@ limits_on is.Clear old call done number new e misuse l = l
 limits_on is.Name old call done number new e misuse l = l
 limits_on is.Answer old call done number new e misuse l = l
 limits_on is.Refuse old call done number new e misuse l = l
-limits_on is.Asked old call done number new e misuse l = l
+limits_on is.WaitingCall old call done number new e misuse l = l
 
-pub limits_by : (ask : Ask) (old : Option Limits) (call : Call) (done : Result (Unit {0}) Refused) (number : ℕ) (mid new : Option Limits) → Ends done number → (done ≡ Err Misuse → number ≡ 7)
+pub limits_by : (ask : Ask) (old : Option Limits) (call : Call) (done : Result (Unit {0}) HostError) (number : ℕ) (mid new : Option Limits) → EndsCall done number → (done ≡ Err Misuse → number ≡ 7)
     → LimitsBy ask old call (done ≡ Ok tt) (done ≡ Err Misuse) mid → new ≡ mid → LimitsBy ask old call (number ≡ 0) (number ≡ 7) new
 limits_by ask old call done number mid new e misuse l same =
     subst (λ (x : Option Limits). LimitsBy ask old call (number ≡ 0) (number ≡ 7) x) (sym same) (limits_on ask old call done number mid e misuse l)

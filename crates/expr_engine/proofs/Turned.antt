@@ -1,94 +1,78 @@
 -- Runs that begin, and runs that go on with a reply.
-use Rattle.std.proofs.Common.{◌≡◌, ◌≢◌, ◌⊎◌, ◌∙◌, ◌∷◌, ◌++◌, List, [], Option, None, Some, IsSome, IsErrAnd, IsSomeAnd, MatchOption, Result, Ok, Err, IfErr, IsOk, OnOk, inl, inr, ap, rules, refl, subst, sym}
+use Rattle.std.proofs.Common.{◌≡◌, ◌≢◌, ◌⊎◌, ◌∙◌, ◌∷◌, ◌++◌, List, [], Option, None, Some, IsSome, IsErrAnd, IsSomeAnd, MatchOption, Result, Ok, Err, IfErr, IsOk, OnOk, inl, inr, ap, refl, subst, sym}
 use Rattle.std.proofs.lemmas.Bool.{false≢true}
-use Rattle.expr_engine.specs.Engines.{Asked, MayAnswer, MayEnd}
-use Rattle.expr_engine.specs.Served.{Runs}
-use Rattle.expr_engine.specs.Turns.{GoesOn, IsAnswer, IsBegun, IsSameRun, Keeps, Replies, Stands}
-use Rattle.expr_engine.specs.declared.waiting.Waiting.{Waiting}
-use Rattle.expr_exchange.specs.Refusals.{GivesHost}
-use Rattle.expr_exchange.specs.declared.refused.Refused.{Refused}
-use Rattle.expr_exchange.specs.declared.refused.Refused.TheVariants.{Language, Unknown, Misuse, Asks, Differs, Stopped}
-use Rattle.expr_kept.specs.declared.Handle.{Handle}
+use Rattle.expr_engine.specs.Engines.{RunInputs, MayAnswer, MayEnd}
+use Rattle.expr_engine.specs.Served.{RunServes}
+use Rattle.expr_engine.specs.Turns.{GoesOn, IsAnswer, IsSameRun, PassesOn, RunGoesOn, WaitsIfAsks}
+use Rattle.expr_engine.specs.declared.waiting_run.WaitingRun.{WaitingRun}
+use Rattle.expr_exchange.specs.Refusals.{ReturnsToHost}
+use Rattle.expr_exchange.specs.declared.host_error.HostError.{HostError}
+use Rattle.expr_exchange.specs.declared.host_error.HostError.TheVariants.{Language, Unknown, Misuse, Asks, Differs, Stopped}
 use Rattle.expr_meter.specs.Counting.{stops}
-use Rattle.expr_stops.specs.Stops.{IsReplied, IsSame, asked_of, given_of}
-use Rattle.expr_stops.specs.declared.given.Given.{Given}
-use Rattle.expr_stops.specs.declared.given.Reply.{Reply}
-use Rattle.expr_stops.specs.declared.given.Reply.TheVariants as reply
+use Rattle.expr_stops.specs.Stops.{IsReplied, waiting_call_of, replies_of}
+use Rattle.expr_stops.specs.declared.replies.CallReply.{CallReply}
+use Rattle.expr_stops.specs.declared.replies.Reply.{Reply}
+use Rattle.expr_stops.specs.declared.replies.Reply.TheVariants as reply
 use Rattle.expr_stops.specs.declared.replay.Stop.{Stop}
 use Rattle.expr_stops.specs.declared.stops.Stops.{Stops}
-use Rattle.expr_value.specs.Fault.{Fault, fault_of, syntax, literal, evaluation, pattern, memory}
-use Rattle.expr_value.specs.declared.error.Error.{Error}
 use Rattle.expr_value.specs.declared.value.Value.{Value}
 
 -- what a run gives is kept, or passed on
-runs_kept : (q : Asked) (given : List Given) (answer : Result Value Refused) (done : Result (Unit {0}) Refused) (value : Value)
-    → GivesHost answer (MayAnswer q given) (λ limit. MayEnd q given (stops limit)) → Keeps answer done value → Runs q given done value
+runs_kept : (q : RunInputs) (given : List CallReply) (answer : Result Value HostError) (done : Result (Unit {0}) HostError) (value : Value)
+    → ReturnsToHost answer (MayAnswer q given) (λ limit. MayEnd q given (stops limit)) → PassesOn answer done value → RunServes q given done value
 runs_kept q given (Ok v) done value g k =
-    subst (λ (d : Result (Unit {0}) Refused). Runs q given d value) (sym k.0) (subst (λ (x : Value). MayAnswer q given (Ok x)) (sym k.1) g)
-runs_kept q given (Err (Language error)) done value g k = subst (λ (d : Result (Unit {0}) Refused). Runs q given d value) (sym k) g
+    subst (λ (d : Result (Unit {0}) HostError). RunServes q given d value) (sym k.0) (subst (λ (x : Value). MayAnswer q given (Ok x)) (sym k.1) g)
+runs_kept q given (Err (Language error)) done value g k = subst (λ (d : Result (Unit {0}) HostError). RunServes q given d value) (sym k) g
 runs_kept q given (Err Unknown) done value g k = absurd g
 runs_kept q given (Err Misuse) done value g k = absurd g
-runs_kept q given (Err Asks) done value g k = subst (λ (d : Result (Unit {0}) Refused). Runs q given d value) (sym k) tt
-runs_kept q given (Err Differs) done value g k = subst (λ (d : Result (Unit {0}) Refused). Runs q given d value) (sym k) tt
-runs_kept q given (Err (Stopped limit)) done value g k = subst (λ (d : Result (Unit {0}) Refused). Runs q given d value) (sym k) g
+runs_kept q given (Err Asks) done value g k = subst (λ (d : Result (Unit {0}) HostError). RunServes q given d value) (sym k) tt
+runs_kept q given (Err Differs) done value g k = subst (λ (d : Result (Unit {0}) HostError). RunServes q given d value) (sym k) tt
+runs_kept q given (Err (Stopped limit)) done value g k = subst (λ (d : Result (Unit {0}) HostError). RunServes q given d value) (sym k) g
 
-pub went : (o : Option Asked) (given : List Given) (answer : Result Value Refused) (done : Result (Unit {0}) Refused) (value : Value)
-    → MatchOption o (answer ≡ Err Unknown) (λ q. GivesHost answer (MayAnswer q given) (λ limit. MayEnd q given (stops limit))) → Keeps answer done value
-    → MatchOption o (done ≡ Err Unknown) (λ q. Runs q given done value)
+pub went : (o : Option RunInputs) (given : List CallReply) (answer : Result Value HostError) (done : Result (Unit {0}) HostError) (value : Value)
+    → MatchOption o (answer ≡ Err Unknown) (λ q. ReturnsToHost answer (MayAnswer q given) (λ limit. MayEnd q given (stops limit))) → PassesOn answer done value
+    → MatchOption o (done ≡ Err Unknown) (λ q. RunServes q given done value)
 went None given (Ok v) done value m k = let no : ⊥ = cc m in absurd no
 went None given (Err e) done value m k = let same : e ≡ Unknown = cc m in k ∙ ap Err same
 went (Some q) given answer done value m k = runs_kept q given answer done value m k
 
 -- how a run stands is how it stands where its answer is kept
-stands_kept : (q : Asked) (given : List Given) (answer : Result Value Refused) (done : Result (Unit {0}) Refused) (value : Value) (waits : Option Stop)
-    → Stands q given answer waits → Keeps answer done value → Stands q given done waits
-stands_kept q given (Ok v) done value waits s k = subst (λ (d : Result (Unit {0}) Refused). Stands q given d waits) (sym k.0) s
-stands_kept q given (Err (Language error)) done value waits s k = subst (λ (d : Result (Unit {0}) Refused). Stands q given d waits) (sym k) s
-stands_kept q given (Err Unknown) done value waits s k = subst (λ (d : Result (Unit {0}) Refused). Stands q given d waits) (sym k) s
-stands_kept q given (Err Misuse) done value waits s k = subst (λ (d : Result (Unit {0}) Refused). Stands q given d waits) (sym k) s
-stands_kept q given (Err Asks) done value waits s k = subst (λ (d : Result (Unit {0}) Refused). Stands q given d waits) (sym k) s
-stands_kept q given (Err Differs) done value waits s k = subst (λ (d : Result (Unit {0}) Refused). Stands q given d waits) (sym k) s
-stands_kept q given (Err (Stopped limit)) done value waits s k = subst (λ (d : Result (Unit {0}) Refused). Stands q given d waits) (sym k) s
+stands_kept : (q : RunInputs) (given : List CallReply) (answer : Result Value HostError) (done : Result (Unit {0}) HostError) (value : Value) (waits : Option Stop)
+    → WaitsIfAsks q given answer waits → PassesOn answer done value → WaitsIfAsks q given done waits
+stands_kept q given (Ok v) done value waits s k = subst (λ (d : Result (Unit {0}) HostError). WaitsIfAsks q given d waits) (sym k.0) s
+stands_kept q given (Err (Language error)) done value waits s k = subst (λ (d : Result (Unit {0}) HostError). WaitsIfAsks q given d waits) (sym k) s
+stands_kept q given (Err Unknown) done value waits s k = subst (λ (d : Result (Unit {0}) HostError). WaitsIfAsks q given d waits) (sym k) s
+stands_kept q given (Err Misuse) done value waits s k = subst (λ (d : Result (Unit {0}) HostError). WaitsIfAsks q given d waits) (sym k) s
+stands_kept q given (Err Asks) done value waits s k = subst (λ (d : Result (Unit {0}) HostError). WaitsIfAsks q given d waits) (sym k) s
+stands_kept q given (Err Differs) done value waits s k = subst (λ (d : Result (Unit {0}) HostError). WaitsIfAsks q given d waits) (sym k) s
+stands_kept q given (Err (Stopped limit)) done value waits s k = subst (λ (d : Result (Unit {0}) HostError). WaitsIfAsks q given d waits) (sym k) s
 
 -- the same of a run that was taken out of an engine
-pub went_as : (o : Option Asked) (was is : Stops) (answer : Result Value Refused) (done : Result (Unit {0}) Refused) (value : Value)
-    → is ≡ was → MatchOption o (answer ≡ Err Unknown) (λ q. GivesHost answer (MayAnswer q (given_of is)) (λ limit. MayEnd q (given_of is) (stops limit))) → Keeps answer done value
-    → MatchOption o (done ≡ Err Unknown) (λ q. Runs q (given_of was) done value)
+pub went_as : (o : Option RunInputs) (was is : Stops) (answer : Result Value HostError) (done : Result (Unit {0}) HostError) (value : Value)
+    → is ≡ was → MatchOption o (answer ≡ Err Unknown) (λ q. ReturnsToHost answer (MayAnswer q (replies_of is)) (λ limit. MayEnd q (replies_of is) (stops limit))) → PassesOn answer done value
+    → MatchOption o (done ≡ Err Unknown) (λ q. RunServes q (replies_of was) done value)
 went_as o was is answer done value same m k =
-    subst (λ (s : Stops). MatchOption o (done ≡ Err Unknown) (λ q. Runs q (given_of s) done value)) same (went o (given_of is) answer done value m k)
+    subst (λ (s : Stops). MatchOption o (done ≡ Err Unknown) (λ q. RunServes q (replies_of s) done value)) same (went o (replies_of is) answer done value m k)
 
-pub stood : (o : Option Asked) (given : List Given) (answer : Result Value Refused) (done : Result (Unit {0}) Refused) (value : Value) (waits : Option Stop)
-    → MatchOption o (answer ≡ Err Unknown) (λ q. Stands q given answer waits) → Keeps answer done value
-    → MatchOption o (done ≡ Err Unknown) (λ q. Stands q given done waits)
+pub stood : (o : Option RunInputs) (given : List CallReply) (answer : Result Value HostError) (done : Result (Unit {0}) HostError) (value : Value) (waits : Option Stop)
+    → MatchOption o (answer ≡ Err Unknown) (λ q. WaitsIfAsks q given answer waits) → PassesOn answer done value
+    → MatchOption o (done ≡ Err Unknown) (λ q. WaitsIfAsks q given done waits)
 stood None given (Ok v) done value waits m k = let no : ⊥ = cc m in absurd no
 stood None given (Err e) done value waits m k = let same : e ≡ Unknown = cc m in k ∙ ap Err same
 stood (Some q) given answer done value waits m k = stands_kept q given answer done value waits m k
 
-pub stood_as : (o : Option Asked) (was is now after : Stops) (answer : Result Value Refused) (done : Result (Unit {0}) Refused) (value : Value)
-    → is ≡ was → after ≡ now → (asked_of is ≡ None → MatchOption o (answer ≡ Err Unknown) (λ q. Stands q (given_of is) answer (asked_of now))) → Keeps answer done value → asked_of was ≡ None
-    → MatchOption o (done ≡ Err Unknown) (λ q. Stands q (given_of was) done (asked_of after))
+pub stood_as : (o : Option RunInputs) (was is now after : Stops) (answer : Result Value HostError) (done : Result (Unit {0}) HostError) (value : Value)
+    → is ≡ was → after ≡ now → (waiting_call_of is ≡ None → MatchOption o (answer ≡ Err Unknown) (λ q. WaitsIfAsks q (replies_of is) answer (waiting_call_of now))) → PassesOn answer done value → waiting_call_of was ≡ None
+    → MatchOption o (done ≡ Err Unknown) (λ q. WaitsIfAsks q (replies_of was) done (waiting_call_of after))
 stood_as o was is now after answer done value same kept m k none =
-    subst (λ (x : Stops). MatchOption o (done ≡ Err Unknown) (λ q. Stands q (given_of was) done (asked_of x))) (sym kept)
-    (subst (λ (s : Stops). MatchOption o (done ≡ Err Unknown) (λ q. Stands q (given_of s) done (asked_of now))) same
-    (stood o (given_of is) answer done value (asked_of now) (m (subst (λ (s : Stops). asked_of s ≡ None) (sym same) none)) k))
-
--- a run that was begun
-pub begun : (o : Option Asked) (program environment context : Handle) (known done : Result (Unit {0}) Refused) (old new : Waiting) (given : List Given)
-    → MatchOption o (known ≡ Err Unknown) (λ _. IsOk known) → known ≡ Ok tt → new.program ≡ program → new.environment ≡ environment → new.context ≡ context → given_of new.stops ≡ given → given ≡ []
-    → MatchOption o (done ≡ Err Unknown) (λ q. Stands q given done (asked_of new.stops)) → MatchOption o (new ≡ old) (λ q. IsBegun q program environment context done new)
-begun None program environment context known done old new given m k p e c g z s = let no : ⊥ = cc (m, k) in absurd no
-begun (Some q) program environment context known done old new given m k p e c g z s = record {
-  program = p;
-  environment = e;
-  context = c;
-  given = g ∙ z;
-  stands = subst (λ (x : List Given). Stands q x done (asked_of new.stops)) z s;
-}
+    subst (λ (x : Stops). MatchOption o (done ≡ Err Unknown) (λ q. WaitsIfAsks q (replies_of was) done (waiting_call_of x))) (sym kept)
+    (subst (λ (s : Stops). MatchOption o (done ≡ Err Unknown) (λ q. WaitsIfAsks q (replies_of s) done (waiting_call_of now))) same
+    (stood o (replies_of is) answer done value (waiting_call_of now) (m (subst (λ (s : Stops). waiting_call_of s ≡ None) (sym same) none)) k))
 
 -- a reply that was given, and the run that went on
-goes_on : (Is : Reply → Type 0) (q : Asked) (old : Waiting) (mid : Stops) (new : Waiting) (r : Reply) (done : Result (Unit {0}) Refused) (value : Value)
-    → IsReplied old.stops mid r → Is r → IsSameRun old new → given_of new.stops ≡ given_of mid
-    → Runs q (given_of mid) done value → Stands q (given_of mid) done (asked_of new.stops) → GoesOn Is q old new done value
+goes_on : (Is : Reply → Type 0) (q : RunInputs) (old : WaitingRun) (mid : Stops) (new : WaitingRun) (r : Reply) (done : Result (Unit {0}) HostError) (value : Value)
+    → IsReplied old.stops mid r → Is r → IsSameRun old new → replies_of new.stops ≡ replies_of mid
+    → RunServes q (replies_of mid) done value → WaitsIfAsks q (replies_of mid) done (waiting_call_of new.stops) → GoesOn Is q old new done value
 goes_on Is q old mid new r done value replied is run given runs stands = record {
   stop = replied.stop;
   waited = replied.waited;
@@ -96,11 +80,11 @@ goes_on Is q old mid new r done value replied is run given runs stands = record 
   is = is;
   given = given ∙ replied.given;
   run = run;
-  stands = subst (λ (x : List Given). Stands q x done (asked_of new.stops)) (sym given) stands;
-  runs = subst (λ (x : List Given). Runs q x done value) (sym given) runs;
+  stands = subst (λ (x : List CallReply). WaitsIfAsks q x done (waiting_call_of new.stops)) (sym given) stands;
+  runs = subst (λ (x : List CallReply). RunServes q x done value) (sym given) runs;
 }
 
-by_ending : (Is : Reply → Type 0) (q : Asked) (old new : Waiting) (done : Result (Unit {0}) Refused) (value : Value) → GoesOn Is q old new done value → Replies Is (Some q) old new done value
+by_ending : (Is : Reply → Type 0) (q : RunInputs) (old new : WaitingRun) (done : Result (Unit {0}) HostError) (value : Value) → GoesOn Is q old new done value → RunGoesOn Is (Some q) old new done value
 by_ending Is q old new (Ok v) value g = g
 by_ending Is q old new (Err (Language error)) value g = inr g
 by_ending Is q old new (Err Unknown) value g = absurd g.runs
@@ -109,55 +93,26 @@ by_ending Is q old new (Err Asks) value g = g
 by_ending Is q old new (Err Differs) value g = g
 by_ending Is q old new (Err (Stopped limit)) value g = g
 
-pub replied_by : (Is : Reply → Type 0) (o : Option Asked) (old : Waiting) (mid : Stops) (new : Waiting) (r : Reply) (done : Result (Unit {0}) Refused) (value : Value)
-    → IsSome o → IsReplied old.stops mid r → Is r → IsSameRun old new → given_of new.stops ≡ given_of mid
-    → MatchOption o (done ≡ Err Unknown) (λ q. Runs q (given_of mid) done value) → MatchOption o (done ≡ Err Unknown) (λ q. Stands q (given_of mid) done (asked_of new.stops))
-    → Replies Is o old new done value
+pub replied_by : (Is : Reply → Type 0) (o : Option RunInputs) (old : WaitingRun) (mid : Stops) (new : WaitingRun) (r : Reply) (done : Result (Unit {0}) HostError) (value : Value)
+    → IsSome o → IsReplied old.stops mid r → Is r → IsSameRun old new → replies_of new.stops ≡ replies_of mid
+    → MatchOption o (done ≡ Err Unknown) (λ q. RunServes q (replies_of mid) done value) → MatchOption o (done ≡ Err Unknown) (λ q. WaitsIfAsks q (replies_of mid) done (waiting_call_of new.stops))
+    → RunGoesOn Is o old new done value
 replied_by Is None old mid new r done value some replied is run given runs stands = absurd (false≢true some)
 replied_by Is (Some q) old mid new r done value some replied is run given runs stands =
     by_ending Is q old new done value (goes_on Is q old mid new r done value replied is run given runs stands)
 
--- a refusal that is no other than for want of memory is one for want of memory
-is_memory : (fault : Fault) → (fault ≢ memory → ⊥) → fault ≡ memory
-is_memory syntax h = absurd (h (search rules))
-is_memory literal h = absurd (h (search rules))
-is_memory evaluation h = absurd (h (search rules))
-is_memory pattern h = absurd (h (search rules))
-is_memory memory h = refl
-
-none_waits : (o : Option Stop) → IsSome o → o ≡ None → ⊥
-none_waits None some is = false≢true some
-none_waits (Some s) some is = cc is
-
--- a call that was not replied to for want of memory still waits
-pub still_waits : (Is : Reply → Type 0) (o : Option Asked) (old new : Waiting) (e : Error) (value : Value) → IsSome (asked_of old.stops) → IsSameRun old new → IsSame old.stops new.stops
-    → (fault_of e ≢ memory → asked_of old.stops ≡ None) → Replies Is o old new (Err (Language e)) value
-still_waits Is o old new e value some run same w =
-    inl (is_memory (fault_of e) (λ n. none_waits (asked_of old.stops) some (w n)), record { run = run; stops = same })
-
-pub still_waits_by : (Is : Reply → Type 0) (o : Option Asked) (old new : Waiting) (r : Result (Unit {0}) Refused) (e : Error) (value : Value) → IsErrAnd r (λ x. x ≡ Language e) → IsSome (asked_of old.stops) → IsSameRun old new → IsSame old.stops new.stops
-    → (fault_of e ≢ memory → asked_of old.stops ≡ None) → Replies Is o old new r value
-still_waits_by Is o old new (Ok v) e value is some run same w = absurd is
-still_waits_by Is o old new (Err x) e value is some run same w =
-    subst (λ (y : Refused). Replies Is o old new (Err y) value) (sym is) (still_waits Is o old new e value some run same w)
-
--- a refusal of the language is none of a handle
-pub language_known : (r : Result (Unit {0}) Refused) (e : Error) → IsErrAnd r (λ x. x ≡ Language e) → IfErr r (λ x. x ≢ Unknown)
-language_known (Ok v) e is = tt
-language_known (Err x) e is = λ u. cc (is, u)
-
 -- a refusal is passed on
-pub passed_on : (Is : Reply → Type 0) (o : Option Asked) (old new : Waiting) (r : Result (Unit {0}) Refused) (e : Refused) (value : Value) → IsErrAnd r (λ x. x ≡ e) → Replies Is o old new (Err e) value → Replies Is o old new r value
+pub passed_on : (Is : Reply → Type 0) (o : Option RunInputs) (old new : WaitingRun) (r : Result (Unit {0}) HostError) (e : HostError) (value : Value) → IsErrAnd r (λ x. x ≡ e) → RunGoesOn Is o old new (Err e) value → RunGoesOn Is o old new r value
 passed_on Is o old new (Ok v) e value is p = absurd is
-passed_on Is o old new (Err x) e value is p = subst (λ (y : Refused). Replies Is o old new (Err y) value) (sym is) p
+passed_on Is o old new (Err x) e value is p = subst (λ (y : HostError). RunGoesOn Is o old new (Err y) value) (sym is) p
 
 -- a handle that finds nothing, and what stands for no reply, leave the call that waits
-pub left_waiting : (Is : Reply → Type 0) (o : Option Asked) (old new : Waiting) (e : Refused) (value : Value) → new ≡ old → (e ≡ Unknown) ⊎ (e ≡ Misuse) → Replies Is o old new (Err e) value
-left_waiting Is o old new e value same (inl is) = subst (λ (x : Refused). Replies Is o old new (Err x) value) (sym is) same
-left_waiting Is o old new e value same (inr is) = subst (λ (x : Refused). Replies Is o old new (Err x) value) (sym is) same
+pub left_waiting : (Is : Reply → Type 0) (o : Option RunInputs) (old new : WaitingRun) (e : HostError) (value : Value) → new ≡ old → (e ≡ Unknown) ⊎ (e ≡ Misuse) → RunGoesOn Is o old new (Err e) value
+left_waiting Is o old new e value same (inl is) = subst (λ (x : HostError). RunGoesOn Is o old new (Err x) value) (sym is) same
+left_waiting Is o old new e value same (inr is) = subst (λ (x : HostError). RunGoesOn Is o old new (Err x) value) (sym is) same
 
 -- a reply of one sort is one of another
-weaker : (Is Js : Reply → Type 0) → ((r : Reply) → Is r → Js r) → (o : Option Asked) (old new : Waiting) (done : Result (Unit {0}) Refused) (value : Value)
+weaker : (Is Js : Reply → Type 0) → ((r : Reply) → Is r → Js r) → (o : Option RunInputs) (old new : WaitingRun) (done : Result (Unit {0}) HostError) (value : Value)
     → IsSomeAnd o (λ q. GoesOn Is q old new done value) → IsSomeAnd o (λ q. GoesOn Js q old new done value)
 weaker Is Js f None old new done value g = absurd g
 weaker Is Js f (Some q) old new done value g = record {
@@ -171,7 +126,7 @@ weaker Is Js f (Some q) old new done value g = record {
   runs = g.runs;
 }
 
-pub replies_so : (Is Js : Reply → Type 0) → ((r : Reply) → Is r → Js r) → (o : Option Asked) (old new : Waiting) (done : Result (Unit {0}) Refused) (value : Value) → Replies Is o old new done value → Replies Js o old new done value
+pub replies_so : (Is Js : Reply → Type 0) → ((r : Reply) → Is r → Js r) → (o : Option RunInputs) (old new : WaitingRun) (done : Result (Unit {0}) HostError) (value : Value) → RunGoesOn Is o old new done value → RunGoesOn Js o old new done value
 replies_so Is Js f o old new (Ok v) value r = weaker Is Js f o old new (Ok v) value r
 replies_so Is Js f o old new (Err (Language error)) value (inl r) = inl r
 replies_so Is Js f o old new (Err (Language error)) value (inr r) = inr (weaker Is Js f o old new (Err (Language error)) value r)
@@ -186,34 +141,34 @@ pub built_last : (values front : List Value) (v : Value) → values ≡ front ++
 built_last values front v stood r is = subst (λ (x : Reply). IsAnswer values x) (sym is) (record { front = front; stood = stood })
 
 -- what the run has come to that ended with an answer
-pub ended_so : (Is : Reply → Type 0) (o : Option Asked) (old new : Waiting) (value : Value) → Replies Is o old new (Ok tt) value → IsSomeAnd o (λ q. MayAnswer q (given_of new.stops) (Ok value))
+pub ended_so : (Is : Reply → Type 0) (o : Option RunInputs) (old new : WaitingRun) (value : Value) → RunGoesOn Is o old new (Ok tt) value → IsSomeAnd o (λ q. MayAnswer q (replies_of new.stops) (Ok value))
 ended_so Is None old new value g = absurd g
 ended_so Is (Some q) old new value g = g.runs
 
 -- whether a run's handles find what it wants, by what is known of them
-pub known_some : (o : Option Asked) (r : Result (Unit {0}) Refused) → MatchOption o (r ≡ Err Unknown) (λ _. IsOk r) → OnOk r (IsSome o)
+pub known_some : (o : Option RunInputs) (r : Result (Unit {0}) HostError) → MatchOption o (r ≡ Err Unknown) (λ _. IsOk r) → OnOk r (IsSome o)
 known_some None (Ok v) m = let no : ⊥ = cc m in absurd no
 known_some None (Err e) m = tt
 known_some (Some q) (Ok v) m = refl
 known_some (Some q) (Err e) m = tt
 
-pub stale_unknown : (o : Option Asked) (r : Result (Unit {0}) Refused) → MatchOption o (r ≡ Err Unknown) (λ _. IsOk r) → o ≡ None → r ≡ Err Unknown
+pub stale_unknown : (o : Option RunInputs) (r : Result (Unit {0}) HostError) → MatchOption o (r ≡ Err Unknown) (λ _. IsOk r) → o ≡ None → r ≡ Err Unknown
 stale_unknown None r m is = m
 stale_unknown (Some q) r m is = let no : ⊥ = cc is in absurd no
 
-pub unknown_none : (o : Option Asked) (r : Result (Unit {0}) Refused) → MatchOption o (r ≡ Err Unknown) (λ _. IsOk r) → r ≡ Err Unknown → o ≡ None
+pub unknown_none : (o : Option RunInputs) (r : Result (Unit {0}) HostError) → MatchOption o (r ≡ Err Unknown) (λ _. IsOk r) → r ≡ Err Unknown → o ≡ None
 unknown_none None r m is = refl
 unknown_none (Some q) (Ok v) m is = let no : ⊥ = cc is in absurd no
 unknown_none (Some q) (Err e) m is = absurd (false≢true m)
 
-pub known_refused : (o : Option Asked) (r : Result (Unit {0}) Refused) → MatchOption o (r ≡ Err Unknown) (λ _. IsOk r) → IfErr r (λ e. (e ≡ Unknown) ⊎ (e ≡ Misuse))
+pub known_refused : (o : Option RunInputs) (r : Result (Unit {0}) HostError) → MatchOption o (r ≡ Err Unknown) (λ _. IsOk r) → IfErr r (λ e. (e ≡ Unknown) ⊎ (e ≡ Misuse))
 known_refused None (Ok v) m = tt
 known_refused None (Err e) m = inl (cc m)
 known_refused (Some q) (Ok v) m = tt
 known_refused (Some q) (Err e) m = absurd (false≢true m)
 
 -- a run that found all three isn't refused so
-pub found_ends : (o : Option Asked) (given : List Given) (r : Result (Unit {0}) Refused) (value : Value) → IsSome o → MatchOption o (r ≡ Err Unknown) (λ q. Runs q given r value) → IfErr r (λ e. e ≢ Unknown)
+pub found_ends : (o : Option RunInputs) (given : List CallReply) (r : Result (Unit {0}) HostError) (value : Value) → IsSome o → MatchOption o (r ≡ Err Unknown) (λ q. RunServes q given r value) → IfErr r (λ e. e ≢ Unknown)
 found_ends None given r value some m = absurd (false≢true some)
 found_ends (Some q) given (Ok v) value some m = tt
 found_ends (Some q) given (Err (Language error)) value some m = λ is. cc is

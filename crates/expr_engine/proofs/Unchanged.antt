@@ -3,17 +3,17 @@ use Rattle.std.proofs.Common.{◌≡◌, ◌≤◌, ℕ, Bool, true, false, List
 use Rattle.std.proofs.lemmas.Bool.{false≢true}
 use Rattle.std.proofs.lemmas.Grind.{common_steps}
 use Rattle.std.specs.Option.{unwrap_or}
-use Rattle.expr_engine.specs.Doings.{Adds, Changes}
+use Rattle.expr_engine.specs.Effects.{Changes}
 use Rattle.expr_engine.specs.Engines.{Leaves, NumbersRise, SameAdditions, SameKept}
 use Rattle.expr_engine.specs.Runs.{named_at, zone_at}
 use Rattle.expr_engine.specs.declared.additions.Additions.{Additions}
 use Rattle.expr_engine.specs.declared.engine.Engine.{Engine}
-use Rattle.expr_exchange.specs.Looked.{SameLook, way_of, whole_of}
-use Rattle.expr_kept.specs.Kept.{SameThings, found, is_same, next_number}
-use Rattle.expr_kept.specs.declared.Handle.{Handle}
-use Rattle.expr_kept.specs.declared.Kept.{Kept}
+use Rattle.expr_exchange.specs.Cursor.{SameLook, way_of, whole_of}
+use Rattle.expr_handles.specs.HandleMap.{SameThings, thing_at, is_same, next_number}
+use Rattle.expr_handles.specs.declared.Handle.{Handle}
+use Rattle.expr_handles.specs.declared.HandleMap.{HandleMap}
 
-pub additions_by_things : {old new : Kept Additions} → SameThings old new → SameAdditions old new
+pub additions_by_things : {old new : HandleMap Additions} → SameThings old new → SameAdditions old new
 additions_by_things s = record {
   zones = λ h name. ap (option_map (λ a. zone_at a name)) (s h);
   moments = λ h. ap (option_map (λ a. a.moment)) (s h);
@@ -23,34 +23,34 @@ additions_by_things s = record {
 -- where all three are the same, or one finds the same things and the others are the same
 pub same_kept : {old new : Engine} → new.rules ≡ old.rules → new.contexts ≡ old.contexts → new.environments ≡ old.environments → SameKept old new
 same_kept r c e = record {
-  rules = λ h. ap (λ k. found k h) r;
-  contexts = λ h. ap (λ k. found k h) c;
-  environments = additions_by_things (λ h. ap (λ k. found k h) e);
+  rules = λ h. ap (λ k. thing_at k h) r;
+  contexts = λ h. ap (λ k. thing_at k h) c;
+  environments = additions_by_things (λ h. ap (λ k. thing_at k h) e);
 }
 
 pub same_rules : {old new : Engine} → SameThings old.rules new.rules → new.contexts ≡ old.contexts → new.environments ≡ old.environments → SameKept old new
 same_rules s c e = record {
   rules = s;
-  contexts = λ h. ap (λ k. found k h) c;
-  environments = additions_by_things (λ h. ap (λ k. found k h) e);
+  contexts = λ h. ap (λ k. thing_at k h) c;
+  environments = additions_by_things (λ h. ap (λ k. thing_at k h) e);
 }
 
 pub same_contexts : {old new : Engine} → new.rules ≡ old.rules → SameThings old.contexts new.contexts → new.environments ≡ old.environments → SameKept old new
 same_contexts r s e = record {
-  rules = λ h. ap (λ k. found k h) r;
+  rules = λ h. ap (λ k. thing_at k h) r;
   contexts = s;
-  environments = additions_by_things (λ h. ap (λ k. found k h) e);
+  environments = additions_by_things (λ h. ap (λ k. thing_at k h) e);
 }
 
 pub same_environments : {old new : Engine} → new.rules ≡ old.rules → new.contexts ≡ old.contexts → SameAdditions old.environments new.environments → SameKept old new
 same_environments r c s = record {
-  rules = λ h. ap (λ k. found k h) r;
-  contexts = λ h. ap (λ k. found k h) c;
+  rules = λ h. ap (λ k. thing_at k h) r;
+  contexts = λ h. ap (λ k. thing_at k h) c;
   environments = s;
 }
 
 -- handles that are one find the same
-one_finds : {T : Type 0} (k : Kept T) (h other : Handle) → is_same h other ≡ true → found k other ≡ found k h
+one_finds : {T : Type 0} (k : HandleMap T) (h other : Handle) → is_same h other ≡ true → thing_at k other ≡ thing_at k h
 one_finds k h other e = grind (arith, common_steps)
 
 exchanged_twice : {T : Type 0} (o m n : Option T) (spare is : T) → m ≡ option_map (λ _. spare) o → n ≡ option_map (λ _. is) m → n ≡ option_map (λ _. is) o
@@ -63,38 +63,22 @@ same_told f None n spare was is e w z = ap (option_map f) e
 same_told f (Some x) n spare was is e w z = ap (option_map f) e ∙ ap Some (z ∙ ap f w)
 
 -- a thing was exchanged, changed so that the same is told of it, and exchanged back
-told_at : {T B : Type 0} (f : T → B) (old mid new : Kept T) (h : Handle) (spare was is : T) → ((k : Handle) → found mid k ≡ (if is_same h k then option_map (λ _. spare) (found old k) else found old k))
-    → ((k : Handle) → found new k ≡ (if is_same h k then option_map (λ _. is) (found mid k) else found mid k)) → was ≡ unwrap_or (found old h) spare → f is ≡ f was
-    → (k : Handle) (b : Bool) → is_same h k ≡ b → option_map f (found new k) ≡ option_map f (found old k)
+told_at : {T B : Type 0} (f : T → B) (old mid new : HandleMap T) (h : Handle) (spare was is : T) → ((k : Handle) → thing_at mid k ≡ (if is_same h k then option_map (λ _. spare) (thing_at old k) else thing_at old k))
+    → ((k : Handle) → thing_at new k ≡ (if is_same h k then option_map (λ _. is) (thing_at mid k) else thing_at mid k)) → was ≡ unwrap_or (thing_at old h) spare → f is ≡ f was
+    → (k : Handle) (b : Bool) → is_same h k ≡ b → option_map f (thing_at new k) ≡ option_map f (thing_at old k)
 told_at f old mid new h spare was is m n w z k true e =
-    same_told f (found old k) (found new k) spare was is (exchanged_twice (found old k) (found mid k) (found new k) spare is (rw e at (m k)) (rw e at (n k))) (w ∙ ap (λ o. unwrap_or o spare) (sym (one_finds old h k e))) z
+    same_told f (thing_at old k) (thing_at new k) spare was is (exchanged_twice (thing_at old k) (thing_at mid k) (thing_at new k) spare is (rw e at (m k)) (rw e at (n k))) (w ∙ ap (λ o. unwrap_or o spare) (sym (one_finds old h k e))) z
 told_at f old mid new h spare was is m n w z k false e = ap (option_map f) (rw e at (n k) ∙ rw e at (m k))
 
 -- an environment was exchanged, changed and exchanged back, with the zones, the moment and the names that it had
-pub additions_by_exchange : (old mid new : Kept Additions) (h : Handle) (spare was is : Additions) → ((k : Handle) → found mid k ≡ (if is_same h k then option_map (λ _. spare) (found old k) else found old k))
-    → ((k : Handle) → found new k ≡ (if is_same h k then option_map (λ _. is) (found mid k) else found mid k)) → was ≡ unwrap_or (found old h) spare
+pub additions_by_exchange : (old mid new : HandleMap Additions) (h : Handle) (spare was is : Additions) → ((k : Handle) → thing_at mid k ≡ (if is_same h k then option_map (λ _. spare) (thing_at old k) else thing_at old k))
+    → ((k : Handle) → thing_at new k ≡ (if is_same h k then option_map (λ _. is) (thing_at mid k) else thing_at mid k)) → was ≡ unwrap_or (thing_at old h) spare
     → ((name : List ℕ) → zone_at is name ≡ zone_at was name) → is.moment ≡ was.moment → ((name : List ℕ) → named_at is name ≡ named_at was name) → SameAdditions old new
 additions_by_exchange old mid new h spare was is m n w zones moment names = record {
   zones = λ k name. told_at (λ a. zone_at a name) old mid new h spare was is m n w (zones name) k (is_same h k) refl;
   moments = λ k. told_at (λ a. a.moment) old mid new h spare was is m n w moment k (is_same h k) refl;
   names = λ k name. told_at (λ a. named_at a name) old mid new h spare was is m n w (names name) k (is_same h k) refl;
 }
-
--- a thing was exchanged, and exchanged back as it was
-put_back : {T : Type 0} (o n : Option T) (spare was is : T) → n ≡ option_map (λ _. is) o → was ≡ unwrap_or o spare → is ≡ was → n ≡ o
-put_back None n spare was is e w z = e
-put_back (Some x) n spare was is e w z = e ∙ ap Some (z ∙ w)
-
-thing_at : {T : Type 0} (old mid new : Kept T) (h : Handle) (spare was is : T) → ((k : Handle) → found mid k ≡ (if is_same h k then option_map (λ _. spare) (found old k) else found old k))
-    → ((k : Handle) → found new k ≡ (if is_same h k then option_map (λ _. is) (found mid k) else found mid k)) → was ≡ unwrap_or (found old h) spare → is ≡ was
-    → (k : Handle) (b : Bool) → is_same h k ≡ b → found new k ≡ found old k
-thing_at old mid new h spare was is m n w z k true e =
-    put_back (found old k) (found new k) spare was is (exchanged_twice (found old k) (found mid k) (found new k) spare is (rw e at (m k)) (rw e at (n k))) (w ∙ ap (λ o. unwrap_or o spare) (sym (one_finds old h k e))) z
-thing_at old mid new h spare was is m n w z k false e = rw e at (n k) ∙ rw e at (m k)
-
-pub things_by_exchange : {T : Type 0} (old mid new : Kept T) (h : Handle) (spare was is : T) → ((k : Handle) → found mid k ≡ (if is_same h k then option_map (λ _. spare) (found old k) else found old k))
-    → ((k : Handle) → found new k ≡ (if is_same h k then option_map (λ _. is) (found mid k) else found mid k)) → was ≡ unwrap_or (found old h) spare → is ≡ was → SameThings old new
-things_by_exchange old mid new h spare was is m n w z = λ k. thing_at old mid new h spare was is m n w z k (is_same h k) refl
 
 -- what holds, holds where a result is a refusal
 pub on_err : {A E P : Type 0} (r : Result A E) → P → OnErr r P
@@ -124,14 +108,14 @@ stood_as None spare was known w = absurd (false≢true known)
 stood_as (Some x) spare was known w = ap Some (sym w)
 
 -- a thing was exchanged, became another, and was exchanged back
-pub changes_by_exchange : {T : Type 0} (Becomes : T → T → Type 0) (old mid new : Kept T) (h : Handle) (spare was is : T) → ((k : Handle) → found mid k ≡ (if is_same h k then option_map (λ _. spare) (found old k) else found old k))
-    → ((k : Handle) → found new k ≡ (if is_same h k then option_map (λ _. is) (found mid k) else found mid k)) → is_some (found old h) ≡ true → was ≡ unwrap_or (found old h) spare
+pub changes_by_exchange : {T : Type 0} (Becomes : T → T → Type 0) (old mid new : HandleMap T) (h : Handle) (spare was is : T) → ((k : Handle) → thing_at mid k ≡ (if is_same h k then option_map (λ _. spare) (thing_at old k) else thing_at old k))
+    → ((k : Handle) → thing_at new k ≡ (if is_same h k then option_map (λ _. is) (thing_at mid k) else thing_at mid k)) → is_some (thing_at old h) ≡ true → was ≡ unwrap_or (thing_at old h) spare
     → Becomes was is → Changes Becomes old new h
 changes_by_exchange Becomes old mid new h spare was is m n known w b = record {
   was = was;
-  stood = stood_as (found old h) spare was known w;
-  kept = finds_changed Becomes (found old h) (found new h) was is (stood_as (found old h) spare was known w)
-      (exchanged_twice (found old h) (found mid h) (found new h) spare is (rw (same_self h) at (m h)) (rw (same_self h) at (n h))) b;
+  stood = stood_as (thing_at old h) spare was known w;
+  kept = finds_changed Becomes (thing_at old h) (thing_at new h) was is (stood_as (thing_at old h) spare was known w)
+      (exchanged_twice (thing_at old h) (thing_at mid h) (thing_at new h) spare is (rw (same_self h) at (m h)) (rw (same_self h) at (n h))) b;
   others = λ k e. rw e at (n k) ∙ rw e at (m k);
 }
 
@@ -139,12 +123,12 @@ changes_by_exchange Becomes old mid new h spare was is m n known w b = record {
 pub leaves_after : {old mid new : Engine} → Leaves old mid → new.rules ≡ mid.rules → new.contexts ≡ mid.contexts → new.environments ≡ mid.environments → new.answer ≡ mid.answer → Leaves old new
 leaves_after l r c e a = record {
   kept = record {
-    rules = λ h. ap (λ k. found k h) r ∙ l.kept.rules h;
-    contexts = λ h. ap (λ k. found k h) c ∙ l.kept.contexts h;
+    rules = λ h. ap (λ k. thing_at k h) r ∙ l.kept.rules h;
+    contexts = λ h. ap (λ k. thing_at k h) c ∙ l.kept.contexts h;
     environments = record {
-      zones = λ h name. ap (λ k. option_map (λ a. zone_at a name) (found k h)) e ∙ l.kept.environments.zones h name;
-      moments = λ h. ap (λ k. option_map (λ a. a.moment) (found k h)) e ∙ l.kept.environments.moments h;
-      names = λ h name. ap (λ k. option_map (λ a. named_at a name) (found k h)) e ∙ l.kept.environments.names h name;
+      zones = λ h name. ap (λ k. option_map (λ a. zone_at a name) (thing_at k h)) e ∙ l.kept.environments.zones h name;
+      moments = λ h. ap (λ k. option_map (λ a. a.moment) (thing_at k h)) e ∙ l.kept.environments.moments h;
+      names = λ h name. ap (λ k. option_map (λ a. named_at a name) (thing_at k h)) e ∙ l.kept.environments.names h name;
     };
   };
   look = record { whole = ap whole_of a ∙ l.look.whole; way = ap way_of a ∙ l.look.way };
@@ -196,13 +180,3 @@ left_look old new (Err x) k c e l = record { kept = same_kept k c e; look = l }
 pub left_answer : {A E : Type 0} (old new : Engine) (r : Result A E) → new.rules ≡ old.rules → new.contexts ≡ old.contexts → new.environments ≡ old.environments → OnErr r (new.answer ≡ old.answer) → OnErr r (Leaves old new)
 left_answer old new (Ok v) k c e a = tt
 left_answer old new (Err x) k c e a = leaves (same_kept k c e) a
-
--- a new thing takes the next number
-pub adds_rise : {T : Type 0} {Is : T → Type 0} {old new : Kept T} {h : Handle} → Adds Is old new h → next_number old ≤ next_number new
-adds_rise a = omega (arith, a.number, a.next)
-
-pub rise_by_rules : {old new : Engine} → next_number old.rules ≤ next_number new.rules → new.contexts ≡ old.contexts → new.environments ≡ old.environments → NumbersRise old new
-rise_by_rules r c e = record { rules = r; contexts = no_less _ _ (ap (λ k. next_number k) c); environments = no_less _ _ (ap (λ k. next_number k) e) }
-
-pub rise_by_contexts : {old new : Engine} → new.rules ≡ old.rules → next_number old.contexts ≤ next_number new.contexts → new.environments ≡ old.environments → NumbersRise old new
-rise_by_contexts r c e = record { rules = no_less _ _ (ap (λ k. next_number k) r); contexts = c; environments = no_less _ _ (ap (λ k. next_number k) e) }

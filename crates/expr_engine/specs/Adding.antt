@@ -5,7 +5,7 @@ use Rattle.jiff.specs.Types.{Offset, TimeZone as Rules}
 use Rattle.expr.specs.Hosted.{IsZoneAdded}
 use Rattle.expr_engine.specs.Runs.{named_at, names_in, zone_at}
 use Rattle.expr_engine.specs.declared.additions.Additions.{Additions}
-use Rattle.expr_value.specs.Times.{instant}
+use Rattle.expr_datetime.specs.Times.{instant}
 
 -- There are no zones, no moment, and no functions that the host answers itself.
 pub record AddsNothing (added : Additions) : Type 0 where

@@ -37,7 +37,7 @@ all_asks =
     ∷ is.Name
     ∷ is.Answer
     ∷ is.Refuse
-    ∷ is.Asked
+    ∷ is.WaitingCall
     ∷ is.Limit
     ∷ is.Unlimited
     ∷ []
@@ -59,5 +59,5 @@ shows_of is.Shown = Said
 shows_of is.Text = Said
 shows_of is.Json = Said
 shows_of is.Said = Said
-shows_of is.Asked = Said
+shows_of is.WaitingCall = Said
 shows_of ask = Nothing

@@ -4,71 +4,71 @@ use Rattle.std.specs.Option.{option_and_then}
 use Rattle.expr.specs.Texts.{IsRefused}
 use Rattle.expr_engine.specs.Codes.{code_of}
 use Rattle.expr_engine.specs.Limiting.{Passes}
-use Rattle.expr_engine.specs.Runs.{MayGive, Pairs, context_of, host_with, named_at, zone_at}
+use Rattle.expr_engine.specs.Runs.{MayGive, NamedValues, context_of, host_with, named_at, zone_at}
 use Rattle.expr_engine.specs.declared.additions.Additions.{Additions}
 use Rattle.expr_engine.specs.declared.engine.Engine.{Engine}
 use Rattle.expr_engine.specs.declared.rule.Rule.{Rule}
-use Rattle.expr_exchange.specs.Looked.{SameLook}
-use Rattle.expr_exchange.specs.declared.refused.Refused.{Refused}
-use Rattle.expr_exchange.specs.declared.refused.Refused.TheVariants.{Language, Unknown, Misuse, Asks, Differs, Stopped}
-use Rattle.expr_kept.specs.Kept.{SameThings, found, next_number}
-use Rattle.expr_kept.specs.declared.Handle.{Handle}
-use Rattle.expr_kept.specs.declared.Kept.{Kept}
-use Rattle.expr_meter.specs.Counting.{Ending, ended}
+use Rattle.expr_exchange.specs.Cursor.{SameLook}
+use Rattle.expr_exchange.specs.declared.host_error.HostError.{HostError}
+use Rattle.expr_exchange.specs.declared.host_error.HostError.TheVariants.{Language, Unknown, Misuse, Asks, Differs, Stopped}
+use Rattle.expr_handles.specs.HandleMap.{SameThings, thing_at, next_number}
+use Rattle.expr_handles.specs.declared.Handle.{Handle}
+use Rattle.expr_handles.specs.declared.HandleMap.{HandleMap}
+use Rattle.expr_meter.specs.Counting.{Ending, ending_of}
 use Rattle.expr_meter.specs.Rooms.{Room}
 use Rattle.expr_meter.specs.declared.limits.Limits.{Limits}
 use Rattle.expr_stops.specs.Stops.{CodeComes}
-use Rattle.expr_stops.specs.declared.given.Given.{Given}
-use Rattle.expr_tree.specs.Written.{program_written}
+use Rattle.expr_stops.specs.declared.replies.CallReply.{CallReply}
+use Rattle.expr_tree.specs.TermOf.{program_term}
 use Rattle.expr_syntax.specs.Texts.{IsPlaced}
 use Rattle.expr_value.specs.Answers.{Answer}
-use Rattle.expr_value.specs.Fault.{fault_of, memory}
+use Rattle.expr_error.specs.ErrorKind.{error_kind, memory}
 use Rattle.expr_meaning.specs.World.{world_of}
 
 -- the number that stands for no context and no environment
-abbrev pub none : ℕ
-none = 18446744073709551615
+abbrev pub no_number : ℕ
+no_number = 18446744073709551615
 
 -- the names of a context, none where there is no context; nothing for a handle that finds nothing
-abbrev pub names_at : Engine → Handle → Option Pairs
-names_at engine context = if context.number == none then Some [] else found engine.contexts context
+abbrev pub names_at : Engine → Handle → Option NamedValues
+names_at engine context = if context.number == no_number then Some [] else thing_at engine.contexts context
 
 -- what an environment adds, nothing where there is no environment
 abbrev pub additions_at : Engine → Handle → Option (Option Additions)
 additions_at engine environment =
-    if environment.number == none then Some None else option_map Some (found engine.environments environment)
+    if environment.number == no_number then Some None else option_map Some (thing_at engine.environments environment)
 
 -- what a run finds under three handles, and the engine's limits
-pub record Asked : Type 0 where
+pub record RunInputs : Type 0 where
   pub rule : Rule
   pub added : Option Additions
-  pub names : Pairs
+  pub names : NamedValues
   pub limits : Option Limits
 
-abbrev pub asked : Engine → Handle → Handle → Handle → Option Asked
-asked engine program environment context =
+abbrev pub run_inputs : Engine → Handle → Handle → Handle → Option RunInputs
+run_inputs engine program environment context =
     option_and_then (λ rule. option_and_then (λ added. option_map
     (λ names. record { rule = rule; added = added; names = names; limits = engine.limits })
-    (names_at engine context)) (additions_at engine environment)) (found engine.rules program)
+    (names_at engine context)) (additions_at engine environment)) (thing_at engine.rules program)
 
 -- how a run of the program's code may end in that environment and that context, where calls of the host's functions answer what it replied, within the limits, if there
 -- are any
-abbrev pub MayEnd : Asked → List Given → Ending Room → Type 0
+abbrev pub MayEnd : RunInputs → List CallReply → Ending Room → Type 0
 MayEnd q given end = CodeComes q.limits (world_of (host_with q.added given) (context_of q.names)) (code_of q.rule.code) end
 
 -- An answer of such a run: the program's meaning allows it too.
-pub record MayAnswer (q : Asked) (given : List Given) (answer : Answer) : Type 0 where
-  pub allowed : MayGive (world_of (host_with q.added given) (context_of q.names)) (program_written q.rule.program) answer
+pub record MayAnswer (q : RunInputs) (given : List CallReply) (answer : Answer) : Type 0 where
+  pub allowed : MayGive (world_of (host_with q.added given) (context_of q.names)) (program_term q.rule.program) answer
   pub left : Room
-  pub ends : MayEnd q given (ended answer left)
+  pub ends : MayEnd q given (ending_of answer left)
 
 -- what the run that waits finds under its handles
-abbrev pub asked_again : Engine → Option Asked
-asked_again engine = asked engine engine.waits.program engine.waits.environment engine.waits.context
+abbrev pub waiting_inputs : Engine → Option RunInputs
+waiting_inputs engine = run_inputs engine engine.waits.program engine.waits.environment engine.waits.context
 
 -- A text is refused that deserves it, or that passes a limit, or memory is.
-abbrev pub RefusesText : Option Limits → List ℕ → Refused → Type 0
-RefusesText limits text (Language error) = fault_of error ≢ memory → IsRefused text (Err (fault_of error))
+abbrev pub RefusesText : Option Limits → List ℕ → HostError → Type 0
+RefusesText limits text (Language error) = error_kind error ≢ memory → IsRefused text (Err (error_kind error))
 RefusesText limits text Unknown = ⊥
 RefusesText limits text Misuse = ⊥
 RefusesText limits text Asks = ⊥
@@ -76,7 +76,7 @@ RefusesText limits text Differs = ⊥
 RefusesText limits text (Stopped limit) = Passes limits text limit
 
 -- A fault of syntax is at the text's first fault.
-abbrev pub IsPlacedRefusal : List ℕ → Refused → Type 0
+abbrev pub IsPlacedRefusal : List ℕ → HostError → Type 0
 IsPlacedRefusal text (Language error) = IsPlaced {A = Unit {0}} text (Err error)
 IsPlacedRefusal text Unknown = Unit {0}
 IsPlacedRefusal text Misuse = Unit {0}
@@ -85,7 +85,7 @@ IsPlacedRefusal text Differs = Unit {0}
 IsPlacedRefusal text (Stopped limit) = Unit {0}
 
 -- The same of a text that is handed in, and misused only where it is no text.
-abbrev pub CompileRefuses : Option Limits → List ℕ → Refused → Type 0
+abbrev pub CompileRefuses : Option Limits → List ℕ → HostError → Type 0
 CompileRefuses limits text (Language error) = RefusesText limits text (Language error) × IsPlacedRefusal text (Language error) × IsUtf8 text
 CompileRefuses limits text Unknown = ⊥
 CompileRefuses limits text Misuse = IsUtf8 text → ⊥
@@ -94,12 +94,12 @@ CompileRefuses limits text Differs = ⊥
 CompileRefuses limits text (Stopped limit) = Passes limits text limit × IsUtf8 text
 
 -- Every handle finds an environment with the zones, the moment and the names that it found.
-pub record SameAdditions (old new : Kept Additions) : Type 0 where
-  pub zones : (h : Handle) (name : List ℕ) → option_map (λ a. zone_at a name) (found new h)
-      ≡ option_map (λ a. zone_at a name) (found old h)
-  pub moments : (h : Handle) → option_map (λ a. a.moment) (found new h) ≡ option_map (λ a. a.moment) (found old h)
-  pub names : (h : Handle) (name : List ℕ) → option_map (λ a. named_at a name) (found new h)
-      ≡ option_map (λ a. named_at a name) (found old h)
+pub record SameAdditions (old new : HandleMap Additions) : Type 0 where
+  pub zones : (h : Handle) (name : List ℕ) → option_map (λ a. zone_at a name) (thing_at new h)
+      ≡ option_map (λ a. zone_at a name) (thing_at old h)
+  pub moments : (h : Handle) → option_map (λ a. a.moment) (thing_at new h) ≡ option_map (λ a. a.moment) (thing_at old h)
+  pub names : (h : Handle) (name : List ℕ) → option_map (λ a. named_at a name) (thing_at new h)
+      ≡ option_map (λ a. named_at a name) (thing_at old h)
 
 -- Every handle finds what it found.
 pub record SameKept (old new : Engine) : Type 0 where

@@ -1,7 +1,7 @@
 pub mod Adding
 pub mod Asks
 pub mod Codes
-pub mod Doings
+pub mod Effects
 pub mod Engines
 pub mod Limiting
 pub mod Promised

@@ -14,8 +14,8 @@ use Rattle.expr_meter.specs.declared.outcome.Outcome.TheVariants.{Answered, Stop
 use Rattle.expr_syntax.specs.Bounds.{IsHeavier, IsHigher, IsLight}
 use Rattle.expr_syntax.specs.Texts.{IsProgramOf, IsProgramWithin}
 use Rattle.expr_tree.specs.Term.{Block}
-use Rattle.expr_value.specs.Fault.{fault_of, memory}
-use Rattle.expr_value.specs.declared.error.Error.{Error}
+use Rattle.expr_error.specs.ErrorKind.{error_kind, memory}
+use Rattle.expr_error.specs.declared.error.Error.{Error}
 
 -- the limits for texts that strangers wrote
 abbrev pub for_strangers : Limits
@@ -61,4 +61,4 @@ Passes None text limit = ⊥
 abbrev pub IsCompiledBy : {A : Type 0} → Option Limits → List ℕ → (A → Block) → Result (Outcome A) Error → Type 0
 IsCompiledBy limits text program_of (Ok (Answered p)) = IsProgramBy limits text (program_of p)
 IsCompiledBy limits text program_of (Ok (Stopped limit)) = Passes limits text limit
-IsCompiledBy limits text program_of (Err e) = fault_of e ≢ memory → IsRefused text (Err (fault_of e))
+IsCompiledBy limits text program_of (Err e) = error_kind e ≢ memory → IsRefused text (Err (error_kind e))

@@ -4,26 +4,26 @@ use Rattle.std.specs.HashMap.{get_by_text}
 use Rattle.expr_engine.specs.declared.additions.Additions.{Additions}
 use Rattle.expr_meaning.specs.Allows.{AllowsBlock}
 use Rattle.expr_meaning.specs.Host.{Host, no_host}
-use Rattle.expr_stops.specs.Stops.{answered_by, is_named}
-use Rattle.expr_stops.specs.declared.given.Given.{Given}
+use Rattle.expr_stops.specs.Stops.{host_replying, is_named}
+use Rattle.expr_stops.specs.declared.replies.CallReply.{CallReply}
 use Rattle.expr_stops.specs.declared.names.StopNames.{StopNames}
 use Rattle.expr_tree.specs.Term.{Block}
 use Rattle.expr_value.specs.Answers.{Answer}
-use Rattle.expr_value.specs.Context.{Context}
+use Rattle.expr_context.specs.Context.{ContextView}
 use Rattle.expr_meaning.specs.World.{World}
 use Rattle.expr_value.specs.Names.{find}
 use Rattle.expr_value.specs.declared.value.Value.{Value}
-use Rattle.expr_value.specs.declared.zone.TimezoneValue.{TimezoneValue}
+use Rattle.expr_datetime.specs.declared.zone.TimezoneValue.{TimezoneValue}
 
-abbrev pub Pairs : Type 0
-Pairs = List (List ℕ × Value)
+abbrev pub NamedValues : Type 0
+NamedValues = List (List ℕ × Value)
 
 -- what names stand for that have these values
-abbrev pub context_of : Pairs → Context
+abbrev pub context_of : NamedValues → ContextView
 context_of pairs = record { value_of = λ name. find name pairs; map = pairs }
 
 -- the names of a context, none where there is none
-abbrev pub pairs_of : Option Pairs → Pairs
+abbrev pub pairs_of : Option NamedValues → NamedValues
 pairs_of None = []
 pairs_of (Some pairs) = pairs
 
@@ -58,9 +58,9 @@ named_by None = λ _. false
 named_by (Some added) = is_named (names_in added)
 
 -- what an environment adds where calls of the functions that the host answers itself answer what it replied
-abbrev pub host_with : Option Additions → List Given → Host
+abbrev pub host_with : Option Additions → List CallReply → Host
 host_with None given = no_host
-host_with (Some added) given = answered_by (added_by added) (is_named (names_in added)) given
+host_with (Some added) given = host_replying (added_by added) (is_named (names_in added)) given
 
 -- what a program's meaning allows, whichever way it comes to that
 abbrev pub MayGive : World → Block → Answer → Type 0

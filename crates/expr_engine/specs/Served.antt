@@ -1,21 +1,21 @@
 -- What a call answers.
 use Rattle.std.specs.Prelude.{◌≡◌, ◌≢◌, ◌⊎◌, ℕ, List, [], Result, Ok, Err, string_bytes}
-use Rattle.expr_engine.specs.Engines.{Asked, MayAnswer, MayEnd}
+use Rattle.expr_engine.specs.Engines.{RunInputs, MayAnswer, MayEnd}
 use Rattle.expr_engine.specs.declared.call.Shows.{Shows}
 use Rattle.expr_engine.specs.declared.call.Shows.TheVariants as shows
 use Rattle.expr_engine.specs.declared.engine.Engine.{Engine}
 use Rattle.expr_exchange.specs.Kinds.{bytes_in}
 use Rattle.expr_exchange.specs.Limits.{text_of_limit}
-use Rattle.expr_exchange.specs.Looked.{part_of}
+use Rattle.expr_exchange.specs.Cursor.{part_of}
 use Rattle.expr_exchange.specs.Refusals.{status_of}
-use Rattle.expr_exchange.specs.declared.refused.Refused.{Refused}
-use Rattle.expr_exchange.specs.declared.refused.Refused.TheVariants.{Language, Unknown, Misuse, Asks, Differs, Stopped}
-use Rattle.expr_exchange.specs.declared.refused.Status.{Status}
-use Rattle.expr_exchange.specs.declared.refused.Status.TheVariants as ends
+use Rattle.expr_exchange.specs.declared.host_error.HostError.{HostError}
+use Rattle.expr_exchange.specs.declared.host_error.HostError.TheVariants.{Language, Unknown, Misuse, Asks, Differs, Stopped}
+use Rattle.expr_exchange.specs.declared.host_error.Status.{Status}
+use Rattle.expr_exchange.specs.declared.host_error.Status.TheVariants as ends
 use Rattle.expr_meter.specs.Counting.{stops}
 use Rattle.expr_meter.specs.declared.limit.Limit.TheVariants as limits
-use Rattle.expr_stops.specs.declared.given.Given.{Given}
-use Rattle.expr_value.specs.Fault.{fault_of, syntax, literal, evaluation, pattern, memory}
+use Rattle.expr_stops.specs.declared.replies.CallReply.{CallReply}
+use Rattle.expr_error.specs.ErrorKind.{error_kind, syntax, literal, evaluation, pattern, memory}
 use Rattle.expr_value.specs.declared.value.Value.{Value}
 
 -- the number of an ending
@@ -37,18 +37,18 @@ number_of ends.Depth = 13
 number_of ends.Size = 14
 
 -- A run that found all three, with these replies, gives the value that is then looked at, or a refusal, or it stops for a reply, or at a limit at which one may stop.
-abbrev pub Runs : {A : Type 0} → Asked → List Given → Result A Refused → Value → Type 0
-Runs q given (Ok shown) value = MayAnswer q given (Ok value)
-Runs q given (Err (Language error)) value = fault_of error ≢ memory → MayAnswer q given (Err (fault_of error))
-Runs q given (Err Unknown) value = ⊥
-Runs q given (Err Misuse) value = ⊥
-Runs q given (Err Asks) value = Unit {0}
-Runs q given (Err Differs) value = Unit {0}
-Runs q given (Err (Stopped limit)) value = MayEnd q given (stops limit)
+abbrev pub RunServes : {A : Type 0} → RunInputs → List CallReply → Result A HostError → Value → Type 0
+RunServes q given (Ok shown) value = MayAnswer q given (Ok value)
+RunServes q given (Err (Language error)) value = error_kind error ≢ memory → MayAnswer q given (Err (error_kind error))
+RunServes q given (Err Unknown) value = ⊥
+RunServes q given (Err Misuse) value = ⊥
+RunServes q given (Err Asks) value = Unit {0}
+RunServes q given (Err Differs) value = Unit {0}
+RunServes q given (Err (Stopped limit)) value = MayEnd q given (stops limit)
 
 -- What the ending of such a run says: its value, or its kind of refusal, is one that the meaning allows and to which a run comes within the limits, or the limit is one
 -- at which a run may stop. The limits of texts are none.
-abbrev pub Says : Asked → List Given → Status → Value → Type 0
+abbrev pub Says : RunInputs → List CallReply → Status → Value → Type 0
 Says q given ends.Done value = MayAnswer q given (Ok value)
 Says q given ends.Syntax value = MayAnswer q given (Err syntax)
 Says q given ends.Literal value = MayAnswer q given (Err literal)
@@ -66,15 +66,15 @@ Says q given ends.Depth value = MayEnd q given (stops limits.Depth)
 Says q given ends.Size value = MayEnd q given (stops limits.Size)
 
 -- the same of the number of an ending
-pub record Answers (q : Asked) (given : List Given) (number : ℕ) (value : Value) : Type 0 where
+pub record AnswersNumber (q : RunInputs) (given : List CallReply) (number : ℕ) (value : Value) : Type 0 where
   pub status : Status
   pub is : number ≡ number_of status
   pub says : Says q given status value
 
 -- A call that ended so has this number, or memory was refused for its message.
-abbrev pub Ends : {A : Type 0} → Result A Refused → ℕ → Type 0
-Ends (Ok shown) number = number ≡ 0
-Ends (Err refused) number = (number ≡ number_of (status_of refused)) ⊎ (number ≡ 5)
+abbrev pub EndsCall : {A : Type 0} → Result A HostError → ℕ → Type 0
+EndsCall (Ok shown) number = number ≡ 0
+EndsCall (Err refused) number = (number ≡ number_of (status_of refused)) ⊎ (number ≡ 5)
 
 -- the text that an engine shows
 abbrev pub text_shown : Shows → Engine → List ℕ
@@ -83,6 +83,6 @@ text_shown shows.Said engine = string_bytes engine.said
 text_shown shows.Value engine = bytes_in (part_of engine.answer)
 
 -- A limit that was passed is said in words.
-abbrev pub SaysLimit : Refused → List ℕ → Type 0
+abbrev pub SaysLimit : HostError → List ℕ → Type 0
 SaysLimit (Stopped limit) text = text ≡ text_of_limit limit
 SaysLimit refused text = Unit {0}

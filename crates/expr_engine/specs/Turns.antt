@@ -1,80 +1,80 @@
 -- How the run stands that waits for a host's reply.
 use Rattle.std.specs.Prelude.{◌≡◌, ◌⊎◌, ℕ, List, [], ◌∷◌, ◌++◌, Option, None, Some, IsSomeAnd, MatchOption, Result, Ok, Err, string_bytes}
-use Rattle.expr_engine.specs.Engines.{Asked, asked, asked_again}
+use Rattle.expr_engine.specs.Engines.{RunInputs, run_inputs, waiting_inputs}
 use Rattle.expr_engine.specs.Runs.{named_by}
-use Rattle.expr_engine.specs.Served.{Ends, Runs}
+use Rattle.expr_engine.specs.Served.{EndsCall, RunServes}
 use Rattle.expr_engine.specs.declared.call.Ask.{Ask}
 use Rattle.expr_engine.specs.declared.call.Ask.TheVariants as is
 use Rattle.expr_engine.specs.declared.call.Call.{Call}
 use Rattle.expr_engine.specs.declared.engine.Engine.{Engine}
-use Rattle.expr_engine.specs.declared.waiting.Waiting.{Waiting}
-use Rattle.expr_exchange.specs.Built.{values_of}
-use Rattle.expr_exchange.specs.declared.refused.Refused.{Refused}
-use Rattle.expr_exchange.specs.declared.refused.Refused.TheVariants.{Language, Unknown, Misuse, Asks, Differs, Stopped}
-use Rattle.expr_kept.specs.declared.Handle.{Handle}
-use Rattle.expr_stops.specs.Stops.{IsNext, IsSame, asked_of, given_of}
-use Rattle.expr_stops.specs.declared.given.Given.{Given}
-use Rattle.expr_stops.specs.declared.given.Reply.{Reply}
-use Rattle.expr_stops.specs.declared.given.Reply.TheVariants as reply
+use Rattle.expr_engine.specs.declared.waiting_run.WaitingRun.{WaitingRun}
+use Rattle.expr_exchange.specs.Builder.{values_of}
+use Rattle.expr_exchange.specs.declared.host_error.HostError.{HostError}
+use Rattle.expr_exchange.specs.declared.host_error.HostError.TheVariants.{Language, Unknown, Misuse, Asks, Differs, Stopped}
+use Rattle.expr_handles.specs.declared.Handle.{Handle}
+use Rattle.expr_stops.specs.Stops.{IsNext, IsSame, waiting_call_of, replies_of}
+use Rattle.expr_stops.specs.declared.replies.CallReply.{CallReply}
+use Rattle.expr_stops.specs.declared.replies.Reply.{Reply}
+use Rattle.expr_stops.specs.declared.replies.Reply.TheVariants as reply
 use Rattle.expr_stops.specs.declared.replay.Stop.{Stop}
-use Rattle.expr_value.specs.Fault.{fault_of, memory}
+use Rattle.expr_error.specs.ErrorKind.{error_kind, memory}
 use Rattle.expr_value.specs.declared.value.Value.{Value}
 
 -- A run that asks waits for the reply to its next call, and any other waits for nothing.
-abbrev pub Stands : {A : Type 0} → Asked → List Given → Result A Refused → Option Stop → Type 0
-Stands q given (Ok v) waits = waits ≡ None
-Stands q given (Err (Language error)) waits = waits ≡ None
-Stands q given (Err Unknown) waits = waits ≡ None
-Stands q given (Err Misuse) waits = waits ≡ None
-Stands q given (Err Asks) waits = IsSomeAnd waits (IsNext (named_by q.added) given)
-Stands q given (Err Differs) waits = waits ≡ None
-Stands q given (Err (Stopped limit)) waits = waits ≡ None
+abbrev pub WaitsIfAsks : {A : Type 0} → RunInputs → List CallReply → Result A HostError → Option Stop → Type 0
+WaitsIfAsks q given (Ok v) waits = waits ≡ None
+WaitsIfAsks q given (Err (Language error)) waits = waits ≡ None
+WaitsIfAsks q given (Err Unknown) waits = waits ≡ None
+WaitsIfAsks q given (Err Misuse) waits = waits ≡ None
+WaitsIfAsks q given (Err Asks) waits = IsSomeAnd waits (IsNext (named_by q.added) given)
+WaitsIfAsks q given (Err Differs) waits = waits ≡ None
+WaitsIfAsks q given (Err (Stopped limit)) waits = waits ≡ None
 
 -- A run's answer is looked at, and a refusal is passed on.
-abbrev pub Keeps : Result Value Refused → Result (Unit {0}) Refused → Value → Type 0
-Keeps (Ok v) done value = (done ≡ Ok tt) × (value ≡ v)
-Keeps (Err e) done value = done ≡ Err e
+abbrev pub PassesOn : Result Value HostError → Result (Unit {0}) HostError → Value → Type 0
+PassesOn (Ok v) done value = (done ≡ Ok tt) × (value ≡ v)
+PassesOn (Err e) done value = done ≡ Err e
 
 -- A run was begun under these handles, and has no replies yet.
-pub record IsBegun (q : Asked) (of_program in_environment in_context : Handle) (done : Result (Unit {0}) Refused) (waits : Waiting) : Type 0 where
+pub record IsNewRun (q : RunInputs) (of_program in_environment in_context : Handle) (done : Result (Unit {0}) HostError) (waits : WaitingRun) : Type 0 where
   pub program : waits.program ≡ of_program
   pub environment : waits.environment ≡ in_environment
   pub context : waits.context ≡ in_context
-  pub given : given_of waits.stops ≡ []
-  pub stands : Stands q [] done (asked_of waits.stops)
+  pub given : replies_of waits.stops ≡ []
+  pub stands : WaitsIfAsks q [] done (waiting_call_of waits.stops)
 
 -- The run is one of the same program, under the same handles.
-pub record IsSameRun (old new : Waiting) : Type 0 where
+pub record IsSameRun (old new : WaitingRun) : Type 0 where
   pub program : new.program ≡ old.program
   pub environment : new.environment ≡ old.environment
   pub context : new.context ≡ old.context
 
 -- The same run has the same replies, and the same call waits.
-pub record IsSameWait (old new : Waiting) : Type 0 where
+pub record IsSameWait (old new : WaitingRun) : Type 0 where
   pub run : IsSameRun old new
   pub stops : IsSame old.stops new.stops
 
 -- The call that waited has such a reply, behind all others, and its run went on.
-pub record GoesOn (Is : Reply → Type 0) (q : Asked) (old new : Waiting) (done : Result (Unit {0}) Refused) (value : Value) : Type 0 where
+pub record GoesOn (Is : Reply → Type 0) (q : RunInputs) (old new : WaitingRun) (done : Result (Unit {0}) HostError) (value : Value) : Type 0 where
   pub stop : Stop
-  pub waited : asked_of old.stops ≡ Some stop
+  pub waited : waiting_call_of old.stops ≡ Some stop
   pub reply : Reply
   pub is : Is reply
-  pub given : given_of new.stops ≡ given_of old.stops ++ (record { call = stop.call; reply = reply } ∷ [])
+  pub given : replies_of new.stops ≡ replies_of old.stops ++ (record { call = stop.call; reply = reply } ∷ [])
   pub run : IsSameRun old new
-  pub stands : Stands q (given_of new.stops) done (asked_of new.stops)
-  pub runs : Runs q (given_of new.stops) done value
+  pub stands : WaitsIfAsks q (replies_of new.stops) done (waiting_call_of new.stops)
+  pub runs : RunServes q (replies_of new.stops) done value
 
 -- The same of what the run's handles find. Where memory is refused for the reply, or a handle finds nothing, or nothing stands for a reply, the call still waits.
-abbrev pub Replies : (Reply → Type 0) → Option Asked → Waiting → Waiting → Result (Unit {0}) Refused → Value → Type 0
-Replies Is o old new (Ok v) value = IsSomeAnd o (λ q. GoesOn Is q old new (Ok v) value)
-Replies Is o old new (Err (Language error)) value =
-    ((fault_of error ≡ memory) × IsSameWait old new) ⊎ IsSomeAnd o (λ q. GoesOn Is q old new (Err (Language error)) value)
-Replies Is o old new (Err Unknown) value = new ≡ old
-Replies Is o old new (Err Misuse) value = new ≡ old
-Replies Is o old new (Err Asks) value = IsSomeAnd o (λ q. GoesOn Is q old new (Err Asks) value)
-Replies Is o old new (Err Differs) value = IsSomeAnd o (λ q. GoesOn Is q old new (Err Differs) value)
-Replies Is o old new (Err (Stopped limit)) value = IsSomeAnd o (λ q. GoesOn Is q old new (Err (Stopped limit)) value)
+abbrev pub RunGoesOn : (Reply → Type 0) → Option RunInputs → WaitingRun → WaitingRun → Result (Unit {0}) HostError → Value → Type 0
+RunGoesOn Is o old new (Ok v) value = IsSomeAnd o (λ q. GoesOn Is q old new (Ok v) value)
+RunGoesOn Is o old new (Err (Language error)) value =
+    ((error_kind error ≡ memory) × IsSameWait old new) ⊎ IsSomeAnd o (λ q. GoesOn Is q old new (Err (Language error)) value)
+RunGoesOn Is o old new (Err Unknown) value = new ≡ old
+RunGoesOn Is o old new (Err Misuse) value = new ≡ old
+RunGoesOn Is o old new (Err Asks) value = IsSomeAnd o (λ q. GoesOn Is q old new (Err Asks) value)
+RunGoesOn Is o old new (Err Differs) value = IsSomeAnd o (λ q. GoesOn Is q old new (Err Differs) value)
+RunGoesOn Is o old new (Err (Stopped limit)) value = IsSomeAnd o (λ q. GoesOn Is q old new (Err (Stopped limit)) value)
 
 -- The value was built last.
 pub record IsBuiltLast (values : List Value) (v : Value) : Type 0 where
@@ -90,16 +90,16 @@ IsRefusal text (reply.Value v) = ⊥
 IsRefusal text (reply.Refusal message) = string_bytes message ≡ text
 
 -- How a call leaves the run that waits: calls that run nothing leave it as it is.
-abbrev pub Turns : Ask → Engine → Call → Result (Unit {0}) Refused → Waiting → Value → Type 0
+abbrev pub Turns : Ask → Engine → Call → Result (Unit {0}) HostError → WaitingRun → Value → Type 0
 Turns is.Run old call done waits value =
-    MatchOption (asked old call.program call.environment call.context) (waits ≡ old.waits) (λ q. IsBegun q call.program call.environment call.context done waits)
-Turns is.Answer old call done waits value = Replies (IsAnswer (values_of old.built)) (asked_again old) old.waits waits done value
-Turns is.Refuse old call done waits value = Replies (IsRefusal call.text.now) (asked_again old) old.waits waits done value
-Turns is.Clear old call done waits value = asked_of waits.stops ≡ None
+    MatchOption (run_inputs old call.program call.environment call.context) (waits ≡ old.waits) (λ q. IsNewRun q call.program call.environment call.context done waits)
+Turns is.Answer old call done waits value = RunGoesOn (IsAnswer (values_of old.built)) (waiting_inputs old) old.waits waits done value
+Turns is.Refuse old call done waits value = RunGoesOn (IsRefusal call.text.now) (waiting_inputs old) old.waits waits done value
+Turns is.Clear old call done waits value = waiting_call_of waits.stops ≡ None
 Turns ask old call done waits value = waits ≡ old.waits
 
 -- the same by the number of the call's ending
-pub record TurnsBy (ask : Ask) (old : Engine) (call : Call) (number : ℕ) (waits : Waiting) (value : Value) : Type 0 where
-  pub done : Result (Unit {0}) Refused
-  pub ends : Ends done number
+pub record TurnsBy (ask : Ask) (old : Engine) (call : Call) (number : ℕ) (waits : WaitingRun) (value : Value) : Type 0 where
+  pub done : Result (Unit {0}) HostError
+  pub ends : EndsCall done number
   pub turns : Turns ask old call done waits value

@@ -1,20 +1,20 @@
 //! Asks about environments.
 ghost use Rattle.std.specs.Prelude.{◌≡◌, None, ◌≢◌, IfErr, Err, OnErr, OnOk};
-ghost use Rattle.expr_engine.specs.Doings.{AddsEnvironment, AddsFixedZone, AddsName, AddsZoneByRule, SetsNow, reply_of};
+ghost use Rattle.expr_engine.specs.Effects.{AddsEnvironment, AddsFixedZone, AddsName, AddsZoneByRule, SetsNow, call_result};
 ghost use Rattle.expr_engine.specs.Engines.{NumbersRise, SameAdditions};
-ghost use Rattle.expr_kept.specs.Kept.{found, next_number};
+ghost use Rattle.expr_handles.specs.HandleMap.{thing_at, next_number};
 
 use crate::additions::Additions;
 use crate::call::Call;
 use crate::engine::Engine;
 use crate::running::utf8;
-use expr_exchange::{Refused, moment_of};
+use expr_exchange::{HostError, moment_of};
 
 /// Keeps an environment that adds nothing.
 #[tactic(auto, using(crate::proofs::Unchanged::additions_by_things))]
-pub fn add_environment(engine: &mut Engine, call: &mut Call<'_>) -> Result<(), Refused>
-    ensures done { OnOk result (AddsEnvironment engine.old engine.new (reply_of call.new)) }
-    ensures found { IfErr result (λ e. e ≢ Refused.Unknown) }
+pub fn add_environment(engine: &mut Engine, call: &mut Call<'_>) -> Result<(), HostError>
+    ensures done { OnOk result (AddsEnvironment engine.old engine.new (call_result call.new)) }
+    ensures found { IfErr result (λ e. e ≢ HostError.Unknown) }
     ensures err { OnErr result (SameAdditions engine.old.environments engine.new.environments) }
     ensures numbers { NumbersRise engine.old engine.new }
     ensures rules { engine.new.rules ≡ engine.old.rules }
@@ -28,11 +28,12 @@ pub fn add_environment(engine: &mut Engine, call: &mut Call<'_>) -> Result<(), R
 }
 
 /// Adds a zone to an environment, by the seconds that its clock is ahead of UTC.
-pub fn zone_by_seconds(engine: &mut Engine, call: &Call<'_>) -> Result<(), Refused>
+pub fn zone_by_seconds(engine: &mut Engine, call: &Call<'_>) -> Result<(), HostError>
     ensures done { OnOk result (AddsFixedZone engine.old engine.new call.now) }
-    ensures unknown { found engine.old.environments call.now.environment ≡ None
-        → result ≡ Err Refused.Unknown }
-    ensures known { result ≡ Err Refused.Unknown → found engine.old.environments call.now.environment ≡ None }
+    ensures unknown { thing_at engine.old.environments call.now.environment ≡ None
+        → result ≡ Err HostError.Unknown }
+    ensures known { result ≡ Err HostError.Unknown
+        → thing_at engine.old.environments call.now.environment ≡ None }
     ensures err { OnErr result (SameAdditions engine.old.environments engine.new.environments) }
     ensures next { next_number engine.new.environments ≡ next_number engine.old.environments }
     ensures rules { engine.new.rules ≡ engine.old.rules }
@@ -46,11 +47,12 @@ pub fn zone_by_seconds(engine: &mut Engine, call: &Call<'_>) -> Result<(), Refus
 }
 
 /// Adds a zone to an environment, by a rule in POSIX's form.
-pub fn zone_by_rule(engine: &mut Engine, call: &Call<'_>) -> Result<(), Refused>
+pub fn zone_by_rule(engine: &mut Engine, call: &Call<'_>) -> Result<(), HostError>
     ensures done { OnOk result (AddsZoneByRule engine.old engine.new call.now) }
-    ensures unknown { found engine.old.environments call.now.environment ≡ None
-        → result ≡ Err Refused.Unknown }
-    ensures known { result ≡ Err Refused.Unknown → found engine.old.environments call.now.environment ≡ None }
+    ensures unknown { thing_at engine.old.environments call.now.environment ≡ None
+        → result ≡ Err HostError.Unknown }
+    ensures known { result ≡ Err HostError.Unknown
+        → thing_at engine.old.environments call.now.environment ≡ None }
     ensures err { OnErr result (SameAdditions engine.old.environments engine.new.environments) }
     ensures next { next_number engine.new.environments ≡ next_number engine.old.environments }
     ensures rules { engine.new.rules ≡ engine.old.rules }
@@ -65,11 +67,12 @@ pub fn zone_by_rule(engine: &mut Engine, call: &Call<'_>) -> Result<(), Refused>
 }
 
 /// Sets the moment that an environment takes for now.
-pub fn set_now(engine: &mut Engine, call: &Call<'_>) -> Result<(), Refused>
+pub fn set_now(engine: &mut Engine, call: &Call<'_>) -> Result<(), HostError>
     ensures done { OnOk result (SetsNow engine.old engine.new call.now) }
-    ensures unknown { found engine.old.environments call.now.environment ≡ None
-        → result ≡ Err Refused.Unknown }
-    ensures known { result ≡ Err Refused.Unknown → found engine.old.environments call.now.environment ≡ None }
+    ensures unknown { thing_at engine.old.environments call.now.environment ≡ None
+        → result ≡ Err HostError.Unknown }
+    ensures known { result ≡ Err HostError.Unknown
+        → thing_at engine.old.environments call.now.environment ≡ None }
     ensures err { OnErr result (SameAdditions engine.old.environments engine.new.environments) }
     ensures next { next_number engine.new.environments ≡ next_number engine.old.environments }
     ensures rules { engine.new.rules ≡ engine.old.rules }
@@ -84,11 +87,12 @@ pub fn set_now(engine: &mut Engine, call: &Call<'_>) -> Result<(), Refused>
 }
 
 /// Adds a name to the functions of an environment that the host answers itself.
-pub fn add_name(engine: &mut Engine, call: &Call<'_>) -> Result<(), Refused>
+pub fn add_name(engine: &mut Engine, call: &Call<'_>) -> Result<(), HostError>
     ensures done { OnOk result (AddsName engine.old engine.new call.now) }
-    ensures unknown { found engine.old.environments call.now.environment ≡ None
-        → result ≡ Err Refused.Unknown }
-    ensures known { result ≡ Err Refused.Unknown → found engine.old.environments call.now.environment ≡ None }
+    ensures unknown { thing_at engine.old.environments call.now.environment ≡ None
+        → result ≡ Err HostError.Unknown }
+    ensures known { result ≡ Err HostError.Unknown
+        → thing_at engine.old.environments call.now.environment ≡ None }
     ensures err { OnErr result (SameAdditions engine.old.environments engine.new.environments) }
     ensures next { next_number engine.new.environments ≡ next_number engine.old.environments }
     ensures rules { engine.new.rules ≡ engine.old.rules }

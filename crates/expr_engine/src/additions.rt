@@ -2,7 +2,7 @@
 ghost use Rattle.std.specs.Prelude.{◌≡◌, ℕ, List, None, OnErr, OnOk, Some, IfSome, IsNone, bytes_eq, if◌then◌else◌, option_map, true};
 ghost use Rattle.expr_engine.specs.Adding.{AddsNothing, BecomesByRule, BecomesFixed, BecomesNow, GainsName, GainsZone};
 ghost use Rattle.expr_engine.specs.Runs.{named_at, names_in, zone_at};
-ghost use Rattle.expr_value.specs.Times.{plain_rules};
+ghost use Rattle.expr_datetime.specs.Times.{plain_rules};
 
 use expr::{DateTimeValue, Error, Result, TimezoneValue, Value};
 use expr_meaning::{ExprCall, Functions};
@@ -46,7 +46,7 @@ impl Additions {
         ensures moment { self.new.moment ≡ self.old.moment }
         ensures names { names_in self.new ≡ names_in self.old }
     {
-        match ahead(seconds) {
+        match offset_ahead(seconds) {
             Some(offset) => self.add(name, TimeZone::fixed(offset)),
             None => Err(refusal(self.alloc, "no clock is so far ahead")),
         }
@@ -169,7 +169,7 @@ impl<'a> Functions for LentHost<'a> {
 }
 
 /// The offset of a clock that is so many seconds ahead of UTC.
-fn ahead(seconds: i64) -> Option<Offset>
+fn offset_ahead(seconds: i64) -> Option<Offset>
     ensures { IfSome result (λ offset. offset.seconds ≡ seconds) }
 {
     match i32::try_from(seconds) {

@@ -1,6 +1,6 @@
 //! Values that a call hands in.
 ghost use Rattle.std.specs.Prelude.{◌≡◌, ◌≢◌, IfErr, IfOk, IsSomeAnd, OnOk};
-ghost use Rattle.expr_engine.specs.Doings.{HandsIn, MakesArray, MakesMap, Pushes, Unbuilds};
+ghost use Rattle.expr_engine.specs.Effects.{HandsIn, MakesArray, MakesMap, Pushes, Unbuilds};
 ghost use Rattle.expr_exchange.specs.Kinds.{kind_numbered};
 
 use crate::call::Call;
@@ -8,13 +8,13 @@ use crate::engine::Engine;
 use crate::running::utf8;
 use expr::Value;
 use expr_encoding::from_json;
-use expr_exchange::{Kind, Refused, scalar_of};
+use expr_exchange::{HostError, Kind, scalar_of};
 
 /// The value that a call hands in.
-pub fn handed_in(engine: &mut Engine, call: &Call<'_>) -> Result<Value, Refused>
+pub fn handed_in(engine: &mut Engine, call: &Call<'_>) -> Result<Value, HostError>
     ensures value { IfOk result (λ v. IsSomeAnd (kind_numbered call.now.kind)
         (λ kind. HandsIn kind engine.old engine.new call.now v)) }
-    ensures found { IfErr result (λ e. e ≢ Refused.Unknown) }
+    ensures found { IfErr result (λ e. e ≢ HostError.Unknown) }
     ensures rules { engine.new.rules ≡ engine.old.rules }
     ensures contexts { engine.new.contexts ≡ engine.old.contexts }
     ensures environments { engine.new.environments ≡ engine.old.environments }
@@ -22,19 +22,19 @@ pub fn handed_in(engine: &mut Engine, call: &Call<'_>) -> Result<Value, Refused>
     ensures waits { engine.new.waits ≡ engine.old.waits }
     ensures limits { engine.new.limits ≡ engine.old.limits }
 {
-    match Kind::numbered(call.kind) {
+    match Kind::from_number(call.kind) {
         Some(Kind::Built) => engine.built.pop(),
         Some(Kind::Looked) => Ok(engine.answer.part().clone()?),
         Some(Kind::Json) => Ok(from_json(engine.alloc, utf8(call.text)?)?),
         Some(kind) => scalar_of(engine.alloc, kind, call.number, call.fraction, call.text),
-        None => Err(Refused::Misuse),
+        None => Err(HostError::Misuse),
     }
 }
 
 /// Puts the value that is handed in behind those that were built.
-pub fn push(engine: &mut Engine, call: &Call<'_>) -> Result<(), Refused>
+pub fn push(engine: &mut Engine, call: &Call<'_>) -> Result<(), HostError>
     ensures done { OnOk result (Pushes engine.old engine.new call.now) }
-    ensures found { IfErr result (λ e. e ≢ Refused.Unknown) }
+    ensures found { IfErr result (λ e. e ≢ HostError.Unknown) }
     ensures rules { engine.new.rules ≡ engine.old.rules }
     ensures contexts { engine.new.contexts ≡ engine.old.contexts }
     ensures environments { engine.new.environments ≡ engine.old.environments }
@@ -47,9 +47,9 @@ pub fn push(engine: &mut Engine, call: &Call<'_>) -> Result<(), Refused>
 }
 
 /// Makes an array of what was built last.
-pub fn make_array(engine: &mut Engine, call: &Call<'_>) -> Result<(), Refused>
+pub fn make_array(engine: &mut Engine, call: &Call<'_>) -> Result<(), HostError>
     ensures done { OnOk result (MakesArray engine.old engine.new call.now) }
-    ensures found { IfErr result (λ e. e ≢ Refused.Unknown) }
+    ensures found { IfErr result (λ e. e ≢ HostError.Unknown) }
     ensures rules { engine.new.rules ≡ engine.old.rules }
     ensures contexts { engine.new.contexts ≡ engine.old.contexts }
     ensures environments { engine.new.environments ≡ engine.old.environments }
@@ -61,9 +61,9 @@ pub fn make_array(engine: &mut Engine, call: &Call<'_>) -> Result<(), Refused>
 }
 
 /// Makes a map of what was built last.
-pub fn make_map(engine: &mut Engine, call: &Call<'_>) -> Result<(), Refused>
+pub fn make_map(engine: &mut Engine, call: &Call<'_>) -> Result<(), HostError>
     ensures done { OnOk result (MakesMap engine.old engine.new) }
-    ensures found { IfErr result (λ e. e ≢ Refused.Unknown) }
+    ensures found { IfErr result (λ e. e ≢ HostError.Unknown) }
     ensures rules { engine.new.rules ≡ engine.old.rules }
     ensures contexts { engine.new.contexts ≡ engine.old.contexts }
     ensures environments { engine.new.environments ≡ engine.old.environments }
@@ -75,9 +75,9 @@ pub fn make_map(engine: &mut Engine, call: &Call<'_>) -> Result<(), Refused>
 }
 
 /// Lets go of what was built.
-pub fn unbuild(engine: &mut Engine) -> Result<(), Refused>
+pub fn unbuild(engine: &mut Engine) -> Result<(), HostError>
     ensures done { OnOk result (Unbuilds engine.old engine.new) }
-    ensures found { IfErr result (λ e. e ≢ Refused.Unknown) }
+    ensures found { IfErr result (λ e. e ≢ HostError.Unknown) }
     ensures rules { engine.new.rules ≡ engine.old.rules }
     ensures contexts { engine.new.contexts ≡ engine.old.contexts }
     ensures environments { engine.new.environments ≡ engine.old.environments }

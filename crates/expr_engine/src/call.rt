@@ -2,7 +2,7 @@
 ghost use Rattle.std.specs.Prelude.{◌≡◌};
 ghost use Rattle.expr_engine.specs.Asks.{ask_of, shows_of};
 
-use expr_kept::Handle;
+use expr_handles::Handle;
 
 /// What is asked of an engine, and what it answers. A host fills it and reads it; numbers stand for the enums below, since
 /// no enum crosses to C.
@@ -96,7 +96,7 @@ pub enum Ask {
     /// Refuses the call that waits with `text`, and goes on with its run, which has anew all that the limits allow.
     Refuse,
     /// Looks at the arguments of the call that waits, an array of copies, and shows the name of its function.
-    Asked,
+    WaitingCall,
     /// Sets the limit that `kind` is the number of, as [`limit_numbered`](expr_exchange::limit_numbered) numbers them, to
     /// `number`, which isn't below 0. Where there are no limits, the others become those for strangers.
     Limit,
@@ -123,13 +123,13 @@ impl Ask {
             Ask::Run | Ask::Answer | Ask::Refuse => Shows::Value,
             Ask::Look | Ask::Down | Ask::Up => Shows::Value,
             Ask::Names | Ask::Key | Ask::Shown | Ask::Text => Shows::Said,
-            Ask::Json | Ask::Said | Ask::Asked => Shows::Said,
+            Ask::Json | Ask::Said | Ask::WaitingCall => Shows::Said,
             _ => Shows::Nothing,
         }
     }
 
     /// What a number asks for.
-    pub fn numbered(number: u32) -> Option<Ask>
+    pub fn from_number(number: u32) -> Option<Ask>
         ensures { result ≡ ask_of number }
     {
         match number {
@@ -162,7 +162,7 @@ impl Ask {
             26 => Some(Ask::Name),
             27 => Some(Ask::Answer),
             28 => Some(Ask::Refuse),
-            29 => Some(Ask::Asked),
+            29 => Some(Ask::WaitingCall),
             30 => Some(Ask::Limit),
             31 => Some(Ask::Unlimited),
             _ => None,

@@ -3,30 +3,30 @@
 ghost use Rattle.std.specs.Prelude.{◌≡◌, ◌≢◌, ◌≤ℤ◌, [], pos, codes, length, string_bytes, IfOk, IfErr, OnOk, OnErr, IfSome, IsSome, IsOk, IsNone, IsSomeAnd, MatchOption, Err, None, Some, ◌⊎◌};
 ghost use Rattle.std.specs.Option.{option_copied};
 ghost use Rattle.expr_engine.specs.Adding.{BecomesByRule, BecomesFixed, BecomesNow, GainsName};
-ghost use Rattle.expr_engine.specs.Doings.{Adds, AreSaid, Changes, IsStale};
-ghost use Rattle.expr_engine.specs.Engines.{IsPlacedRefusal, MayAnswer, MayEnd, NumbersRise, RefusesText, SameAdditions, additions_at, asked, asked_again, names_at};
+ghost use Rattle.expr_engine.specs.Effects.{Adds, AreSaid, Changes, IsStale};
+ghost use Rattle.expr_engine.specs.Engines.{IsPlacedRefusal, MayAnswer, MayEnd, NumbersRise, RefusesText, SameAdditions, additions_at, run_inputs, waiting_inputs, names_at};
 ghost use Rattle.expr_engine.specs.Limiting.{IsProgramBy, for_strangers};
 ghost use Rattle.expr_engine.specs.Runs.{pairs_of};
-ghost use Rattle.expr_engine.specs.Served.{Runs, SaysLimit};
-ghost use Rattle.expr_engine.specs.Turns.{IsBegun, IsRefusal, IsSameRun, Keeps, Replies, Stands};
-ghost use Rattle.expr_exchange.specs.Built.{values_of};
-ghost use Rattle.expr_exchange.specs.Looked.{part_of, way_of};
-ghost use Rattle.expr_exchange.specs.Refusals.{GivesHost};
-ghost use Rattle.expr_kept.specs.Kept.{SameThings, found, next_number};
-ghost use Rattle.expr_kept.specs.declared.Handle.{Handle};
+ghost use Rattle.expr_engine.specs.Served.{RunServes, SaysLimit};
+ghost use Rattle.expr_engine.specs.Turns.{IsNewRun, IsRefusal, IsSameRun, PassesOn, RunGoesOn, WaitsIfAsks};
+ghost use Rattle.expr_exchange.specs.Builder.{values_of};
+ghost use Rattle.expr_exchange.specs.Cursor.{part_of, way_of};
+ghost use Rattle.expr_exchange.specs.Refusals.{ReturnsToHost};
+ghost use Rattle.expr_handles.specs.HandleMap.{SameThings, thing_at, next_number};
+ghost use Rattle.expr_handles.specs.declared.Handle.{Handle};
 ghost use Rattle.expr_meter.specs.Counting.{stops as stops_at};
-ghost use Rattle.expr_stops.specs.Stops.{asked_of, given_of};
-ghost use Rattle.expr_stops.specs.declared.given.Reply.TheVariants as reply;
-ghost use Rattle.expr_tree.specs.Written.{program_written};
+ghost use Rattle.expr_stops.specs.Stops.{waiting_call_of, replies_of};
+ghost use Rattle.expr_stops.specs.declared.replies.Reply.TheVariants as reply;
+ghost use Rattle.expr_tree.specs.TermOf.{program_term};
 ghost use Rattle.expr_value.specs.Names.{put};
 
 use crate::additions::{Additions, LentHost};
 use crate::lent::LentNames;
 use crate::rule::Rule;
-use crate::waiting::Waiting;
-use expr::{Context, Error, Limits, Outcome, Value, spot_of};
-use expr_exchange::{Built, Looked, Refused, limit_text};
-use expr_kept::{Handle, Kept};
+use crate::waiting_run::WaitingRun;
+use expr::{Context, Error, Limits, Outcome, Value, line_column_of};
+use expr_exchange::{HostError, ValueBuilder, ValueCursor, limit_text};
+use expr_handles::{Handle, HandleMap};
 use expr_stops::{Stops, Turn};
 use jiff::Timestamp;
 use std::alloc::Global;
@@ -35,13 +35,13 @@ use std::alloc::Global;
 #[derive(Drop)]
 pub struct Engine {
     pub alloc: Global,
-    pub rules: Kept<Rule>,
-    pub contexts: Kept<Context>,
-    pub environments: Kept<Additions>,
-    pub built: Built,
-    pub answer: Looked,
+    pub rules: HandleMap<Rule>,
+    pub contexts: HandleMap<Context>,
+    pub environments: HandleMap<Additions>,
+    pub built: ValueBuilder,
+    pub answer: ValueCursor,
     pub said: String,
-    pub waits: Waiting,
+    pub waits: WaitingRun,
     /// What texts and runs may take. Without limits they may take all that there is.
     pub limits: Option<Limits>,
 }
@@ -51,7 +51,7 @@ pub const NO_NUMBER: u64 = u64::MAX;
 
 /// A place in a text, as a person finds it: its line and its character, from 1.
 #[derive(Clone, Copy)]
-pub struct Place {
+pub struct TextPlace {
     pub byte: usize,
     pub line: usize,
     pub column: usize,
@@ -60,31 +60,31 @@ pub struct Place {
 impl Engine {
     /// An engine that keeps nothing, with the limits for strangers. It takes no memory.
     pub fn new(alloc: Global) -> Engine
-        ensures rules { (handle : Handle) → found result.rules handle ≡ None }
-        ensures contexts { (handle : Handle) → found result.contexts handle ≡ None }
-        ensures environments { (handle : Handle) → found result.environments handle ≡ None }
+        ensures rules { (handle : Handle) → thing_at result.rules handle ≡ None }
+        ensures contexts { (handle : Handle) → thing_at result.contexts handle ≡ None }
+        ensures environments { (handle : Handle) → thing_at result.environments handle ≡ None }
         ensures built { values_of result.built ≡ [] }
         ensures part { part_of result.answer ≡ Value.Nil }
-        ensures waits { asked_of result.waits.stops ≡ None }
+        ensures waits { waiting_call_of result.waits.stops ≡ None }
         ensures limits { result.limits ≡ Some for_strangers }
     {
         Engine {
             alloc,
-            rules: Kept::new(alloc),
-            contexts: Kept::new(alloc),
-            environments: Kept::new(alloc),
-            built: Built::new(alloc),
-            answer: Looked::new(alloc),
+            rules: HandleMap::new(alloc),
+            contexts: HandleMap::new(alloc),
+            environments: HandleMap::new(alloc),
+            built: ValueBuilder::new(alloc),
+            answer: ValueCursor::new(alloc),
             said: String::new(alloc),
-            waits: Waiting::new(alloc),
+            waits: WaitingRun::new(alloc),
             limits: Some(Limits::for_strangers()),
         }
     }
 
     /// Keeps the program of a text, if it is within the limits.
-    pub fn compile(&mut self, text: &str) -> Result<Handle, Refused>
+    pub fn compile(&mut self, text: &str) -> Result<Handle, HostError>
         ensures kept { IfOk result (Adds (λ rule. IsProgramBy self.old.limits text.now
-            (program_written rule.program)) self.old.rules self.new.rules) }
+            (program_term rule.program)) self.old.rules self.new.rules) }
         ensures refused { IfErr result (RefusesText self.old.limits text.now) }
         ensures place { IfErr result (IsPlacedRefusal text.now) }
         ensures err { OnErr result (SameThings self.old.rules self.new.rules) }
@@ -97,51 +97,51 @@ impl Engine {
     {
         match Rule::compile(self.alloc, text, self.limits)? {
             Outcome::Answered(rule) => Ok(self.rules.put(rule)?),
-            Outcome::Stopped(limit) => Err(Refused::Stopped(limit)),
+            Outcome::Stopped(limit) => Err(HostError::Stopped(limit)),
         }
     }
 
     /// The names that a program asks for, each on a line, and how many they are.
-    pub fn names(&self, program: Handle) -> Result<(String, usize), Refused>
-        ensures said { MatchOption (found self.now.rules program) (result ≡ Err Refused.Unknown)
-            (λ rule. IfOk result (λ p. AreSaid (program_written rule.program) (string_bytes p.0) p.1)) }
-        ensures unknown { found self.now.rules program ≡ None → result ≡ Err Refused.Unknown }
-        ensures known { result ≡ Err Refused.Unknown → found self.now.rules program ≡ None }
+    pub fn names(&self, program: Handle) -> Result<(String, usize), HostError>
+        ensures said { MatchOption (thing_at self.now.rules program) (result ≡ Err HostError.Unknown)
+            (λ rule. IfOk result (λ p. AreSaid (program_term rule.program) (string_bytes p.0) p.1)) }
+        ensures unknown { thing_at self.now.rules program ≡ None → result ≡ Err HostError.Unknown }
+        ensures known { result ≡ Err HostError.Unknown → thing_at self.now.rules program ≡ None }
     {
         match self.rules.get(program) {
             Some(rule) => Ok(rule.names(self.alloc)?),
-            None => Err(Refused::Unknown),
+            None => Err(HostError::Unknown),
         }
     }
 
     /// The names of a context, or none where there is no context.
-    fn names_of(&self, context: Handle) -> Result<LentNames<'_>, Refused>
+    fn names_of(&self, context: Handle) -> Result<LentNames<'_>, HostError>
         ensures found { IfOk result (λ lent. names_at self.now context
             ≡ Some (pairs_of (option_copied lent.names))) }
-        ensures unknown { IfErr result (λ e. (e ≡ Refused.Unknown) × (names_at self.now context ≡ None)) }
+        ensures unknown { IfErr result (λ e. (e ≡ HostError.Unknown) × (names_at self.now context ≡ None)) }
     {
         if context.number == NO_NUMBER {
             return Ok(LentNames { names: None });
         }
         match self.contexts.get(context) {
             Some(names) => Ok(LentNames { names: Some(names) }),
-            None => Err(Refused::Unknown),
+            None => Err(HostError::Unknown),
         }
     }
 
     /// What an environment adds, or nothing where there is no environment.
-    fn host_of(&self, environment: Handle) -> Result<LentHost<'_>, Refused>
+    fn host_of(&self, environment: Handle) -> Result<LentHost<'_>, HostError>
         ensures found { IfOk result (λ lent. additions_at self.now environment
             ≡ Some (option_copied lent.added)) }
         ensures unknown { IfErr result
-            (λ e. (e ≡ Refused.Unknown) × (additions_at self.now environment ≡ None)) }
+            (λ e. (e ≡ HostError.Unknown) × (additions_at self.now environment ≡ None)) }
     {
         if environment.number == NO_NUMBER {
             return Ok(LentHost { added: None });
         }
         match self.environments.get(environment) {
             Some(added) => Ok(LentHost { added: Some(added) }),
-            None => Err(Refused::Unknown),
+            None => Err(HostError::Unknown),
         }
     }
 
@@ -153,25 +153,26 @@ impl Engine {
         program: Handle,
         environment: Handle,
         context: Handle,
-    ) -> Result<Value, Refused>
-        ensures ended { MatchOption (asked self.now program environment context)
-            (result ≡ Err Refused.Unknown) (λ q. GivesHost result (MayAnswer q (given_of stops.old))
-            (λ limit. MayEnd q (given_of stops.old) (stops_at limit))) }
-        ensures stops { asked_of stops.old ≡ None → MatchOption (asked self.now program environment context)
-            (result ≡ Err Refused.Unknown)
-            (λ q. Stands q (given_of stops.old) result (asked_of stops.new)) }
-        ensures given { given_of stops.new ≡ given_of stops.old }
+    ) -> Result<Value, HostError>
+        ensures ended { MatchOption (run_inputs self.now program environment context)
+            (result ≡ Err HostError.Unknown) (λ q. ReturnsToHost result (MayAnswer q (replies_of stops.old))
+            (λ limit. MayEnd q (replies_of stops.old) (stops_at limit))) }
+        ensures stops { waiting_call_of stops.old ≡ None
+            → MatchOption (run_inputs self.now program environment context)
+            (result ≡ Err HostError.Unknown)
+            (λ q. WaitsIfAsks q (replies_of stops.old) result (waiting_call_of stops.new)) }
+        ensures given { replies_of stops.new ≡ replies_of stops.old }
     {
         let Some(rule) = self.rules.get(program) else {
-            return Err(Refused::Unknown);
+            return Err(HostError::Unknown);
         };
         let host = self.host_of(environment)?;
         let names = self.names_of(context)?;
         match rule.turn(self.alloc, host, names, stops, self.limits) {
             Turn::Ended(answer) => Ok(answer?),
-            Turn::Asks => Err(Refused::Asks),
-            Turn::Differs(_) => Err(Refused::Differs),
-            Turn::Stopped(limit) => Err(Refused::Stopped(limit)),
+            Turn::Asks => Err(HostError::Asks),
+            Turn::Differs(_) => Err(HostError::Differs),
+            Turn::Stopped(limit) => Err(HostError::Stopped(limit)),
         }
     }
 
@@ -181,12 +182,12 @@ impl Engine {
         program: Handle,
         environment: Handle,
         context: Handle,
-    ) -> Result<(), Refused>
-        ensures ended { MatchOption (asked self.old program environment context)
-            (result ≡ Err Refused.Unknown) (λ q. Runs q [] result (part_of self.new.answer)) }
-        ensures begun { MatchOption (asked self.old program environment context)
+    ) -> Result<(), HostError>
+        ensures ended { MatchOption (run_inputs self.old program environment context)
+            (result ≡ Err HostError.Unknown) (λ q. RunServes q [] result (part_of self.new.answer)) }
+        ensures begun { MatchOption (run_inputs self.old program environment context)
             (self.new.waits ≡ self.old.waits)
-            (λ q. IsBegun q program environment context result self.new.waits) }
+            (λ q. IsNewRun q program environment context result self.new.waits) }
         ensures way { OnOk result (way_of self.new.answer ≡ []) }
         ensures err { OnErr result (self.new.answer ≡ self.old.answer) }
         ensures rules { self.new.rules ≡ self.old.rules }
@@ -195,7 +196,7 @@ impl Engine {
         ensures limits { self.new.limits ≡ self.old.limits }
     {
         self.knows_run(program, environment, context)?;
-        self.waits = Waiting {
+        self.waits = WaitingRun {
             program,
             environment,
             context,
@@ -210,12 +211,13 @@ impl Engine {
         program: Handle,
         environment: Handle,
         context: Handle,
-    ) -> Result<(), Refused>
-        ensures { MatchOption (asked self.now program environment context) (result ≡ Err Refused.Unknown)
+    ) -> Result<(), HostError>
+        ensures { MatchOption (run_inputs self.now program environment context)
+            (result ≡ Err HostError.Unknown)
             (λ _. IsOk result) }
     {
         if self.rules.get(program).is_none() {
-            return Err(Refused::Unknown);
+            return Err(HostError::Unknown);
         }
         let _host = self.host_of(environment)?;
         let _names = self.names_of(context)?;
@@ -223,8 +225,8 @@ impl Engine {
     }
 
     /// Keeps what a run answers.
-    fn keep(&mut self, answer: Result<Value, Refused>) -> Result<(), Refused>
-        ensures kept { Keeps answer result (part_of self.new.answer) }
+    fn keep(&mut self, answer: Result<Value, HostError>) -> Result<(), HostError>
+        ensures kept { PassesOn answer result (part_of self.new.answer) }
         ensures way { OnOk result (way_of self.new.answer ≡ []) }
         ensures err { OnErr result (self.new.answer ≡ self.old.answer) }
         ensures waits { self.new.waits ≡ self.old.waits }
@@ -238,27 +240,28 @@ impl Engine {
     }
 
     /// Refuses where no call waits, or where a handle of its run finds nothing.
-    pub fn knows_waiting(&self) -> Result<(), Refused>
-        ensures waits { OnOk result (IsSome (asked_of self.now.waits.stops)) }
-        ensures found { OnOk result (IsSome (asked_again self.now)) }
-        ensures unknown { IsStale self.now → result ≡ Err Refused.Unknown }
-        ensures known { result ≡ Err Refused.Unknown → IsStale self.now }
-        ensures refused { IfErr result (λ e. (e ≡ Refused.Unknown) ⊎ (e ≡ Refused.Misuse)) }
+    pub fn knows_waiting(&self) -> Result<(), HostError>
+        ensures waits { OnOk result (IsSome (waiting_call_of self.now.waits.stops)) }
+        ensures found { OnOk result (IsSome (waiting_inputs self.now)) }
+        ensures unknown { IsStale self.now → result ≡ Err HostError.Unknown }
+        ensures known { result ≡ Err HostError.Unknown → IsStale self.now }
+        ensures refused { IfErr result (λ e. (e ≡ HostError.Unknown) ⊎ (e ≡ HostError.Misuse)) }
     {
-        if self.waits.stops.asked().is_none() {
-            return Err(Refused::Misuse);
+        if self.waits.stops.waiting_call().is_none() {
+            return Err(HostError::Misuse);
         }
         let waits = &self.waits;
         self.knows_run(waits.program, waits.environment, waits.context)
     }
 
     /// Answers the call that waits with a value, and goes on with its run.
-    pub fn reply(&mut self, value: Value) -> Result<(), Refused>
-        ensures replied { IsSome (asked_of self.old.waits.stops) → IsSome (asked_again self.old)
-            → Replies (λ r. r ≡ reply.Value value) (asked_again self.old) self.old.waits self.new.waits result
+    pub fn reply(&mut self, value: Value) -> Result<(), HostError>
+        ensures replied { IsSome (waiting_call_of self.old.waits.stops) → IsSome (waiting_inputs self.old)
+            → RunGoesOn (λ r. r ≡ reply.Value value) (waiting_inputs self.old)
+            self.old.waits self.new.waits result
             (part_of self.new.answer) }
-        ensures found { IsSome (asked_of self.old.waits.stops) → IsSome (asked_again self.old)
-            → IfErr result (λ e. e ≢ Refused.Unknown) }
+        ensures found { IsSome (waiting_call_of self.old.waits.stops) → IsSome (waiting_inputs self.old)
+            → IfErr result (λ e. e ≢ HostError.Unknown) }
         ensures way { OnOk result (way_of self.new.answer ≡ []) }
         ensures err { OnErr result (self.new.answer ≡ self.old.answer) }
         ensures rules { self.new.rules ≡ self.old.rules }
@@ -271,12 +274,12 @@ impl Engine {
     }
 
     /// Refuses the call that waits with a text, and goes on with its run.
-    pub fn refuse(&mut self, text: &str) -> Result<(), Refused>
-        ensures replied { IsSome (asked_of self.old.waits.stops) → IsSome (asked_again self.old)
-            → Replies (IsRefusal text.now) (asked_again self.old) self.old.waits self.new.waits result
+    pub fn refuse(&mut self, text: &str) -> Result<(), HostError>
+        ensures replied { IsSome (waiting_call_of self.old.waits.stops) → IsSome (waiting_inputs self.old)
+            → RunGoesOn (IsRefusal text.now) (waiting_inputs self.old) self.old.waits self.new.waits result
             (part_of self.new.answer) }
-        ensures found { IsSome (asked_of self.old.waits.stops) → IsSome (asked_again self.old)
-            → IfErr result (λ e. e ≢ Refused.Unknown) }
+        ensures found { IsSome (waiting_call_of self.old.waits.stops) → IsSome (waiting_inputs self.old)
+            → IfErr result (λ e. e ≢ HostError.Unknown) }
         ensures way { OnOk result (way_of self.new.answer ≡ []) }
         ensures err { OnErr result (self.new.answer ≡ self.old.answer) }
         ensures rules { self.new.rules ≡ self.old.rules }
@@ -289,13 +292,14 @@ impl Engine {
     }
 
     /// Goes on with the run that has a reply, and keeps what it answers.
-    fn go_on(&mut self) -> Result<(), Refused>
-        ensures ended { MatchOption (asked_again self.old) (result ≡ Err Refused.Unknown)
-            (λ q. Runs q (given_of self.old.waits.stops) result (part_of self.new.answer)) }
-        ensures stops { asked_of self.old.waits.stops ≡ None → MatchOption (asked_again self.old)
-            (result ≡ Err Refused.Unknown)
-            (λ q. Stands q (given_of self.old.waits.stops) result (asked_of self.new.waits.stops)) }
-        ensures given { given_of self.new.waits.stops ≡ given_of self.old.waits.stops }
+    fn go_on(&mut self) -> Result<(), HostError>
+        ensures ended { MatchOption (waiting_inputs self.old) (result ≡ Err HostError.Unknown)
+            (λ q. RunServes q (replies_of self.old.waits.stops) result (part_of self.new.answer)) }
+        ensures stops { waiting_call_of self.old.waits.stops ≡ None → MatchOption (waiting_inputs self.old)
+            (result ≡ Err HostError.Unknown)
+            (λ q. WaitsIfAsks q (replies_of self.old.waits.stops) result
+            (waiting_call_of self.new.waits.stops)) }
+        ensures given { replies_of self.new.waits.stops ≡ replies_of self.old.waits.stops }
         ensures run { IsSameRun self.old.waits self.new.waits }
         ensures way { OnOk result (way_of self.new.answer ≡ []) }
         ensures err { OnErr result (self.new.answer ≡ self.old.answer) }
@@ -312,33 +316,33 @@ impl Engine {
     }
 
     /// Refuses a handle that finds no context.
-    pub fn knows_context(&self, context: Handle) -> Result<(), Refused>
-        ensures { MatchOption (found self.now.contexts context) (result ≡ Err Refused.Unknown)
+    pub fn knows_context(&self, context: Handle) -> Result<(), HostError>
+        ensures { MatchOption (thing_at self.now.contexts context) (result ≡ Err HostError.Unknown)
             (λ _. IsOk result) }
     {
         match self.contexts.get(context) {
             Some(_) => Ok(()),
-            None => Err(Refused::Unknown),
+            None => Err(HostError::Unknown),
         }
     }
 
     /// Refuses a handle that finds no environment.
-    pub fn knows_environment(&self, environment: Handle) -> Result<(), Refused>
-        ensures { MatchOption (found self.now.environments environment) (result ≡ Err Refused.Unknown)
+    pub fn knows_environment(&self, environment: Handle) -> Result<(), HostError>
+        ensures { MatchOption (thing_at self.now.environments environment) (result ≡ Err HostError.Unknown)
             (λ _. IsOk result) }
     {
         match self.environments.get(environment) {
             Some(_) => Ok(()),
-            None => Err(Refused::Unknown),
+            None => Err(HostError::Unknown),
         }
     }
 
     /// Puts a value under a name in a context.
-    pub fn set(&mut self, context: Handle, name: &str, value: Value) -> Result<(), Refused>
+    pub fn set(&mut self, context: Handle, name: &str, value: Value) -> Result<(), HostError>
         ensures set { OnOk result (Changes (λ was is. is ≡ put name.now value was) self.old.contexts
             self.new.contexts context) }
-        ensures unknown { found self.old.contexts context ≡ None → result ≡ Err Refused.Unknown }
-        ensures known { result ≡ Err Refused.Unknown → found self.old.contexts context ≡ None }
+        ensures unknown { thing_at self.old.contexts context ≡ None → result ≡ Err HostError.Unknown }
+        ensures known { result ≡ Err HostError.Unknown → thing_at self.old.contexts context ≡ None }
         ensures err { OnErr result (SameThings self.old.contexts self.new.contexts) }
         ensures next { next_number self.new.contexts ≡ next_number self.old.contexts }
         ensures rules { self.new.rules ≡ self.old.rules }
@@ -352,7 +356,7 @@ impl Engine {
         let name = String::from_str(self.alloc, name)?;
         let mut names = Context::new(self.alloc);
         if !self.contexts.swap(context, &mut names) {
-            return Err(Refused::Unknown);
+            return Err(HostError::Unknown);
         }
         let done = names.insert(name, value);
         let _kept = self.contexts.swap(context, &mut names);
@@ -366,13 +370,13 @@ impl Engine {
         name: &str,
         seconds: i64,
         rule: Option<&str>,
-    ) -> Result<(), Refused>
+    ) -> Result<(), HostError>
         ensures fixed { OnOk result (IsNone rule.entry → Changes (BecomesFixed name.now seconds)
             self.old.environments self.new.environments environment) }
         ensures by_rule { OnOk result (IfSome rule.entry (λ rule. Changes (BecomesByRule name.now rule.now)
             self.old.environments self.new.environments environment)) }
-        ensures unknown { found self.old.environments environment ≡ None → result ≡ Err Refused.Unknown }
-        ensures known { result ≡ Err Refused.Unknown → found self.old.environments environment ≡ None }
+        ensures unknown { thing_at self.old.environments environment ≡ None → result ≡ Err HostError.Unknown }
+        ensures known { result ≡ Err HostError.Unknown → thing_at self.old.environments environment ≡ None }
         ensures err { OnErr result (SameAdditions self.old.environments self.new.environments) }
         ensures next { next_number self.new.environments ≡ next_number self.old.environments }
         ensures rules { self.new.rules ≡ self.old.rules }
@@ -383,7 +387,7 @@ impl Engine {
     {
         let mut host = Additions::new(self.alloc);
         if !self.environments.swap(environment, &mut host) {
-            return Err(Refused::Unknown);
+            return Err(HostError::Unknown);
         }
         let done = host.add_zone(name, seconds, rule);
         let _kept = self.environments.swap(environment, &mut host);
@@ -391,11 +395,11 @@ impl Engine {
     }
 
     /// Adds a name to the functions of an environment that the host answers itself.
-    pub fn add_name(&mut self, environment: Handle, name: &str) -> Result<(), Refused>
+    pub fn add_name(&mut self, environment: Handle, name: &str) -> Result<(), HostError>
         ensures added { OnOk result (Changes (GainsName name.now) self.old.environments
             self.new.environments environment) }
-        ensures unknown { found self.old.environments environment ≡ None → result ≡ Err Refused.Unknown }
-        ensures known { result ≡ Err Refused.Unknown → found self.old.environments environment ≡ None }
+        ensures unknown { thing_at self.old.environments environment ≡ None → result ≡ Err HostError.Unknown }
+        ensures known { result ≡ Err HostError.Unknown → thing_at self.old.environments environment ≡ None }
         ensures err { OnErr result (SameAdditions self.old.environments self.new.environments) }
         ensures next { next_number self.new.environments ≡ next_number self.old.environments }
         ensures rules { self.new.rules ≡ self.old.rules }
@@ -406,7 +410,7 @@ impl Engine {
     {
         let mut host = Additions::new(self.alloc);
         if !self.environments.swap(environment, &mut host) {
-            return Err(Refused::Unknown);
+            return Err(HostError::Unknown);
         }
         let done = host.add_name(name);
         let _kept = self.environments.swap(environment, &mut host);
@@ -414,11 +418,11 @@ impl Engine {
     }
 
     /// Sets the moment that an environment takes for now.
-    pub fn set_now(&mut self, environment: Handle, now: Timestamp) -> Result<(), Refused>
+    pub fn set_now(&mut self, environment: Handle, now: Timestamp) -> Result<(), HostError>
         ensures set { OnOk result (Changes (BecomesNow now.nanosecond) self.old.environments
             self.new.environments environment) }
-        ensures unknown { found self.old.environments environment ≡ None → result ≡ Err Refused.Unknown }
-        ensures known { result ≡ Err Refused.Unknown → found self.old.environments environment ≡ None }
+        ensures unknown { thing_at self.old.environments environment ≡ None → result ≡ Err HostError.Unknown }
+        ensures known { result ≡ Err HostError.Unknown → thing_at self.old.environments environment ≡ None }
         ensures err { OnErr result (SameAdditions self.old.environments self.new.environments) }
         ensures next { next_number self.new.environments ≡ next_number self.old.environments }
         ensures rules { self.new.rules ≡ self.old.rules }
@@ -429,7 +433,7 @@ impl Engine {
     {
         let mut host = Additions::new(self.alloc);
         if !self.environments.swap(environment, &mut host) {
-            return Err(Refused::Unknown);
+            return Err(HostError::Unknown);
         }
         host.set_now(now);
         let _kept = self.environments.swap(environment, &mut host);
@@ -439,27 +443,27 @@ impl Engine {
     /// Lets go of all that is kept, and of its memory. Handles that were given find nothing, and are not given again. The
     /// limits stay: they are no thing that is kept.
     pub fn clear(&mut self)
-        ensures rules { (handle : Handle) → found self.new.rules handle ≡ None }
-        ensures contexts { (handle : Handle) → found self.new.contexts handle ≡ None }
-        ensures environments { (handle : Handle) → found self.new.environments handle ≡ None }
+        ensures rules { (handle : Handle) → thing_at self.new.rules handle ≡ None }
+        ensures contexts { (handle : Handle) → thing_at self.new.contexts handle ≡ None }
+        ensures environments { (handle : Handle) → thing_at self.new.environments handle ≡ None }
         ensures numbers { NumbersRise self.old self.new }
         ensures built { values_of self.new.built ≡ [] }
         ensures part { part_of self.new.answer ≡ Value.Nil }
-        ensures waits { asked_of self.new.waits.stops ≡ None }
+        ensures waits { waiting_call_of self.new.waits.stops ≡ None }
         ensures limits { self.new.limits ≡ self.old.limits }
     {
         let alloc = self.alloc;
         self.rules.clear(alloc);
         self.contexts.clear(alloc);
         self.environments.clear(alloc);
-        self.built = Built::new(alloc);
-        self.answer = Looked::new(alloc);
+        self.built = ValueBuilder::new(alloc);
+        self.answer = ValueCursor::new(alloc);
         self.said = String::new(alloc);
-        self.waits = Waiting::new(alloc);
+        self.waits = WaitingRun::new(alloc);
     }
 
     /// Notes what is said of a refusal, and where a text is refused.
-    pub fn note(&mut self, refused: &Refused, text: &[u8]) -> Result<Option<Place>, Error>
+    pub fn note(&mut self, refused: &HostError, text: &[u8]) -> Result<Option<TextPlace>, Error>
         ensures rules { self.new.rules ≡ self.old.rules }
         ensures contexts { self.new.contexts ≡ self.old.contexts }
         ensures environments { self.new.environments ≡ self.old.environments }
@@ -467,34 +471,36 @@ impl Engine {
         ensures built { self.new.built ≡ self.old.built }
         ensures waits { self.new.waits ≡ self.old.waits }
         ensures limits { self.new.limits ≡ self.old.limits }
-        ensures unknown { refused.now ≡ Refused.Unknown → IsOk result }
-        ensures misuse { refused.now ≡ Refused.Misuse → IsOk result }
+        ensures unknown { refused.now ≡ HostError.Unknown → IsOk result }
+        ensures misuse { refused.now ≡ HostError.Misuse → IsOk result }
         ensures limit { OnOk result (SaysLimit refused.now (string_bytes self.new.said)) }
     {
         let alloc = self.alloc;
         self.said = String::new(alloc);
         match refused {
-            Refused::Language(Error::PestError(byte)) => {
+            HostError::Language(Error::PestError(byte)) => {
                 let Ok(text) = std::str::from_utf8(text) else {
                     return Ok(None);
                 };
-                let spot = spot_of(alloc, text, *byte)?;
+                let spot = line_column_of(alloc, text, *byte)?;
                 self.said = spot.shown;
-                Ok(Some(Place {
+                Ok(Some(TextPlace {
                     byte: *byte,
                     line: spot.line,
                     column: spot.column,
                 }))
             }
-            Refused::Language(error) => {
+            HostError::Language(error) => {
                 self.said = error.to_string(alloc)?;
                 Ok(None)
             }
-            Refused::Stopped(limit) => {
+            HostError::Stopped(limit) => {
                 self.said = String::from_str(alloc, limit_text(*limit))?;
                 Ok(None)
             }
-            Refused::Unknown | Refused::Misuse | Refused::Asks | Refused::Differs => Ok(None),
+            HostError::Unknown | HostError::Misuse | HostError::Asks | HostError::Differs => Ok(
+                None,
+            ),
         }
     }
 }

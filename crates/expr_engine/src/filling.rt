@@ -1,20 +1,20 @@
 //! Asks about contexts.
 ghost use Rattle.std.specs.Prelude.{◌≡◌, None, Err, ◌≢◌, IfErr, OnErr, OnOk};
-ghost use Rattle.expr_engine.specs.Doings.{AddsBuiltContext, AddsContext, Sets, reply_of};
+ghost use Rattle.expr_engine.specs.Effects.{AddsBuiltContext, AddsContext, Sets, call_result};
 ghost use Rattle.expr_engine.specs.Engines.{NumbersRise};
-ghost use Rattle.expr_kept.specs.Kept.{SameThings, found, next_number};
+ghost use Rattle.expr_handles.specs.HandleMap.{SameThings, thing_at, next_number};
 
 use crate::building::handed_in;
 use crate::call::Call;
 use crate::engine::Engine;
 use crate::running::utf8;
 use expr::Context;
-use expr_exchange::Refused;
+use expr_exchange::HostError;
 
 /// Keeps a context without names.
-pub fn new_context(engine: &mut Engine, call: &mut Call<'_>) -> Result<(), Refused>
-    ensures done { OnOk result (AddsContext engine.old engine.new (reply_of call.new)) }
-    ensures found { IfErr result (λ e. e ≢ Refused.Unknown) }
+pub fn new_context(engine: &mut Engine, call: &mut Call<'_>) -> Result<(), HostError>
+    ensures done { OnOk result (AddsContext engine.old engine.new (call_result call.new)) }
+    ensures found { IfErr result (λ e. e ≢ HostError.Unknown) }
     ensures err { OnErr result (SameThings engine.old.contexts engine.new.contexts) }
     ensures numbers { NumbersRise engine.old engine.new }
     ensures rules { engine.new.rules ≡ engine.old.rules }
@@ -28,9 +28,9 @@ pub fn new_context(engine: &mut Engine, call: &mut Call<'_>) -> Result<(), Refus
 }
 
 /// Keeps a context of the map that was built last.
-pub fn built_context(engine: &mut Engine, call: &mut Call<'_>) -> Result<(), Refused>
-    ensures done { OnOk result (AddsBuiltContext engine.old engine.new (reply_of call.new)) }
-    ensures found { IfErr result (λ e. e ≢ Refused.Unknown) }
+pub fn built_context(engine: &mut Engine, call: &mut Call<'_>) -> Result<(), HostError>
+    ensures done { OnOk result (AddsBuiltContext engine.old engine.new (call_result call.new)) }
+    ensures found { IfErr result (λ e. e ≢ HostError.Unknown) }
     ensures err { OnErr result (SameThings engine.old.contexts engine.new.contexts) }
     ensures numbers { NumbersRise engine.old engine.new }
     ensures rules { engine.new.rules ≡ engine.old.rules }
@@ -45,10 +45,10 @@ pub fn built_context(engine: &mut Engine, call: &mut Call<'_>) -> Result<(), Ref
 }
 
 /// Puts a value under a name in a context.
-pub fn set(engine: &mut Engine, call: &Call<'_>) -> Result<(), Refused>
+pub fn set(engine: &mut Engine, call: &Call<'_>) -> Result<(), HostError>
     ensures done { OnOk result (Sets engine.old engine.new call.now) }
-    ensures unknown { found engine.old.contexts call.now.context ≡ None → result ≡ Err Refused.Unknown }
-    ensures known { result ≡ Err Refused.Unknown → found engine.old.contexts call.now.context ≡ None }
+    ensures unknown { thing_at engine.old.contexts call.now.context ≡ None → result ≡ Err HostError.Unknown }
+    ensures known { result ≡ Err HostError.Unknown → thing_at engine.old.contexts call.now.context ≡ None }
     ensures err { OnErr result (SameThings engine.old.contexts engine.new.contexts) }
     ensures next { next_number engine.new.contexts ≡ next_number engine.old.contexts }
     ensures rules { engine.new.rules ≡ engine.old.rules }

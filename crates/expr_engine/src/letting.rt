@@ -1,19 +1,19 @@
 //! Asks to let go of what is kept.
 ghost use Rattle.std.specs.Prelude.{◌≡◌, None, Err, IsOk, OnErr, OnOk, Ok, if◌then◌else◌};
-ghost use Rattle.expr_engine.specs.Doings.{DropsContext, DropsEnvironment, DropsProgram, ForgetsAll};
+ghost use Rattle.expr_engine.specs.Effects.{DropsContext, DropsEnvironment, DropsProgram, ForgetsAll};
 ghost use Rattle.expr_engine.specs.Engines.{NumbersRise, SameAdditions};
-ghost use Rattle.expr_kept.specs.Kept.{SameThings, found, next_number};
-ghost use Rattle.expr_stops.specs.Stops.{asked_of};
+ghost use Rattle.expr_handles.specs.HandleMap.{SameThings, thing_at, next_number};
+ghost use Rattle.expr_stops.specs.Stops.{waiting_call_of};
 
 use crate::call::Call;
 use crate::engine::Engine;
-use expr_exchange::Refused;
+use expr_exchange::HostError;
 
 /// Lets go of a program.
-pub fn drop_program(engine: &mut Engine, call: &Call<'_>) -> Result<(), Refused>
+pub fn drop_program(engine: &mut Engine, call: &Call<'_>) -> Result<(), HostError>
     ensures done { OnOk result (DropsProgram engine.old engine.new call.now) }
-    ensures unknown { found engine.old.rules call.now.program ≡ None → result ≡ Err Refused.Unknown }
-    ensures known { result ≡ Err Refused.Unknown → found engine.old.rules call.now.program ≡ None }
+    ensures unknown { thing_at engine.old.rules call.now.program ≡ None → result ≡ Err HostError.Unknown }
+    ensures check_known { result ≡ Err HostError.Unknown → thing_at engine.old.rules call.now.program ≡ None }
     ensures next { next_number engine.new.rules ≡ next_number engine.old.rules }
     ensures answer { engine.new.answer ≡ engine.old.answer }
     ensures err { OnErr result (SameThings engine.old.rules engine.new.rules) }
@@ -23,14 +23,15 @@ pub fn drop_program(engine: &mut Engine, call: &Call<'_>) -> Result<(), Refused>
     ensures limits { engine.new.limits ≡ engine.old.limits }
 {
     let is_known = engine.rules.remove(call.program);
-    known(is_known)
+    check_known(is_known)
 }
 
 /// Lets go of a context.
-pub fn drop_context(engine: &mut Engine, call: &Call<'_>) -> Result<(), Refused>
+pub fn drop_context(engine: &mut Engine, call: &Call<'_>) -> Result<(), HostError>
     ensures done { OnOk result (DropsContext engine.old engine.new call.now) }
-    ensures unknown { found engine.old.contexts call.now.context ≡ None → result ≡ Err Refused.Unknown }
-    ensures known { result ≡ Err Refused.Unknown → found engine.old.contexts call.now.context ≡ None }
+    ensures unknown { thing_at engine.old.contexts call.now.context ≡ None → result ≡ Err HostError.Unknown }
+    ensures check_known { result ≡ Err HostError.Unknown
+        → thing_at engine.old.contexts call.now.context ≡ None }
     ensures next { next_number engine.new.contexts ≡ next_number engine.old.contexts }
     ensures answer { engine.new.answer ≡ engine.old.answer }
     ensures err { OnErr result (SameThings engine.old.contexts engine.new.contexts) }
@@ -40,16 +41,17 @@ pub fn drop_context(engine: &mut Engine, call: &Call<'_>) -> Result<(), Refused>
     ensures limits { engine.new.limits ≡ engine.old.limits }
 {
     let is_known = engine.contexts.remove(call.context);
-    known(is_known)
+    check_known(is_known)
 }
 
 /// Lets go of an environment.
 #[tactic(auto, using(crate::proofs::Unchanged::additions_by_things))]
-pub fn drop_environment(engine: &mut Engine, call: &Call<'_>) -> Result<(), Refused>
+pub fn drop_environment(engine: &mut Engine, call: &Call<'_>) -> Result<(), HostError>
     ensures done { OnOk result (DropsEnvironment engine.old engine.new call.now) }
-    ensures unknown { found engine.old.environments call.now.environment ≡ None
-        → result ≡ Err Refused.Unknown }
-    ensures known { result ≡ Err Refused.Unknown → found engine.old.environments call.now.environment ≡ None }
+    ensures unknown { thing_at engine.old.environments call.now.environment ≡ None
+        → result ≡ Err HostError.Unknown }
+    ensures check_known { result ≡ Err HostError.Unknown
+        → thing_at engine.old.environments call.now.environment ≡ None }
     ensures next { next_number engine.new.environments ≡ next_number engine.old.environments }
     ensures answer { engine.new.answer ≡ engine.old.answer }
     ensures err { OnErr result (SameAdditions engine.old.environments engine.new.environments) }
@@ -59,26 +61,26 @@ pub fn drop_environment(engine: &mut Engine, call: &Call<'_>) -> Result<(), Refu
     ensures limits { engine.new.limits ≡ engine.old.limits }
 {
     let is_known = engine.environments.remove(call.environment);
-    known(is_known)
+    check_known(is_known)
 }
 
 /// Refuses a handle that finds nothing.
-fn known(is_known: bool) -> Result<(), Refused>
-    ensures { result ≡ (if is_known then Ok tt else Err Refused.Unknown) }
+fn check_known(is_known: bool) -> Result<(), HostError>
+    ensures { result ≡ (if is_known then Ok tt else Err HostError.Unknown) }
 {
     if is_known {
         Ok(())
     } else {
-        Err(Refused::Unknown)
+        Err(HostError::Unknown)
     }
 }
 
 /// Lets go of all that is kept. The limits stay.
-pub fn clear(engine: &mut Engine) -> Result<(), Refused>
+pub fn clear(engine: &mut Engine) -> Result<(), HostError>
     ensures done { OnOk result (ForgetsAll engine.old engine.new) }
     ensures numbers { NumbersRise engine.old engine.new }
     ensures ok { IsOk result }
-    ensures waits { asked_of engine.new.waits.stops ≡ None }
+    ensures waits { waiting_call_of engine.new.waits.stops ≡ None }
     ensures limits { engine.new.limits ≡ engine.old.limits }
 {
     engine.clear();

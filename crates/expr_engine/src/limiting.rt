@@ -1,20 +1,20 @@
 //! Asks about limits.
 ghost use Rattle.std.specs.Prelude.{◌≡◌, ◌≢◌, Err, IfErr, MatchOption, None, Ok, OnOk, Some};
-ghost use Rattle.expr_engine.specs.Doings.{LetsGoOfLimits, SetsLimit};
+ghost use Rattle.expr_engine.specs.Effects.{LetsGoOfLimits, SetsLimit};
 ghost use Rattle.expr_engine.specs.Limiting.{limits_asked, with_limit};
 
 use crate::call::Call;
 use crate::engine::Engine;
 use expr::{Limit, Limits};
-use expr_exchange::{Refused, limit_numbered};
+use expr_exchange::{HostError, limit_numbered};
 
 /// Sets the limit of a number, and the others to those for strangers where there are none.
-pub fn set_limit(engine: &mut Engine, call: &Call<'_>) -> Result<(), Refused>
+pub fn set_limit(engine: &mut Engine, call: &Call<'_>) -> Result<(), HostError>
     ensures done { OnOk result (SetsLimit engine.old engine.new call.now) }
     ensures set { MatchOption (limits_asked engine.old.limits call.now.kind call.now.number)
-        ((result ≡ Err Refused.Misuse) × (engine.new.limits ≡ engine.old.limits))
+        ((result ≡ Err HostError.Misuse) × (engine.new.limits ≡ engine.old.limits))
         (λ limits. (result ≡ Ok tt) × (engine.new.limits ≡ Some limits)) }
-    ensures found { IfErr result (λ e. e ≢ Refused.Unknown) }
+    ensures found { IfErr result (λ e. e ≢ HostError.Unknown) }
     ensures rules { engine.new.rules ≡ engine.old.rules }
     ensures contexts { engine.new.contexts ≡ engine.old.contexts }
     ensures environments { engine.new.environments ≡ engine.old.environments }
@@ -22,10 +22,10 @@ pub fn set_limit(engine: &mut Engine, call: &Call<'_>) -> Result<(), Refused>
     ensures waits { engine.new.waits ≡ engine.old.waits }
 {
     let Some(limit) = limit_numbered(call.kind) else {
-        return Err(Refused::Misuse);
+        return Err(HostError::Misuse);
     };
     let Ok(number) = u64::try_from(call.number) else {
-        return Err(Refused::Misuse);
+        return Err(HostError::Misuse);
     };
     let limits = engine.limits.unwrap_or(Limits::for_strangers());
     engine.limits = Some(changed(limits, limit, number));
@@ -61,10 +61,10 @@ fn changed(limits: Limits, limit: Limit, number: u64) -> Limits
 }
 
 /// Lets go of all limits.
-pub fn let_go_of_limits(engine: &mut Engine) -> Result<(), Refused>
+pub fn let_go_of_limits(engine: &mut Engine) -> Result<(), HostError>
     ensures done { OnOk result (LetsGoOfLimits engine.old engine.new) }
     ensures ok { result ≡ Ok tt }
-    ensures found { IfErr result (λ e. e ≢ Refused.Unknown) }
+    ensures found { IfErr result (λ e. e ≢ HostError.Unknown) }
     ensures none { engine.new.limits ≡ None }
     ensures rules { engine.new.rules ≡ engine.old.rules }
     ensures contexts { engine.new.contexts ≡ engine.old.contexts }

@@ -1,9 +1,9 @@
 //! Asks about the answer.
 ghost use Rattle.std.specs.Prelude.{◌≡◌, ◌≢◌, IfErr, IfOk, Ok, OnErr, OnOk, string_bytes};
-ghost use Rattle.expr_encoding.specs.Optional.{given};
+ghost use Rattle.expr_encoding.specs.Optional.{value_or_refusal};
 ghost use Rattle.expr_encoding.specs.Writing.{json_text};
-ghost use Rattle.expr_engine.specs.Doings.{Looks, LooksIn, LooksOut, SaysKey, SaysText, Tells, key_said, reply_of};
-ghost use Rattle.expr_exchange.specs.Looked.{SameLook, part_of};
+ghost use Rattle.expr_engine.specs.Effects.{Looks, LooksIn, LooksOut, SaysKey, SaysText, Tells, key_said, call_result};
+ghost use Rattle.expr_exchange.specs.Cursor.{SameLook, part_of};
 ghost use Rattle.expr_value.specs.Strings.{string_text};
 ghost use Rattle.expr_value.specs.Values.{text_of};
 
@@ -11,24 +11,24 @@ use crate::call::Call;
 use crate::engine::Engine;
 use expr::Value;
 use expr_encoding::to_json;
-use expr_exchange::{Refused, described, key_of};
+use expr_exchange::{HostError, key_of, summary_of};
 use std::alloc::Global;
 
 /// Tells of a value.
 pub fn describe(value: &Value, call: &mut Call<'_>)
-    ensures { Tells value.now (reply_of call.new) }
+    ensures { Tells value.now (call_result call.new) }
 {
-    let told = described(value);
+    let told = summary_of(value);
     call.kind = told.kind.number();
     call.number = told.number;
     call.fraction = told.fraction;
 }
 
 /// Looks at the same value again.
-pub fn look(engine: &mut Engine, call: &mut Call<'_>) -> Result<(), Refused>
-    ensures done { OnOk result (Looks engine.old engine.new (reply_of call.new)) }
+pub fn look(engine: &mut Engine, call: &mut Call<'_>) -> Result<(), HostError>
+    ensures done { OnOk result (Looks engine.old engine.new (call_result call.new)) }
     ensures answer { engine.new.answer ≡ engine.old.answer }
-    ensures found { IfErr result (λ e. e ≢ Refused.Unknown) }
+    ensures found { IfErr result (λ e. e ≢ HostError.Unknown) }
     ensures rules { engine.new.rules ≡ engine.old.rules }
     ensures contexts { engine.new.contexts ≡ engine.old.contexts }
     ensures environments { engine.new.environments ≡ engine.old.environments }
@@ -40,10 +40,10 @@ pub fn look(engine: &mut Engine, call: &mut Call<'_>) -> Result<(), Refused>
 }
 
 /// Looks at an item of the value.
-pub fn look_down(engine: &mut Engine, call: &mut Call<'_>) -> Result<(), Refused>
-    ensures done { OnOk result (LooksIn engine.old engine.new call.old (reply_of call.new)) }
+pub fn look_down(engine: &mut Engine, call: &mut Call<'_>) -> Result<(), HostError>
+    ensures done { OnOk result (LooksIn engine.old engine.new call.old (call_result call.new)) }
     ensures look { OnErr result (SameLook engine.old.answer engine.new.answer) }
-    ensures found { IfErr result (λ e. e ≢ Refused.Unknown) }
+    ensures found { IfErr result (λ e. e ≢ HostError.Unknown) }
     ensures rules { engine.new.rules ≡ engine.old.rules }
     ensures contexts { engine.new.contexts ≡ engine.old.contexts }
     ensures environments { engine.new.environments ≡ engine.old.environments }
@@ -56,10 +56,10 @@ pub fn look_down(engine: &mut Engine, call: &mut Call<'_>) -> Result<(), Refused
 }
 
 /// Looks at what the value is an item of.
-pub fn look_up(engine: &mut Engine, call: &mut Call<'_>) -> Result<(), Refused>
-    ensures done { OnOk result (LooksOut engine.old engine.new (reply_of call.new)) }
+pub fn look_up(engine: &mut Engine, call: &mut Call<'_>) -> Result<(), HostError>
+    ensures done { OnOk result (LooksOut engine.old engine.new (call_result call.new)) }
     ensures look { OnErr result (SameLook engine.old.answer engine.new.answer) }
-    ensures found { IfErr result (λ e. e ≢ Refused.Unknown) }
+    ensures found { IfErr result (λ e. e ≢ HostError.Unknown) }
     ensures rules { engine.new.rules ≡ engine.old.rules }
     ensures contexts { engine.new.contexts ≡ engine.old.contexts }
     ensures environments { engine.new.environments ≡ engine.old.environments }
@@ -72,10 +72,10 @@ pub fn look_up(engine: &mut Engine, call: &mut Call<'_>) -> Result<(), Refused>
 }
 
 /// Tells of a key of the map that is looked at, and says its text.
-pub fn show_key(engine: &mut Engine, call: &mut Call<'_>) -> Result<(), Refused>
-    ensures done { OnOk result (SaysKey engine.old engine.new call.old (reply_of call.new)) }
+pub fn show_key(engine: &mut Engine, call: &mut Call<'_>) -> Result<(), HostError>
+    ensures done { OnOk result (SaysKey engine.old engine.new call.old (call_result call.new)) }
     ensures answer { engine.new.answer ≡ engine.old.answer }
-    ensures found { IfErr result (λ e. e ≢ Refused.Unknown) }
+    ensures found { IfErr result (λ e. e ≢ HostError.Unknown) }
     ensures rules { engine.new.rules ≡ engine.old.rules }
     ensures contexts { engine.new.contexts ≡ engine.old.contexts }
     ensures environments { engine.new.environments ≡ engine.old.environments }
@@ -99,10 +99,10 @@ fn key_text(alloc: Global, key: &Value) -> expr::Result<String>
 }
 
 /// Says what the value prints as.
-pub fn say_shown(engine: &mut Engine) -> Result<(), Refused>
+pub fn say_shown(engine: &mut Engine) -> Result<(), HostError>
     ensures done { OnOk result (SaysText (λ v text. text ≡ text_of v) engine.old engine.new) }
     ensures answer { engine.new.answer ≡ engine.old.answer }
-    ensures found { IfErr result (λ e. e ≢ Refused.Unknown) }
+    ensures found { IfErr result (λ e. e ≢ HostError.Unknown) }
     ensures rules { engine.new.rules ≡ engine.old.rules }
     ensures contexts { engine.new.contexts ≡ engine.old.contexts }
     ensures environments { engine.new.environments ≡ engine.old.environments }
@@ -114,10 +114,10 @@ pub fn say_shown(engine: &mut Engine) -> Result<(), Refused>
 }
 
 /// Says what the built-in `string` gives of the value.
-pub fn say_text(engine: &mut Engine) -> Result<(), Refused>
+pub fn say_text(engine: &mut Engine) -> Result<(), HostError>
     ensures done { OnOk result (SaysText (λ v text. text ≡ string_text v) engine.old engine.new) }
     ensures answer { engine.new.answer ≡ engine.old.answer }
-    ensures found { IfErr result (λ e. e ≢ Refused.Unknown) }
+    ensures found { IfErr result (λ e. e ≢ HostError.Unknown) }
     ensures rules { engine.new.rules ≡ engine.old.rules }
     ensures contexts { engine.new.contexts ≡ engine.old.contexts }
     ensures environments { engine.new.environments ≡ engine.old.environments }
@@ -129,10 +129,11 @@ pub fn say_text(engine: &mut Engine) -> Result<(), Refused>
 }
 
 /// Says the value as JSON.
-pub fn say_json(engine: &mut Engine) -> Result<(), Refused>
-    ensures done { OnOk result (SaysText (λ v text. given (json_text v) ≡ Ok text) engine.old engine.new) }
+pub fn say_json(engine: &mut Engine) -> Result<(), HostError>
+    ensures done { OnOk result
+        (SaysText (λ v text. value_or_refusal (json_text v) ≡ Ok text) engine.old engine.new) }
     ensures answer { engine.new.answer ≡ engine.old.answer }
-    ensures found { IfErr result (λ e. e ≢ Refused.Unknown) }
+    ensures found { IfErr result (λ e. e ≢ HostError.Unknown) }
     ensures rules { engine.new.rules ≡ engine.old.rules }
     ensures contexts { engine.new.contexts ≡ engine.old.contexts }
     ensures environments { engine.new.environments ≡ engine.old.environments }

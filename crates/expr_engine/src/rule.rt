@@ -3,7 +3,7 @@ ghost use Rattle.expr_code.specs.Codes.{IsCode};
 ghost use Rattle.expr_engine.specs.Codes.{code_of};
 ghost use Rattle.expr_engine.specs.Limiting.{IsCompiledBy};
 ghost use Rattle.expr_syntax.specs.Texts.{IsPlaced};
-ghost use Rattle.expr_tree.specs.Written.{program_written};
+ghost use Rattle.expr_tree.specs.TermOf.{program_term};
 ghost use Rattle.expr_meaning.specs.World.{world_of};
 
 use crate::additions::LentHost;
@@ -18,7 +18,7 @@ use std::alloc::Global;
 pub struct Rule {
     pub program: Program,
     pub code: KeptCode,
-    pub ghost lowered: { ∥ IsCode (program_written program) (code_of code) ∥₁ },
+    pub ghost lowered: { ∥ IsCode (program_term program) (code_of code) ∥₁ },
 }
 
 impl Rule {
@@ -26,13 +26,13 @@ impl Rule {
     ghost use Rattle.std.specs.Option.{option_copied};
     ghost use Rattle.expr.specs.Limited.{MayGive as GivesWithin};
     ghost use Rattle.expr_engine.specs.Limiting.{IsCompiledBy};
-    ghost use Rattle.expr_engine.specs.Doings.{AreSaid};
+    ghost use Rattle.expr_engine.specs.Effects.{AreSaid};
     ghost use Rattle.expr_engine.specs.Runs.{MayGive, context_of, host_with, named_by, pairs_of};
-    ghost use Rattle.expr_limited.specs.Outcomes.{Ends};
-    ghost use Rattle.expr_stops.specs.Stops.{CodeComes, EndsTurn, IfEnded, StopsWell, asked_of, given_of};
+    ghost use Rattle.expr_limited.specs.Outcomes.{ReturnsOutcome};
+    ghost use Rattle.expr_stops.specs.Stops.{CodeComes, EndsTurn, IfEnded, StopsWell, waiting_call_of, replies_of};
     ghost use Rattle.expr_syntax.specs.Texts.{IsPlaced};
-    ghost use Rattle.expr_tree.specs.Written.{program_written};
-    ghost use Rattle.expr_value.specs.Answers.{Gives};
+    ghost use Rattle.expr_tree.specs.TermOf.{program_term};
+    ghost use Rattle.expr_value.specs.Answers.{Returns};
 
     /// The program of a text within limits, or where there are none.
     ///
@@ -40,7 +40,7 @@ impl Rule {
     ///
     /// What `compile` refuses. That a limit is passed is no error, but [`Outcome::Stopped`].
     pub fn compile(alloc: Global, text: &str, limits: Option<Limits>) -> Result<Outcome<Rule>>
-        ensures answer { IsCompiledBy limits text.now (λ rule. program_written rule.program) result }
+        ensures answer { IsCompiledBy limits text.now (λ rule. program_term rule.program) result }
         ensures place { IsPlaced text.now result }
     {
         match program_of(alloc, text, limits)? {
@@ -54,7 +54,7 @@ impl Rule {
 
     /// The names that the program asks for, each on a line, and how many they are.
     pub fn names(&self, alloc: Global) -> Result<(String, usize)>
-        ensures { IfOk result (λ p. AreSaid (program_written self.now.program) (string_bytes p.0) p.1) }
+        ensures { IfOk result (λ p. AreSaid (program_term self.now.program) (string_bytes p.0) p.1) }
     {
         let names = self.program.names(alloc)?;
         Ok((names.join(alloc, "\n")?, names.len()))
@@ -74,8 +74,8 @@ impl Rule {
         limits: Option<Limits>,
     ) -> Result<Outcome<Value>>
         ensures answer { GivesWithin result (MayGive (world_of (H.host host.now)
-            (context_of (pairs_of (option_copied names.entry.names)))) (program_written self.now.program)) }
-        ensures ends { Ends result (CodeComes limits (world_of (H.host host.now)
+            (context_of (pairs_of (option_copied names.entry.names)))) (program_term self.now.program)) }
+        ensures ends { ReturnsOutcome result (CodeComes limits (world_of (H.host host.now)
             (context_of (pairs_of (option_copied names.entry.names)))) (code_of self.now.code)) }
     {
         execute_in(alloc, host, &self.code, names, limits)
@@ -93,15 +93,16 @@ impl Rule {
     ) -> Turn
         // It ends or stops at a limit as a run of the program's code does that counts within the limits, if there are any.
         ensures ends { EndsTurn result (CodeComes limits
-            (world_of (host_with (option_copied host.entry.added) (given_of stops.old))
+            (world_of (host_with (option_copied host.entry.added) (replies_of stops.old))
             (context_of (pairs_of (option_copied names.entry.names)))) (code_of self.now.code)) }
         // An answer is one that the program's meaning allows.
-        ensures ended { IfEnded result (λ r. Gives r (MayGive
-            (world_of (host_with (option_copied host.entry.added) (given_of stops.old))
-            (context_of (pairs_of (option_copied names.entry.names)))) (program_written self.now.program))) }
-        ensures stops { asked_of stops.old ≡ None → StopsWell (named_by (option_copied host.entry.added))
-            (given_of stops.old) result (asked_of stops.new) }
-        ensures given { given_of stops.new ≡ given_of stops.old }
+        ensures ended { IfEnded result (λ r. Returns r (MayGive
+            (world_of (host_with (option_copied host.entry.added) (replies_of stops.old))
+            (context_of (pairs_of (option_copied names.entry.names)))) (program_term self.now.program))) }
+        ensures stops { waiting_call_of stops.old ≡ None
+            → StopsWell (named_by (option_copied host.entry.added))
+            (replies_of stops.old) result (waiting_call_of stops.new) }
+        ensures given { replies_of stops.new ≡ replies_of stops.old }
     {
         match host.added {
             Some(added) => stops.execute(&host, added.names(), &self.code, names, limits),
@@ -112,7 +113,7 @@ impl Rule {
 
 /// The program of a text within limits, or where there are none.
 fn program_of(alloc: Global, text: &str, limits: Option<Limits>) -> Result<Outcome<Program>>
-    ensures answer { IsCompiledBy limits text.now program_written result }
+    ensures answer { IsCompiledBy limits text.now program_term result }
     ensures place { IsPlaced text.now result }
 {
     match limits {

@@ -1,20 +1,20 @@
 //! Asks about programs.
 ghost use Rattle.std.specs.Prelude.{◌≡◌, [], Err, None, IfErr, IfOk, IsUtf8, MatchOption, OnErr, OnOk};
-ghost use Rattle.expr_engine.specs.Doings.{Compiles, RunsOnce, SaysNames, reply_of};
-ghost use Rattle.expr_engine.specs.Engines.{CompileRefuses, NumbersRise, asked};
-ghost use Rattle.expr_engine.specs.Served.{Runs};
-ghost use Rattle.expr_engine.specs.Turns.{IsBegun};
-ghost use Rattle.expr_exchange.specs.Looked.{part_of};
-ghost use Rattle.expr_kept.specs.Kept.{SameThings, found};
+ghost use Rattle.expr_engine.specs.Effects.{Compiles, RunsOnce, SaysNames, call_result};
+ghost use Rattle.expr_engine.specs.Engines.{CompileRefuses, NumbersRise, run_inputs};
+ghost use Rattle.expr_engine.specs.Served.{RunServes};
+ghost use Rattle.expr_engine.specs.Turns.{IsNewRun};
+ghost use Rattle.expr_exchange.specs.Cursor.{part_of};
+ghost use Rattle.expr_handles.specs.HandleMap.{SameThings, thing_at};
 
 use crate::call::Call;
 use crate::engine::Engine;
 use crate::looking::describe;
-use expr_exchange::Refused;
+use expr_exchange::HostError;
 
 /// Keeps the program of a text, if it is within the limits.
-pub fn compile(engine: &mut Engine, call: &mut Call<'_>) -> Result<(), Refused>
-    ensures done { OnOk result (Compiles engine.old engine.new call.old (reply_of call.new)) }
+pub fn compile(engine: &mut Engine, call: &mut Call<'_>) -> Result<(), HostError>
+    ensures done { OnOk result (Compiles engine.old engine.new call.old (call_result call.new)) }
     ensures refused { IfErr result (CompileRefuses engine.old.limits call.old.text.now) }
     ensures err { OnErr result (SameThings engine.old.rules engine.new.rules) }
     ensures numbers { NumbersRise engine.old engine.new }
@@ -30,10 +30,10 @@ pub fn compile(engine: &mut Engine, call: &mut Call<'_>) -> Result<(), Refused>
 }
 
 /// Says the names that a program asks for.
-pub fn names(engine: &mut Engine, call: &mut Call<'_>) -> Result<(), Refused>
-    ensures done { OnOk result (SaysNames engine.old engine.new call.old (reply_of call.new)) }
-    ensures unknown { found engine.old.rules call.old.program ≡ None → result ≡ Err Refused.Unknown }
-    ensures known { result ≡ Err Refused.Unknown → found engine.old.rules call.old.program ≡ None }
+pub fn names(engine: &mut Engine, call: &mut Call<'_>) -> Result<(), HostError>
+    ensures done { OnOk result (SaysNames engine.old engine.new call.old (call_result call.new)) }
+    ensures unknown { thing_at engine.old.rules call.old.program ≡ None → result ≡ Err HostError.Unknown }
+    ensures known { result ≡ Err HostError.Unknown → thing_at engine.old.rules call.old.program ≡ None }
     ensures answer { engine.new.answer ≡ engine.old.answer }
     ensures rules { engine.new.rules ≡ engine.old.rules }
     ensures contexts { engine.new.contexts ≡ engine.old.contexts }
@@ -48,17 +48,17 @@ pub fn names(engine: &mut Engine, call: &mut Call<'_>) -> Result<(), Refused>
 }
 
 /// Keeps what a program answers in an environment and a context, within the limits.
-pub fn run(engine: &mut Engine, call: &mut Call<'_>) -> Result<(), Refused>
-    ensures done { OnOk result (RunsOnce engine.old engine.new call.old (reply_of call.new)) }
-    ensures unknown { asked engine.old call.old.program call.old.environment call.old.context ≡ None
-        → result ≡ Err Refused.Unknown }
-    ensures known { result ≡ Err Refused.Unknown
-        → asked engine.old call.old.program call.old.environment call.old.context ≡ None }
+pub fn run(engine: &mut Engine, call: &mut Call<'_>) -> Result<(), HostError>
+    ensures done { OnOk result (RunsOnce engine.old engine.new call.old (call_result call.new)) }
+    ensures unknown { run_inputs engine.old call.old.program call.old.environment call.old.context ≡ None
+        → result ≡ Err HostError.Unknown }
+    ensures known { result ≡ Err HostError.Unknown
+        → run_inputs engine.old call.old.program call.old.environment call.old.context ≡ None }
     ensures answer { OnErr result (engine.new.answer ≡ engine.old.answer) }
-    ensures run { MatchOption (asked engine.old call.old.program call.old.environment call.old.context)
-        (result ≡ Err Refused.Unknown) (λ q. Runs q [] result (part_of engine.new.answer)) }
-    ensures turns { MatchOption (asked engine.old call.old.program call.old.environment call.old.context)
-        (engine.new.waits ≡ engine.old.waits) (λ q. IsBegun q call.old.program call.old.environment
+    ensures run { MatchOption (run_inputs engine.old call.old.program call.old.environment call.old.context)
+        (result ≡ Err HostError.Unknown) (λ q. RunServes q [] result (part_of engine.new.answer)) }
+    ensures turns { MatchOption (run_inputs engine.old call.old.program call.old.environment call.old.context)
+        (engine.new.waits ≡ engine.old.waits) (λ q. IsNewRun q call.old.program call.old.environment
         call.old.context result engine.new.waits) }
     ensures rules { engine.new.rules ≡ engine.old.rules }
     ensures contexts { engine.new.contexts ≡ engine.old.contexts }
@@ -71,13 +71,13 @@ pub fn run(engine: &mut Engine, call: &mut Call<'_>) -> Result<(), Refused>
 }
 
 /// Bytes as a text.
-pub fn utf8(bytes: &[u8]) -> Result<&str, Refused>
+pub fn utf8(bytes: &[u8]) -> Result<&str, HostError>
     ensures ok { IfOk result (λ text. text.now ≡ bytes.now) }
     ensures utf8 { OnOk result (IsUtf8 bytes.now) }
-    ensures refused { IfErr result (λ e. (e ≡ Refused.Misuse) × (IsUtf8 bytes.now → ⊥)) }
+    ensures refused { IfErr result (λ e. (e ≡ HostError.Misuse) × (IsUtf8 bytes.now → ⊥)) }
 {
     match std::str::from_utf8(bytes) {
         Ok(text) => Ok(text),
-        Err(_) => Err(Refused::Misuse),
+        Err(_) => Err(HostError::Misuse),
     }
 }

@@ -1,13 +1,13 @@
 //! The one call: an engine does what it is asked to.
 ghost use Rattle.std.specs.Prelude.{◌≡◌, ◌≢◌, ◌⊎◌, [], length, Err, MatchOption, Ok, OnErr, OnOk, Some};
 ghost use Rattle.expr_engine.specs.Asks.{ask_of, shows_of};
-ghost use Rattle.expr_engine.specs.Doings.{Does, IsMissing, reply_of};
-ghost use Rattle.expr_engine.specs.Engines.{Leaves, NumbersRise, asked};
+ghost use Rattle.expr_engine.specs.Effects.{Does, IsMissing, call_result};
+ghost use Rattle.expr_engine.specs.Engines.{Leaves, NumbersRise, run_inputs};
 ghost use Rattle.expr_engine.specs.Limiting.{LimitsBy};
-ghost use Rattle.expr_engine.specs.Served.{Answers, Ends, Runs, number_of, text_shown};
+ghost use Rattle.expr_engine.specs.Served.{AnswersNumber, EndsCall, RunServes, number_of, text_shown};
 ghost use Rattle.expr_engine.specs.Turns.{Turns, TurnsBy};
-ghost use Rattle.expr_exchange.specs.Built.{values_of};
-ghost use Rattle.expr_exchange.specs.Looked.{part_of};
+ghost use Rattle.expr_exchange.specs.Builder.{values_of};
+ghost use Rattle.expr_exchange.specs.Cursor.{part_of};
 ghost use Rattle.expr_exchange.specs.Refusals.{status_of};
 
 use crate::adding::{add_environment, add_name, set_now, zone_by_rule, zone_by_seconds};
@@ -18,21 +18,21 @@ use crate::filling::{built_context, new_context, set};
 use crate::letting::{clear, drop_context, drop_environment, drop_program};
 use crate::limiting::{let_go_of_limits, set_limit};
 use crate::looking::{look, look_down, look_up, say_json, say_shown, say_text, show_key};
-use crate::replying::{answer_call, look_asked, refuse_call};
+use crate::replying::{answer_call, look_at_waiting_call, refuse_call};
 use crate::running::{compile, names, run};
-use expr_exchange::{Refused, Status, bytes_of};
+use expr_exchange::{HostError, Status, bytes_of};
 
 /// Does what a call asks for. Whatever stands in the call, it returns. What is refused leaves all that is kept and what is
 /// looked at as it was, and lets go of what was built.
 pub fn serve(engine: &mut Engine, call: &mut Call<'_>)
     // What is done, is done to what the call's handles find, and to nothing else.
     ensures done { call.new.status ≡ 0 → MatchOption (ask_of call.old.ask) ⊥
-        (λ ask. Does ask engine.old engine.new call.old (reply_of call.new)) }
+        (λ ask. Does ask engine.old engine.new call.old (call_result call.new)) }
     // A run answers what the program's meaning allows in the environment and the context of the handles, or one of them
     // finds nothing.
     ensures run { ask_of call.old.ask ≡ Some Ask.Run → MatchOption
-        (asked engine.old call.old.program call.old.environment call.old.context) (call.new.status ≡ 6)
-        (λ q. Answers q [] call.new.status (part_of engine.new.answer)) }
+        (run_inputs engine.old call.old.program call.old.environment call.old.context) (call.new.status ≡ 6)
+        (λ q. AnswersNumber q [] call.new.status (part_of engine.new.answer)) }
     // The run that waits for the host's reply: one that was begun, or that goes on with the reply, or the same.
     ensures turns { MatchOption (ask_of call.old.ask) (engine.new.waits ≡ engine.old.waits)
         (λ ask. TurnsBy ask engine.old call.old call.new.status engine.new.waits
@@ -50,30 +50,30 @@ pub fn serve(engine: &mut Engine, call: &mut Call<'_>)
         (λ ask. IsMissing ask engine.old call.old) }
     // No handle is given twice.
     ensures numbers { NumbersRise engine.old engine.new }
-    ensures shown { call.new.status ≡ 0 → MatchOption (ask_of call.old.ask) ⊥
+    ensures shown_bytes { call.new.status ≡ 0 → MatchOption (ask_of call.old.ask) ⊥
         (λ ask. call.new.length ≡ length (text_shown (shows_of ask) engine.new)) }
 {
-    match Ask::numbered(call.ask) {
+    match Ask::from_number(call.ask) {
         Some(ask) => {
             let done = act(engine, call, ask);
             finish(engine, call, ask.shows(), done);
         }
-        None => finish(engine, call, Shows::Nothing, Err(Refused::Misuse)),
+        None => finish(engine, call, Shows::Nothing, Err(HostError::Misuse)),
     }
 }
 
 /// Does what a call asks for.
-fn act(engine: &mut Engine, call: &mut Call<'_>, ask: Ask) -> Result<(), Refused>
-    ensures done { OnOk result (Does ask engine.old engine.new call.old (reply_of call.new)) }
+fn act(engine: &mut Engine, call: &mut Call<'_>, ask: Ask) -> Result<(), HostError>
+    ensures done { OnOk result (Does ask engine.old engine.new call.old (call_result call.new)) }
     ensures run { ask ≡ Ask.Run → MatchOption
-        (asked engine.old call.old.program call.old.environment call.old.context)
-        (result ≡ Err Refused.Unknown) (λ q. Runs q [] result (part_of engine.new.answer)) }
+        (run_inputs engine.old call.old.program call.old.environment call.old.context)
+        (result ≡ Err HostError.Unknown) (λ q. RunServes q [] result (part_of engine.new.answer)) }
     ensures turns { Turns ask engine.old call.old result engine.new.waits (part_of engine.new.answer) }
-    ensures limits { LimitsBy ask engine.old.limits call.old (result ≡ Ok tt) (result ≡ Err Refused.Misuse)
+    ensures limits { LimitsBy ask engine.old.limits call.old (result ≡ Ok tt) (result ≡ Err HostError.Misuse)
         engine.new.limits }
     ensures refused { OnErr result (Leaves engine.old engine.new) }
-    ensures unknown { IsMissing ask engine.old call.old → result ≡ Err Refused.Unknown }
-    ensures known { result ≡ Err Refused.Unknown → IsMissing ask engine.old call.old }
+    ensures unknown { IsMissing ask engine.old call.old → result ≡ Err HostError.Unknown }
+    ensures known { result ≡ Err HostError.Unknown → IsMissing ask engine.old call.old }
     ensures numbers { NumbersRise engine.old engine.new }
 {
     match ask {
@@ -106,14 +106,14 @@ fn act(engine: &mut Engine, call: &mut Call<'_>, ask: Ask) -> Result<(), Refused
         Ask::Name => add_name(engine, call),
         Ask::Answer => answer_call(engine, call),
         Ask::Refuse => refuse_call(engine, call),
-        Ask::Asked => look_asked(engine, call),
+        Ask::WaitingCall => look_at_waiting_call(engine, call),
         Ask::Limit => set_limit(engine, call),
         Ask::Unlimited => let_go_of_limits(engine),
     }
 }
 
 /// Says how a call ended, and shows its text.
-fn finish(engine: &mut Engine, call: &mut Call<'_>, shows: Shows, done: Result<(), Refused>)
+fn finish(engine: &mut Engine, call: &mut Call<'_>, shows: Shows, done: Result<(), HostError>)
     ensures same { OnOk done (engine.new ≡ engine.old) }
     ensures answer { engine.new.answer ≡ engine.old.answer }
     ensures rules { engine.new.rules ≡ engine.old.rules }
@@ -122,11 +122,11 @@ fn finish(engine: &mut Engine, call: &mut Call<'_>, shows: Shows, done: Result<(
     ensures waits { engine.new.waits ≡ engine.old.waits }
     ensures limits { engine.new.limits ≡ engine.old.limits }
     ensures built { OnErr done (values_of engine.new.built ≡ []) }
-    ensures reply { reply_of call.new ≡ reply_of call.old }
-    ensures ended { Ends done call.new.status }
-    ensures unknown { done ≡ Err Refused.Unknown → call.new.status ≡ 6 }
-    ensures known { call.new.status ≡ 6 → done ≡ Err Refused.Unknown }
-    ensures misuse { done ≡ Err Refused.Misuse → call.new.status ≡ 7 }
+    ensures reply { call_result call.new ≡ call_result call.old }
+    ensures ended { EndsCall done call.new.status }
+    ensures unknown { done ≡ Err HostError.Unknown → call.new.status ≡ 6 }
+    ensures known { call.new.status ≡ 6 → done ≡ Err HostError.Unknown }
+    ensures misuse { done ≡ Err HostError.Misuse → call.new.status ≡ 7 }
     ensures length { OnOk done (call.new.length ≡ length (text_shown shows engine.new)) }
 {
     match done {
@@ -140,18 +140,18 @@ fn finish(engine: &mut Engine, call: &mut Call<'_>, shows: Shows, done: Result<(
 
 /// Writes down how a call ended, and the text that is shown, as far as the room goes.
 fn answer(engine: &Engine, call: &mut Call<'_>, status: Status, shows: Shows)
-    ensures reply { reply_of call.new ≡ reply_of call.old }
+    ensures reply { call_result call.new ≡ call_result call.old }
     ensures status { call.new.status ≡ number_of status }
     ensures length { call.new.length ≡ length (text_shown shows engine.now) }
 {
     call.status = number(status);
-    let text = shown(engine, shows);
+    let text = shown_bytes(engine, shows);
     call.length = text.len();
     copy_into(text, call.room);
 }
 
 /// The text that is shown.
-fn shown(engine: &Engine, shows: Shows) -> &[u8]
+fn shown_bytes(engine: &Engine, shows: Shows) -> &[u8]
     ensures { result.now ≡ text_shown shows engine.now }
 {
     match shows {
@@ -185,7 +185,7 @@ fn number(status: Status) -> u32
 }
 
 /// Lets go of what was built, notes what is said, and answers how the call ended.
-fn refuse(engine: &mut Engine, refused: &Refused, call: &mut Call<'_>) -> Status
+fn refuse(engine: &mut Engine, refused: &HostError, call: &mut Call<'_>) -> Status
     ensures rules { engine.new.rules ≡ engine.old.rules }
     ensures contexts { engine.new.contexts ≡ engine.old.contexts }
     ensures environments { engine.new.environments ≡ engine.old.environments }
@@ -193,10 +193,10 @@ fn refuse(engine: &mut Engine, refused: &Refused, call: &mut Call<'_>) -> Status
     ensures waits { engine.new.waits ≡ engine.old.waits }
     ensures limits { engine.new.limits ≡ engine.old.limits }
     ensures built { values_of engine.new.built ≡ [] }
-    ensures reply { reply_of call.new ≡ reply_of call.old }
+    ensures reply { call_result call.new ≡ call_result call.old }
     ensures status { (result ≡ status_of refused.now) ⊎ (result ≡ Status.Memory) }
-    ensures unknown { refused.now ≡ Refused.Unknown → result ≡ Status.Unknown }
-    ensures misuse { refused.now ≡ Refused.Misuse → result ≡ Status.Misuse }
+    ensures unknown { refused.now ≡ HostError.Unknown → result ≡ Status.Unknown }
+    ensures misuse { refused.now ≡ HostError.Misuse → result ≡ Status.Misuse }
 {
     engine.built.clear();
     match engine.note(refused, call.text) {

@@ -3,32 +3,32 @@ use Rattle.std.proofs.Common.{◌≡◌, ◌≢◌, ℕ, List, Option, Result, O
 use Rattle.std.specs.Result.{IsErrAnd}
 use Rattle.expr_evaluation.specs.Handed.{IsHanded}
 use Rattle.expr_meaning.specs.Allows.{Allows}
-use Rattle.expr_operators.specs.Sides.{sides_of}
-use Rattle.expr_operators.specs.declared.sides.Sides.TheVariants.{Both, EndsAtFalse, EndsAtTrue, Pattern}
+use Rattle.expr_operators.specs.Strictness.{operator_strictness}
+use Rattle.expr_operators.specs.declared.strictness.Strictness.TheVariants.{Both, EndsAtFalse, EndsAtTrue, Pattern}
 use Rattle.expr_meaning.specs.World.{World}
 use Rattle.expr_tree.specs.Term.{Term}
 use Rattle.expr_tree.specs.declared.operator.Operator.{Operator}
 use Rattle.expr_value.specs.Answers.{Answer}
-use Rattle.expr_value.specs.Fault.{Fault, fault_of, memory, pattern, OnlyMemory}
-use Rattle.expr_value.specs.declared.error.Error.{Error}
+use Rattle.expr_error.specs.ErrorKind.{ErrorKind, error_kind, memory, pattern, OnlyMemory}
+use Rattle.expr_error.specs.declared.error.Error.{Error}
 use Rattle.expr_value.specs.declared.value.Value as value
 use Rattle.expr_value.specs.declared.value.Value.{Value}
 
-not-memory : (f : Fault) → f ≡ pattern → f ≢ memory
+not-memory : (f : ErrorKind) → f ≡ pattern → f ≢ memory
 not-memory f is m = let wrong : memory ≡ pattern = sym m ∙ is in cc
 
 module _ (op : Operator) (right : Term) (kept : Option (List ℕ)) (h : IsHanded op right kept) where
   -- only `matches` is handed a pattern
-  handed-sides : sides_of op ≡ Pattern
-  handed-sides = ap sides_of h.matches
+  handed-sides : operator_strictness op ≡ Pattern
+  handed-sides = ap operator_strictness h.matches
 
-  pub handed-not-Both : sides_of op ≢ Both
+  pub handed-not-Both : operator_strictness op ≢ Both
   handed-not-Both e = let wrong : Both ≡ Pattern = sym e ∙ handed-sides in cc
 
-  pub handed-not-EndsAtFalse : sides_of op ≢ EndsAtFalse
+  pub handed-not-EndsAtFalse : operator_strictness op ≢ EndsAtFalse
   handed-not-EndsAtFalse e = let wrong : EndsAtFalse ≡ Pattern = sym e ∙ handed-sides in cc
 
-  pub handed-not-EndsAtTrue : sides_of op ≢ EndsAtTrue
+  pub handed-not-EndsAtTrue : operator_strictness op ≢ EndsAtTrue
   handed-not-EndsAtTrue e = let wrong : EndsAtTrue ≡ Pattern = sym e ∙ handed-sides in cc
 
   module _ (world : World) where
@@ -40,19 +40,19 @@ module _ (op : Operator) (right : Term) (kept : Option (List ℕ)) (h : IsHanded
     handed-value v p = let same : Ok v ≡ Ok (value.String h.text) = handed-answer (Ok v) p in cc
 
     -- and is refused for want of memory alone
-    pub handed-refused : (e : Error) → (fault_of e ≢ memory → Allows world right (Err (fault_of e))) → fault_of e ≢ pattern
+    pub handed-refused : (e : Error) → (error_kind e ≢ memory → Allows world right (Err (error_kind e))) → error_kind e ≢ pattern
     handed-refused e p is =
-        let wrong : Err (fault_of e) ≡ Ok (value.String h.text) = handed-answer (Err (fault_of e)) (p (not-memory (fault_of e) is)) in
+        let wrong : Err (error_kind e) ≡ Ok (value.String h.text) = handed-answer (Err (error_kind e)) (p (not-memory (error_kind e) is)) in
         cc
 
 -- a refusal of a pattern that can't be built
-pub refused-pattern : (R : Answer → Type 0) (e : Error) → (fault_of e ≢ memory → R (Err (fault_of e))) → fault_of e ≡ pattern → R (Err pattern)
-refused-pattern R e p is = subst (λ f. R (Err f)) is (p (not-memory (fault_of e) is))
+pub refused-pattern : (R : Answer → Type 0) (e : Error) → (error_kind e ≢ memory → R (Err (error_kind e))) → error_kind e ≡ pattern → R (Err pattern)
+refused-pattern R e p is = subst (λ f. R (Err f)) is (p (not-memory (error_kind e) is))
 
 -- want of memory is no such refusal
-pub memory-alone : {A : Type 0} (r : Result A Error) (P : Type 0) → OnlyMemory r → IfErr r (λ e. fault_of e ≡ pattern → P)
+pub memory-alone : {A : Type 0} (r : Result A Error) (P : Type 0) → OnlyMemory r → IfErr r (λ e. error_kind e ≡ pattern → P)
 memory-alone (Ok v) P p = p
-memory-alone (Err e) P p = λ is. absurd (not-memory (fault_of e) is (ap fault_of p))
+memory-alone (Err e) P p = λ is. absurd (not-memory (error_kind e) is (ap error_kind p))
 
 -- what is said of a refusal that a `?` passes on
 pub refusal-passed : {A : Type 0} (r : Result A Error) (e : Error) (P : Error → Type 0) → IsErrAnd r (λ x. x ≡ e) → P e → IfErr r P

@@ -2,9 +2,9 @@
 use Rattle.std.specs.Prelude.{◌≡◌, ℕ, List, Option, Some}
 use Rattle.std.specs.declared.alloc.Global.{Global}
 use Rattle.std.specs.declared.boxed.Box.{Box}
-use Rattle.expr_tree.specs.Beside.{built_text}
+use Rattle.expr_tree.specs.KeptPatterns.{built_text}
 use Rattle.expr_tree.specs.Term.{Term, literal}
-use Rattle.expr_tree.specs.Written.{written}
+use Rattle.expr_tree.specs.TermOf.{term_of}
 use Rattle.expr_tree.specs.declared.node.CompiledRegex.{CompiledRegex}
 use Rattle.expr_tree.specs.declared.node.Node as node
 use Rattle.expr_tree.specs.declared.node.Node.{Node}
@@ -26,4 +26,4 @@ pub record IsKeeping (n : Node) : Type 0 where
   pub right : Box Node Global
   pub kept : CompiledRegex
   pub operation : n ≡ node.Operation operator left right kept
-  pub handed : IsHanded operator (written right.value) (built_text kept)
+  pub handed : IsHanded operator (term_of right.value) (built_text kept)

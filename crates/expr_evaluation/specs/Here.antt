@@ -2,14 +2,14 @@
 use Rattle.expr_evaluation.specs.declared.evaluation.Evaluation.{Evaluation}
 use Rattle.expr_meaning.specs.Host.{Host}
 use Rattle.expr_meaning.specs.World.{World, world_of}
-use Rattle.expr_steps.specs.Context.{Context}
-use Rattle.expr_steps.specs.Scope.{inside}
+use Rattle.expr_steps.specs.Context.{ContextView}
+use Rattle.expr_steps.specs.Scope.{context_in}
 use Rattle.expr_steps.specs.declared.scope.Scope.{Scope}
 
 -- what it may ask inside a scope, by what its host and its provider lend
-abbrev pub here : {H P : Type 0} → (H → Host) → (P → Context) → Evaluation H P → Scope → World
-here host_of context_of evaluation scope = world_of (host_of evaluation.host.now) (inside scope (context_of evaluation.provider))
+abbrev pub here : {H P : Type 0} → (H → Host) → (P → ContextView) → Evaluation H P → Scope → World
+here host_of context_of evaluation scope = world_of (host_of evaluation.host.now) (context_in scope (context_of evaluation.provider))
 
 -- the same under no bindings
-abbrev pub outermost : {H P : Type 0} → (H → Host) → (P → Context) → Evaluation H P → World
+abbrev pub outermost : {H P : Type 0} → (H → Host) → (P → ContextView) → Evaluation H P → World
 outermost host_of context_of evaluation = world_of (host_of evaluation.host.now) (context_of evaluation.provider)

@@ -1,11 +1,11 @@
 //! What takes no memory: nil, booleans and integers under prefixes, `+ - * %`, comparisons, equality, `and` and `or`.
 ghost use Rattle.std.specs.Prelude.{◌≡◌, IsFalse, MatchOption};
-ghost use Rattle.expr_evaluation.specs.Plain.{IsPlainTruth, IsPlainly, IsPlainlyAfter};
-ghost use Rattle.expr_operators.specs.Plain.{is_plain_value};
+ghost use Rattle.expr_evaluation.specs.AllocFree.{IsPlainTruth, IsPlainly, IsPlainlyAfter};
+ghost use Rattle.expr_operators.specs.AllocFree.{is_alloc_free_value};
 ghost use Rattle.expr_tree.specs.Term.{operation};
-ghost use Rattle.expr_tree.specs.Written.{written};
+ghost use Rattle.expr_tree.specs.TermOf.{term_of};
 
-use expr_operators::{Sides, apply, as_truth, prefix, sides_asked};
+use expr_operators::{Strictness, apply, as_truth, prefix, strictness_of};
 use expr_tree::node::Node;
 use expr_tree::operator::Operator;
 use expr_value::Value;
@@ -14,7 +14,7 @@ use std::alloc::Global;
 /// The value of a node that takes no memory, if it has one. It asks neither a name nor a host.
 #[cycle(plain)]
 pub(crate) fn plain_value(alloc: Global, node: &Node) -> Option<Value>
-    ensures { IsPlainly result (written node.now) }
+    ensures { IsPlainly result (term_of node.now) }
 {
     match node {
         Node::Value(value) => plain_literal(value),
@@ -46,20 +46,20 @@ pub(crate) fn plain_after(
     operator: Operator,
     first: &Value,
 ) -> Option<Value>
-    ensures { IsPlainlyAfter result operator first.now (written right.now) }
+    ensures { IsPlainlyAfter result operator first.now (term_of right.now) }
 {
-    match (sides_asked(operator), first) {
-        (Sides::Both, _) => {
+    match (strictness_of(operator), first) {
+        (Strictness::Both, _) => {
             let second = plain_value(alloc, right)?;
             match apply(alloc, operator, first, &second) {
                 Ok(value) => Some(value),
                 Err(_) => None,
             }
         }
-        (Sides::EndsAtFalse, Value::Bool(true)) => plain_truth(alloc, right),
-        (Sides::EndsAtTrue, Value::Bool(false)) => plain_truth(alloc, right),
-        (Sides::EndsAtFalse, Value::Bool(false)) => Some(Value::Bool(false)),
-        (Sides::EndsAtTrue, Value::Bool(true)) => Some(Value::Bool(true)),
+        (Strictness::EndsAtFalse, Value::Bool(true)) => plain_truth(alloc, right),
+        (Strictness::EndsAtTrue, Value::Bool(false)) => plain_truth(alloc, right),
+        (Strictness::EndsAtFalse, Value::Bool(false)) => Some(Value::Bool(false)),
+        (Strictness::EndsAtTrue, Value::Bool(true)) => Some(Value::Bool(true)),
         _ => None,
     }
 }
@@ -71,7 +71,7 @@ pub(crate) fn plain_operation(
     left: &Node,
     right: &Node,
 ) -> Option<Value>
-    ensures { IsPlainly result (operation operator (written left.now) (written right.now)) }
+    ensures { IsPlainly result (operation operator (term_of left.now) (term_of right.now)) }
 {
     let first = plain_value(alloc, left)?;
     plain_after(alloc, right, operator, &first)
@@ -80,7 +80,7 @@ pub(crate) fn plain_operation(
 /// The boolean that a node is which takes no memory, if it is one.
 #[cycle(plain)]
 fn plain_truth(alloc: Global, node: &Node) -> Option<Value>
-    ensures { IsPlainTruth result (written node.now) }
+    ensures { IsPlainTruth result (term_of node.now) }
 {
     let value = plain_value(alloc, node)?;
     match as_truth(alloc, &value) {
@@ -91,7 +91,7 @@ fn plain_truth(alloc: Global, node: &Node) -> Option<Value>
 
 /// A literal of nil, a boolean or an integer.
 fn plain_literal(value: &Value) -> Option<Value>
-    ensures { MatchOption result (IsFalse (is_plain_value value.now)) (λ v. v ≡ value.now) }
+    ensures { MatchOption result (IsFalse (is_alloc_free_value value.now)) (λ v. v ≡ value.now) }
 {
     match value {
         Value::Nil => Some(Value::Nil),

@@ -3,7 +3,7 @@ use Rattle.std.specs.Prelude.{ℕ, ℤ, pos, List, [], ◌∷◌, Option, length
 use Rattle.std.specs.Int.{int_div_euclid, int_rem_euclid}
 use Rattle.expr_exchange.specs.declared.kind.Kind.{Kind}
 use Rattle.expr_exchange.specs.declared.kind.Kind.TheVariants as is
-use Rattle.expr_value.specs.Times.{instant, zone_name}
+use Rattle.expr_datetime.specs.Times.{instant, zone_name}
 use Rattle.expr_value.specs.declared.value.Value.{Value, out-Value}
 use Rattle.expr_value.specs.declared.value.Value.TheOpen.{Value-F}
 

@@ -1,6 +1,6 @@
-pub mod Built
+pub mod Builder
+pub mod Cursor
 pub mod Kinds
 pub mod Limits
-pub mod Looked
 pub mod Refusals
 pub mod Scalars

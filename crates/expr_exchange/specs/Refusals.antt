@@ -1,15 +1,15 @@
 -- How calls end, and what they give.
 use Rattle.std.specs.Prelude.{◌≡◌, ◌≢◌, Option, None, Result, Ok, Err}
-use Rattle.expr_exchange.specs.declared.refused.Refused.{Refused}
-use Rattle.expr_exchange.specs.declared.refused.Refused.TheVariants.{Language, Unknown, Misuse, Asks, Differs, Stopped}
-use Rattle.expr_exchange.specs.declared.refused.Status.{Status}
-use Rattle.expr_exchange.specs.declared.refused.Status.TheVariants as ends
+use Rattle.expr_exchange.specs.declared.host_error.HostError.{HostError}
+use Rattle.expr_exchange.specs.declared.host_error.HostError.TheVariants.{Language, Unknown, Misuse, Asks, Differs, Stopped}
+use Rattle.expr_exchange.specs.declared.host_error.Status.{Status}
+use Rattle.expr_exchange.specs.declared.host_error.Status.TheVariants as ends
 use Rattle.expr_meter.specs.declared.limit.Limit.{Limit}
 use Rattle.expr_meter.specs.declared.limit.Limit.TheVariants as limits
-use Rattle.expr_value.specs.Fault.{Fault, fault_of, syntax, literal, evaluation, pattern, memory}
+use Rattle.expr_error.specs.ErrorKind.{ErrorKind, error_kind, syntax, literal, evaluation, pattern, memory}
 
 -- how a call ends by the kind of a refusal
-abbrev pub ends_by : Fault → Status
+abbrev pub ends_by : ErrorKind → Status
 ends_by syntax = ends.Syntax
 ends_by literal = ends.Literal
 ends_by evaluation = ends.Evaluation
@@ -24,8 +24,8 @@ ends_at limits.Steps = ends.Steps
 ends_at limits.Depth = ends.Depth
 ends_at limits.Size = ends.Size
 
-abbrev pub status_of : Refused → Status
-status_of (Language error) = ends_by (fault_of error)
+abbrev pub status_of : HostError → Status
+status_of (Language error) = ends_by (error_kind error)
 status_of Unknown = ends.Unknown
 status_of Misuse = ends.Misuse
 status_of Asks = ends.Asks
@@ -33,18 +33,18 @@ status_of Differs = ends.Differs
 status_of (Stopped limit) = ends_at limit
 
 -- The language gives one of these answers, or refuses for want of memory, or the run stops for a reply or at such a limit; nothing else is refused.
-abbrev pub GivesHost : {A : Type 0} → Result A Refused → (Result A Fault → Type 0) → (Limit → Type 0) → Type 0
-GivesHost (Ok v) allowed passed = allowed (Ok v)
-GivesHost (Err (Language error)) allowed passed = fault_of error ≢ memory → allowed (Err (fault_of error))
-GivesHost (Err Unknown) allowed passed = ⊥
-GivesHost (Err Misuse) allowed passed = ⊥
-GivesHost (Err Asks) allowed passed = Unit {0}
-GivesHost (Err Differs) allowed passed = Unit {0}
-GivesHost (Err (Stopped limit)) allowed passed = passed limit
+abbrev pub ReturnsToHost : {A : Type 0} → Result A HostError → (Result A ErrorKind → Type 0) → (Limit → Type 0) → Type 0
+ReturnsToHost (Ok v) allowed passed = allowed (Ok v)
+ReturnsToHost (Err (Language error)) allowed passed = error_kind error ≢ memory → allowed (Err (error_kind error))
+ReturnsToHost (Err Unknown) allowed passed = ⊥
+ReturnsToHost (Err Misuse) allowed passed = ⊥
+ReturnsToHost (Err Asks) allowed passed = Unit {0}
+ReturnsToHost (Err Differs) allowed passed = Unit {0}
+ReturnsToHost (Err (Stopped limit)) allowed passed = passed limit
 
 -- A refusal for want of memory.
-abbrev pub IsForMemory : Refused → Type 0
-IsForMemory (Language error) = fault_of error ≡ memory
+abbrev pub IsForMemory : HostError → Type 0
+IsForMemory (Language error) = error_kind error ≡ memory
 IsForMemory Unknown = ⊥
 IsForMemory Misuse = ⊥
 IsForMemory Asks = ⊥
@@ -52,8 +52,8 @@ IsForMemory Differs = ⊥
 IsForMemory (Stopped limit) = ⊥
 
 -- A refusal of what isn't there, or for want of memory.
-abbrev pub NotThere : {A : Type 0} → Option A → Refused → Type 0
-NotThere sought (Language error) = fault_of error ≡ memory
+abbrev pub NotThere : {A : Type 0} → Option A → HostError → Type 0
+NotThere sought (Language error) = error_kind error ≡ memory
 NotThere sought Unknown = ⊥
 NotThere sought Misuse = sought ≡ None
 NotThere sought Asks = ⊥
@@ -61,8 +61,8 @@ NotThere sought Differs = ⊥
 NotThere sought (Stopped limit) = ⊥
 
 -- A refusal of what stands for nothing, or for want of memory.
-abbrev pub NotMeant : Type 0 → Refused → Type 0
-NotMeant Means (Language error) = fault_of error ≡ memory
+abbrev pub NotMeant : Type 0 → HostError → Type 0
+NotMeant Means (Language error) = error_kind error ≡ memory
 NotMeant Means Unknown = ⊥
 NotMeant Means Misuse = Means → ⊥
 NotMeant Means Asks = ⊥

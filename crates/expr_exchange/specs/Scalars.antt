@@ -5,9 +5,9 @@ use Rattle.jiff.specs.Instant.{IsTimestampParts}
 use Rattle.expr_exchange.specs.Kinds.{kind_of, number_of}
 use Rattle.expr_exchange.specs.declared.kind.Kind.{Kind}
 use Rattle.expr_exchange.specs.declared.kind.Kind.TheVariants as is
-use Rattle.expr_value.specs.Times.{instant, offset_of, zone_of}
+use Rattle.expr_datetime.specs.Times.{instant, offset_of, zone_of}
 use Rattle.expr_value.specs.Values.{moment_of}
-use Rattle.expr_value.specs.declared.moment.DateTimeValue.{DateTimeValue}
+use Rattle.expr_datetime.specs.declared.moment.DateTimeValue.{DateTimeValue}
 use Rattle.expr_value.specs.declared.value.Value.{Value}
 use Rattle.expr_value.specs.declared.value.Value as values
 

@@ -29,7 +29,7 @@ pub enum Kind {
 
 impl Kind {
     /// The kind of a number.
-    pub fn numbered(number: u32) -> Option<Kind>
+    pub fn from_number(number: u32) -> Option<Kind>
         ensures { result ≡ kind_numbered number }
     {
         match number {

@@ -4,8 +4,8 @@ ghost use Rattle.expr_exchange.specs.Refusals.{NotMeant};
 ghost use Rattle.expr_exchange.specs.Scalars.{HasScalar, IsScalar, instant_by};
 ghost use Rattle.jiff.specs.Instant.{IsTimestampParts};
 
+use crate::host_error::HostError;
 use crate::kind::Kind;
-use crate::refused::Refused;
 use expr_value::{DateTimeValue, Value};
 use jiff::Timestamp;
 use jiff::tz::Offset;
@@ -24,7 +24,7 @@ pub fn scalar_of(
     number: i64,
     fraction: u32,
     text: &[u8],
-) -> Result<Value, Refused>
+) -> Result<Value, HostError>
     ensures ok { IfOk result (IsScalar kind number fraction text.now) }
     ensures refused { IfErr result (NotMeant (HasScalar kind number fraction text.now)) }
 {
@@ -45,36 +45,36 @@ pub fn scalar_of(
         }
         Kind::Month => match u32::try_from(number) {
             Ok(month) if 1 <= month && month <= 12 => Ok(Value::Month(month)),
-            _ => Err(Refused::Misuse),
+            _ => Err(HostError::Misuse),
         },
         Kind::Weekday => match u32::try_from(number) {
             Ok(day) if day <= 6 => Ok(Value::Weekday(day)),
-            _ => Err(Refused::Misuse),
+            _ => Err(HostError::Misuse),
         },
-        _ => Err(Refused::Misuse),
+        _ => Err(HostError::Misuse),
     }
 }
 
-fn text_value(alloc: Global, text: &[u8]) -> Result<Value, Refused>
+fn text_value(alloc: Global, text: &[u8]) -> Result<Value, HostError>
     ensures ok { IfOk result (λ v. v ≡ Value.String text.now) }
     ensures refused { IfErr result (NotMeant (IsUtf8 text.now)) }
 {
     match std::str::from_utf8(text) {
         Ok(text) => Ok(Value::text(alloc, text)?),
-        Err(_) => Err(Refused::Misuse),
+        Err(_) => Err(HostError::Misuse),
     }
 }
 
 /// The moment of a second since 1970 began, and nanoseconds past it.
-pub fn moment_of(second: i64, fraction: u32) -> Result<Timestamp, Refused>
+pub fn moment_of(second: i64, fraction: u32) -> Result<Timestamp, HostError>
     ensures ok { IfOk result (λ t. t.nanosecond ≡ instant_by second fraction) }
     ensures refused { IfErr result (NotMeant (IsTimestampParts second (pos fraction))) }
 {
     match i32::try_from(fraction) {
         Ok(fraction) => match Timestamp::new(second, fraction) {
             Ok(moment) => Ok(moment),
-            Err(_) => Err(Refused::Misuse),
+            Err(_) => Err(HostError::Misuse),
         },
-        Err(_) => Err(Refused::Misuse),
+        Err(_) => Err(HostError::Misuse),
     }
 }

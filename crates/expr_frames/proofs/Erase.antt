@@ -6,11 +6,11 @@ use Rattle.expr_token.specs.declared.token.Token.TheVariants as token
 use Rattle.expr_token.specs.declared.sign.Sign.TheVariants as sign
 use Rattle.expr_token.specs.declared.reserved.Reserved.TheVariants as reserved
 use Rattle.expr_tree.specs.Term.{predicate}
-use Rattle.expr_parts.specs.Parts.{Measured, MeasuredBlock, MeasuredLines, MeasuredPairs, Given, chosen as chosen_part, sliced, no_lines, none_given, no_pairs, given_more, given_program, pair_more, mapped}
+use Rattle.expr_parts.specs.Parts.{WithHeight, BlockWithHeight, LinesWithHeight, PairsWithHeight, ArgumentsWithHeight, conditional_of as chosen_part, slice_of, no_lines, no_arguments, no_pairs, argument_more, argument_program, pair_more, map_of}
 use Rattle.expr_frames.specs.declared.frame.Meaning.{Meaning}
 use Rattle.expr_frames.specs.declared.frame.Meaning.TheVariants as meaning
 use Rattle.expr_grammar.specs.declared.role.Role.{Role}
-use Rattle.expr_grammar.specs.declared.role.Role.TheVariants.{Binary, Negating, Asking, Piping, Dotting, Questioning, Applying, Picking, Plain}
+use Rattle.expr_grammar.specs.declared.role.Role.TheVariants.{Binary, Negating, Branching, Piping, Dotting, Questioning, Applying, Picking, NoOperator}
 use Rattle.expr_frames.specs.declared.frame.Holder.{Holder}
 use Rattle.expr_frames.specs.declared.frame.Holder.TheVariants as holder
 use Rattle.expr_frames.specs.declared.frame.Caller.{Caller}
@@ -20,17 +20,17 @@ use Rattle.expr_frames.specs.declared.frame.Section.TheVariants as section
 use Rattle.expr_frames.specs.declared.frame.Frame.{Frame}
 use Rattle.expr_frames.specs.declared.frame.Frame.TheVariants as frame
 use Rattle.expr_frames.specs.declared.frame.Reaching.TheVariants as reaching
-use Rattle.expr_frames.specs.declared.frame.Operand.{Operand}
-use Rattle.expr_frames.specs.declared.frame.Operand.TheVariants as operand
-use Rattle.expr_frames.specs.declared.frame.Place.TheVariants as place
+use Rattle.expr_frames.specs.declared.frame.OpenOperand.{OpenOperand}
+use Rattle.expr_frames.specs.declared.frame.OpenOperand.TheVariants as open_operand
+use Rattle.expr_frames.specs.declared.frame.ParseState.TheVariants as parse_state
 use Rattle.expr_grammar.specs.Grammar.{Word, Usual, ReservedWord, Key, WordKey, QuotedKey, EntryRow, Tree, Name, Paren, Map, Member, Infix, Index, Slice, Row, NoEntries, SomeEntries, SomeItems, SomeArguments, ArgumentRow, Argument, Expression, Braces, Bound, LeftOut, At, Else, ElseIf, TreeProgram, Program, NoLines, key_token}
 use Rattle.expr_grammar.specs.Machine as tree
 use Rattle.expr_grammar.specs.Machine.{role_of, role_level, word_at, key_at, push, push_argument, push_entry, items_end, arguments_end, entries_end, InArray, InMethod, holder_tree, InCall, InPipe, caller_tree, Branches, NoBranch, Branch, chosen, Top, Then, Last, Predicate, tree_of}
 use Rattle.expr_grammar.specs.Height.{height, items_height, row_height, entries_height, entry_row_height, arguments_height, argument_row_height, else_height, program_height, lines_height}
-use Rattle.expr_frames.specs.Measures.{measured, measured_program, measured_if_any}
-use Rattle.expr_frames.specs.Programs.{word_text, key_text, entry_row_pairs, entries_pairs, term_of, items_terms, row_terms, argument_terms, argument_row_terms, last_predicate, last_predicate_in_row, infix_meaning, joined, else_block, line_terms}
+use Rattle.expr_frames.specs.Measures.{with_height, program_with_height, with_height_if_any}
+use Rattle.expr_frames.specs.Programs.{word_text, key_text, entry_row_pairs, entries_pairs, tree_term, items_terms, row_terms, argument_terms, argument_row_terms, last_predicate, last_predicate_in_row, infix_meaning, infix_term, else_block, line_terms}
 use Rattle.expr_frames.specs.Nodes as node
-use Rattle.expr_frames.specs.Nodes.{nest, joined_part}
+use Rattle.expr_frames.specs.Nodes.{nest, infix_node}
 use Rattle.expr_frames.proofs.Branches.{nest_more}
 use Rattle.expr_grammar.proofs.Complete.{stays}
 use Rattle.expr_grammar.proofs.Measures.{tight}
@@ -38,66 +38,66 @@ use Rattle.expr_grammar.proofs.Measures.{tight}
 -- what the frames kept
 abbrev holder_of : tree.Holder → Holder
 holder_of InArray = holder.Array
-holder_of (InMethod l w) = holder.Method (measured l) (word_text w)
+holder_of (InMethod l w) = holder.Method (with_height l) (word_text w)
 
 abbrev caller_of : tree.Caller → Caller
 caller_of (InCall w) = caller.Function w
-caller_of (InPipe l w) = caller.Pipe (measured l) w
+caller_of (InPipe l w) = caller.Pipe (with_height l) w
 
-abbrev items_given : Option Row → Given
-items_given None = none_given
-items_given (Some r) = record { terms = row_terms r; program = none_given.program; height = row_height r }
+abbrev items_given : Option Row → ArgumentsWithHeight
+items_given None = no_arguments
+items_given (Some r) = record { terms = row_terms r; program = no_arguments.program; height = row_height r }
 
-abbrev row_given : Option ArgumentRow → Given
-row_given None = none_given
+abbrev row_given : Option ArgumentRow → ArgumentsWithHeight
+row_given None = no_arguments
 row_given (Some r) = record { terms = argument_row_terms r; program = last_predicate_in_row r; height = argument_row_height r }
 
-abbrev arguments_given : Rattle.expr_grammar.specs.Grammar.Arguments → Given
+abbrev arguments_given : Rattle.expr_grammar.specs.Grammar.Arguments → ArgumentsWithHeight
 arguments_given xs = record { terms = argument_terms xs; program = last_predicate xs; height = arguments_height xs }
 
 -- the arguments with one more
-abbrev with_argument : Argument → Given → Given
-with_argument (Expression t) g = given_more g (measured t)
-with_argument (Braces p) g = given_program g (measured_program p)
+abbrev with_argument : Argument → ArgumentsWithHeight → ArgumentsWithHeight
+with_argument (Expression t) g = argument_more g (with_height t)
+with_argument (Braces p) g = argument_program g (program_with_height p)
 
 -- the items of an array or a method
-abbrev items_whole : Rattle.expr_grammar.specs.Grammar.Items → Given
-items_whole xs = record { terms = items_terms xs; program = none_given.program; height = items_height xs }
+abbrev items_whole : Rattle.expr_grammar.specs.Grammar.Items → ArgumentsWithHeight
+items_whole xs = record { terms = items_terms xs; program = no_arguments.program; height = items_height xs }
 
-abbrev pairs : Option EntryRow → MeasuredPairs
+abbrev pairs : Option EntryRow → PairsWithHeight
 pairs None = no_pairs
 pairs (Some r) = record { pairs = entry_row_pairs r; height = entry_row_height r }
 
-abbrev all_pairs : Rattle.expr_grammar.specs.Grammar.Entries → MeasuredPairs
+abbrev all_pairs : Rattle.expr_grammar.specs.Grammar.Entries → PairsWithHeight
 all_pairs es = record { pairs = entries_pairs es; height = entries_height es }
 
-abbrev lines_of : Rattle.expr_grammar.specs.Grammar.Lines → MeasuredLines
+abbrev lines_of : Rattle.expr_grammar.specs.Grammar.Lines → LinesWithHeight
 lines_of ls = record { lines = line_terms ls; height = lines_height ls }
 
-abbrev branches : Branches → List (Measured × MeasuredBlock)
+abbrev branches : Branches → List (WithHeight × BlockWithHeight)
 branches NoBranch = []
-branches (Branch bs c a) = branches bs ++ (measured c, measured_program a) ∷ []
+branches (Branch bs c a) = branches bs ++ (with_height c, program_with_height a) ∷ []
 
 abbrev section_of : tree.Section → Section
 section_of Top = section.Top
-section_of (Then bs c) = section.Then (branches bs) (measured c)
-section_of (Last bs c a) = section.Last (branches bs) (measured c) (measured_program a)
+section_of (Then bs c) = section.Then (branches bs) (with_height c)
+section_of (Last bs c a) = section.Last (branches bs) (with_height c) (program_with_height a)
 section_of Predicate = section.Predicate
 
-abbrev bound_of : Bound → Option Measured
+abbrev bound_of : Bound → Option WithHeight
 bound_of LeftOut = None
-bound_of (At t) = Some (measured t)
+bound_of (At t) = Some (with_height t)
 
 abbrev frame_of : tree.Frame → Frame
 frame_of (tree.Under o) = frame.Reaching (reaching.Under o)
-frame_of (tree.After l o) = frame.Reaching (reaching.After (measured l) o)
-frame_of (tree.Otherwise c a) = frame.Reaching (reaching.Otherwise (measured c) (measured a))
+frame_of (tree.After l o) = frame.Reaching (reaching.After (with_height l) o)
+frame_of (tree.Otherwise c a) = frame.Reaching (reaching.Otherwise (with_height c) (with_height a))
 frame_of tree.Inside = frame.Inside 0
-frame_of (tree.Middle c) = frame.Middle (measured c)
+frame_of (tree.Middle c) = frame.Middle (with_height c)
 frame_of (tree.Listed s r) = frame.List (holder_of s) (items_given r)
 frame_of (tree.Calling c r) = frame.Call (caller_of c) (row_given r)
-frame_of (tree.Indexed l optional) = frame.Index (measured l) optional
-frame_of (tree.Cut l a) = frame.Cut (measured l) (bound_of a)
+frame_of (tree.Indexed l optional) = frame.Index (with_height l) optional
+frame_of (tree.Cut l a) = frame.Cut (with_height l) (bound_of a)
 frame_of (tree.Condition bs) = frame.Condition (branches bs)
 frame_of (tree.Body b ls) = frame.Body (section_of b) (lines_of ls)
 frame_of (tree.Value w) = frame.Value w
@@ -107,32 +107,32 @@ abbrev frames : List tree.Frame → List Frame
 frames [] = []
 frames (f ∷ k) = frame_of f ∷ frames k
 
-abbrev head : Tree → Operand
-head (Name w) = operand.Name w
-head (Member l false w) = operand.Member (measured l) (word_text w)
-head t = operand.Whole (measured t)
+abbrev head : Tree → OpenOperand
+head (Name w) = open_operand.Name w
+head (Member l false w) = open_operand.Member (with_height l) (word_text w)
+head t = open_operand.Whole (with_height t)
 
 abbrev pub state : tree.State → node.State
-state (tree.Want k) = node.On (frames k) place.Want
-state (tree.Have k l) = node.On (frames k) (place.Have (head l))
-state (tree.Dotted k l) = node.On (frames k) (place.Dotted (measured l))
-state (tree.Questioned k l) = node.On (frames k) (place.Questioned (measured l))
-state (tree.Negated k l) = node.On (frames k) (place.Negated (measured l))
-state (tree.Barred k l) = node.On (frames k) (place.Barred (measured l))
-state (tree.Piped k l w) = node.On (frames k) (place.Piped (measured l) w)
-state (tree.Chosen k bs c a) = node.On (frames k) (place.Chosen (branches bs) (measured c) (measured_program a))
-state (tree.Alternate k bs c a) = node.On (frames k) (place.Alternate (branches bs) (measured c) (measured_program a))
-state (tree.NamesLine k) = node.On (frames k) place.NamesLine
-state (tree.Named k w) = node.On (frames k) (place.Named w)
-state (tree.Argued k p) = node.On (frames k) (place.Argued (measured_program p))
-state (tree.NamesField k) = node.On (frames k) place.NamesField
-state (tree.Braced k) = node.On (frames k) place.Braced
-state (tree.BracedKey k key) = node.On (frames k) (place.BracedKey (key_token key))
-state (tree.Keys k r) = node.On (frames k) (place.Keys (pairs r))
-state (tree.Colons k r key) = node.On (frames k) (place.Colons (pairs r) (key_text key))
+state (tree.Want k) = node.On (frames k) parse_state.Want
+state (tree.Have k l) = node.On (frames k) (parse_state.Have (head l))
+state (tree.Dotted k l) = node.On (frames k) (parse_state.Dotted (with_height l))
+state (tree.Questioned k l) = node.On (frames k) (parse_state.Questioned (with_height l))
+state (tree.Negated k l) = node.On (frames k) (parse_state.Negated (with_height l))
+state (tree.Barred k l) = node.On (frames k) (parse_state.Barred (with_height l))
+state (tree.Piped k l w) = node.On (frames k) (parse_state.Piped (with_height l) w)
+state (tree.Chosen k bs c a) = node.On (frames k) (parse_state.Chosen (branches bs) (with_height c) (program_with_height a))
+state (tree.Alternate k bs c a) = node.On (frames k) (parse_state.Alternate (branches bs) (with_height c) (program_with_height a))
+state (tree.NamesLine k) = node.On (frames k) parse_state.NamesLine
+state (tree.Named k w) = node.On (frames k) (parse_state.Named w)
+state (tree.Argued k p) = node.On (frames k) (parse_state.Argued (program_with_height p))
+state (tree.NamesField k) = node.On (frames k) parse_state.NamesField
+state (tree.Braced k) = node.On (frames k) parse_state.Braced
+state (tree.BracedKey k key) = node.On (frames k) (parse_state.BracedKey (key_token key))
+state (tree.Keys k r) = node.On (frames k) (parse_state.Keys (pairs r))
+state (tree.Colons k r key) = node.On (frames k) (parse_state.Colons (pairs r) (key_text key))
 state tree.Fail = node.Fail
 
-makes : (l : Tree) → node.make (head l) ≡ measured l
+makes : (l : Tree) → node.make (head l) ≡ with_height l
 makes (Name w) = refl
 makes (Member l false w) = refl
 makes (Member l true w) = refl
@@ -143,15 +143,15 @@ no_lower : (n : ℕ) → max 0 n ≡ n
 no_lower n = simp unary_clauses refl
 
 -- one more in a list
-more_items : (r : Option Row) (l : Tree) → given_more (items_given r) (measured l) ≡ items_given (Some (push r l))
-more_items None l = ap (λ h. record { terms = term_of l ∷ []; program = none_given.program; height = h }) (no_lower (height l))
+more_items : (r : Option Row) (l : Tree) → argument_more (items_given r) (with_height l) ≡ items_given (Some (push r l))
+more_items None l = ap (λ h. record { terms = tree_term l ∷ []; program = no_arguments.program; height = h }) (no_lower (height l))
 more_items (Some r) l = refl
 
 more_arguments : (r : Option ArgumentRow) (a : Argument) → with_argument a (row_given r) ≡ row_given (Some (push_argument r a))
-more_arguments None (Expression t) = ap (λ h. record { terms = term_of t ∷ []; program = none_given.program; height = h }) (no_lower (height t))
-more_arguments None (Braces p) = ap (λ h. record { terms = []; program = predicate (measured_program p).block; height = h }) (no_lower (program_height p))
+more_arguments None (Expression t) = ap (λ h. record { terms = tree_term t ∷ []; program = no_arguments.program; height = h }) (no_lower (height t))
+more_arguments None (Braces p) = ap (λ h. record { terms = []; program = predicate (program_with_height p).block; height = h }) (no_lower (program_height p))
 more_arguments (Some r) (Expression t) = refl
-more_arguments (Some r) (Braces p) = ap (λ ts. record { terms = ts; program = predicate (measured_program p).block; height = max (argument_row_height r) (measured_program p).height }) (sym (append-nil (argument_row_terms r)))
+more_arguments (Some r) (Braces p) = ap (λ ts. record { terms = ts; program = predicate (program_with_height p).block; height = max (argument_row_height r) (program_with_height p).height }) (sym (append-nil (argument_row_terms r)))
 
 end_items : (r : Option Row) → items_given r ≡ items_whole (items_end r)
 end_items None = refl
@@ -165,32 +165,32 @@ end_pairs : (r : Option EntryRow) → pairs r ≡ all_pairs (entries_end r)
 end_pairs None = refl
 end_pairs (Some r) = refl
 
-more_pairs : (r : Option EntryRow) (key : Key) (l : Tree) → pair_more (pairs r) (key_text key) (measured l) ≡ pairs (Some (push_entry r key l))
-more_pairs None key l = ap (λ h. record { pairs = (key_text key, term_of l) ∷ []; height = h }) (no_lower (height l))
+more_pairs : (r : Option EntryRow) (key : Key) (l : Tree) → pair_more (pairs r) (key_text key) (with_height l) ≡ pairs (Some (push_entry r key l))
+more_pairs None key l = ap (λ h. record { pairs = (key_text key, tree_term l) ∷ []; height = h }) (no_lower (height l))
 more_pairs (Some r) key l = refl
 
 -- the bounds of a slice
-slices : (x : Tree) (a b : Bound) → sliced (measured x) (bound_of a) (bound_of b) ≡ measured (Slice x a b)
+slices : (x : Tree) (a b : Bound) → slice_of (with_height x) (bound_of a) (bound_of b) ≡ with_height (Slice x a b)
 slices x LeftOut LeftOut = refl
 slices x LeftOut (At t) = refl
 slices x (At t) LeftOut = refl
 slices x (At t) (At u) = refl
 
 -- an infix
-joins : (m : Meaning) (l r : Measured) → joined_part m l r ≡ record { term = joined m l.term r.term; height = suc (max l.height r.height) }
+joins : (m : Meaning) (l r : WithHeight) → infix_node m l r ≡ record { term = infix_term m l.term r.term; height = suc (max l.height r.height) }
 joins (meaning.Operator o) l r = refl
 joins meaning.Range l r = refl
 joins meaning.Default l r = refl
 
-nests : (bs : Branches) (c : Tree) (a : TreeProgram) (e : Rattle.expr_grammar.specs.Grammar.ElsePart) → nest (branches bs) (chosen_part (measured c) (measured_program a) (record { block = else_block e; height = else_height e })) ≡ measured (chosen bs c a e)
+nests : (bs : Branches) (c : Tree) (a : TreeProgram) (e : Rattle.expr_grammar.specs.Grammar.ElsePart) → nest (branches bs) (chosen_part (with_height c) (program_with_height a) (record { block = else_block e; height = else_height e })) ≡ with_height (chosen bs c a e)
 nests NoBranch c a e = refl
 nests (Branch bs d b) c a e =
-    nest_more (branches bs) (measured d) (measured_program b) (chosen_part (measured c) (measured_program a) (record { block = else_block e; height = else_height e }))
-    ∙ ap (λ h. nest (branches bs) (chosen_part (measured d) (measured_program b) (record { block = else_block (ElseIf c a e); height = h }))) (no_lower (else_height (ElseIf c a e)))
+    nest_more (branches bs) (with_height d) (program_with_height b) (chosen_part (with_height c) (program_with_height a) (record { block = else_block e; height = else_height e }))
+    ∙ ap (λ h. nest (branches bs) (chosen_part (with_height d) (program_with_height b) (record { block = else_block (ElseIf c a e); height = h }))) (no_lower (else_height (ElseIf c a e)))
     ∙ nests bs d b (ElseIf c a e)
 
 -- a choice is no name and no member
-chosen_head : (bs : Branches) (c : Tree) (a : TreeProgram) (e : Rattle.expr_grammar.specs.Grammar.ElsePart) → head (chosen bs c a e) ≡ operand.Whole (measured (chosen bs c a e))
+chosen_head : (bs : Branches) (c : Tree) (a : TreeProgram) (e : Rattle.expr_grammar.specs.Grammar.ElsePart) → head (chosen bs c a e) ≡ open_operand.Whole (with_height (chosen bs c a e))
 chosen_head NoBranch c a e = refl
 chosen_head (Branch bs d b) c a e = chosen_head bs d b (ElseIf c a e)
 
@@ -228,44 +228,44 @@ square_opens (token.Sign sign.SquareOpen) s r = refl
 square_opens t s r = refl
 
 -- the end of a list, and of arguments
-list_ends : (s : tree.Holder) (t : Token) (k : List tree.Frame) (xs : Rattle.expr_grammar.specs.Grammar.Items) (g : Given) → g ≡ items_whole xs → node.list_end (holder_of s) t g (frames k) ≡ state (tree.at_end s t (tree.Have k (holder_tree s xs)))
+list_ends : (s : tree.Holder) (t : Token) (k : List tree.Frame) (xs : Rattle.expr_grammar.specs.Grammar.Items) (g : ArgumentsWithHeight) → g ≡ items_whole xs → node.list_end (holder_of s) t g (frames k) ≡ state (tree.at_end s t (tree.Have k (holder_tree s xs)))
 list_ends InArray t k xs g e = ap (λ q. node.list_end holder.Array t q (frames k)) e ∙ squares t (tree.Have k (holder_tree InArray xs))
-list_ends (InMethod l w) t k xs g e = ap (λ q. node.list_end (holder.Method (measured l) (word_text w)) t q (frames k)) e ∙ closes t (tree.Have k (holder_tree (InMethod l w) xs))
+list_ends (InMethod l w) t k xs g e = ap (λ q. node.list_end (holder.Method (with_height l) (word_text w)) t q (frames k)) e ∙ closes t (tree.Have k (holder_tree (InMethod l w) xs))
 
-call_ends : (c : tree.Caller) (t : Token) (k : List tree.Frame) (xs : Rattle.expr_grammar.specs.Grammar.Arguments) (g : Given) → g ≡ arguments_given xs → node.call_end (caller_of c) t g (frames k) ≡ state (tree.at_close t (tree.Have k (caller_tree c xs)))
+call_ends : (c : tree.Caller) (t : Token) (k : List tree.Frame) (xs : Rattle.expr_grammar.specs.Grammar.Arguments) (g : ArgumentsWithHeight) → g ≡ arguments_given xs → node.call_end (caller_of c) t g (frames k) ≡ state (tree.at_close t (tree.Have k (caller_tree c xs)))
 call_ends (InCall w) t k xs g e = ap (λ q. node.call_end (caller.Function w) t q (frames k)) e ∙ closes t (tree.Have k (caller_tree (InCall w) xs))
-call_ends (InPipe l w) t k xs g e = ap (λ q. node.call_end (caller.Pipe (measured l) w) t q (frames k)) e ∙ closes t (tree.Have k (caller_tree (InPipe l w) xs))
+call_ends (InPipe l w) t k xs g e = ap (λ q. node.call_end (caller.Pipe (with_height l) w) t q (frames k)) e ∙ closes t (tree.Have k (caller_tree (InPipe l w) xs))
 
-lists : (t : Token) (s : tree.Holder) (r : Option Row) (l : Tree) (k : List tree.Frame) → node.listed t (holder_of s) (given_more (items_given r) (measured l)) (frames k) ≡ state (tree.at_comma t (tree.Want (tree.Listed s (Some (push r l)) ∷ k)) (tree.at_end s t (tree.Have k (holder_tree s (SomeItems (push r l) false)))))
+lists : (t : Token) (s : tree.Holder) (r : Option Row) (l : Tree) (k : List tree.Frame) → node.after_element t (holder_of s) (argument_more (items_given r) (with_height l)) (frames k) ≡ state (tree.at_comma t (tree.Want (tree.Listed s (Some (push r l)) ∷ k)) (tree.at_end s t (tree.Have k (holder_tree s (SomeItems (push r l) false)))))
 lists t s r l k =
-    ap (λ g. node.listed t (holder_of s) g (frames k)) (more_items r l)
-    ∙ ap (λ q. node.at_comma t (node.wanting (frame.List (holder_of s) (items_given (Some (push r l))) ∷ frames k)) q) (list_ends s t k (SomeItems (push r l) false) (items_given (Some (push r l))) refl)
+    ap (λ g. node.after_element t (holder_of s) g (frames k)) (more_items r l)
+    ∙ ap (λ q. node.at_comma t (node.want_operand (frame.List (holder_of s) (items_given (Some (push r l))) ∷ frames k)) q) (list_ends s t k (SomeItems (push r l) false) (items_given (Some (push r l))) refl)
     ∙ commas t (tree.Want (tree.Listed s (Some (push r l)) ∷ k)) (tree.at_end s t (tree.Have k (holder_tree s (SomeItems (push r l) false))))
 
-calls : (t : Token) (c : tree.Caller) (r : Option ArgumentRow) (a : Argument) (k : List tree.Frame) → node.argument_end t (caller_of c) (with_argument a (row_given r)) (frames k) ≡ state (tree.argued t (tree.Calling c r ∷ k) a)
+calls : (t : Token) (c : tree.Caller) (r : Option ArgumentRow) (a : Argument) (k : List tree.Frame) → node.argument_end t (caller_of c) (with_argument a (row_given r)) (frames k) ≡ state (tree.after_argument t (tree.Calling c r ∷ k) a)
 calls t c r a k =
     ap (λ g. node.argument_end t (caller_of c) g (frames k)) (more_arguments r a)
-    ∙ ap (λ q. node.at_comma t (node.wanting (frame.Call (caller_of c) (row_given (Some (push_argument r a))) ∷ frames k)) q) (call_ends c t k (SomeArguments (push_argument r a) false) (row_given (Some (push_argument r a))) refl)
+    ∙ ap (λ q. node.at_comma t (node.want_operand (frame.Call (caller_of c) (row_given (Some (push_argument r a))) ∷ frames k)) q) (call_ends c t k (SomeArguments (push_argument r a) false) (row_given (Some (push_argument r a))) refl)
     ∙ commas t (tree.Want (tree.Calling c (Some (push_argument r a)) ∷ k)) (tree.at_close t (tree.Have k (caller_tree c (SomeArguments (push_argument r a) false))))
 
 -- a predicate is whole
-braces_argue : (t : Token) (k : List tree.Frame) (p : TreeProgram) → node.argued t (frames k) (measured_program p) ≡ state (tree.argued t k (Braces p))
+braces_argue : (t : Token) (k : List tree.Frame) (p : TreeProgram) → node.after_argument t (frames k) (program_with_height p) ≡ state (tree.after_argument t k (Braces p))
 braces_argue t [] p = refl
 braces_argue t (tree.Calling c r ∷ k) p = calls t c r (Braces p) k
 braces_argue t (f ∷ k) p = refl
 
-after_section_same : (b : tree.Section) (p : TreeProgram) (k : List tree.Frame) → node.after_section (section_of b) (measured_program p) (frames k) ≡ state (tree.after_section b p k)
+after_section_same : (b : tree.Section) (p : TreeProgram) (k : List tree.Frame) → node.after_section (section_of b) (program_with_height p) (frames k) ≡ state (tree.after_section b p k)
 after_section_same Top p k = refl
 after_section_same (Then bs c) p k = refl
-after_section_same (Last bs c a) p k = ap (λ q. node.whole (frames k) q) (nests bs c a (Else p)) ∙ ap (λ q. node.On (frames k) (place.Have q)) (sym (chosen_head bs c a (Else p)))
+after_section_same (Last bs c a) p k = ap (λ q. node.whole (frames k) q) (nests bs c a (Else p)) ∙ ap (λ q. node.On (frames k) (parse_state.Have q)) (sym (chosen_head bs c a (Else p)))
 after_section_same Predicate p k = refl
 
-binds : (k : List tree.Frame) (w : List ℕ) (l : Tree) → node.bind (frames k) w (measured l) ≡ state (tree.bind k w l)
+binds : (k : List tree.Frame) (w : List ℕ) (l : Tree) → node.bind (frames k) w (with_height l) ≡ state (tree.bind k w l)
 binds [] w l = refl
 binds (tree.Body b ls ∷ k) w l = refl
 binds (f ∷ k) w l = refl
 
-close_same : (t : Token) (k : List tree.Frame) (l : Tree) → node.close t (frames k) (measured l) ≡ state (tree.close t k l)
+close_same : (t : Token) (k : List tree.Frame) (l : Tree) → node.close t (frames k) (with_height l) ≡ state (tree.close t k l)
 close_same t [] l = refl
 close_same t (tree.Inside ∷ k) l = closes t (tree.Have k (Paren l))
 close_same t (tree.Middle c ∷ k) l = colons t (tree.Want (tree.Otherwise c l ∷ k)) tree.Fail
@@ -273,7 +273,7 @@ close_same t (tree.Listed s r ∷ k) l = lists t s r l k
 close_same t (tree.Calling c r ∷ k) l = calls t c r (Expression l) k
 close_same t (tree.Indexed x true ∷ k) l = squares t (tree.Have k (Index x true l))
 close_same t (tree.Indexed x false ∷ k) l =
-    ap (λ q. node.at_colon t (node.wanting (frame.Cut (measured x) (Some (measured l)) ∷ frames k)) q) (squares t (tree.Have k (Index x false l)))
+    ap (λ q. node.at_colon t (node.want_operand (frame.Cut (with_height x) (Some (with_height l)) ∷ frames k)) q) (squares t (tree.Have k (Index x false l)))
     ∙ colons t (tree.Want (tree.Cut x (At l) ∷ k)) (tree.at_square t (tree.Have k (Index x false l)))
 close_same t (tree.Cut x a ∷ k) l = ap (λ q. node.at_square t (node.whole (frames k) q) node.Fail) (slices x a (At l)) ∙ squares t (tree.Have k (Slice x a (At l)))
 close_same t (tree.Condition bs ∷ k) l = braces t (tree.Want (tree.Body (Then bs l) NoLines ∷ k)) tree.Fail
@@ -282,8 +282,8 @@ close_same t (tree.Body b ls ∷ k) l =
     ∙ end_braces t (tree.after_section b (Program ls l) k) tree.Fail
 close_same t (tree.Value w ∷ k) l = ap (λ q. node.at_semicolon t q node.Fail) (binds k w l) ∙ semicolons t (tree.bind k w l)
 close_same t (tree.Entry r key ∷ k) l =
-    ap (λ m. node.at_comma t (node.On (frames k) (place.Keys m)) (node.at_end_brace t (node.whole (frames k) (mapped m)) node.Fail)) (more_pairs r key l)
-    ∙ ap (λ q. node.at_comma t (node.On (frames k) (place.Keys (pairs (Some (push_entry r key l))))) q) (end_braces t (tree.Have k (Map (SomeEntries (push_entry r key l) false))) tree.Fail)
+    ap (λ m. node.at_comma t (node.On (frames k) (parse_state.Keys m)) (node.at_end_brace t (node.whole (frames k) (map_of m)) node.Fail)) (more_pairs r key l)
+    ∙ ap (λ q. node.at_comma t (node.On (frames k) (parse_state.Keys (pairs (Some (push_entry r key l))))) q) (end_braces t (tree.Have k (Map (SomeEntries (push_entry r key l) false))) tree.Fail)
     ∙ commas t (tree.Keys k (Some (push_entry r key l))) (tree.at_end_brace t (tree.Have k (Map (SomeEntries (push_entry r key l) false))) tree.Fail)
 close_same t (tree.Under o ∷ k) l = refl
 close_same t (tree.After x o ∷ k) l = refl
@@ -294,10 +294,10 @@ either done kept true x y u v e f = e
 either done kept false x y u v e f = f
 
 -- after settling, for what agrees on each stack
-settles : {R S : Type 0} (p : ℕ) (next : List tree.Frame → Tree → S) (kept : S → R) (done : node.Settled → R) → ((k : List tree.Frame) (l : Tree) → done (record { stack = frames k; left = measured l }) ≡ kept (next k l)) → (k : List tree.Frame) (l : Tree) → done (node.settle p (frames k) (measured l)) ≡ kept (tree.settle p next k l)
+settles : {R S : Type 0} (p : ℕ) (next : List tree.Frame → Tree → S) (kept : S → R) (done : node.Settled → R) → ((k : List tree.Frame) (l : Tree) → done (record { stack = frames k; left = with_height l }) ≡ kept (next k l)) → (k : List tree.Frame) (l : Tree) → done (node.settle p (frames k) (with_height l)) ≡ kept (tree.settle p next k l)
 settles p next kept done h [] l = h [] l
 settles p next kept done h (tree.Under o ∷ k) l = either done kept (nat_lt p (tree.reach (tree.Under o))) _ _ _ _ (settles p next kept done h k (tree.plug (tree.Under o) l)) (h (tree.Under o ∷ k) l)
-settles p next kept done h (tree.After x o ∷ k) l = either done kept (nat_lt p (tree.reach (tree.After x o))) _ _ _ _ (ap (λ q. done (node.settle p (frames k) q)) (joins (infix_meaning o) (measured x) (measured l)) ∙ settles p next kept done h k (tree.plug (tree.After x o) l)) (h (tree.After x o ∷ k) l)
+settles p next kept done h (tree.After x o ∷ k) l = either done kept (nat_lt p (tree.reach (tree.After x o))) _ _ _ _ (ap (λ q. done (node.settle p (frames k) q)) (joins (infix_meaning o) (with_height x) (with_height l)) ∙ settles p next kept done h k (tree.plug (tree.After x o) l)) (h (tree.After x o ∷ k) l)
 settles p next kept done h (tree.Otherwise c a ∷ k) l = either done kept (nat_lt p (tree.reach (tree.Otherwise c a))) _ _ _ _ (settles p next kept done h k (tree.plug (tree.Otherwise c a) l)) (h (tree.Otherwise c a ∷ k) l)
 settles p next kept done h (f ∷ k) l = h (f ∷ k) l ∙ ap kept (sym (stays p next (f ∷ k) l (omega arith)))
 
@@ -307,7 +307,7 @@ applies k (Member l false w) = refl
 applies k (Member l true w) = refl
 applies k l = refl
 
-after_settled_same : (r : Role) (t : Token) → ((k : List tree.Frame) (l : Tree) → node.after_operand r t (frames k) (measured l) ≡ state (tree.after_operand r t k l)) → (k : List tree.Frame) (l : Tree) → node.after_settled r t (node.settle (role_level r) (frames k) (node.make (head l))) ≡ state (tree.settle (role_level r) (tree.after_operand r t) k l)
+after_settled_same : (r : Role) (t : Token) → ((k : List tree.Frame) (l : Tree) → node.after_operand r t (frames k) (with_height l) ≡ state (tree.after_operand r t k l)) → (k : List tree.Frame) (l : Tree) → node.after_settled r t (node.settle (role_level r) (frames k) (node.make (head l))) ≡ state (tree.settle (role_level r) (tree.after_operand r t) k l)
 after_settled_same r t h k l =
     ap (λ x. node.after_settled r t (node.settle (role_level r) (frames k) x)) (makes l)
     ∙ settles (role_level r) (tree.after_operand r t) state (node.after_settled r t) h k l
@@ -316,12 +316,12 @@ follow_same : (r : Role) (t : Token) (k : List tree.Frame) (l : Tree) → node.f
 follow_same Applying t k l = applies k l ∙ sym (ap state (stays 13 (tree.after_operand Applying t) k l (tight k)))
 follow_same (Binary o) t k l = after_settled_same (Binary o) t (λ k l. refl) k l
 follow_same Negating t k l = after_settled_same Negating t (λ k l. refl) k l
-follow_same Asking t k l = after_settled_same Asking t (λ k l. refl) k l
+follow_same Branching t k l = after_settled_same Branching t (λ k l. refl) k l
 follow_same Piping t k l = after_settled_same Piping t (λ k l. refl) k l
 follow_same Dotting t k l = after_settled_same Dotting t (λ k l. refl) k l
 follow_same Questioning t k l = after_settled_same Questioning t (λ k l. refl) k l
 follow_same Picking t k l = after_settled_same Picking t (λ k l. refl) k l
-follow_same Plain t k l = after_settled_same Plain t (λ k l. close_same t k l) k l
+follow_same NoOperator t k l = after_settled_same NoOperator t (λ k l. close_same t k l) k l
 
 without_operand_same : (t : Token) (k : List tree.Frame) → node.without_operand t (frames k) ≡ state (tree.without_operand t k)
 without_operand_same t [] = refl
@@ -364,33 +364,33 @@ wants (token.Reserved reserved.Let) k = begins k
 wants (token.Reserved reserved.Not) k = refl
 wants t k = without_operand_same t k
 
-dots : (k : List tree.Frame) (l : Tree) (t : Token) → node.word_after_dot (frames k) (measured l) (node.text_at t) ≡ state (tree.word_after_dot k l false (word_at t))
+dots : (k : List tree.Frame) (l : Tree) (t : Token) → node.word_after_dot (frames k) (with_height l) (node.text_at t) ≡ state (tree.word_after_dot k l false (word_at t))
 dots k l (token.Word w) = refl
 dots k l (token.Reserved r) = refl
 dots k l t = refl
 
-questions : (k : List tree.Frame) (l : Tree) (t : Token) → node.word_after_question (frames k) (measured l) (node.text_at t) ≡ state (tree.word_after_dot k l true (word_at t))
+questions : (k : List tree.Frame) (l : Tree) (t : Token) → node.word_after_question (frames k) (with_height l) (node.text_at t) ≡ state (tree.word_after_dot k l true (word_at t))
 questions k l (token.Word w) = refl
 questions k l (token.Reserved r) = refl
 questions k l t = refl
 
-nots : (k : List tree.Frame) (l : Tree) (t : Token) → node.in_after_not (frames k) (measured l) t ≡ state (tree.in_after_not k l t)
+nots : (k : List tree.Frame) (l : Tree) (t : Token) → node.in_after_not (frames k) (with_height l) t ≡ state (tree.in_after_not k l t)
 nots k l (token.Reserved reserved.In) = refl
 nots k l t = refl
 
-bars : (k : List tree.Frame) (l : Tree) (t : Token) → node.word_after_bar (frames k) (measured l) t ≡ state (tree.word_after_bar k l t)
+bars : (k : List tree.Frame) (l : Tree) (t : Token) → node.word_after_bar (frames k) (with_height l) t ≡ state (tree.word_after_bar k l t)
 bars k l (token.Word w) = refl
 bars k l t = refl
 
-pipes : (k : List tree.Frame) (l : Tree) (w : List ℕ) (t : Token) → node.open_after_word (frames k) (measured l) w t ≡ state (tree.open_after_word k l w t)
+pipes : (k : List tree.Frame) (l : Tree) (w : List ℕ) (t : Token) → node.open_after_word (frames k) (with_height l) w t ≡ state (tree.open_after_word k l w t)
 pipes k l w (token.Sign sign.ParenOpen) = refl
 pipes k l w t = refl
 
-elses : (k : List tree.Frame) (bs : Branches) (c : Tree) (a : TreeProgram) (t : Token) → node.else_after (frames k) (branches bs) (measured c) (measured_program a) t ≡ state (tree.else_after k bs c a t)
+elses : (k : List tree.Frame) (bs : Branches) (c : Tree) (a : TreeProgram) (t : Token) → node.else_after (frames k) (branches bs) (with_height c) (program_with_height a) t ≡ state (tree.else_after k bs c a t)
 elses k bs c a (token.Reserved reserved.Else) = refl
 elses k bs c a t = refl
 
-alternates : (k : List tree.Frame) (bs : Branches) (c : Tree) (a : TreeProgram) (t : Token) → node.alternative (frames k) (branches bs) (measured c) (measured_program a) t ≡ state (tree.step_on (tree.Alternate k bs c a) t)
+alternates : (k : List tree.Frame) (bs : Branches) (c : Tree) (a : TreeProgram) (t : Token) → node.alternative (frames k) (branches bs) (with_height c) (program_with_height a) t ≡ state (tree.step_on (tree.Alternate k bs c a) t)
 alternates k bs c a (token.Sign sign.BraceOpen) = refl
 alternates k bs c a (token.Reserved reserved.If) = refl
 alternates k bs c a t = refl
@@ -408,7 +408,7 @@ fields k (token.Word w) = refl
 fields k (token.Reserved r) = refl
 fields k t = refl
 
-opens : (k : List tree.Frame) (t : Token) → node.braced (frames k) t ≡ state (tree.braced k (key_at t) t)
+opens : (k : List tree.Frame) (t : Token) → node.after_brace (frames k) t ≡ state (tree.after_brace k (key_at t) t)
 opens k (token.Word w) = refl
 opens k (token.Reserved r) = refl
 opens k (token.Quoted s) = refl
@@ -419,7 +419,7 @@ keys : (k : List tree.Frame) (r : Option EntryRow) (t : Token) → node.key_in (
 keys k r (token.Word w) = refl
 keys k r (token.Reserved w) = refl
 keys k r (token.Quoted s) = refl
-keys k r (token.Sign sign.BraceClose) = ap (λ q. node.whole (frames k) (mapped q)) (end_pairs r)
+keys k r (token.Sign sign.BraceClose) = ap (λ q. node.whole (frames k) (map_of q)) (end_pairs r)
 keys k r t = refl
 
 steps_on : (s : tree.State) (t : Token) → node.steps_on (state s) t ≡ state (tree.step_on s t)
@@ -427,7 +427,7 @@ steps_on (tree.Want k) t = wants t k
 steps_on (tree.Have k l) t = follow_same (role_of t) t k l
 steps_on (tree.Dotted k l) t = dots k l t
 steps_on (tree.Questioned k l) t =
-    ap (λ q. node.at_square_open t (node.wanting (frame.Index (measured l) true ∷ frames k)) q) (questions k l t)
+    ap (λ q. node.at_square_open t (node.want_operand (frame.Index (with_height l) true ∷ frames k)) q) (questions k l t)
     ∙ square_opens t (tree.Want (tree.Indexed l true ∷ k)) (tree.word_after_dot k l true (word_at t))
 steps_on (tree.Negated k l) t = nots k l t
 steps_on (tree.Barred k l) t = bars k l t
@@ -452,15 +452,15 @@ key_text_there (QuotedKey s) = refl
 steps_key : (k : List tree.Frame) (key : Key) (t : Token) → node.step (state (tree.BracedKey k key)) t ≡ state (tree.step (tree.BracedKey k key) t)
 steps_key k key t =
     ap (λ q. node.at_colon t (node.value_after_key (frames k) q) (node.steps_on (node.want (key_token key) (frame.Body section.Predicate no_lines ∷ frames k)) t)) (key_text_there key)
-    ∙ ap (λ q. node.at_colon t (node.wanting (frame.Entry no_pairs (key_text key) ∷ frames k)) (node.steps_on q t)) (wants (key_token key) (tree.Body Predicate NoLines ∷ k))
-    ∙ ap (λ q. node.at_colon t (node.wanting (frame.Entry no_pairs (key_text key) ∷ frames k)) q) (steps_on (tree.want (key_token key) (tree.Body Predicate NoLines ∷ k)) t)
+    ∙ ap (λ q. node.at_colon t (node.want_operand (frame.Entry no_pairs (key_text key) ∷ frames k)) (node.steps_on q t)) (wants (key_token key) (tree.Body Predicate NoLines ∷ k))
+    ∙ ap (λ q. node.at_colon t (node.want_operand (frame.Entry no_pairs (key_text key) ∷ frames k)) q) (steps_on (tree.want (key_token key) (tree.Body Predicate NoLines ∷ k)) t)
     ∙ colons t (tree.Want (tree.Entry None key ∷ k)) (tree.step_on (tree.want (key_token key) (tree.Body Predicate NoLines ∷ k)) t)
 
 pub steps : (s : tree.State) (t : Token) → node.step (state s) t ≡ state (tree.step s t)
 steps (tree.BracedKey k key) t = steps_key k key t
 steps s t = steps_on s t
 
-wholes : (k : List tree.Frame) (l : Tree) → node.whole_in (frames k) (measured l) ≡ measured_if_any (tree.whole k l)
+wholes : (k : List tree.Frame) (l : Tree) → node.whole_in (frames k) (with_height l) ≡ with_height_if_any (tree.whole k l)
 wholes [] l = refl
 wholes (tree.Body Top ls ∷ []) l = refl
 wholes (tree.Body Top ls ∷ f ∷ k) l = refl
@@ -469,14 +469,14 @@ wholes (tree.Body (Last bs c a) ls ∷ k) l = refl
 wholes (tree.Body Predicate ls ∷ k) l = refl
 wholes (f ∷ k) l = refl
 
-finishes : (s : tree.State) → node.finish (state s) ≡ measured_if_any (tree.finish s)
-finishes (tree.Have k l) = ap (λ x. node.whole_of (node.settle 0 (frames k) x)) (makes l) ∙ settles 0 tree.whole measured_if_any node.whole_of (λ k l. wholes k l) k l
+finishes : (s : tree.State) → node.finish (state s) ≡ with_height_if_any (tree.finish s)
+finishes (tree.Have k l) = ap (λ x. node.whole_of (node.settle 0 (frames k) x)) (makes l) ∙ settles 0 tree.whole with_height_if_any node.whole_of (λ k l. wholes k l) k l
 finishes s = refl
 
-runs : (s : tree.State) (ts : List Token) → node.finish (fold node.step (state s) ts) ≡ measured_if_any (tree.parse s ts)
+runs : (s : tree.State) (ts : List Token) → node.finish (fold node.step (state s) ts) ≡ with_height_if_any (tree.parse s ts)
 unfolding tree.parse
 runs s [] = finishes s
 runs s (t ∷ ts) = ap (λ x. node.finish (fold node.step x ts)) (steps s t) ∙ runs (tree.step s t) ts
 
-pub erases : (ts : List Token) → node.block_of_tokens ts ≡ measured_if_any (tree_of ts)
+pub erases : (ts : List Token) → node.block_of_tokens ts ≡ with_height_if_any (tree_of ts)
 erases ts = runs tree.first_state ts

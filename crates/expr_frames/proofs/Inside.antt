@@ -1,23 +1,23 @@
 -- Brackets round expressions inside a program leave what it is kept as.
 use Rattle.std.proofs.Common.{◌≡◌, ℕ, List, [], ◌∷◌, ◌++◌, inl, inr, ◌⊎◌, refl, ap}
 use Rattle.expr_tree.specs.Term.{list, unary, postfix, choice, index, slice, pipe, ternary, method, bound, predicate, answers, block_with}
-use Rattle.expr_tree.specs.Written.{terms_of}
+use Rattle.expr_tree.specs.TermOf.{terms_of}
 use Rattle.expr_parts.specs.Maps.{map_term}
 use Rattle.expr_parts.specs.Promotion.{call_of}
 use Rattle.expr_grammar.specs.Brackets.{tree_with, items_with, row_with, entries_with, entry_row_with, arguments_with, argument_row_with, argument_with, bound_with, else_with, program_with, lines_with, SomeInBrackets}
 use Rattle.expr_grammar.specs.Grammar.{Tree, Literal, Name, HashName, Field, Paren, Array, Map, Call, If, Prefix, Infix, Member, Method, Index, Slice, Pipe, Ternary, Items, NoItems, SomeItems, Row, One, More, Entries, NoEntries, SomeEntries, EntryRow, OneEntry, MoreEntries, Arguments, NoArguments, SomeArguments, ArgumentRow, OneArgument, MoreArguments, Argument, Expression, Braces, Bound, LeftOut, At, ElsePart, Else, ElseIf, TreeProgram, Program, Lines, NoLines, MoreLines}
-use Rattle.expr_frames.specs.Programs.{term_of, items_terms, row_terms, entries_pairs, entry_row_pairs, argument_terms, argument_row_terms, expression_terms, last_predicate, last_predicate_in_row, argument_predicate, else_before, bound_term, else_block, program_of, line_terms, word_text, key_text, prefix_operator, infix_meaning, joined, member_term}
+use Rattle.expr_frames.specs.Programs.{tree_term, items_terms, row_terms, entries_pairs, entry_row_pairs, argument_terms, argument_row_terms, expression_terms, last_predicate, last_predicate_in_row, argument_predicate, else_before, bound_term, else_block, program_of, line_terms, word_text, key_text, prefix_operator, infix_meaning, infix_term, member_term}
 
 module _ (at bracketed : List ℕ → Tree) (some : SomeInBrackets at bracketed) where
-  same_name : (w : List ℕ) → term_of (bracketed w) ≡ term_of (at w)
+  same_name : (w : List ℕ) → tree_term (bracketed w) ≡ tree_term (at w)
   same_name w = by (some w)
     where
-      by : (bracketed w ≡ at w) ⊎ (bracketed w ≡ Paren (at w)) → term_of (bracketed w) ≡ term_of (at w)
-      by (inl e) = ap term_of e
-      by (inr e) = ap term_of e
+      by : (bracketed w ≡ at w) ⊎ (bracketed w ≡ Paren (at w)) → tree_term (bracketed w) ≡ tree_term (at w)
+      by (inl e) = ap tree_term e
+      by (inr e) = ap tree_term e
 
   mutual
-    same_tree : (t : Tree) → term_of (tree_with bracketed t) ≡ term_of (tree_with at t)
+    same_tree : (t : Tree) → tree_term (tree_with bracketed t) ≡ tree_term (tree_with at t)
     same_tree (Literal c) = refl
     same_tree (Name w) = same_name w
     same_tree (HashName w) = refl
@@ -28,7 +28,7 @@ module _ (at bracketed : List ℕ → Tree) (some : SomeInBrackets at bracketed)
     same_tree (Call w xs) = λ i. call_of w (same_terms xs i) (same_predicate xs i)
     same_tree (If c a e) = λ i. choice (same_tree c i) (same_program a i) (same_else e i)
     same_tree (Prefix o t) = λ i. unary (prefix_operator o) (same_tree t i)
-    same_tree (Infix o l r) = λ i. joined (infix_meaning o) (same_tree l i) (same_tree r i)
+    same_tree (Infix o l r) = λ i. infix_term (infix_meaning o) (same_tree l i) (same_tree r i)
     same_tree (Member l optional w) = λ i. member_term (same_tree l i) optional (word_text w)
     same_tree (Method l w xs) = λ i. postfix (method (word_text w) (terms_of (same_items xs i))) (same_tree l i)
     same_tree (Index l optional x) = λ i. postfix (index (same_tree x i) optional) (same_tree l i)

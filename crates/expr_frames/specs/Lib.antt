@@ -1,4 +1,4 @@
 pub mod Programs
 pub mod Nodes
-pub mod Faults
+pub mod ReadErrors
 pub mod Measures

@@ -7,7 +7,7 @@ use Rattle.expr_tree.specs.declared.operator.UnaryOperator.{UnaryOperator}
 use Rattle.expr_tree.specs.declared.operator.UnaryOperator.TheVariants as prefixed
 use Rattle.expr_tree.specs.declared.operator.Operator.TheVariants as operator
 use Rattle.expr_tree.specs.Term.{Term, name, literal, list, range, unary, operation, postfix, choice, index, slice, coalesce, pipe, ternary, method, Bound as BoundTerm, unbounded, bound, Predicate, no_predicate, predicate, Block, answers, LineTerms, block_with}
-use Rattle.expr_tree.specs.Written.{terms_of}
+use Rattle.expr_tree.specs.TermOf.{terms_of}
 use Rattle.expr_parts.specs.Maps.{map_term}
 use Rattle.expr_parts.specs.Promotion.{call_of}
 use Rattle.expr_grammar.specs.declared.sign.PrefixSign.{PrefixSign}
@@ -75,10 +75,10 @@ infix_meaning infixed.Caret = meaning.Operator operator.Pow
 infix_meaning infixed.StarStar = meaning.Operator operator.Pow
 infix_meaning infixed.Coalesce = meaning.Default
 
-abbrev pub joined : Meaning → Term → Term → Term
-joined (meaning.Operator o) l r = operation o l r
-joined meaning.Range l r = range l r
-joined meaning.Default l r = postfix (coalesce r) l
+abbrev pub infix_term : Meaning → Term → Term → Term
+infix_term (meaning.Operator o) l r = operation o l r
+infix_term meaning.Range l r = range l r
+infix_term meaning.Default l r = postfix (coalesce r) l
 
 -- a member is an index by the text of its word
 abbrev pub member_term : Term → Bool → List ℕ → Term
@@ -94,32 +94,32 @@ else_before no_predicate before = before
 else_before (predicate b) before = predicate b
 
 abbrev mutual
-  pub term_of : Tree → Term
-  term_of (Literal c) = literal (constant_value c)
-  term_of (Name w) = name w
-  term_of (HashName w) = name w
-  term_of (Field w) = field_term (word_text w)
-  term_of (Paren t) = term_of t
-  term_of (Array xs) = list (terms_of (items_terms xs))
-  term_of (Map es) = map_term (entries_pairs es)
-  term_of (Call w xs) = call_of w (argument_terms xs) (last_predicate xs)
-  term_of (If c a e) = choice (term_of c) (program_of a) (else_block e)
-  term_of (Prefix o t) = unary (prefix_operator o) (term_of t)
-  term_of (Infix o l r) = joined (infix_meaning o) (term_of l) (term_of r)
-  term_of (Member l optional w) = member_term (term_of l) optional (word_text w)
-  term_of (Method l w xs) = postfix (method (word_text w) (terms_of (items_terms xs))) (term_of l)
-  term_of (Index l optional i) = postfix (index (term_of i) optional) (term_of l)
-  term_of (Slice l a b) = postfix (slice (bound_term a) (bound_term b)) (term_of l)
-  term_of (Pipe l w xs) = postfix (pipe (call_of w (argument_terms xs) (last_predicate xs))) (term_of l)
-  term_of (Ternary c a b) = postfix (ternary (term_of a) (term_of b)) (term_of c)
+  pub tree_term : Tree → Term
+  tree_term (Literal c) = literal (constant_value c)
+  tree_term (Name w) = name w
+  tree_term (HashName w) = name w
+  tree_term (Field w) = field_term (word_text w)
+  tree_term (Paren t) = tree_term t
+  tree_term (Array xs) = list (terms_of (items_terms xs))
+  tree_term (Map es) = map_term (entries_pairs es)
+  tree_term (Call w xs) = call_of w (argument_terms xs) (last_predicate xs)
+  tree_term (If c a e) = choice (tree_term c) (program_of a) (else_block e)
+  tree_term (Prefix o t) = unary (prefix_operator o) (tree_term t)
+  tree_term (Infix o l r) = infix_term (infix_meaning o) (tree_term l) (tree_term r)
+  tree_term (Member l optional w) = member_term (tree_term l) optional (word_text w)
+  tree_term (Method l w xs) = postfix (method (word_text w) (terms_of (items_terms xs))) (tree_term l)
+  tree_term (Index l optional i) = postfix (index (tree_term i) optional) (tree_term l)
+  tree_term (Slice l a b) = postfix (slice (bound_term a) (bound_term b)) (tree_term l)
+  tree_term (Pipe l w xs) = postfix (pipe (call_of w (argument_terms xs) (last_predicate xs))) (tree_term l)
+  tree_term (Ternary c a b) = postfix (ternary (tree_term a) (tree_term b)) (tree_term c)
 
   pub items_terms : Items → List Term
   items_terms NoItems = []
   items_terms (SomeItems r comma) = row_terms r
 
   pub row_terms : Row → List Term
-  row_terms (One t) = term_of t ∷ []
-  row_terms (More r t) = row_terms r ++ term_of t ∷ []
+  row_terms (One t) = tree_term t ∷ []
+  row_terms (More r t) = row_terms r ++ tree_term t ∷ []
 
   -- the keys and values of a map literal, in order, repeated keys included
   pub entries_pairs : Entries → List (List ℕ × Term)
@@ -127,8 +127,8 @@ abbrev mutual
   entries_pairs (SomeEntries r comma) = entry_row_pairs r
 
   pub entry_row_pairs : EntryRow → List (List ℕ × Term)
-  entry_row_pairs (OneEntry key t) = (key_text key, term_of t) ∷ []
-  entry_row_pairs (MoreEntries r key t) = entry_row_pairs r ++ (key_text key, term_of t) ∷ []
+  entry_row_pairs (OneEntry key t) = (key_text key, tree_term t) ∷ []
+  entry_row_pairs (MoreEntries r key t) = entry_row_pairs r ++ (key_text key, tree_term t) ∷ []
 
   -- the expressions among a call's arguments, in order
   pub argument_terms : Arguments → List Term
@@ -140,7 +140,7 @@ abbrev mutual
   argument_row_terms (MoreArguments r a) = argument_row_terms r ++ expression_terms a
 
   pub expression_terms : Argument → List Term
-  expression_terms (Expression t) = term_of t ∷ []
+  expression_terms (Expression t) = tree_term t ∷ []
   expression_terms (Braces p) = []
 
   -- the last predicate among a call's arguments, if there is one
@@ -158,23 +158,23 @@ abbrev mutual
 
   pub bound_term : Bound → BoundTerm
   bound_term LeftOut = unbounded
-  bound_term (At t) = bound (term_of t)
+  bound_term (At t) = bound (tree_term t)
 
   -- an `else if` is a program without lines
   pub else_block : ElsePart → Block
   else_block (Else b) = program_of b
-  else_block (ElseIf c a e) = answers (choice (term_of c) (program_of a) (else_block e))
+  else_block (ElseIf c a e) = answers (choice (tree_term c) (program_of a) (else_block e))
 
   pub program_of : TreeProgram → Block
-  program_of (Program ls t) = block_with (line_terms ls) (term_of t)
+  program_of (Program ls t) = block_with (line_terms ls) (tree_term t)
 
   pub line_terms : Lines → LineTerms
   line_terms NoLines = []
-  line_terms (MoreLines ls w t) = line_terms ls ++ (w, term_of t) ∷ []
+  line_terms (MoreLines ls w t) = line_terms ls ++ (w, tree_term t) ∷ []
 
 -- Brackets round an expression leave it as it is, and its program.
 abbrev pub BracketsLeaveExpression : Type 0
-BracketsLeaveExpression = (t : Tree) → term_of (Paren t) ≡ term_of t
+BracketsLeaveExpression = (t : Tree) → tree_term (Paren t) ≡ tree_term t
 
 abbrev pub BracketsLeaveProgram : Type 0
 BracketsLeaveProgram = (ls : Lines) (t : Tree) → program_of (Program ls (Paren t)) ≡ program_of (Program ls t)

@@ -1,39 +1,41 @@
 //! What a sign, a word and a token stand for.
 
 ghost use Rattle.std.specs.Prelude.{◌≡◌, ◌∷◌, [], ◌++◌, IfOk, MatchOption};
-ghost use Rattle.expr_parts.specs.Parts.{chosen};
+ghost use Rattle.expr_parts.specs.Parts.{conditional_of};
 ghost use Rattle.expr_frames.specs.Programs.{prefix_operator, infix_meaning};
 ghost use Rattle.expr_frames.specs.Nodes as machine;
-ghost use Rattle.expr_frames.specs.Faults.{HoldsNoBody, HoldsNoCall, HoldsNoOperand};
+ghost use Rattle.expr_frames.specs.ReadErrors.{HoldsNoBody, HoldsNoCall, HoldsNoOperand};
 ghost use Rattle.expr_frames.specs.declared.frame.Frame.TheVariants as frame;
-ghost use Rattle.expr_frames.specs.declared.frame.Place.TheVariants as place;
+ghost use Rattle.expr_frames.specs.declared.frame.ParseState.TheVariants as parse_state;
 
-use crate::frame::{Branches, Caller, Fault, Frame, Meaning, Operand, Place, Reaching, Section};
+use crate::frame::{
+    Branches, Caller, Frame, Meaning, OpenOperand, ParseState, Reaching, ReadError, Section,
+};
 use expr_grammar::sign::{InfixSign, PrefixSign};
-use expr_parts::{Arguments, Lines, Part, ProgramPart};
+use expr_parts::{AnnotatedNode, AnnotatedProgram, Arguments, Lines};
 use expr_tree::operator::{Operator, UnaryOperator};
 use expr_value::Items;
 use std::alloc::{AllocError, AllocFailed, Global};
 
-impl From<AllocError> for Fault {
+impl From<AllocError> for ReadError {
     ghost use Rattle.std.specs.Prelude.{◌≡◌};
-    ghost use Rattle.expr_frames.specs.declared.frame.Fault.TheVariants.{Memory as NoMemory};
+    ghost use Rattle.expr_frames.specs.declared.frame.ReadError.TheVariants.{Memory as NoMemory};
 
     ghost from_gives = { λ _ e. e ≡ NoMemory };
 
-    fn from(_e: AllocError) -> Fault {
-        Fault::Memory
+    fn from(_e: AllocError) -> ReadError {
+        ReadError::Memory
     }
 }
 
-impl<T: Drop> From<AllocFailed<T>> for Fault {
+impl<T: Drop> From<AllocFailed<T>> for ReadError {
     ghost use Rattle.std.specs.Prelude.{◌≡◌};
-    ghost use Rattle.expr_frames.specs.declared.frame.Fault.TheVariants.{Memory as NoMemory};
+    ghost use Rattle.expr_frames.specs.declared.frame.ReadError.TheVariants.{Memory as NoMemory};
 
     ghost from_gives = { λ _ e. e ≡ NoMemory };
 
-    fn from(_e: AllocFailed<T>) -> Fault {
-        Fault::Memory
+    fn from(_e: AllocFailed<T>) -> ReadError {
+        ReadError::Memory
     }
 }
 
@@ -76,13 +78,18 @@ fn meaning(sign: InfixSign) -> Meaning
     }
 }
 
-fn join(alloc: Global, sign: InfixSign, left: Part, right: Part) -> Result<Part, AllocError>
-    ensures { IfOk result (λ p. p ≡ machine.joined_part (infix_meaning sign) left right) }
+fn join(
+    alloc: Global,
+    sign: InfixSign,
+    left: AnnotatedNode,
+    right: AnnotatedNode,
+) -> Result<AnnotatedNode, AllocError>
+    ensures { IfOk result (λ p. p ≡ machine.infix_node (infix_meaning sign) left right) }
 {
     match meaning(sign) {
-        Meaning::Operator(operator) => Part::operation(alloc, operator, left, right),
-        Meaning::Range => Part::range(alloc, left, right),
-        Meaning::Default => Part::coalesce(alloc, left, right),
+        Meaning::Operator(operator) => AnnotatedNode::operation(alloc, operator, left, right),
+        Meaning::Range => AnnotatedNode::range(alloc, left, right),
+        Meaning::Default => AnnotatedNode::coalesce(alloc, left, right),
     }
 }
 
@@ -99,14 +106,14 @@ impl Reaching {
     }
 
     /// The part that it becomes with its last part.
-    pub fn plug(self, alloc: Global, last: Part) -> Result<Part, AllocError>
+    pub fn plug(self, alloc: Global, last: AnnotatedNode) -> Result<AnnotatedNode, AllocError>
         ensures { IfOk result (λ p. p ≡ machine.plug self last) }
     {
         match self {
-            Reaching::Under(sign) => Part::unary(alloc, operator(sign), last),
+            Reaching::Under(sign) => AnnotatedNode::unary(alloc, operator(sign), last),
             Reaching::After(left, sign) => join(alloc, sign, left, last),
             Reaching::Otherwise(condition, then) => {
-                Part::ternary(alloc, condition.into_inner(), then, last)
+                AnnotatedNode::ternary(alloc, condition.into_inner(), then, last)
             }
         }
     }
@@ -154,70 +161,70 @@ impl Frame {
     }
 }
 
-impl Place {
+impl ParseState {
     /// The operand that was read last, if one was.
-    pub fn into_operand(self) -> Option<Operand>
-        ensures { MatchOption result (HoldsNoOperand self) (λ operand. self ≡ place.Have operand) }
+    pub fn into_operand(self) -> Option<OpenOperand>
+        ensures { MatchOption result (HoldsNoOperand self) (λ operand. self ≡ parse_state.Have operand) }
     {
         match self {
-            Place::Have(operand) => Some(operand),
+            ParseState::Have(operand) => Some(operand),
             _ => None,
         }
     }
 }
 
-impl Operand {
+impl OpenOperand {
     /// The part that it is, where no arguments follow.
-    pub fn part(self, alloc: Global) -> Result<Part, AllocError>
+    pub fn part(self, alloc: Global) -> Result<AnnotatedNode, AllocError>
         ensures { IfOk result (λ p. p ≡ machine.make self) }
     {
         match self {
-            Operand::Name(name) => Ok(Part::name(name.into_string())),
-            Operand::Member(left, name) => Part::member(alloc, left, name, false),
-            Operand::Whole(part) => Ok(part),
+            OpenOperand::Name(name) => Ok(AnnotatedNode::name(name.into_string())),
+            OpenOperand::Member(left, name) => AnnotatedNode::member(alloc, left, name, false),
+            OpenOperand::Whole(part) => Ok(part),
         }
     }
 }
 
 impl Caller {
     /// The call with these arguments.
-    pub fn call(self, alloc: Global, arguments: Arguments) -> Result<Part, AllocError>
+    pub fn call(self, alloc: Global, arguments: Arguments) -> Result<AnnotatedNode, AllocError>
         ensures { IfOk result (λ p. p ≡ machine.call_part self arguments) }
     {
         match self {
             Caller::Function(name) => arguments.call(name.into_string()),
             Caller::Pipe(left, name) => {
                 let call = arguments.call(name.into_string())?;
-                Part::pipe(alloc, left.into_inner(), call)
+                AnnotatedNode::pipe(alloc, left.into_inner(), call)
             }
         }
     }
 }
 
 /// A choice, inside the branches before it.
-pub fn nested(
+pub fn nest(
     alloc: Global,
     before: Branches,
-    condition: Part,
-    then: ProgramPart,
-    otherwise: ProgramPart,
-) -> Result<Part, AllocError>
-    ensures { IfOk result (λ p. p ≡ machine.nest before (chosen condition then otherwise)) }
+    condition: AnnotatedNode,
+    then: AnnotatedProgram,
+    otherwise: AnnotatedProgram,
+) -> Result<AnnotatedNode, AllocError>
+    ensures { IfOk result (λ p. p ≡ machine.nest before (conditional_of condition then otherwise)) }
 {
     let mut branches = before.into_vec();
-    let mut inner = Part::conditional(alloc, condition, then, otherwise)?;
+    let mut inner = AnnotatedNode::conditional(alloc, condition, then, otherwise)?;
     while let Some((condition, then)) = branches.pop() {
-        let otherwise = Lines::new(alloc).answering(inner);
-        inner = Part::conditional(alloc, condition, then, otherwise)?;
+        let otherwise = Lines::new(alloc).finish(inner);
+        inner = AnnotatedNode::conditional(alloc, condition, then, otherwise)?;
     }
     Ok(inner)
 }
 
 /// The branches with one more.
-pub fn branched(
+pub fn with_branch(
     before: Branches,
-    condition: Part,
-    then: ProgramPart,
+    condition: AnnotatedNode,
+    then: AnnotatedProgram,
 ) -> Result<Branches, AllocError>
     ensures { IfOk result (λ c. c ≡ before ++ (condition, then) ∷ []) }
 {

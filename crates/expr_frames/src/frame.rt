@@ -1,39 +1,39 @@
 //! What the parser keeps of what it has read. Frames and places are moved at each token, so what only waits in one
 //! stands in a box.
 //!
-//! A type here bears the name of what it models in the grammar's machine (`Start`, `Holder`, `Caller`, `Branches`,
+//! A type here bears the name of what it models in the grammar's machine (`OperandStart`, `Holder`, `Caller`, `Branches`,
 //! `Section`, `Frame`): parts stand here where trees stand there. So do `Arguments`, `Entries` and `Lines`, which are
 //! of the grammar there.
 
 use expr_grammar::sign::{InfixSign, PrefixSign};
-use expr_parts::{Arguments, Entries, Lines, Part, ProgramPart};
+use expr_parts::{AnnotatedNode, AnnotatedProgram, Arguments, Entries, Lines};
 use expr_token::Token;
 use expr_tree::operator::Operator;
 use expr_value::{Boxed, Items, Text, Value};
 
 /// The branches of a choice before its last one.
-pub type Branches = Items<(Part, ProgramPart)>;
+pub type Branches = Items<(AnnotatedNode, AnnotatedProgram)>;
 
 /// What a list is for.
 #[derive(Drop)]
 pub enum Holder {
     Array,
-    Method(Boxed<Part>, Text),
+    Method(Boxed<AnnotatedNode>, Text),
 }
 
 /// What arguments are for.
 #[derive(Drop)]
 pub enum Caller {
     Function(Text),
-    Pipe(Boxed<Part>, Text),
+    Pipe(Boxed<AnnotatedNode>, Text),
 }
 
 /// What a program is for.
 #[derive(Drop)]
 pub enum Section {
     Top,
-    Then(Branches, Boxed<Part>),
-    Last(Branches, Boxed<Part>, Boxed<ProgramPart>),
+    Then(Branches, Boxed<AnnotatedNode>),
+    Last(Branches, Boxed<AnnotatedNode>, Boxed<AnnotatedProgram>),
     Predicate,
 }
 
@@ -41,8 +41,8 @@ pub enum Section {
 #[derive(Drop)]
 pub enum Reaching {
     Under(PrefixSign),
-    After(Part, InfixSign),
-    Otherwise(Boxed<Part>, Part),
+    After(AnnotatedNode, InfixSign),
+    Otherwise(Boxed<AnnotatedNode>, AnnotatedNode),
 }
 
 /// What is open to the left of the reading point.
@@ -51,11 +51,11 @@ pub enum Frame {
     Reaching(Reaching),
     /// Brackets, each directly inside the one before it, and how many there are beside the first.
     Inside(usize),
-    Middle(Part),
+    Middle(AnnotatedNode),
     List(Holder, Arguments),
     Call(Caller, Arguments),
-    Index(Part, bool),
-    Cut(Boxed<Part>, Option<Part>),
+    Index(AnnotatedNode, bool),
+    Cut(Boxed<AnnotatedNode>, Option<AnnotatedNode>),
     Condition(Branches),
     Body(Section, Lines),
     Value(Text),
@@ -64,27 +64,27 @@ pub enum Frame {
 
 /// An operand, as far as arguments may follow it.
 #[derive(Drop)]
-pub enum Operand {
+pub enum OpenOperand {
     Name(Text),
-    Member(Part, Text),
-    Whole(Part),
+    Member(AnnotatedNode, Text),
+    Whole(AnnotatedNode),
 }
 
 /// What has been read since the last frame.
 #[derive(Drop)]
-pub enum Place {
+pub enum ParseState {
     Want,
-    Have(Operand),
-    Dotted(Part),
-    Questioned(Part),
-    Negated(Part),
-    Barred(Part),
-    Piped(Part, Text),
-    Chosen(Branches, Boxed<Part>, Boxed<ProgramPart>),
-    Alternate(Branches, Boxed<Part>, Boxed<ProgramPart>),
+    Have(OpenOperand),
+    Dotted(AnnotatedNode),
+    Questioned(AnnotatedNode),
+    Negated(AnnotatedNode),
+    Barred(AnnotatedNode),
+    Piped(AnnotatedNode, Text),
+    Chosen(Branches, Boxed<AnnotatedNode>, Boxed<AnnotatedProgram>),
+    Alternate(Branches, Boxed<AnnotatedNode>, Boxed<AnnotatedProgram>),
     NamesLine,
     Named(Text),
-    Argued(ProgramPart),
+    Argued(AnnotatedProgram),
     NamesField,
     Braced,
     BracedKey(Token),
@@ -94,7 +94,7 @@ pub enum Place {
 
 /// What a token is where an operand is wanted.
 #[derive(Drop)]
-pub enum Start {
+pub enum OperandStart {
     Literal(Value),
     Name(Text),
     HashName(Text),
@@ -110,7 +110,7 @@ pub enum Start {
 
 /// Why a token could not be read.
 #[derive(Clone, Copy, Debug, PartialEq, Eq)]
-pub enum Fault {
+pub enum ReadError {
     Syntax,
     Memory,
 }

@@ -3,7 +3,7 @@
 ghost use Rattle.std.specs.Prelude.{◌≡◌, List};
 ghost use Rattle.expr_token.specs.declared.token.Token.{Token};
 ghost use Rattle.expr_grammar.specs.Machine.{tree_of};
-ghost use Rattle.expr_frames.specs.Measures.{measured_if_any};
+ghost use Rattle.expr_frames.specs.Measures.{with_height_if_any};
 ghost use Rattle.expr_frames.specs.Programs.{BracketsLeaveExpression, BracketsLeaveInside, BracketsLeaveProgram};
 ghost use Rattle.expr_frames.specs.Nodes.{block_of_tokens};
 
@@ -16,5 +16,5 @@ pub fn brackets_leave_program()
 
 // The machine over what is kept answers the program of that tree, and its height.
 fn erasure()
-    ensures { (ts : List Token) → block_of_tokens ts ≡ measured_if_any (tree_of ts) }
+    ensures { (ts : List Token) → block_of_tokens ts ≡ with_height_if_any (tree_of ts) }
 {}

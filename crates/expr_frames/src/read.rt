@@ -3,9 +3,9 @@
 ghost use Rattle.std.specs.Prelude.{◌≡◌, ◌∷◌, [], ◌↔◌, IfOk, IsTrue, Some};
 ghost use Rattle.expr_frames.specs.Programs.{integer_value};
 ghost use Rattle.expr_frames.specs.Nodes as machine;
-ghost use Rattle.expr_frames.specs.Faults.{Gives};
+ghost use Rattle.expr_frames.specs.ReadErrors.{ReturnsOption};
 
-use crate::frame::{Fault, Start};
+use crate::frame::{OperandStart, ReadError};
 use expr_grammar::sign::PrefixSign;
 use expr_token::{Reserved, Sign, Token};
 use expr_value::{Text, Value};
@@ -13,24 +13,24 @@ use std::alloc::Global;
 use std::mem;
 
 /// The token, in whose place a sign is left.
-pub fn taken(token: &mut Token) -> Token
+pub fn take_token(token: &mut Token) -> Token
     ensures { result ≡ token.old }
 {
     mem::replace(token, Token::Sign(Sign::Semicolon))
 }
 
 /// What a token is where an operand is wanted.
-pub fn start(token: Token) -> Start
+pub fn operand_start(token: Token) -> OperandStart
     ensures { result ≡ machine.start_of token }
 {
     match token {
-        Token::Integer(value) => Start::Literal(integer(value)),
-        Token::Word(name) => Start::Name(name),
+        Token::Integer(value) => OperandStart::Literal(integer(value)),
+        Token::Word(name) => OperandStart::Name(name),
         Token::Reserved(word) => start_of_reserved(word),
-        Token::Hash(name) => Start::HashName(name),
-        Token::Quoted(text) => Start::Literal(Value::String(text)),
-        Token::Raw(text) => Start::Literal(Value::String(text)),
-        Token::Bytes(bytes) => Start::Literal(Value::Bytes(bytes)),
+        Token::Hash(name) => OperandStart::HashName(name),
+        Token::Quoted(text) => OperandStart::Literal(Value::String(text)),
+        Token::Raw(text) => OperandStart::Literal(Value::String(text)),
+        Token::Bytes(bytes) => OperandStart::Literal(Value::Bytes(bytes)),
         Token::Sign(sign) => start_of_sign(sign),
     }
 }
@@ -44,54 +44,54 @@ fn integer(value: Option<i64>) -> Value
     }
 }
 
-fn start_of_reserved(word: Reserved) -> Start
+fn start_of_reserved(word: Reserved) -> OperandStart
     ensures { result ≡ machine.reserved_start word }
 {
     match word {
-        Reserved::True => Start::Literal(Value::Bool(true)),
-        Reserved::False => Start::Literal(Value::Bool(false)),
-        Reserved::Nil => Start::Literal(Value::Nil),
-        Reserved::If => Start::Choice,
-        Reserved::Let => Start::Line,
-        Reserved::Not => Start::Sign(PrefixSign::Not),
-        _ => Start::Other(Token::Reserved(word)),
+        Reserved::True => OperandStart::Literal(Value::Bool(true)),
+        Reserved::False => OperandStart::Literal(Value::Bool(false)),
+        Reserved::Nil => OperandStart::Literal(Value::Nil),
+        Reserved::If => OperandStart::Choice,
+        Reserved::Let => OperandStart::Line,
+        Reserved::Not => OperandStart::Sign(PrefixSign::Not),
+        _ => OperandStart::Other(Token::Reserved(word)),
     }
 }
 
-fn start_of_sign(sign: Sign) -> Start
+fn start_of_sign(sign: Sign) -> OperandStart
     ensures { result ≡ machine.sign_start sign }
 {
     match sign {
-        Sign::ParenOpen => Start::Group,
-        Sign::SquareOpen => Start::List,
-        Sign::BraceOpen => Start::Brace,
-        Sign::Dot => Start::Field,
-        Sign::Bang => Start::Sign(PrefixSign::Bang),
-        Sign::Plus => Start::Sign(PrefixSign::Positive),
-        Sign::Minus => Start::Sign(PrefixSign::Negative),
-        _ => Start::Other(Token::Sign(sign)),
+        Sign::ParenOpen => OperandStart::Group,
+        Sign::SquareOpen => OperandStart::List,
+        Sign::BraceOpen => OperandStart::Brace,
+        Sign::Dot => OperandStart::Field,
+        Sign::Bang => OperandStart::Sign(PrefixSign::Bang),
+        Sign::Plus => OperandStart::Sign(PrefixSign::Positive),
+        Sign::Minus => OperandStart::Sign(PrefixSign::Negative),
+        _ => OperandStart::Other(Token::Sign(sign)),
     }
 }
 
 /// The text of a word, reserved or not.
-pub fn word(alloc: Global, token: Token) -> Result<Text, Fault>
-    ensures { Gives (machine.text_at token) result }
+pub fn word(alloc: Global, token: Token) -> Result<Text, ReadError>
+    ensures { ReturnsOption (machine.text_at token) result }
 {
     match token {
         Token::Word(name) => Ok(name),
         Token::Reserved(word) => Ok(Text::copy(alloc, word.spelling())?),
-        _ => Err(Fault::Syntax),
+        _ => Err(ReadError::Syntax),
     }
 }
 
 /// The text of a key of a map literal.
-pub fn key(alloc: Global, token: Token) -> Result<Text, Fault>
-    ensures { Gives (machine.key_text_at token) result }
+pub fn key(alloc: Global, token: Token) -> Result<Text, ReadError>
+    ensures { ReturnsOption (machine.key_text_at token) result }
 {
     match token {
         Token::Word(name) => Ok(name),
         Token::Reserved(word) => Ok(Text::copy(alloc, word.spelling())?),
         Token::Quoted(text) => Ok(text),
-        _ => Err(Fault::Syntax),
+        _ => Err(ReadError::Syntax),
     }
 }

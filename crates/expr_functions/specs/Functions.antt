@@ -4,8 +4,8 @@ use Rattle.std.specs.Map.{lookup}
 use Rattle.std.specs.Option.{option_or}
 use Rattle.expr_functions.specs.declared.functions.TheConstants.{OF_THREE, OF_FOUR, OF_FIVE, OF_SIX, OF_SEVEN, OF_MORE}
 use Rattle.expr_functions.specs.declared.functions.Builtin.{Builtin}
-use Rattle.expr_functions.specs.declared.functions.Builtin.TheVariants.{Asks}
-use Rattle.expr_functions.specs.declared.functions.Asking.{Asking}
+use Rattle.expr_functions.specs.declared.functions.Builtin.TheVariants.{HigherOrder}
+use Rattle.expr_functions.specs.declared.functions.HigherOrderCall.{HigherOrderCall}
 
 -- what stands beside a name in a part of the table
 abbrev pub found_in : {K : Type 0} → (K → List ℕ) → List (K × Builtin) → List ℕ → Option Builtin
@@ -23,9 +23,9 @@ builtin_named name =
     )))))
 
 -- the one that asks a predicate
-abbrev pub asking_of : Option Builtin → Option Asking
-asking_of (Some (Asks asking)) = Some asking
-asking_of o = None
+abbrev pub higher_order_of : Option Builtin → Option HigherOrderCall
+higher_order_of (Some (HigherOrder asking)) = Some asking
+higher_order_of o = None
 
-abbrev pub asking_named : List ℕ → Option Asking
-asking_named name = asking_of (builtin_named name)
+abbrev pub higher_order_named : List ℕ → Option HigherOrderCall
+higher_order_named name = higher_order_of (builtin_named name)

@@ -1,16 +1,16 @@
 //! The built-ins by name: an enum for each family, and one table of all, by the length of their names.
 ghost use Rattle.std.specs.Prelude.{◌≡◌, bytes_eq, option_map};
 ghost use Rattle.std.specs.List.{find};
-ghost use Rattle.expr_functions.specs.Functions.{asking_named, builtin_named, found_in};
+ghost use Rattle.expr_functions.specs.Functions.{higher_order_named, builtin_named, found_in};
 
-use Builtin::{Asks, OnValues};
+use Builtin::{HigherOrder, OnValues};
 use ValueCall::{Bit, Collection, Conversion, Encoding, Number, Sort, Text, Time};
 
 /// A built-in.
 #[derive(Clone, Copy, Debug, PartialEq, Eq)]
 pub enum Builtin {
     /// One that asks a predicate about the items of an array.
-    Asks(Asking),
+    HigherOrder(HigherOrderCall),
     /// One on values alone.
     OnValues(ValueCall),
 }
@@ -31,7 +31,7 @@ pub enum ValueCall {
 
 /// A built-in that asks a predicate about the items of an array, under the language's own name for it.
 #[derive(Clone, Copy, Debug, PartialEq, Eq)]
-pub enum Asking {
+pub enum HigherOrderCall {
     All,
     Any,
     /// `none`.
@@ -142,24 +142,24 @@ pub enum TimeCall {
 
 /// The built-ins whose names have three bytes, those that are called most first.
 pub const OF_THREE: [(&str, Builtin); 12] = [
-    ("map", Asks(Asking::Map)),
+    ("map", HigherOrder(HigherOrderCall::Map)),
     ("len", OnValues(Collection(CollectionCall::Len))),
-    ("all", Asks(Asking::All)),
-    ("any", Asks(Asking::Any)),
-    ("sum", Asks(Asking::Sum)),
+    ("all", HigherOrder(HigherOrderCall::All)),
+    ("any", HigherOrder(HigherOrderCall::Any)),
+    ("sum", HigherOrder(HigherOrderCall::Sum)),
     ("get", OnValues(Collection(CollectionCall::Get))),
     ("max", OnValues(Number(NumberCall::Max))),
     ("min", OnValues(Number(NumberCall::Min))),
     ("int", OnValues(Conversion(ConversionCall::Int))),
-    ("one", Asks(Asking::One)),
+    ("one", HigherOrder(HigherOrderCall::One)),
     ("abs", OnValues(Number(NumberCall::Abs))),
     ("now", OnValues(Time(TimeCall::Now))),
 ];
 
 /// The built-ins whose names have four bytes.
 pub const OF_FOUR: [(&str, Builtin); 13] = [
-    ("none", Asks(Asking::NoneOf)),
-    ("find", Asks(Asking::Find)),
+    ("none", HigherOrder(HigherOrderCall::NoneOf)),
+    ("find", HigherOrder(HigherOrderCall::Find)),
     ("last", OnValues(Collection(CollectionCall::Last))),
     ("take", OnValues(Collection(CollectionCall::Take))),
     ("keys", OnValues(Collection(CollectionCall::Keys))),
@@ -175,7 +175,7 @@ pub const OF_FOUR: [(&str, Builtin); 13] = [
 
 /// The built-ins whose names have five bytes.
 pub const OF_FIVE: [(&str, Builtin); 9] = [
-    ("count", Asks(Asking::Count)),
+    ("count", HigherOrder(HigherOrderCall::Count)),
     ("first", OnValues(Collection(CollectionCall::First))),
     ("upper", OnValues(Text(TextCall::Upper))),
     ("lower", OnValues(Text(TextCall::Lower))),
@@ -188,9 +188,9 @@ pub const OF_FIVE: [(&str, Builtin); 9] = [
 
 /// The built-ins whose names have six bytes.
 pub const OF_SIX: [(&str, Builtin); 14] = [
-    ("filter", Asks(Asking::Filter)),
-    ("reduce", Asks(Asking::Reduce)),
-    ("sortBy", Asks(Asking::SortBy)),
+    ("filter", HigherOrder(HigherOrderCall::Filter)),
+    ("reduce", HigherOrder(HigherOrderCall::Reduce)),
+    ("sortBy", HigherOrder(HigherOrderCall::SortBy)),
     ("values", OnValues(Collection(CollectionCall::Values))),
     ("concat", OnValues(Collection(CollectionCall::Concat))),
     ("string", OnValues(Conversion(ConversionCall::String))),
@@ -206,7 +206,7 @@ pub const OF_SIX: [(&str, Builtin); 14] = [
 
 /// The built-ins whose names have seven bytes.
 pub const OF_SEVEN: [(&str, Builtin); 8] = [
-    ("groupBy", Asks(Asking::GroupBy)),
+    ("groupBy", HigherOrder(HigherOrderCall::GroupBy)),
     ("reverse", OnValues(Collection(CollectionCall::Reverse))),
     ("flatten", OnValues(Collection(CollectionCall::Flatten))),
     ("toPairs", OnValues(Collection(CollectionCall::ToPairs))),
@@ -218,9 +218,9 @@ pub const OF_SEVEN: [(&str, Builtin); 8] = [
 
 /// The built-ins whose names have eight bytes or more.
 pub const OF_MORE: [(&str, Builtin); 15] = [
-    ("findIndex", Asks(Asking::FindIndex)),
-    ("findLast", Asks(Asking::FindLast)),
-    ("findLastIndex", Asks(Asking::FindLastIndex)),
+    ("findIndex", HigherOrder(HigherOrderCall::FindIndex)),
+    ("findLast", HigherOrder(HigherOrderCall::FindLast)),
+    ("findLastIndex", HigherOrder(HigherOrderCall::FindLastIndex)),
     ("hasPrefix", OnValues(Text(TextCall::HasPrefix))),
     ("hasSuffix", OnValues(Text(TextCall::HasSuffix))),
     ("trimPrefix", OnValues(Text(TextCall::TrimPrefix))),
@@ -237,7 +237,7 @@ pub const OF_MORE: [(&str, Builtin); 15] = [
 
 impl Builtin {
     /// The built-in of a name, found among those whose names are as long.
-    pub fn named(name: &str) -> Option<Builtin>
+    pub fn from_name(name: &str) -> Option<Builtin>
         ensures { result ≡ builtin_named name.now }
     {
         match name.len() {
@@ -251,13 +251,13 @@ impl Builtin {
     }
 }
 
-impl Asking {
+impl HigherOrderCall {
     /// The built-in of a name that asks a predicate.
-    pub fn named(name: &str) -> Option<Asking>
-        ensures { result ≡ asking_named name.now }
+    pub fn from_name(name: &str) -> Option<HigherOrderCall>
+        ensures { result ≡ higher_order_named name.now }
     {
-        match Builtin::named(name) {
-            Some(Builtin::Asks(asking)) => Some(asking),
+        match Builtin::from_name(name) {
+            Some(Builtin::HigherOrder(asking)) => Some(asking),
             _ => None,
         }
     }

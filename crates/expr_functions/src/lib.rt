@@ -5,7 +5,7 @@ mod functions;
 mod laws;
 
 pub use functions::{
-    Asking, BitCall, Builtin, CollectionCall, ConversionCall, EncodingCall, NumberCall, OF_FIVE,
-    OF_FOUR, OF_MORE, OF_SEVEN, OF_SIX, OF_THREE, TextCall, TimeCall, ValueCall,
+    BitCall, Builtin, CollectionCall, ConversionCall, EncodingCall, HigherOrderCall, NumberCall,
+    OF_FIVE, OF_FOUR, OF_MORE, OF_SEVEN, OF_SIX, OF_THREE, TextCall, TimeCall, ValueCall,
 };
 pub use laws::each_name_finds_its_call;

@@ -6,9 +6,9 @@ use Rattle.expr_token.specs.declared.sign.Sign.TheVariants as sign
 use Rattle.expr_token.specs.declared.reserved.Reserved.TheVariants as reserved
 use Rattle.expr_grammar.specs.declared.sign.InfixSign.TheVariants as infixed
 use Rattle.expr_grammar.specs.declared.role.Role.{Role}
-use Rattle.expr_grammar.specs.declared.role.Role.TheVariants.{Applying, Plain}
+use Rattle.expr_grammar.specs.declared.role.Role.TheVariants.{Applying, NoOperator}
 use Rattle.expr_grammar.specs.Grammar.{Word, Usual, Constant, Nil, Key, EntryRow, Tree, Literal, Name, Member, Argument, Expression, Braces, TreeProgram, Program, Lines, NoLines, MoreLines, key_token, Spells, Fits}
-use Rattle.expr_grammar.specs.Machine.{Start, Bracing, Letting, Other, start_of, role_of, role_level, level_at, word_at, key_at, Holder, InArray, InMethod, Branches, Section, Top, Then, Last, Predicate, Frame, Under, After, Otherwise, Inside, Middle, Listed, Calling, Indexed, Cut, Condition, Body, Value, Entry, reach, plug, State, Want, Have, Dotted, Questioned, Negated, Barred, Piped, Chosen, Alternate, NamesLine, Named, Argued, NamesField, Braced, BracedKey, Keys, Colons, Fail, at_close, at_square, at_colon, at_comma, at_semicolon, at_brace, at_end_brace, at_end, argued, after_section, bind, close, apply, after_operand, without_operand, begin_line, begin_brace, begin, want, word_after_dot, at_square_open, in_after_not, word_after_bar, open_after_word, else_after, at_if, word_after_let, equals_after, word_of_field, braced, key_in, step_on, step, parse, first_state}
+use Rattle.expr_grammar.specs.Machine.{OperandStart, Bracing, Letting, Other, start_of, role_of, role_level, level_at, word_at, key_at, Holder, InArray, InMethod, Branches, Section, Top, Then, Last, Predicate, Frame, Under, After, Otherwise, Inside, Middle, Listed, Calling, Indexed, Cut, Condition, Body, Value, Entry, reach, plug, State, Want, Have, Dotted, Questioned, Negated, Barred, Piped, Chosen, Alternate, NamesLine, Named, Argued, NamesField, Braced, BracedKey, Keys, Colons, Fail, at_close, at_square, at_colon, at_comma, at_semicolon, at_brace, at_end_brace, at_end, after_argument, after_section, bind, close, apply, after_operand, without_operand, begin_line, begin_brace, begin, want, word_after_dot, at_square_open, in_after_not, word_after_bar, open_after_word, else_after, at_if, word_after_let, equals_after, word_of_field, after_brace, key_in, step_on, step, parse, first_state}
 use Rattle.expr_grammar.specs.Prefixes.{SomeBegins}
 use Rattle.expr_grammar.proofs.Measures.{prefix_above, reach_above}
 use Rattle.expr_grammar.proofs.Complete.{closes}
@@ -102,7 +102,7 @@ end_at : (x : Holder) (t : Token) (s : State) → IsOn s → IsOn (at_end x t s)
 end_at InArray t s h = square_at t s h
 end_at (InMethod l w) t s h = close_at t s h
 
-argues : (t : Token) (k : List Frame) (a : Argument) → IsOpen k → IsOn (argued t k a)
+argues : (t : Token) (k : List Frame) (a : Argument) → IsOpen k → IsOn (after_argument t k a)
 argues t (Calling c r ∷ k) a h = comma_at t _ _ h (close_at t _ h)
 argues t k a h = tt
 
@@ -137,7 +137,7 @@ applies k l h = tt
 
 after_operand_on : (r : Role) (t : Token) (k : List Frame) (l : Tree) → IsOpen k → IsOn (after_operand r t k l)
 after_operand_on Applying t k l h = applies k l h
-after_operand_on Plain t k l h = close_on t k l h
+after_operand_on NoOperator t k l h = close_on t k l h
 after_operand_on r t k l h = h
 
 -- a frame that captures a level stands on open frames
@@ -162,7 +162,7 @@ begins_brace : (k : List Frame) → IsOpen k → IsOn (begin_brace k)
 begins_brace (Calling c r ∷ k) h = (tt, h)
 begins_brace k h = h
 
-begins : (s : Start) (t : Token) (k : List Frame) → IsOpen k → IsOn (begin s t k)
+begins : (s : OperandStart) (t : Token) (k : List Frame) → IsOpen k → IsOn (begin s t k)
 begins Bracing t k h = begins_brace k h
 begins Letting t k h = begins_line k h
 begins Other t k h = without_operand_on t k h
@@ -200,7 +200,7 @@ fields : (k : List Frame) (o : Option Word) → IsOpen k → IsOn (word_of_field
 fields k (Some w) h = h
 fields k None h = tt
 
-opens : (k : List Frame) (o : Option Key) (t : Token) → IsCall k × IsOpen k → IsOn (braced k o t)
+opens : (k : List Frame) (o : Option Key) (t : Token) → IsCall k × IsOpen k → IsOn (after_brace k o t)
 opens k (Some key) t h = h
 opens k None t h = end_brace_at t _ _ h.1 (begins (start_of t) t (Body Predicate NoLines ∷ k) h)
 
@@ -336,7 +336,7 @@ ends_below (f ∷ k) = (λ h l. ends_over k (ends_below k) h l, ends_below k)
 operand : (k : List Frame) (l : Tree) → IsOpen k → Goes (Have k l)
 operand k l h = (ends_over k (ends_below k) h l).0
 
-argument : (k : List Frame) (a : Argument) → IsCall k × IsOpen k → Goes (argued paren_close k a)
+argument : (k : List Frame) (a : Argument) → IsCall k × IsOpen k → Goes (after_argument paren_close k a)
 argument (Calling c r ∷ k) a h = operand k _ h.1
 argument k a h = absurd h.0
 

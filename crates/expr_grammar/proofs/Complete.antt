@@ -10,7 +10,7 @@ use Rattle.expr_grammar.specs.declared.sign.PrefixSign.TheVariants as prefix
 use Rattle.expr_grammar.specs.declared.sign.InfixSign.{InfixSign}
 use Rattle.expr_grammar.specs.declared.sign.InfixSign.TheVariants as infixed
 use Rattle.expr_grammar.specs.Grammar.{Word, Usual, ReservedWord, Constant, True, Key, WordKey, QuotedKey, EntryRow, OneEntry, MoreEntries, Entries, NoEntries, SomeEntries, Tree, Literal, Name, HashName, Field, Paren, Array, Map, Call, If, Prefix, Infix, Member, Method, Index, Slice, Pipe, Ternary, Items, NoItems, SomeItems, Row, One, More, Arguments, NoArguments, SomeArguments, ArgumentRow, OneArgument, MoreArguments, Argument, Expression, Braces, Bound, LeftOut, At, ElsePart, Else, ElseIf, TreeProgram, Program, Lines, NoLines, MoreLines, word_token, constant_token, key_token, prefix_token, infix_tokens, comma_tokens, entry_row_tokens, entries_tokens, tokens_of, items_tokens, row_tokens, arguments_tokens, argument_row_tokens, argument_tokens, bound_tokens, else_tokens, program_tokens, lines_tokens, Spells, infix_level, TreeFits, ItemsFit, RowFits, EntriesFit, EntryRowFits, ArgumentsFit, ArgumentRowFits, ArgumentFits, BoundFits, ElseFits, Fits, LinesFit, OneTree}
-use Rattle.expr_grammar.specs.Machine.{role_of, role_level, level_at, word_at, key_at, push, push_argument, push_entry, items_end, Holder, InArray, InMethod, holder_tree, holder_end, Caller, InCall, InPipe, caller_tree, Branches, NoBranch, Branch, chosen, Section, Top, Then, Last, Predicate, Frame, Under, After, Otherwise, Inside, Middle, Listed, Calling, Indexed, Cut, Condition, Body, Value, Entry, reach, reach_of, plug, settle, State, Want, Have, Dotted, Questioned, Argued, Braced, BracedKey, Keys, Chosen, Fail, at_end_brace, after_section, begin_brace, after_operand, want, braced, step, step_on, whole, parse, first_state, tree_of}
+use Rattle.expr_grammar.specs.Machine.{role_of, role_level, level_at, word_at, key_at, push, push_argument, push_entry, items_end, Holder, InArray, InMethod, holder_tree, holder_end, Caller, InCall, InPipe, caller_tree, Branches, NoBranch, Branch, chosen, Section, Top, Then, Last, Predicate, Frame, Under, After, Otherwise, Inside, Middle, Listed, Calling, Indexed, Cut, Condition, Body, Value, Entry, reach, reach_of, plug, settle, State, Want, Have, Dotted, Questioned, Argued, Braced, BracedKey, Keys, Chosen, Fail, at_end_brace, after_section, begin_brace, after_operand, want, after_brace, step, step_on, whole, parse, first_state, tree_of}
 use Rattle.expr_grammar.proofs.Measures.{StartsAbove, EndsAbove, tight, captured_if, starts_loose, ends_closed, ends_of_none, captures_reach, level_of_sign}
 
 -- a frame that doesn't capture p is closed
@@ -148,7 +148,7 @@ opens_empty k rest = refl
 
 pub opens_map : (k : List Frame) (key : Key) (rest : List Token) → parse (begin_brace k) (key_token key ∷ token.Sign sign.Colon ∷ rest) ≡ parse (Want (Entry None key ∷ k)) rest
 unfolding parse
-opens_map (Calling c r ∷ k) key rest = ap (λ o. parse (braced (Calling c r ∷ k) o (key_token key)) (token.Sign sign.Colon ∷ rest)) (key_there key)
+opens_map (Calling c r ∷ k) key rest = ap (λ o. parse (after_brace (Calling c r ∷ k) o (key_token key)) (token.Sign sign.Colon ∷ rest)) (key_there key)
 opens_map [] key rest = rw (key_there key) refl
 opens_map k key rest = rw (key_there key) refl
 
@@ -227,11 +227,11 @@ opens_predicate (t ∷ ts) rest k p h = choose (key_at t) refl
     second key [] g = ap (λ s. parse s rest) (sym (plain_step key Predicate k (token.Sign sign.BraceClose)))
     second key (u ∷ us) g = after_key key u us (us ++ token.Sign sign.BraceClose ∷ rest) k p g
 
-    choose : (o : Option Key) → key_at t ≡ o → parse (braced k (key_at t) t) (ts ++ token.Sign sign.BraceClose ∷ rest) ≡ parse (want t (Body Predicate NoLines ∷ k)) (ts ++ token.Sign sign.BraceClose ∷ rest)
-    choose None e = ap (λ o. parse (braced k o t) (ts ++ token.Sign sign.BraceClose ∷ rest)) e ∙ ap (λ s. parse s (ts ++ token.Sign sign.BraceClose ∷ rest)) (at_no_end t ts p (Have k (Map NoEntries)) (want t (Body Predicate NoLines ∷ k)) h)
+    choose : (o : Option Key) → key_at t ≡ o → parse (after_brace k (key_at t) t) (ts ++ token.Sign sign.BraceClose ∷ rest) ≡ parse (want t (Body Predicate NoLines ∷ k)) (ts ++ token.Sign sign.BraceClose ∷ rest)
+    choose None e = ap (λ o. parse (after_brace k o t) (ts ++ token.Sign sign.BraceClose ∷ rest)) e ∙ ap (λ s. parse s (ts ++ token.Sign sign.BraceClose ∷ rest)) (at_no_end t ts p (Have k (Map NoEntries)) (want t (Body Predicate NoLines ∷ k)) h)
     choose (Some key) e =
         let b = key_back t key e in
-        ap (λ o. parse (braced k o t) (ts ++ token.Sign sign.BraceClose ∷ rest)) e
+        ap (λ o. parse (after_brace k o t) (ts ++ token.Sign sign.BraceClose ∷ rest)) e
         ∙ second key ts (ap (λ u. parse first_state (u ∷ ts)) b ∙ h)
         ∙ ap (λ u. parse (want u (Body Predicate NoLines ∷ k)) (ts ++ token.Sign sign.BraceClose ∷ rest)) b
 

@@ -8,7 +8,7 @@ use Rattle.expr_token.specs.declared.reserved.Reserved.TheVariants as reserved
 use Rattle.expr_grammar.specs.declared.sign.InfixSign.{InfixSign}
 use Rattle.expr_grammar.specs.declared.sign.InfixSign.TheVariants as infixed
 use Rattle.expr_grammar.specs.Grammar.{Word, Constant, True, False, Nil, Integer, Quoted, Raw, Bytes, Key, EntryRow, Entries, NoEntries, SomeEntries, Tree, Literal, Name, HashName, Field, Paren, Array, Map, Call, Member, Method, Index, Slice, Pipe, Items, SomeItems, Row, Arguments, SomeArguments, ArgumentRow, Argument, Expression, Braces, LeftOut, At, ElsePart, Else, ElseIf, TreeProgram, Program, NoLines, word_token, constant_token, key_token, prefix_token, infix_tokens, member_token, index_tokens, entry_row_tokens, entries_tokens, tokens_of, items_tokens, row_tokens, arguments_tokens, argument_row_tokens, argument_tokens, bound_tokens, else_tokens, program_tokens, lines_tokens, Spells, infix_level, TreeFits, ItemsFit, RowFits, EntriesFit, EntryRowFits, ArgumentsFit, ArgumentRowFits, ArgumentFits, BoundFits, ElseFits, Fits, LinesFit}
-use Rattle.expr_grammar.specs.Machine.{role_of, role_level, word_at, key_at, push, push_argument, push_entry, items_end, arguments_end, entries_end, Holder, InArray, InMethod, holder_tree, holder_end, Caller, InCall, InPipe, caller_tree, Branches, NoBranch, Branch, chosen, Section, Top, Then, Last, Predicate, Frame, Under, After, Otherwise, Inside, Middle, Listed, Calling, Indexed, Cut, Condition, Body, Value, Entry, reach, reach_of, plug, settle, State, Want, Have, Dotted, Questioned, Negated, Barred, Piped, Chosen, Alternate, NamesLine, Named, Argued, NamesField, Braced, BracedKey, Keys, Colons, Fail, at_close, at_square, at_colon, at_comma, at_semicolon, at_brace, at_end_brace, at_end, argued, after_section, bind, close, apply, after_operand, without_operand, begin_line, begin_brace, want, word_after_dot, at_square_open, in_after_not, word_after_bar, open_after_word, else_after, at_if, word_after_let, equals_after, word_of_field, braced, key_in, step_on, step, whole, finish, parse, first_state, tree_of}
+use Rattle.expr_grammar.specs.Machine.{role_of, role_level, word_at, key_at, push, push_argument, push_entry, items_end, arguments_end, entries_end, Holder, InArray, InMethod, holder_tree, holder_end, Caller, InCall, InPipe, caller_tree, Branches, NoBranch, Branch, chosen, Section, Top, Then, Last, Predicate, Frame, Under, After, Otherwise, Inside, Middle, Listed, Calling, Indexed, Cut, Condition, Body, Value, Entry, reach, reach_of, plug, settle, State, Want, Have, Dotted, Questioned, Negated, Barred, Piped, Chosen, Alternate, NamesLine, Named, Argued, NamesField, Braced, BracedKey, Keys, Colons, Fail, at_close, at_square, at_colon, at_comma, at_semicolon, at_brace, at_end_brace, at_end, after_argument, after_section, bind, close, apply, after_operand, without_operand, begin_line, begin_brace, want, word_after_dot, at_square_open, in_after_not, word_after_bar, open_after_word, else_after, at_if, word_after_let, equals_after, word_of_field, after_brace, key_in, step_on, step, whole, finish, parse, first_state, tree_of}
 use Rattle.expr_grammar.proofs.Measures.{StartsAbove, EndsAbove, infix_above, tight, captured_if, ends_of_none, none_of_ends, reach_captures}
 use Rattle.expr_grammar.proofs.Complete.{key_back}
 
@@ -315,7 +315,7 @@ end_at InArray s seen a t = square_at s seen a t
 end_at (InMethod l w) s seen a t = close_at s seen a t
 
 -- an argument is whole
-argues : (t : Token) (k : List Frame) (a : Argument) (seen : List Token) → IsStack k → ArgumentFits a → seen ≡ before k ++ argument_tokens a → IsState (argued t k a) (seen ++ t ∷ [])
+argues : (t : Token) (k : List Frame) (a : Argument) (seen : List Token) → IsStack k → ArgumentFits a → seen ≡ before k ++ argument_tokens a → IsState (after_argument t k a) (seen ++ t ∷ [])
 argues t (Calling c r ∷ k) a seen st f e =
     comma_at _ _ seen
     (((st.0.0, push_argument_fits r a st.0.1 f), st.1), ap (λ q. q ++ token.Sign sign.Comma ∷ []) e ∙ simp (push_argument_tokens, append_assoc))
@@ -502,7 +502,7 @@ fields : (k : List Frame) (t : Token) (seen : List Token) (o : Option Word) → 
 fields k t seen (Some w) h a = holds k (Field w) _ a.0 tt (tt, tt) (λ p. tt) (ap (λ x. x ++ t ∷ []) a.1 ∙ ap (λ u. (before k ++ token.Sign sign.Dot ∷ []) ++ u ∷ []) (sym (word_back t w h)) ∙ simp append_assoc)
 fields k t seen None h a = tt
 
-opens : (k : List Frame) (t : Token) (seen : List Token) (o : Option Key) → key_at t ≡ o → IsState (Braced k) seen → IsState (braced k o t) (seen ++ t ∷ [])
+opens : (k : List Frame) (t : Token) (seen : List Token) (o : Option Key) → key_at t ≡ o → IsState (Braced k) seen → IsState (after_brace k o t) (seen ++ t ∷ [])
 opens k t seen (Some key) h a = (a.0, ap (λ x. x ++ t ∷ []) a.1 ∙ ap (λ u. (before k ++ token.Sign sign.BraceOpen ∷ []) ++ u ∷ []) (sym (key_back t key h)) ∙ simp append_assoc)
 opens k t seen None h a =
     end_brace_at _ _ seen (map_done k NoEntries _ a.0 tt (ap (λ x. x ++ token.Sign sign.BraceClose ∷ []) a.1 ∙ simp append_assoc)) t

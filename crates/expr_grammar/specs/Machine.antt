@@ -1,5 +1,5 @@
 -- How tokens are read: a state and the next token give the next state. No call promises anything by this: it is what `Grammar` is proved to be computed by.
--- The parser is modelled on it, so its frames and what they hold (`Start`, `Holder`, `Caller`, `Branches`, `Section`, `Frame`) bear the same names, over parts in place of trees.
+-- The parser is modelled on it, so its frames and what they hold (`OperandStart`, `Holder`, `Caller`, `Branches`, `Section`, `Frame`) bear the same names, over parts in place of trees.
 use Rattle.std.specs.Prelude.{ℕ, ◌+◌, Bool, true, false, List, [], ◌∷◌, Option, Some, None, nat_lt, if◌then◌else◌}
 use Rattle.expr_token.specs.declared.token.Token.{Token}
 use Rattle.expr_token.specs.declared.token.Token.TheVariants as token
@@ -12,24 +12,24 @@ use Rattle.expr_grammar.specs.declared.sign.PrefixSign.TheVariants as prefix
 use Rattle.expr_grammar.specs.declared.sign.InfixSign.{InfixSign}
 use Rattle.expr_grammar.specs.declared.sign.InfixSign.TheVariants as infixed
 use Rattle.expr_grammar.specs.declared.role.Role.{Role}
-use Rattle.expr_grammar.specs.declared.role.Role.TheVariants.{Binary, Negating, Asking, Piping, Dotting, Questioning, Applying, Picking, Plain}
+use Rattle.expr_grammar.specs.declared.role.Role.TheVariants.{Binary, Negating, Branching, Piping, Dotting, Questioning, Applying, Picking, NoOperator}
 use Rattle.expr_grammar.specs.Grammar.{Word, Usual, ReservedWord, Constant, True, False, Nil, Integer, Quoted, Raw, Bytes, Key, WordKey, QuotedKey, EntryRow, OneEntry, MoreEntries, Entries, NoEntries, SomeEntries, Tree, Literal, Name, HashName, Field, Paren, Array, Map, Call, If, Prefix, Infix, Member, Method, Index, Slice, Pipe, Ternary, Items, NoItems, SomeItems, Row, One, More, Arguments, NoArguments, SomeArguments, ArgumentRow, OneArgument, MoreArguments, Argument, Expression, Braces, Bound, LeftOut, At, ElsePart, Else, ElseIf, TreeProgram, Program, Lines, NoLines, MoreLines, key_token, prefix_level, infix_level}
 
 -- What a token is where an operand is wanted.
-pub data Start : Type 0 where
-  Constantly : (c : Constant) → Start
-  Naming : (w : List ℕ) → Start
-  HashNaming : (w : List ℕ) → Start
-  Signing : (o : PrefixSign) → Start
-  Grouping : Start
-  Listing : Start
-  Bracing : Start
-  Fielding : Start
-  Choosing : Start
-  Letting : Start
-  Other : Start
+pub data OperandStart : Type 0 where
+  Constantly : (c : Constant) → OperandStart
+  Naming : (w : List ℕ) → OperandStart
+  HashNaming : (w : List ℕ) → OperandStart
+  Signing : (o : PrefixSign) → OperandStart
+  Grouping : OperandStart
+  Listing : OperandStart
+  Bracing : OperandStart
+  Fielding : OperandStart
+  Choosing : OperandStart
+  Letting : OperandStart
+  Other : OperandStart
 
-abbrev pub sign_start : Sign → Start
+abbrev pub sign_start : Sign → OperandStart
 sign_start sign.ParenOpen = Grouping
 sign_start sign.SquareOpen = Listing
 sign_start sign.BraceOpen = Bracing
@@ -39,7 +39,7 @@ sign_start sign.Plus = Signing prefix.Positive
 sign_start sign.Minus = Signing prefix.Negative
 sign_start s = Other
 
-abbrev pub reserved_start : Reserved → Start
+abbrev pub reserved_start : Reserved → OperandStart
 reserved_start reserved.True = Constantly True
 reserved_start reserved.False = Constantly False
 reserved_start reserved.Nil = Constantly Nil
@@ -48,7 +48,7 @@ reserved_start reserved.Let = Letting
 reserved_start reserved.Not = Signing prefix.Not
 reserved_start r = Other
 
-abbrev pub start_of : Token → Start
+abbrev pub start_of : Token → OperandStart
 start_of (token.Integer n) = Constantly (Integer n)
 start_of (token.Word w) = Naming w
 start_of (token.Reserved r) = reserved_start r
@@ -77,13 +77,13 @@ sign_role sign.Percent = Binary infixed.Modulo
 sign_role sign.Caret = Binary infixed.Caret
 sign_role sign.StarStar = Binary infixed.StarStar
 sign_role sign.QuestionQuestion = Binary infixed.Coalesce
-sign_role sign.Question = Asking
+sign_role sign.Question = Branching
 sign_role sign.Bar = Piping
 sign_role sign.Dot = Dotting
 sign_role sign.QuestionDot = Questioning
 sign_role sign.ParenOpen = Applying
 sign_role sign.SquareOpen = Picking
-sign_role s = Plain
+sign_role s = NoOperator
 
 abbrev pub reserved_role : Reserved → Role
 reserved_role reserved.Or = Binary infixed.Or
@@ -94,24 +94,24 @@ reserved_role reserved.Contains = Binary infixed.Contains
 reserved_role reserved.StartsWith = Binary infixed.StartsWith
 reserved_role reserved.EndsWith = Binary infixed.EndsWith
 reserved_role reserved.Matches = Binary infixed.Matches
-reserved_role r = Plain
+reserved_role r = NoOperator
 
 abbrev pub role_of : Token → Role
 role_of (token.Sign s) = sign_role s
 role_of (token.Reserved r) = reserved_role r
-role_of t = Plain
+role_of t = NoOperator
 
 -- The level of a role, 0 where it is no operator.
 abbrev pub role_level : Role → ℕ
 role_level (Binary o) = infix_level o
 role_level Negating = 5
-role_level Asking = 1
+role_level Branching = 1
 role_level Piping = 2
 role_level Dotting = 13
 role_level Questioning = 13
 role_level Applying = 13
 role_level Picking = 13
-role_level Plain = 0
+role_level NoOperator = 0
 
 abbrev pub level_at : List Token → ℕ
 level_at [] = 0
@@ -293,9 +293,9 @@ at_end InArray t s = at_square t s
 at_end (InMethod l w) t s = at_close t s
 
 -- an argument is whole
-abbrev pub argued : Token → List Frame → Argument → State
-argued t (Calling c r ∷ k) a = at_comma t (Want (Calling c (Some (push_argument r a)) ∷ k)) (at_close t (Have k (caller_tree c (SomeArguments (push_argument r a) false))))
-argued t k a = Fail
+abbrev pub after_argument : Token → List Frame → Argument → State
+after_argument t (Calling c r ∷ k) a = at_comma t (Want (Calling c (Some (push_argument r a)) ∷ k)) (at_close t (Have k (caller_tree c (SomeArguments (push_argument r a) false))))
+after_argument t k a = Fail
 
 -- a program between braces is whole
 abbrev pub after_section : Section → TreeProgram → List Frame → State
@@ -314,7 +314,7 @@ abbrev pub close : Token → List Frame → Tree → State
 close t (Inside ∷ k) l = at_close t (Have k (Paren l))
 close t (Middle c ∷ k) l = at_colon t (Want (Otherwise c l ∷ k)) Fail
 close t (Listed s r ∷ k) l = at_comma t (Want (Listed s (Some (push r l)) ∷ k)) (at_end s t (Have k (holder_tree s (SomeItems (push r l) false))))
-close t (Calling c r ∷ k) l = argued t (Calling c r ∷ k) (Expression l)
+close t (Calling c r ∷ k) l = after_argument t (Calling c r ∷ k) (Expression l)
 close t (Indexed x true ∷ k) l = at_square t (Have k (Index x true l))
 close t (Indexed x false ∷ k) l = at_colon t (Want (Cut x (At l) ∷ k)) (at_square t (Have k (Index x false l)))
 close t (Cut x a ∷ k) l = at_square t (Have k (Slice x a (At l)))
@@ -334,13 +334,13 @@ apply k l = Fail
 abbrev pub after_operand : Role → Token → List Frame → Tree → State
 after_operand (Binary o) t k l = Want (After l o ∷ k)
 after_operand Negating t k l = Negated k l
-after_operand Asking t k l = Want (Middle l ∷ k)
+after_operand Branching t k l = Want (Middle l ∷ k)
 after_operand Piping t k l = Barred k l
 after_operand Dotting t k l = Dotted k l
 after_operand Questioning t k l = Questioned k l
 after_operand Applying t k l = apply k l
 after_operand Picking t k l = Want (Indexed l false ∷ k)
-after_operand Plain t k l = close t k l
+after_operand NoOperator t k l = close t k l
 
 -- A token that begins no operand, where one is wanted.
 abbrev pub without_operand : Token → List Frame → State
@@ -359,7 +359,7 @@ abbrev pub begin_brace : List Frame → State
 begin_brace (Calling c r ∷ k) = Braced (Calling c r ∷ k)
 begin_brace k = Keys k None
 
-abbrev pub begin : Start → Token → List Frame → State
+abbrev pub begin : OperandStart → Token → List Frame → State
 begin (Constantly c) t k = Have k (Literal c)
 begin (Naming w) t k = Have k (Name w)
 begin (HashNaming w) t k = Have k (HashName w)
@@ -417,9 +417,9 @@ word_of_field k (Some w) = Have k (Field w)
 word_of_field k None = Fail
 
 -- the first token after an opening brace, where an argument begins
-abbrev pub braced : List Frame → Option Key → Token → State
-braced k (Some key) t = BracedKey k key
-braced k None t = at_end_brace t (Have k (Map NoEntries)) (want t (Body Predicate NoLines ∷ k))
+abbrev pub after_brace : List Frame → Option Key → Token → State
+after_brace k (Some key) t = BracedKey k key
+after_brace k None t = at_end_brace t (Have k (Map NoEntries)) (want t (Body Predicate NoLines ∷ k))
 
 abbrev pub key_in : List Frame → Option EntryRow → Option Key → Token → State
 key_in k r (Some key) t = Colons k r key
@@ -438,9 +438,9 @@ step_on (Chosen k bs c a) t = else_after k bs c a t
 step_on (Alternate k bs c a) t = at_brace t (Want (Body (Last bs c a) NoLines ∷ k)) (at_if t (Want (Condition (Branch bs c a) ∷ k)))
 step_on (NamesLine k) t = word_after_let k t
 step_on (Named k w) t = equals_after k w t
-step_on (Argued k p) t = argued t k (Braces p)
+step_on (Argued k p) t = after_argument t k (Braces p)
 step_on (NamesField k) t = word_of_field k (word_at t)
-step_on (Braced k) t = braced k (key_at t) t
+step_on (Braced k) t = after_brace k (key_at t) t
 step_on (BracedKey k key) t = Fail
 step_on (Keys k r) t = key_in k r (key_at t) t
 step_on (Colons k r key) t = at_colon t (Want (Entry r key ∷ k)) Fail

@@ -18,6 +18,6 @@ pub fn brackets_fit()
 {}
 
 // The machine answers only a tree that spells the tokens and fits.
-fn sound()
+fn parsing_is_sound()
     ensures { (p : TreeProgram) (ts : List Token) → tree_of ts ≡ Some p → Spells p ts × Fits p }
 {}

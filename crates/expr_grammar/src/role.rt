@@ -14,7 +14,7 @@ pub enum Role {
     /// `not`, which `in` follows.
     Negating,
     /// `?`, which begins the branches of a ternary.
-    Asking,
+    Branching,
     /// `|`, which a function follows.
     Piping,
     /// `.`, which a member follows.
@@ -26,18 +26,18 @@ pub enum Role {
     /// `[`, which an index or slice follows.
     Picking,
     /// No operator: it ends the operand.
-    Plain,
+    NoOperator,
 }
 
 impl Role {
     /// The role of a token after an operand.
-    pub fn of(token: &Token) -> Role
+    pub fn from_token(token: &Token) -> Role
         ensures { result ≡ role_of token.now }
     {
         match token {
             Token::Sign(sign) => Role::of_sign(*sign),
             Token::Reserved(word) => Role::of_reserved(*word),
-            _ => Role::Plain,
+            _ => Role::NoOperator,
         }
     }
 
@@ -62,13 +62,13 @@ impl Role {
             Sign::Caret => Role::Binary(InfixSign::Caret),
             Sign::StarStar => Role::Binary(InfixSign::StarStar),
             Sign::QuestionQuestion => Role::Binary(InfixSign::Coalesce),
-            Sign::Question => Role::Asking,
+            Sign::Question => Role::Branching,
             Sign::Bar => Role::Piping,
             Sign::Dot => Role::Dotting,
             Sign::QuestionDot => Role::Questioning,
             Sign::ParenOpen => Role::Applying,
             Sign::SquareOpen => Role::Picking,
-            _ => Role::Plain,
+            _ => Role::NoOperator,
         }
     }
 
@@ -84,7 +84,7 @@ impl Role {
             Reserved::StartsWith => Role::Binary(InfixSign::StartsWith),
             Reserved::EndsWith => Role::Binary(InfixSign::EndsWith),
             Reserved::Matches => Role::Binary(InfixSign::Matches),
-            _ => Role::Plain,
+            _ => Role::NoOperator,
         }
     }
 
@@ -95,10 +95,10 @@ impl Role {
         match self {
             Role::Binary(sign) => sign.level(),
             Role::Negating => 5,
-            Role::Asking => 1,
+            Role::Branching => 1,
             Role::Piping => 2,
             Role::Dotting | Role::Questioning | Role::Applying | Role::Picking => 13,
-            Role::Plain => 0,
+            Role::NoOperator => 0,
         }
     }
 }

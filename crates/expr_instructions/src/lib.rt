@@ -1,8 +1,8 @@
 //! Instructions of flat code in memory.
 #![tactic(auto)]
 
-mod holder;
 mod instruction;
+mod pointer;
 
-pub use holder::{Holder, Made};
 pub use instruction::{Block, Instruction, PredicateCall};
+pub use pointer::{OwnedLiteral, Pointer};

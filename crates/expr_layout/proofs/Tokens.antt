@@ -1,5 +1,5 @@
 -- What stands behind the names of tokens.
-use Rattle.std.proofs.Common.{◌≡◌, ◌≢◌, inl, inr, ℕ, zero, suc, ◌+◌, ◌-◌, ◌<◌, ◌≤◌, ◌==◌, ◌&&◌, ◌||◌, nat_lt, cond, Bool, true, false, refl, sym, ap, ◌∙◌, arith, rules, eq-eqb, List, [], ◌∷◌, ◌++◌, length, Some, None, append_assoc}
+use Rattle.std.proofs.Common.{◌≡◌, ◌≢◌, inl, inr, ℕ, zero, suc, ◌+◌, ◌-◌, ◌<◌, ◌≤◌, ◌==◌, ◌&&◌, ◌||◌, nat_lt, cond, Bool, true, false, refl, sym, ap, ◌∙◌, arith, rules, eq-eqb, List, [], ◌∷◌, ◌++◌, length, Some, None}
 use Rattle.std.proofs.Math.Path.{subst}
 use Rattle.std.specs.Char.{encode_utf8}
 use denote.Ref.{Bor}
@@ -10,9 +10,9 @@ use Rattle.std.proofs.lemmas.Bool.{ne_eqb}
 use Rattle.std.proofs.lemmas.Bool.Decides.{eqb_tells}
 use Rattle.std.proofs.lemmas.List.{length-append}
 use Rattle.std.proofs.lemmas.Str.{len_utf8_bounds, length-encode}
-use Rattle.expr_layout.specs.declared.token.Token.{Token}
-use Rattle.expr_layout.specs.declared.token.Token.TheVariants as token
-use Rattle.expr_layout.specs.Layouts.{Heads, HeadsBy, IsLayout, after_name, either, ends_run, first_of, first_or, fraction_at, is_second, named_token, numbers, offsets, run_at, run_behind, run_token, short_words, token_at, whole_run, words}
+use Rattle.expr_layout.specs.declared.token.LayoutToken.{LayoutToken}
+use Rattle.expr_layout.specs.declared.token.LayoutToken.TheVariants as layout_token
+use Rattle.expr_layout.specs.Layouts.{Heads, HeadsBy, after_name, either, ends_run, first_of, first_or, fraction_at, named_token, numbers, offsets, run_at, run_behind, run_token, short_words, token_at, whole_run, words}
 
 pub after_append : (name rest : List ℕ) → after_name name (name ++ rest) ≡ Some rest
 unfolding Rattle.expr_layout.specs.Layouts.after_name
@@ -42,19 +42,19 @@ pub name_found : (name text rest : List ℕ) → StripsPrefix (FindsTextPrefix n
 name_found name text rest h = ap (after_name name) (h.1.1 ∙ ap (λ t. name ++ t) (sym h.2)) ∙ after_append name rest
 
 -- a token whose name isn't empty leaves less
-abbrev Leaves : List ℕ → Option (Token × List ℕ) → Type 0
+abbrev Leaves : List ℕ → Option (LayoutToken × List ℕ) → Type 0
 Leaves text None = Unit {0}
 Leaves text (Some found) = length found.1 < length text
 
-leaves_or : (name text : List ℕ) (t : Token) (o : Option (List ℕ)) (others : Option (Token × List ℕ)) → 0 < length name → ((rest : List ℕ) → o ≡ Some rest → text ≡ name ++ rest) → Leaves text others → Leaves text (first_or t o others)
+leaves_or : (name text : List ℕ) (t : LayoutToken) (o : Option (List ℕ)) (others : Option (LayoutToken × List ℕ)) → 0 < length name → ((rest : List ℕ) → o ≡ Some rest → text ≡ name ++ rest) → Leaves text others → Leaves text (first_or t o others)
 unfolding Rattle.expr_layout.specs.Layouts.first_or
 leaves_or name text t None others h e l = l
 leaves_or name text t (Some rest) others h e l = omega (arith, ap length (e rest refl), length-append name rest)
 
-abbrev AreNames : List (List ℕ × Token) → Type 0
-AreNames entries = AllByRecursion (λ (e : List ℕ × Token). 0 < length e.0) entries
+abbrev AreNames : List (List ℕ × LayoutToken) → Type 0
+AreNames entries = AllByRecursion (λ (e : List ℕ × LayoutToken). 0 < length e.0) entries
 
-leaves_first : (entries : List (List ℕ × Token)) (text : List ℕ) (others : Option (Token × List ℕ)) → AreNames entries → Leaves text others → Leaves text (first_of entries text others)
+leaves_first : (entries : List (List ℕ × LayoutToken)) (text : List ℕ) (others : Option (LayoutToken × List ℕ)) → AreNames entries → Leaves text others → Leaves text (first_of entries text others)
 leaves_first [] text others h l = l
 leaves_first (e ∷ es) text others h l =
     leaves_or e.0 text e.1 (after_name e.0 text) (first_of es text others) h.0 (λ rest. after_some e.0 text rest) (leaves_first es text others h.1 l)
@@ -86,19 +86,19 @@ leaves_whole : (n : ℕ) (o : Option (ℕ × List ℕ)) → AtMost n o → AtMos
 leaves_whole n None h = tt
 leaves_whole n (Some run) h = elim (nat_lt 0 run.0 && ends_run run.1) as (λ b. AtMost n (cond b (Some run) None)) [ true ↦ h | false ↦ tt ]
 
-leaves_made : (make : ℕ → Token) (separator : ℕ) (text : List ℕ) (o : Option (ℕ × List ℕ)) → AtMost (length text) o → Leaves (separator ∷ text) (run_token make o)
+leaves_made : (make : ℕ → LayoutToken) (separator : ℕ) (text : List ℕ) (o : Option (ℕ × List ℕ)) → AtMost (length text) o → Leaves (separator ∷ text) (run_token make o)
 leaves_made make separator text None h = tt
 leaves_made make separator text (Some run) h = omega arith
 
-leaves_either : (text : List ℕ) (o others : Option (Token × List ℕ)) → Leaves text o → Leaves text others → Leaves text (either o others)
+leaves_either : (text : List ℕ) (o others : Option (LayoutToken × List ℕ)) → Leaves text o → Leaves text others → Leaves text (either o others)
 leaves_either text None others h l = l
 leaves_either text (Some found) others h l = h
 
 leaves_behind : (separator : ℕ) (text : List ℕ) → Leaves (separator ∷ text) (run_behind separator text)
 unfolding Rattle.expr_layout.specs.Layouts.run_behind
 leaves_behind separator text =
-    leaves_either (separator ∷ text) _ _ (leaves_made (token.Fraction separator) separator text (whole_run (run_at 10 48 0 text)) (leaves_whole (length text) (run_at 10 48 0 text) (leaves_run 10 48 0 text)))
-    (leaves_made (token.ShortFraction separator) separator text (whole_run (run_at 10 57 0 text)) (leaves_whole (length text) (run_at 10 57 0 text) (leaves_run 10 57 0 text)))
+    leaves_either (separator ∷ text) _ _ (leaves_made (layout_token.Fraction separator) separator text (whole_run (run_at 10 48 0 text)) (leaves_whole (length text) (run_at 10 48 0 text) (leaves_run 10 48 0 text)))
+    (leaves_made (layout_token.ShortFraction separator) separator text (whole_run (run_at 10 57 0 text)) (leaves_whole (length text) (run_at 10 57 0 text) (leaves_run 10 57 0 text)))
 
 leaves_fraction : (text : List ℕ) → Leaves text (fraction_at text)
 unfolding Rattle.expr_layout.specs.Layouts.fraction_at
@@ -111,28 +111,23 @@ leaves_token true text = leaves_either text (fraction_at text) (named_token text
 leaves_token false text = leaves_named text
 
 -- a token that was found, where none was found before it
-pub heads_found : (second : Bool) (text : List ℕ) (t : Token) (rest : List ℕ) → token_at second text ≡ Some (t, rest) → Heads second text t rest × (length rest < length text)
+pub heads_found : (second : Bool) (text : List ℕ) (t : LayoutToken) (rest : List ℕ) → token_at second text ≡ Some (t, rest) → Heads second text t rest × (length rest < length text)
 heads_found second text t rest e = (
-  subst (λ (o : Option (Token × List ℕ)). HeadsBy o text t rest) (sym e) (refl, refl),
-  subst (λ (o : Option (Token × List ℕ)). Leaves text o) e (leaves_token second text),
+  subst (λ (o : Option (LayoutToken × List ℕ)). HeadsBy o text t rest) (sym e) (refl, refl),
+  subst (λ (o : Option (LayoutToken × List ℕ)). Leaves text o) e (leaves_token second text),
 )
 
-heads_character : (second : Bool) (text : List ℕ) (t : Token) (rest : List ℕ) (c : ℕ) → token_at second text ≡ None → t ≡ token.Literal c → text ≡ encode_utf8 c ++ rest → Heads second text t rest × (length rest < length text)
+heads_character : (second : Bool) (text : List ℕ) (t : LayoutToken) (rest : List ℕ) (c : ℕ) → token_at second text ≡ None → t ≡ layout_token.Literal c → text ≡ encode_utf8 c ++ rest → Heads second text t rest × (length rest < length text)
 heads_character second text t rest c e is whole = (
-  subst (λ (o : Option (Token × List ℕ)). HeadsBy o text t rest) (sym e) (c, is, whole),
+  subst (λ (o : Option (LayoutToken × List ℕ)). HeadsBy o text t rest) (sym e) (c, is, whole),
   omega (arith, ap length whole, length-append (encode_utf8 c) rest, length-encode c, (len_utf8_bounds c).0),
 )
 
-pub heads_characters : (second : Bool) (text : List ℕ) (r : Option (Token × Bor (List ℕ))) → None ≡ token_at second text
-    → MatchOption r (text ≡ []) (λ found. (c : ℕ) × (found.0 ≡ token.Literal c) × (text ≡ encode_utf8 c ++ found.1.now))
+pub heads_characters : (second : Bool) (text : List ℕ) (r : Option (LayoutToken × Bor (List ℕ))) → None ≡ token_at second text
+    → MatchOption r (text ≡ []) (λ found. (c : ℕ) × (found.0 ≡ layout_token.Literal c) × (text ≡ encode_utf8 c ++ found.1.now))
     → MatchOption r (text ≡ []) (λ found. Heads second text found.0 found.1.now × (length found.1.now < length text))
 heads_characters second text None e h = h
 heads_characters second text (Some found) e h = heads_character second text found.0 found.1.now h.0 (sym e) h.1 h.2
-
--- tokens that lead from the beginning of a layout to what is left of it
-pub leads_on : (second : Bool) (text : List ℕ) (before : List Token) (was : Bool) (left : List ℕ) (t : Token) (rest : List ℕ)
-    → ((ts : List Token) → IsLayout was left ts → IsLayout second text (before ++ ts)) → Heads was left t rest → (ts : List Token) → IsLayout (is_second t) rest ts → IsLayout second text ((before ++ (t ∷ [])) ++ ts)
-leads_on second text before was left t rest lead heads ts h = subst (λ (all : List Token). IsLayout second text all) (sym (append_assoc before (t ∷ []) ts)) (lead (t ∷ ts) (rest, heads, h))
 
 -- one more digit of a run, and its end
 pub run_more : (left c count : ℕ) (text rest : List ℕ) → 0 < left → text ≡ c ∷ rest → run_at left c count text ≡ run_at (left - 1) c (count + 1) rest
@@ -150,10 +145,6 @@ run_end (suc left) c count (d ∷ ds) h other = elim (eqb_tells d c) [
   | inl same ↦ absurd (other ds (λ i. same.1 i ∷ ds))
   | inr differs ↦ ap (λ b. cond b (run_at left c (count + 1) ds) (Some (count, d ∷ ds))) differs.0
 ]
-
-pub run_none : (left c count : ℕ) (text : List ℕ) → left ≡ 0 → run_at left c count text ≡ None
-unfolding Rattle.expr_layout.specs.Layouts.run_at
-run_none left c count text e = ap (λ k. run_at k c count text) e
 
 neither : (a b : Bool) → a ≡ false → b ≡ false → (a || b) ≡ false
 neither a b e f = λ i. (e i || f i)

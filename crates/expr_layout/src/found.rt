@@ -1,6 +1,6 @@
 //! What tokens find in a text, and what is known of a moment by them.
 ghost use Rattle.std.specs.Prelude.{◌≡◌, ℕ, ℤ};
-ghost use Rattle.expr_layout.specs.Found.{agreed, agreed_offset, noted, unknown};
+ghost use Rattle.expr_layout.specs.KnownFields.{agreement, offset_agreement, with_finding, no_fields};
 
 /// What a token finds.
 #[derive(Clone, Copy, Debug, PartialEq, Eq)]
@@ -26,7 +26,7 @@ pub enum Finding {
 
 /// The names that are read.
 #[derive(Clone, Copy, Debug, PartialEq, Eq)]
-pub enum Names {
+pub enum NameTable {
     LongMonths,
     Months,
     LongWeekdays,
@@ -35,7 +35,7 @@ pub enum Names {
 
 /// What is known of a moment.
 #[derive(Clone, Copy, Debug, PartialEq, Eq)]
-pub struct Found {
+pub struct KnownFields {
     pub year: Option<u32>,
     pub month: Option<u32>,
     pub day: Option<u32>,
@@ -50,12 +50,12 @@ pub struct Found {
     pub offset: Option<i32>,
 }
 
-impl Found {
+impl KnownFields {
     /// Nothing.
-    pub fn unknown() -> Found
-        ensures { result ≡ unknown }
+    pub fn new() -> KnownFields
+        ensures { result ≡ no_fields }
     {
-        Found {
+        KnownFields {
             year: None,
             month: None,
             day: None,
@@ -72,31 +72,31 @@ impl Found {
     }
 
     /// What is known with a finding, which must agree with what is known of the same field.
-    pub fn noted(mut self, finding: Finding) -> Option<Found>
-        ensures { result ≡ noted finding self }
+    pub fn with_finding(mut self, finding: Finding) -> Option<KnownFields>
+        ensures { result ≡ with_finding finding self }
     {
         match finding {
             Finding::Nothing => {}
-            Finding::Year(n) => self.year = agreed(self.year, n)?,
-            Finding::Month(n) => self.month = agreed(self.month, n)?,
-            Finding::Day(n) => self.day = agreed(self.day, n)?,
-            Finding::YearDay(n) => self.year_day = agreed(self.year_day, n)?,
-            Finding::Weekday(n) => self.weekday = agreed(self.weekday, n)?,
-            Finding::Hour(n) => self.hour = agreed(self.hour, n)?,
-            Finding::HalfHour(n) => self.half_hour = agreed(self.half_hour, n)?,
-            Finding::Half(n) => self.half = agreed(self.half, n)?,
-            Finding::Minute(n) => self.minute = agreed(self.minute, n)?,
-            Finding::Second(n) => self.second = agreed(self.second, n)?,
-            Finding::Nanosecond(n) => self.nanosecond = agreed(self.nanosecond, n)?,
-            Finding::Offset(n) => self.offset = agreed_offset(self.offset, n)?,
+            Finding::Year(n) => self.year = agreement(self.year, n)?,
+            Finding::Month(n) => self.month = agreement(self.month, n)?,
+            Finding::Day(n) => self.day = agreement(self.day, n)?,
+            Finding::YearDay(n) => self.year_day = agreement(self.year_day, n)?,
+            Finding::Weekday(n) => self.weekday = agreement(self.weekday, n)?,
+            Finding::Hour(n) => self.hour = agreement(self.hour, n)?,
+            Finding::HalfHour(n) => self.half_hour = agreement(self.half_hour, n)?,
+            Finding::Half(n) => self.half = agreement(self.half, n)?,
+            Finding::Minute(n) => self.minute = agreement(self.minute, n)?,
+            Finding::Second(n) => self.second = agreement(self.second, n)?,
+            Finding::Nanosecond(n) => self.nanosecond = agreement(self.nanosecond, n)?,
+            Finding::Offset(n) => self.offset = offset_agreement(self.offset, n)?,
         }
         Some(self)
     }
 }
 
 // What is known of a field and was found of it, where they agree.
-fn agreed(known: Option<u32>, found: u32) -> Option<Option<u32>>
-    ensures { result ≡ agreed known found }
+fn agreement(known: Option<u32>, found: u32) -> Option<Option<u32>>
+    ensures { result ≡ agreement known found }
 {
     match known {
         None => Some(Some(found)),
@@ -104,8 +104,8 @@ fn agreed(known: Option<u32>, found: u32) -> Option<Option<u32>>
     }
 }
 
-fn agreed_offset(known: Option<i32>, found: i32) -> Option<Option<i32>>
-    ensures { result ≡ agreed_offset known found }
+fn offset_agreement(known: Option<i32>, found: i32) -> Option<Option<i32>>
+    ensures { result ≡ offset_agreement known found }
 {
     match known {
         None => Some(Some(found)),

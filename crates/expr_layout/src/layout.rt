@@ -1,15 +1,15 @@
 //! The tokens of layouts.
 ghost use Rattle.std.specs.Prelude.{◌≡◌, ℕ, ◌+◌, ◌<◌, ◌≤◌, ◌++◌, [], false, length, IfOk, MatchOption};
 ghost use Rattle.std.specs.Char.{encode_utf8};
-ghost use Rattle.expr_layout.specs.Layouts.{Heads, IsLayout, after_name, first_of, first_or, fraction_at, either, ends_run, is_second, named_token, numbers, offsets, run_at, run_behind, run_token, seen, seen_run, short_words, token_at, whole_run, words};
-ghost use Rattle.expr_value.specs.Fault.{OnlyMemory};
+ghost use Rattle.expr_layout.specs.Layouts.{Heads, IsLayout, after_name, first_of, first_or, fraction_at, either, ends_run, is_second, named_token, numbers, offsets, run_at, run_behind, run_token, token_and_rest, seen_run, short_words, token_at, whole_run, words};
+ghost use Rattle.expr_error.specs.ErrorKind.{OnlyMemory};
 
-use crate::token::{Field, Pad, Spelling, Token};
-use expr_value::{Result};
+use crate::token::{Field, LayoutToken, Pad, Spelling};
+use expr_value::Result;
 use std::alloc::Global;
 
 /// The tokens of a layout.
-pub fn tokens_of(alloc: Global, layout: &str) -> Result<Vec<Token>>
+pub fn tokens_of(alloc: Global, layout: &str) -> Result<Vec<LayoutToken>>
     ensures ok { IfOk result (λ tokens. IsLayout false layout.now tokens.items) }
     ensures err { OnlyMemory result }
 {
@@ -25,7 +25,7 @@ pub fn tokens_of(alloc: Global, layout: &str) -> Result<Vec<Token>>
 }
 
 // The token at the head of a text, which may stand right behind a second, and what stands behind it.
-fn next_token(second: bool, text: &str) -> Option<(Token, &str)>
+fn next_token(second: bool, text: &str) -> Option<(LayoutToken, &str)>
     ensures { MatchOption result (text.now ≡ [])
         (λ found. Heads second text.now found.0 found.1.now × (length found.1.now < length text.now)) }
 {
@@ -36,8 +36,8 @@ fn next_token(second: bool, text: &str) -> Option<(Token, &str)>
 }
 
 // The token that stands at the head of a text, which may stand right behind a second.
-fn token_at(second: bool, text: &str) -> Option<(Token, &str)>
-    ensures { seen result ≡ token_at second text.now }
+fn token_at(second: bool, text: &str) -> Option<(LayoutToken, &str)>
+    ensures { token_and_rest result ≡ token_at second text.now }
 {
     if second {
         return either(fraction_at(text), named_token(text));
@@ -46,10 +46,10 @@ fn token_at(second: bool, text: &str) -> Option<(Token, &str)>
 }
 
 fn either<'a>(
-    one: Option<(Token, &'a str)>,
-    other: Option<(Token, &'a str)>,
-) -> Option<(Token, &'a str)>
-    ensures { seen result ≡ either (seen one.entry) (seen other.entry) }
+    one: Option<(LayoutToken, &'a str)>,
+    other: Option<(LayoutToken, &'a str)>,
+) -> Option<(LayoutToken, &'a str)>
+    ensures { token_and_rest result ≡ either (token_and_rest one.entry) (token_and_rest other.entry) }
 {
     match one {
         Some(found) => Some(found),
@@ -58,27 +58,27 @@ fn either<'a>(
 }
 
 // One character, which stands for itself.
-fn character(text: &str) -> Option<(Token, &str)>
+fn character(text: &str) -> Option<(LayoutToken, &str)>
     ensures { MatchOption result (text.now ≡ [])
-        (λ found. (c : ℕ) × (found.0 ≡ Token.Literal c) × (text.now ≡ encode_utf8 c ++ found.1.now)) }
+        (λ found. (c : ℕ) × (found.0 ≡ LayoutToken.Literal c) × (text.now ≡ encode_utf8 c ++ found.1.now)) }
 {
     let mut characters = text.chars();
     let c = characters.next()?;
-    Some((Token::Literal(c), characters.as_str()))
+    Some((LayoutToken::Literal(c), characters.as_str()))
 }
 
-fn is_second(token: Token) -> bool
+fn is_second(token: LayoutToken) -> bool
     ensures { result ≡ is_second token }
 {
     match token {
-        Token::Number(Field::Second, _) => true,
+        LayoutToken::Number(Field::Second, _) => true,
         _ => false,
     }
 }
 
 // A point or a comma at the head of a text, and one to nine zeros or as many nines behind it.
-fn fraction_at(text: &str) -> Option<(Token, &str)>
-    ensures { seen result ≡ fraction_at text.now }
+fn fraction_at(text: &str) -> Option<(LayoutToken, &str)>
+    ensures { token_and_rest result ≡ fraction_at text.now }
 {
     if let Some(rest) = text.strip_prefix('.') {
         return run_behind('.', rest);
@@ -91,8 +91,8 @@ fn fraction_at(text: &str) -> Option<(Token, &str)>
 
 // One to nine zeros at the head of a text, or as many nines.
 #[tactic(auto, unfolding(crate::specs::Layouts::run_behind))]
-fn run_behind(separator: char, text: &str) -> Option<(Token, &str)>
-    ensures { seen result ≡ run_behind separator text.now }
+fn run_behind(separator: char, text: &str) -> Option<(LayoutToken, &str)>
+    ensures { token_and_rest result ≡ run_behind separator text.now }
 {
     either(
         zeros(separator, whole_run('0', text)),
@@ -100,20 +100,20 @@ fn run_behind(separator: char, text: &str) -> Option<(Token, &str)>
     )
 }
 
-fn zeros<'a>(separator: char, run: Option<(u32, &'a str)>) -> Option<(Token, &'a str)>
-    ensures { seen result ≡ run_token (Token.Fraction separator) (seen_run run.entry) }
+fn zeros<'a>(separator: char, run: Option<(u32, &'a str)>) -> Option<(LayoutToken, &'a str)>
+    ensures { token_and_rest result ≡ run_token (LayoutToken.Fraction separator) (seen_run run.entry) }
 {
     match run {
-        Some((places, rest)) => Some((Token::Fraction(separator, places), rest)),
+        Some((places, rest)) => Some((LayoutToken::Fraction(separator, places), rest)),
         None => None,
     }
 }
 
-fn nines<'a>(separator: char, run: Option<(u32, &'a str)>) -> Option<(Token, &'a str)>
-    ensures { seen result ≡ run_token (Token.ShortFraction separator) (seen_run run.entry) }
+fn nines<'a>(separator: char, run: Option<(u32, &'a str)>) -> Option<(LayoutToken, &'a str)>
+    ensures { token_and_rest result ≡ run_token (LayoutToken.ShortFraction separator) (seen_run run.entry) }
 {
     match run {
-        Some((places, rest)) => Some((Token::ShortFraction(separator, places), rest)),
+        Some((places, rest)) => Some((LayoutToken::ShortFraction(separator, places), rest)),
         None => None,
     }
 }
@@ -159,8 +159,8 @@ fn run_at(left: u32, digit: char, count: u32, text: &str) -> Option<(u32, &str)>
 }
 
 // The token whose name stands at the head of a text, and what stands behind it.
-fn named_token(text: &str) -> Option<(Token, &str)>
-    ensures { seen result ≡ named_token text.now }
+fn named_token(text: &str) -> Option<(LayoutToken, &str)>
+    ensures { token_and_rest result ≡ named_token text.now }
 {
     let numbers = numbers(text, None);
     let short_words = short_words(text, numbers);
@@ -168,102 +168,175 @@ fn named_token(text: &str) -> Option<(Token, &str)>
     words(text, offsets)
 }
 
-fn words<'a>(text: &'a str, others: Option<(Token, &'a str)>) -> Option<(Token, &'a str)>
-    ensures { seen result ≡ first_of words text.now (seen others.entry) }
+fn words<'a>(
+    text: &'a str,
+    others: Option<(LayoutToken, &'a str)>,
+) -> Option<(LayoutToken, &'a str)>
+    ensures { token_and_rest result ≡ first_of words text.now (token_and_rest others.entry) }
 {
-    let others = first("2006", Token::Year, text, others);
-    let others = first("Monday", Token::LongWeekday, text, others);
-    first("January", Token::LongMonth, text, others)
+    let others = first_token("2006", LayoutToken::Year, text, others);
+    let others = first_token("Monday", LayoutToken::LongWeekday, text, others);
+    first_token("January", LayoutToken::LongMonth, text, others)
 }
 
-fn offsets<'a>(text: &'a str, others: Option<(Token, &'a str)>) -> Option<(Token, &'a str)>
-    ensures { seen result ≡ first_of offsets text.now (seen others.entry) }
+fn offsets<'a>(
+    text: &'a str,
+    others: Option<(LayoutToken, &'a str)>,
+) -> Option<(LayoutToken, &'a str)>
+    ensures { token_and_rest result ≡ first_of offsets text.now (token_and_rest others.entry) }
 {
-    let others = first("-07", Token::Offset(Spelling::Hours), text, others);
-    let others = first("Z07", Token::Zulu(Spelling::Hours), text, others);
-    let others = first(
+    let others = first_token("-07", LayoutToken::Offset(Spelling::Hours), text, others);
+    let others = first_token("Z07", LayoutToken::Zulu(Spelling::Hours), text, others);
+    let others = first_token(
         "-07:00",
-        Token::Offset(Spelling::ColonMinutes),
+        LayoutToken::Offset(Spelling::ColonMinutes),
         text,
         others,
     );
-    let others = first("Z07:00", Token::Zulu(Spelling::ColonMinutes), text, others);
-    let others = first("-0700", Token::Offset(Spelling::Minutes), text, others);
-    let others = first("Z0700", Token::Zulu(Spelling::Minutes), text, others);
-    let others = first("-070000", Token::Offset(Spelling::Seconds), text, others);
-    let others = first("Z070000", Token::Zulu(Spelling::Seconds), text, others);
-    let others = first(
+    let others = first_token(
+        "Z07:00",
+        LayoutToken::Zulu(Spelling::ColonMinutes),
+        text,
+        others,
+    );
+    let others = first_token(
+        "-0700",
+        LayoutToken::Offset(Spelling::Minutes),
+        text,
+        others,
+    );
+    let others = first_token("Z0700", LayoutToken::Zulu(Spelling::Minutes), text, others);
+    let others = first_token(
+        "-070000",
+        LayoutToken::Offset(Spelling::Seconds),
+        text,
+        others,
+    );
+    let others = first_token(
+        "Z070000",
+        LayoutToken::Zulu(Spelling::Seconds),
+        text,
+        others,
+    );
+    let others = first_token(
         "-07:00:00",
-        Token::Offset(Spelling::ColonSeconds),
+        LayoutToken::Offset(Spelling::ColonSeconds),
         text,
         others,
     );
-    first(
+    first_token(
         "Z07:00:00",
-        Token::Zulu(Spelling::ColonSeconds),
+        LayoutToken::Zulu(Spelling::ColonSeconds),
         text,
         others,
     )
 }
 
-fn short_words<'a>(text: &'a str, others: Option<(Token, &'a str)>) -> Option<(Token, &'a str)>
-    ensures { seen result ≡ first_of short_words text.now (seen others.entry) }
+fn short_words<'a>(
+    text: &'a str,
+    others: Option<(LayoutToken, &'a str)>,
+) -> Option<(LayoutToken, &'a str)>
+    ensures { token_and_rest result ≡ first_of short_words text.now (token_and_rest others.entry) }
 {
-    let others = first("pm", Token::LowerHalf, text, others);
-    let others = first("PM", Token::UpperHalf, text, others);
-    let others = first("MST", Token::Zone, text, others);
-    let others = first("Mon", Token::Weekday, text, others);
-    let others = first("Jan", Token::Month, text, others);
-    let others = first("002", Token::YearDay(Pad::Zero), text, others);
-    first("__2", Token::YearDay(Pad::Space), text, others)
+    let others = first_token("pm", LayoutToken::LowerHalf, text, others);
+    let others = first_token("PM", LayoutToken::UpperHalf, text, others);
+    let others = first_token("MST", LayoutToken::Zone, text, others);
+    let others = first_token("Mon", LayoutToken::Weekday, text, others);
+    let others = first_token("Jan", LayoutToken::Month, text, others);
+    let others = first_token("002", LayoutToken::YearDay(Pad::Zero), text, others);
+    first_token("__2", LayoutToken::YearDay(Pad::Space), text, others)
 }
 
-fn numbers<'a>(text: &'a str, others: Option<(Token, &'a str)>) -> Option<(Token, &'a str)>
-    ensures { seen result ≡ first_of numbers text.now (seen others.entry) }
+fn numbers<'a>(
+    text: &'a str,
+    others: Option<(LayoutToken, &'a str)>,
+) -> Option<(LayoutToken, &'a str)>
+    ensures { token_and_rest result ≡ first_of numbers text.now (token_and_rest others.entry) }
 {
-    let others = first(
+    let others = first_token(
         "5",
-        Token::Number(Field::Second, Pad::Nothing),
+        LayoutToken::Number(Field::Second, Pad::Nothing),
         text,
         others,
     );
-    let others = first(
+    let others = first_token(
         "4",
-        Token::Number(Field::Minute, Pad::Nothing),
+        LayoutToken::Number(Field::Minute, Pad::Nothing),
         text,
         others,
     );
-    let others = first(
+    let others = first_token(
         "3",
-        Token::Number(Field::HalfHour, Pad::Nothing),
+        LayoutToken::Number(Field::HalfHour, Pad::Nothing),
         text,
         others,
     );
-    let others = first("2", Token::Number(Field::Day, Pad::Nothing), text, others);
-    let others = first("1", Token::Number(Field::Month, Pad::Nothing), text, others);
-    let others = first("_2", Token::Number(Field::Day, Pad::Space), text, others);
-    let others = first("05", Token::Number(Field::Second, Pad::Zero), text, others);
-    let others = first("04", Token::Number(Field::Minute, Pad::Zero), text, others);
-    let others = first(
+    let others = first_token(
+        "2",
+        LayoutToken::Number(Field::Day, Pad::Nothing),
+        text,
+        others,
+    );
+    let others = first_token(
+        "1",
+        LayoutToken::Number(Field::Month, Pad::Nothing),
+        text,
+        others,
+    );
+    let others = first_token(
+        "_2",
+        LayoutToken::Number(Field::Day, Pad::Space),
+        text,
+        others,
+    );
+    let others = first_token(
+        "05",
+        LayoutToken::Number(Field::Second, Pad::Zero),
+        text,
+        others,
+    );
+    let others = first_token(
+        "04",
+        LayoutToken::Number(Field::Minute, Pad::Zero),
+        text,
+        others,
+    );
+    let others = first_token(
         "03",
-        Token::Number(Field::HalfHour, Pad::Zero),
+        LayoutToken::Number(Field::HalfHour, Pad::Zero),
         text,
         others,
     );
-    let others = first("15", Token::Number(Field::Hour, Pad::Zero), text, others);
-    let others = first("02", Token::Number(Field::Day, Pad::Zero), text, others);
-    let others = first("01", Token::Number(Field::Month, Pad::Zero), text, others);
-    first("06", Token::ShortYear, text, others)
+    let others = first_token(
+        "15",
+        LayoutToken::Number(Field::Hour, Pad::Zero),
+        text,
+        others,
+    );
+    let others = first_token(
+        "02",
+        LayoutToken::Number(Field::Day, Pad::Zero),
+        text,
+        others,
+    );
+    let others = first_token(
+        "01",
+        LayoutToken::Number(Field::Month, Pad::Zero),
+        text,
+        others,
+    );
+    first_token("06", LayoutToken::ShortYear, text, others)
 }
 
 // A token and what stands behind its name, where that stands at the head of a text, or else what the others find.
-fn first<'a>(
+fn first_token<'a>(
     name: &str,
-    token: Token,
+    token: LayoutToken,
     text: &'a str,
-    others: Option<(Token, &'a str)>,
-) -> Option<(Token, &'a str)>
-    ensures { seen result ≡ first_or token (after_name name.now text.now) (seen others.entry) }
+    others: Option<(LayoutToken, &'a str)>,
+) -> Option<(LayoutToken, &'a str)>
+    ensures { token_and_rest result
+        ≡ first_or token (after_name name.now text.now) (token_and_rest others.entry) }
 {
     match text.strip_prefix(name) {
         Some(rest) => Some((token, rest)),

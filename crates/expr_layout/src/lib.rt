@@ -11,8 +11,8 @@ mod read;
 mod token;
 
 pub use formatting::{format, stamp};
-pub use found::{Finding, Found, Names};
+pub use found::{Finding, KnownFields, NameTable};
 pub use laws::layouts_have_one_reading;
 pub use layout::tokens_of;
 pub use read::read_all;
-pub use token::{Field, Pad, Spelling, Token};
+pub use token::{Field, LayoutToken, Pad, Spelling};

@@ -1,14 +1,14 @@
 //! Moments printed by the tokens of a layout.
 ghost use Rattle.std.specs.Prelude.{◌≡◌, ◌<◌, ◌≤◌, ◌^◌, ℕ, ℤ, min};
 ghost use Rattle.std.specs.Fmt.{WritesOnOk};
-ghost use Rattle.expr_clock.specs.Moments.{sign_of, year_text};
-ghost use Rattle.expr_value.specs.Times.{offset_of};
+ghost use Rattle.expr_datetime.specs.Moments.{sign_of, year_text};
+ghost use Rattle.expr_datetime.specs.Times.{offset_of};
 ghost use Rattle.expr_moment.specs.Fields.{date_at, time_at, year_day_at};
-ghost use Rattle.expr_layout.specs.Layouts.{fraction_of, fraction_places, half_hour, half_name, hours_of, minutes_of, number_of, pad_text, padded, padded_more, printed, seconds_of, short_places, short_year, signed_offset, spelled, token_text, zulu};
+ghost use Rattle.expr_layout.specs.Layouts.{fraction_of, fraction_places, half_hour, half_name, hours_of, minutes_of, number_of, pad_text, padded_number, padded_more, printed_text, seconds_of, short_places, short_year, signed_offset, offset_text, token_text, zulu};
 
 use crate::names::{month_name, short_month_name, short_weekday_name, weekday_name};
-use crate::token::{Field, Pad, Spelling, Token};
-use expr_clock::{power_of_ten, show_digits, show_fraction_digits, show_year};
+use crate::token::{Field, LayoutToken, Pad, Spelling};
+use expr_datetime::{power_of_ten, show_digits, show_fraction_digits, show_year};
 use expr_moment::{date_shown, show_place, time_shown, weekday};
 use expr_value::DateTimeValue;
 use std::fmt;
@@ -17,10 +17,10 @@ use std::fmt::{Formatter, Write};
 /// Prints a moment by the tokens of a layout.
 pub(crate) fn show<W: Write>(
     moment: &DateTimeValue,
-    tokens: &[Token],
+    tokens: &[LayoutToken],
     f: &mut Formatter<W>,
 ) -> fmt::Result
-    ensures { WritesOnOk W.write_str_gives f.old result (printed moment.now tokens.now) f.new }
+    ensures { WritesOnOk W.write_str_gives f.old result (printed_text moment.now tokens.now) f.new }
 {
     f.write_str("")?;
     for i in 0..tokens.len() {
@@ -30,31 +30,35 @@ pub(crate) fn show<W: Write>(
 }
 
 #[tactic(auto, unfolding(crate::specs::Layouts::token_text))]
-fn show_token<W: Write>(moment: &DateTimeValue, token: Token, f: &mut Formatter<W>) -> fmt::Result
+fn show_token<W: Write>(
+    moment: &DateTimeValue,
+    token: LayoutToken,
+    f: &mut Formatter<W>,
+) -> fmt::Result
     ensures { WritesOnOk W.write_str_gives f.old result (token_text moment.now token) f.new }
 {
     match token {
-        Token::LongMonth => f.write_str(month_name(month(moment))),
-        Token::Month => f.write_str(short_month_name(month(moment))),
-        Token::LongWeekday => f.write_str(weekday_name(weekday(moment))),
-        Token::Weekday => f.write_str(short_weekday_name(weekday(moment))),
-        Token::Year => show_whole_year(moment, f),
-        Token::ShortYear => show_digits(2, short_year(moment), f),
-        Token::Number(field, pad) => show_padded(pad, number_of(field, moment), f),
-        Token::YearDay(pad) => show_padded_more(pad, year_day(moment), f),
-        Token::UpperHalf => f.write_str(half_name("AM", "PM", moment)),
-        Token::LowerHalf => f.write_str(half_name("am", "pm", moment)),
-        Token::Zone => show_place(moment, f),
-        Token::Offset(spelling) => show_offset_of(spelling, moment, f),
-        Token::Zulu(spelling) => show_zulu(spelling, moment, f),
-        Token::Fraction(separator, places) => show_fraction(separator, places, moment, f),
-        Token::ShortFraction(separator, places) => {
+        LayoutToken::LongMonth => f.write_str(month_name(month(moment))),
+        LayoutToken::Month => f.write_str(short_month_name(month(moment))),
+        LayoutToken::LongWeekday => f.write_str(weekday_name(weekday(moment))),
+        LayoutToken::Weekday => f.write_str(short_weekday_name(weekday(moment))),
+        LayoutToken::Year => show_whole_year(moment, f),
+        LayoutToken::ShortYear => show_digits(2, short_year(moment), f),
+        LayoutToken::Number(field, pad) => show_padded(pad, number_of(field, moment), f),
+        LayoutToken::YearDay(pad) => show_padded_more(pad, year_day(moment), f),
+        LayoutToken::UpperHalf => f.write_str(half_name("AM", "PM", moment)),
+        LayoutToken::LowerHalf => f.write_str(half_name("am", "pm", moment)),
+        LayoutToken::Zone => show_place(moment, f),
+        LayoutToken::Offset(spelling) => show_offset_of(spelling, moment, f),
+        LayoutToken::Zulu(spelling) => show_zulu(spelling, moment, f),
+        LayoutToken::Fraction(separator, places) => show_fraction(separator, places, moment, f),
+        LayoutToken::ShortFraction(separator, places) => {
             show_short_fraction(separator, places, moment, f)
         }
-        Token::Literal(c) => f.write_char(c),
-        Token::TwoDigits(field) => show_padded(Pad::Zero, number_of(field, moment), f),
-        Token::Mark => f.write_str("T"),
-        Token::StampOffset => show_zulu(Spelling::ColonMinutes, moment, f),
+        LayoutToken::Literal(c) => f.write_char(c),
+        LayoutToken::TwoDigits(field) => show_padded(Pad::Zero, number_of(field, moment), f),
+        LayoutToken::Mark => f.write_str("T"),
+        LayoutToken::StampOffset => show_zulu(Spelling::ColonMinutes, moment, f),
     }
 }
 
@@ -111,9 +115,9 @@ fn year_day(moment: &DateTimeValue) -> u64
     date_shown(moment).to_plain().day_of_year() as u64
 }
 
-#[tactic(auto, unfolding(crate::specs::Layouts::padded))]
+#[tactic(auto, unfolding(crate::specs::Layouts::padded_number))]
 fn show_padded<W: Write>(pad: Pad, number: u64, f: &mut Formatter<W>) -> fmt::Result
-    ensures { WritesOnOk W.write_str_gives f.old result (padded pad number) f.new }
+    ensures { WritesOnOk W.write_str_gives f.old result (padded_number pad number) f.new }
 {
     if number < 10 {
         show_pad(pad, f)?;
@@ -182,9 +186,9 @@ fn show_offset_of<W: Write>(
     show_spelled(spelling, seconds.unsigned_abs(), f)
 }
 
-#[tactic(auto, unfolding(crate::specs::Layouts::spelled))]
+#[tactic(auto, unfolding(crate::specs::Layouts::offset_text))]
 fn show_spelled<W: Write>(spelling: Spelling, seconds: u32, f: &mut Formatter<W>) -> fmt::Result
-    ensures { WritesOnOk W.write_str_gives f.old result (spelled spelling seconds) f.new }
+    ensures { WritesOnOk W.write_str_gives f.old result (offset_text spelling seconds) f.new }
 {
     match spelling {
         Spelling::Hours => show_hours(seconds, f),

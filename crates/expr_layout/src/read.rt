@@ -3,23 +3,23 @@ ghost use Rattle.std.specs.Prelude.{◌≡◌, ℕ, pos, neg_ℤ, ◌+◌, ◌*�
 ghost use Rattle.std.specs.Char.{encode_utf8};
 ghost use Rattle.std.specs.Option.{option_and_then};
 ghost use Rattle.expr_layout.specs.Layouts.{after_name, either};
-ghost use Rattle.expr_layout.specs.Found.{after_any_case, after_pad, after_space, below, digit_at, found_as, found_at, found_number, four_digits, fraction_found, full_year, further, half_at, hours_at, if_more, in_units, mark_at, name_at, name_of, nothing_behind, offset_at, one_more, parts_at, parts_behind, read_all, seen_finding, seen_number, small_zulu_at, spelled_at, two_digits, unknown, up_to_three, up_to_two, zulu_at};
+ghost use Rattle.expr_layout.specs.KnownFields.{after_any_case, after_pad, after_space, number_below, digit_at, found_as, found_at, found_number, four_digits, fraction_found, full_year, with_next_unit, half_at, hours_at, if_more, in_units, mark_at, name_at, name_of, nothing_behind, offset_at, one_more, parts_at, parts_behind, read_all, seen_finding, seen_number, small_zulu_at, spelled_at, two_digits, no_fields, up_to_three, up_to_two, zulu_at};
 
-use crate::found::{Finding, Found, Names};
+use crate::found::{Finding, KnownFields, NameTable};
 use crate::names::{month_name, short_month_name, short_weekday_name, weekday_name};
-use crate::token::{Field, Pad, Spelling, Token};
+use crate::token::{Field, LayoutToken, Pad, Spelling};
 
 /// What the tokens of a layout find in a text, if they read the whole text and what they find agrees.
-pub fn read_all(tokens: &[Token], text: &[u8]) -> Option<Found>
-    ensures { result ≡ read_all tokens.now unknown text.now }
+pub fn read_all(tokens: &[LayoutToken], text: &[u8]) -> Option<KnownFields>
+    ensures { result ≡ read_all tokens.now no_fields text.now }
 {
-    let mut known = Found::unknown();
+    let mut known = KnownFields::new();
     let mut rest = text;
     for i in 0..tokens.len() {
         let Some((finding, behind)) = found_at(tokens[i], rest) else {
             return None;
         };
-        let Some(more) = known.noted(finding) else {
+        let Some(more) = known.with_finding(finding) else {
             return None;
         };
         known = more;
@@ -29,30 +29,30 @@ pub fn read_all(tokens: &[Token], text: &[u8]) -> Option<Found>
 }
 
 // What a token finds at the head of a text, and what stands behind it.
-#[tactic(auto, unfolding(crate::specs::Found::found_at))]
-fn found_at(token: Token, text: &[u8]) -> Option<(Finding, &[u8])>
+#[tactic(auto, unfolding(crate::specs::KnownFields::found_at))]
+fn found_at(token: LayoutToken, text: &[u8]) -> Option<(Finding, &[u8])>
     ensures { seen_finding result ≡ found_at token text.now }
 {
     match token {
-        Token::LongMonth => month(long_month_at(text)),
-        Token::Month => month(name_at(12, Names::Months, 1, text)),
-        Token::LongWeekday => weekday(long_weekday_at(text)),
-        Token::Weekday => weekday(name_at(7, Names::Weekdays, 0, text)),
-        Token::Year => year(four_digits(text)),
-        Token::ShortYear => short_year(up_to_two(text)),
-        Token::Number(field, pad) => number(field, up_to_two(after_pad(pad, text))),
-        Token::YearDay(pad) => year_day(up_to_three(after_pad(pad, after_pad(pad, text)))),
-        Token::UpperHalf | Token::LowerHalf => half_at(text),
-        Token::Zone => None,
-        Token::Offset(spelling) => offset_at(spelling, text),
-        Token::Zulu(spelling) => zulu_or_offset(spelling, text),
-        Token::Fraction(separator, _) | Token::ShortFraction(separator, _) => {
+        LayoutToken::LongMonth => month(long_month_at(text)),
+        LayoutToken::Month => month(name_at(12, NameTable::Months, 1, text)),
+        LayoutToken::LongWeekday => weekday(long_weekday_at(text)),
+        LayoutToken::Weekday => weekday(name_at(7, NameTable::Weekdays, 0, text)),
+        LayoutToken::Year => year(four_digits(text)),
+        LayoutToken::ShortYear => short_year(up_to_two(text)),
+        LayoutToken::Number(field, pad) => number(field, up_to_two(after_pad(pad, text))),
+        LayoutToken::YearDay(pad) => year_day(up_to_three(after_pad(pad, after_pad(pad, text)))),
+        LayoutToken::UpperHalf | LayoutToken::LowerHalf => half_at(text),
+        LayoutToken::Zone => None,
+        LayoutToken::Offset(spelling) => offset_at(spelling, text),
+        LayoutToken::Zulu(spelling) => zulu_or_offset(spelling, text),
+        LayoutToken::Fraction(separator, _) | LayoutToken::ShortFraction(separator, _) => {
             fraction_found(separator, text)
         }
-        Token::Literal(c) => literal(c, text),
-        Token::TwoDigits(field) => number(field, two_digits(text)),
-        Token::Mark => mark_at(text),
-        Token::StampOffset => stamp_offset(text),
+        LayoutToken::Literal(c) => literal(c, text),
+        LayoutToken::TwoDigits(field) => number(field, two_digits(text)),
+        LayoutToken::Mark => mark_at(text),
+        LayoutToken::StampOffset => stamp_offset(text),
     }
 }
 
@@ -243,27 +243,27 @@ fn after_pad(pad: Pad, text: &[u8]) -> &[u8]
 }
 
 fn long_month_at(text: &[u8]) -> Option<(u32, &[u8])>
-    ensures { seen_number result ≡ either (name_at 12 Names.LongMonths 1 text.now)
-        (name_at 12 Names.Months 1 text.now) }
+    ensures { seen_number result ≡ either (name_at 12 NameTable.LongMonths 1 text.now)
+        (name_at 12 NameTable.Months 1 text.now) }
 {
-    match name_at(12, Names::LongMonths, 1, text) {
+    match name_at(12, NameTable::LongMonths, 1, text) {
         Some(taken) => Some(taken),
-        None => name_at(12, Names::Months, 1, text),
+        None => name_at(12, NameTable::Months, 1, text),
     }
 }
 
 fn long_weekday_at(text: &[u8]) -> Option<(u32, &[u8])>
-    ensures { seen_number result ≡ either (name_at 7 Names.LongWeekdays 0 text.now)
-        (name_at 7 Names.Weekdays 0 text.now) }
+    ensures { seen_number result ≡ either (name_at 7 NameTable.LongWeekdays 0 text.now)
+        (name_at 7 NameTable.Weekdays 0 text.now) }
 {
-    match name_at(7, Names::LongWeekdays, 0, text) {
+    match name_at(7, NameTable::LongWeekdays, 0, text) {
         Some(taken) => Some(taken),
-        None => name_at(7, Names::Weekdays, 0, text),
+        None => name_at(7, NameTable::Weekdays, 0, text),
     }
 }
 
 // The first of so many names, from a number on, that stands at the head of a text.
-fn name_at(left: u32, names: Names, number: u32, text: &[u8]) -> Option<(u32, &[u8])>
+fn name_at(left: u32, names: NameTable, number: u32, text: &[u8]) -> Option<(u32, &[u8])>
     requires { left + number < 100 }
     ensures { seen_number result ≡ name_at left names number text.now }
 {
@@ -276,14 +276,14 @@ fn name_at(left: u32, names: Names, number: u32, text: &[u8]) -> Option<(u32, &[
     }
 }
 
-fn name_of(names: Names, number: u32) -> &'static str
+fn name_of(names: NameTable, number: u32) -> &'static str
     ensures { result.now ≡ name_of names number }
 {
     match names {
-        Names::LongMonths => month_name(number),
-        Names::Months => short_month_name(number),
-        Names::LongWeekdays => weekday_name(number),
-        Names::Weekdays => short_weekday_name(number),
+        NameTable::LongMonths => month_name(number),
+        NameTable::Months => short_month_name(number),
+        NameTable::LongWeekdays => weekday_name(number),
+        NameTable::Weekdays => short_weekday_name(number),
     }
 }
 
@@ -308,7 +308,7 @@ fn after_any_case<'a>(name: &[u8], text: &'a [u8]) -> Option<&'a [u8]>
 
 // Two digits at the head of a text that are below a limit.
 fn two_below(limit: u32, text: &[u8]) -> Option<(u32, &[u8])>
-    ensures value { seen_number result ≡ below limit (two_digits text.now) }
+    ensures value { seen_number result ≡ number_below limit (two_digits text.now) }
     ensures small { IfSome result (λ taken. taken.0 < 100) }
 {
     match two_digits(text) {
@@ -335,10 +335,11 @@ fn hours_at(text: &[u8]) -> Option<(u32, &[u8])>
 }
 
 // Seconds, and those of further units behind a separator.
-fn further<'a>(separator: &str, unit: u32, taken: (u32, &'a [u8])) -> Option<(u32, &'a [u8])>
+fn with_next_unit<'a>(separator: &str, unit: u32, taken: (u32, &'a [u8])) -> Option<(u32, &'a [u8])>
     requires unit { unit ≤ 60 }
     requires small { taken.0 < 400000 }
-    ensures value { seen_number result ≡ further separator.now unit (taken.entry.0, taken.entry.1.now) }
+    ensures value { seen_number result
+        ≡ with_next_unit separator.now unit (taken.entry.0, taken.entry.1.now) }
     ensures small { IfSome result (λ more. more.0 < taken.entry.0 + 6000) }
 {
     let Some(rest) = after_name(separator.as_bytes(), taken.1) else {
@@ -359,11 +360,12 @@ fn after_name<'a>(name: &[u8], text: &'a [u8]) -> Option<&'a [u8]>
 
 // Hours and minutes in seconds.
 fn minutes_at<'a>(separator: &str, text: &'a [u8]) -> Option<(u32, &'a [u8])>
-    ensures value { seen_number result ≡ option_and_then (further separator.now 60) (hours_at text.now) }
+    ensures value { seen_number result
+        ≡ option_and_then (with_next_unit separator.now 60) (hours_at text.now) }
     ensures small { IfSome result (λ taken. taken.0 < 380000) }
 {
     match hours_at(text) {
-        Some(taken) => further(separator, 60, taken),
+        Some(taken) => with_next_unit(separator, 60, taken),
         None => None,
     }
 }
@@ -371,12 +373,12 @@ fn minutes_at<'a>(separator: &str, text: &'a [u8]) -> Option<(u32, &'a [u8])>
 // Hours, minutes and seconds in seconds.
 fn seconds_at<'a>(separator: &str, text: &'a [u8]) -> Option<(u32, &'a [u8])>
     ensures value { seen_number result
-        ≡ option_and_then (further separator.now 1)
-        (option_and_then (further separator.now 60) (hours_at text.now)) }
+        ≡ option_and_then (with_next_unit separator.now 1)
+        (option_and_then (with_next_unit separator.now 60) (hours_at text.now)) }
     ensures small { IfSome result (λ taken. taken.0 < 400000) }
 {
     match minutes_at(separator, text) {
-        Some(taken) => further(separator, 1, taken),
+        Some(taken) => with_next_unit(separator, 1, taken),
         None => None,
     }
 }
@@ -400,13 +402,13 @@ fn offset_at(spelling: Spelling, text: &[u8]) -> Option<(Finding, &[u8])>
     ensures { seen_finding result ≡ offset_at spelling text.now }
 {
     match text {
-        [b'+', rest @ ..] => ahead(spelled_at(spelling, rest)),
-        [b'-', rest @ ..] => behind(spelled_at(spelling, rest)),
+        [b'+', rest @ ..] => offset_ahead(spelled_at(spelling, rest)),
+        [b'-', rest @ ..] => offset_behind(spelled_at(spelling, rest)),
         _ => None,
     }
 }
 
-fn ahead<'a>(taken: Option<(u32, &'a [u8])>) -> Option<(Finding, &'a [u8])>
+fn offset_ahead<'a>(taken: Option<(u32, &'a [u8])>) -> Option<(Finding, &'a [u8])>
     requires { IfSome (seen_number taken) (λ t. t.0 < 400000) }
     ensures { seen_finding result ≡ found_as (λ n. Finding.Offset (pos n)) (seen_number taken.entry) }
 {
@@ -416,7 +418,7 @@ fn ahead<'a>(taken: Option<(u32, &'a [u8])>) -> Option<(Finding, &'a [u8])>
     }
 }
 
-fn behind<'a>(taken: Option<(u32, &'a [u8])>) -> Option<(Finding, &'a [u8])>
+fn offset_behind<'a>(taken: Option<(u32, &'a [u8])>) -> Option<(Finding, &'a [u8])>
     requires { IfSome (seen_number taken) (λ t. t.0 < 400000) }
     ensures { seen_finding result ≡ found_as (λ n. Finding.Offset (neg_ℤ (pos n))) (seen_number taken.entry) }
 {

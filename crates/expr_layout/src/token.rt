@@ -32,7 +32,7 @@ pub enum Spelling {
 
 /// What a layout prints or reads at a place.
 #[derive(Clone, Copy, Debug, PartialEq, Eq)]
-pub enum Token {
+pub enum LayoutToken {
     LongMonth,
     Month,
     LongWeekday,

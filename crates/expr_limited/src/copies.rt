@@ -1,7 +1,7 @@
 //! What a call copies of its arguments.
-ghost use Rattle.expr_limited.specs.Copies.{copied};
+ghost use Rattle.expr_limited.specs.Copies.{copied_values};
 ghost use Rattle.expr_meter.specs.Counting.{KeepsAll};
-ghost use Rattle.expr_meter.specs.Metered.{Charges};
+ghost use Rattle.expr_meter.specs.MeterView.{Charges};
 ghost use Rattle.expr_meter.specs.Rooms.{rooms};
 
 use expr_meter::{Budget, Meter};
@@ -17,14 +17,14 @@ pub fn keep_places(
     count: usize,
     budget: &mut Budget,
 ) -> Result<(), AllocError>
-    ensures { Charges result (λ now r. KeepsAll rooms (copied kept.now stack.now count) now r)
+    ensures { Charges result (λ now r. KeepsAll rooms (copied_values kept.now stack.now count) now r)
         (⟦<Budget as Meter>⟧.metered budget.old) (⟦<Budget as Meter>⟧.metered budget.new) }
 {
     let mut left = count;
     while left > 0 {
         left -= 1;
         if let Some(place) = stack.place_at(left) {
-            budget.keep(Operand::Kept(place).held(kept).get())?;
+            budget.keep(Operand::Kept(place).to_cow(kept).get())?;
         }
     }
     Ok(())

@@ -3,18 +3,20 @@
 
 mod options;
 mod progress;
-mod told;
+mod reports;
 
 use expr::{Context, Environment};
-use expr_records::{Ended, Held, JsonReader, Purpose, Query, Sieve, Tally, bind, code_of_text};
+use expr_records::{
+    JsonReader, LineBuffer, Purpose, Query, Sieve, StreamEnd, Tally, bind, code_of_text,
+};
 use jiff::Timestamp;
 use options::Options;
-use progress::{Meter, Watched};
+use progress::{Meter, ProgressReader};
+use reports::{tell_bad_name, tell_refused_text, tell_unusable};
 use std::alloc::{AllocError, Global};
 use std::io::{self, BufReader, BufWriter, ErrorKind, IsTerminal, Read, Stderr, Write};
 use std::process::ExitCode;
 use std::{env, fs};
-use told::{tell_bad_name, tell_refused_text, tell_unusable};
 
 /// Wrong words, or a text that doesn't compile.
 const USAGE: u8 = 2;
@@ -72,7 +74,7 @@ fn run(rt: &HostRuntime, options: &Options) -> u8 {
     let mut sieve = Sieve {
         judge: Query::new(alloc, &environment, &names, options.purpose, &code),
         stops: options.stops,
-        held: Held::new(alloc, options.bound),
+        held: LineBuffer::new(alloc, options.bound),
         reader: JsonReader::new(alloc),
         out,
         err,
@@ -116,13 +118,13 @@ fn work<W: Write, E: Write>(
     }
     for name in names {
         match sift_named(rt, options, *name, sieve) {
-            Ended::Whole => {}
-            Ended::Stopped => break,
-            Ended::Unread(error) => {
+            StreamEnd::Whole => {}
+            StreamEnd::Stopped => break,
+            StreamEnd::Unread(error) => {
                 tell_unusable(&mut sieve.err, *name, &error);
                 is_read = false;
             }
-            Ended::Unwritten(error) => return status_unwritten(options, sieve, &error),
+            StreamEnd::Unwritten(error) => return status_unwritten(options, sieve, &error),
         }
     }
     if let Err(error) = finish(options.purpose, sieve) {
@@ -165,19 +167,19 @@ fn sift_named<W: Write, E: Write>(
     options: &Options,
     name: &str,
     sieve: &mut Sieve<Query<Environment>, W, E>,
-) -> Ended {
+) -> StreamEnd {
     let alloc = rt.alloc();
     if name == "-" {
-        let stream = Watched::new(rt.stdin(), rt, meter_of(rt, options, 0));
+        let stream = ProgressReader::new(rt.stdin(), rt, meter_of(rt, options, 0));
         return sift_stream(alloc, name, stream, sieve);
     }
     match fs::open(rt, name) {
         Ok(file) => {
             let length = file.metadata().map_or(0, |data| data.len());
-            let stream = Watched::new(file, rt, meter_of(rt, options, length));
+            let stream = ProgressReader::new(file, rt, meter_of(rt, options, length));
             sift_stream(alloc, name, stream, sieve)
         }
-        Err(error) => Ended::Unread(error),
+        Err(error) => StreamEnd::Unread(error),
     }
 }
 
@@ -197,9 +199,9 @@ fn sift_stream<R: Read + Drop, W: Write, E: Write>(
     name: &str,
     stream: R,
     sieve: &mut Sieve<Query<Environment>, W, E>,
-) -> Ended {
+) -> StreamEnd {
     match BufReader::with_capacity(alloc, BUFFER, stream) {
         Ok(mut reader) => sieve.sift(alloc, name, &mut reader),
-        Err(error) => Ended::Unread(error),
+        Err(error) => StreamEnd::Unread(error),
     }
 }

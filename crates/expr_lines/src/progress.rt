@@ -5,7 +5,7 @@ use std::rt::Clock;
 
 /// A stream that tells, about once a second, how much of it was read and how fast.
 #[derive(Drop)]
-pub struct Watched<'k, T, E, K> {
+pub struct ProgressReader<'k, T, E, K> {
     inner: T,
     clock: &'k K,
     meter: Option<Meter<E>>,
@@ -76,10 +76,10 @@ impl<E: Write> Meter<E> {
     }
 }
 
-impl<'k, T, E, K> Watched<'k, T, E, K> {
+impl<'k, T, E, K> ProgressReader<'k, T, E, K> {
     /// A stream with a meter, or without one.
-    pub fn new(inner: T, clock: &'k K, meter: Option<Meter<E>>) -> Watched<'k, T, E, K> {
-        Watched {
+    pub fn new(inner: T, clock: &'k K, meter: Option<Meter<E>>) -> ProgressReader<'k, T, E, K> {
+        ProgressReader {
             inner,
             clock,
             meter,
@@ -87,7 +87,7 @@ impl<'k, T, E, K> Watched<'k, T, E, K> {
     }
 }
 
-impl<'k, T: Read, E: Write, K: Clock> Read for Watched<'k, T, E, K> {
+impl<'k, T: Read, E: Write, K: Clock> Read for ProgressReader<'k, T, E, K> {
     fn read(&mut self, buf: &mut [u8]) -> io::Result<usize> {
         let count = self.inner.read(buf)?;
         if let Some(meter) = &mut self.meter {

@@ -2,9 +2,9 @@ pub mod Finishing
 pub mod Formed
 pub mod Keeping
 pub mod Leading
-pub mod Making
-pub mod Promising
+pub mod LiteralLists
+pub mod Pending
 pub mod Scoping
-pub mod Standing
+pub mod AtPoint
 pub mod Matches
 pub mod Patterns

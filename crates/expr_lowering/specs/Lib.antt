@@ -1,5 +1,5 @@
 pub mod Blocks
-pub mod Going
+pub mod Leading
 pub mod Keeping
 pub mod Kept
 pub mod Lent

@@ -26,8 +26,8 @@ impl<'p> Code<&'p Value, &'p String, &'p Pattern> {
     ghost use Rattle.expr_code.specs.Codes.{IsCode};
     ghost use Rattle.expr_lowering.specs.Blocks.{CodeKeeps, blocks_of};
     ghost use Rattle.expr_lowering.specs.Kept.{ProgramKeeps};
-    ghost use Rattle.expr_tree.specs.Written.{program_written};
-    ghost use Rattle.expr_value.specs.Fault.{fault_of, memory};
+    ghost use Rattle.expr_tree.specs.TermOf.{program_term};
+    ghost use Rattle.expr_error.specs.ErrorKind.{error_kind, memory};
 
     /// The code of a program, which lends its literals, its names and the patterns that it keeps. What serves the second run
     /// on and costs more than one run is made as well.
@@ -39,11 +39,11 @@ impl<'p> Code<&'p Value, &'p String, &'p Pattern> {
         alloc: Global,
         program: &'p Program,
     ) -> Result<Code<&'p Value, &'p String, &'p Pattern>>
-        ensures code { IfOk result (λ c. IsCode (program_written program.now)
+        ensures code { IfOk result (λ c. IsCode (program_term program.now)
             (blocks_of (λ v. v.now) (λ n. string_bytes n.now) c)) }
         ensures kept { ProgramKeeps program.now
             → IfOk result (λ c. CodeKeeps (λ v. v.now) (λ p. p.now) c) }
-        ensures refused { IfErr result (λ e. fault_of e ≡ memory) }
+        ensures refused { IfErr result (λ e. error_kind e ≡ memory) }
     {
         Self::lower_for(alloc, program, true)
     }
@@ -57,11 +57,11 @@ impl<'p> Code<&'p Value, &'p String, &'p Pattern> {
         alloc: Global,
         program: &'p Program,
     ) -> Result<Code<&'p Value, &'p String, &'p Pattern>>
-        ensures code { IfOk result (λ c. IsCode (program_written program.now)
+        ensures code { IfOk result (λ c. IsCode (program_term program.now)
             (blocks_of (λ v. v.now) (λ n. string_bytes n.now) c)) }
         ensures kept { ProgramKeeps program.now
             → IfOk result (λ c. CodeKeeps (λ v. v.now) (λ p. p.now) c) }
-        ensures refused { IfErr result (λ e. fault_of e ≡ memory) }
+        ensures refused { IfErr result (λ e. error_kind e ≡ memory) }
     {
         Self::lower_for(alloc, program, false)
     }
@@ -71,11 +71,11 @@ impl<'p> Code<&'p Value, &'p String, &'p Pattern> {
         program: &'p Program,
         is_run_again: bool,
     ) -> Result<Code<&'p Value, &'p String, &'p Pattern>>
-        ensures code { IfOk result (λ c. IsCode (program_written program.now)
+        ensures code { IfOk result (λ c. IsCode (program_term program.now)
             (blocks_of (λ v. v.now) (λ n. string_bytes n.now) c)) }
         ensures kept { ProgramKeeps program.now
             → IfOk result (λ c. CodeKeeps (λ v. v.now) (λ p. p.now) c) }
-        ensures refused { IfErr result (λ e. fault_of e ≡ memory) }
+        ensures refused { IfErr result (λ e. error_kind e ≡ memory) }
     {
         let mut lowering = Lowering::new(alloc, is_run_again);
         let (first, later) = lowering.blocks(program)?;

@@ -3,10 +3,10 @@ ghost use Rattle.std.specs.Prelude.{◌≡◌, map, IfOk, IfErr, string_bytes};
 ghost use Rattle.expr_instructions.specs.InMemory.{op_of};
 ghost use Rattle.expr_lowering.specs.Blocks.{blocks_of};
 ghost use Rattle.expr_lowering.specs.Owned.{own_text, own_value};
-ghost use Rattle.expr_value.specs.Fault.{fault_of, memory};
+ghost use Rattle.expr_error.specs.ErrorKind.{error_kind, memory};
 
 use crate::code::Code;
-use expr_instructions::{Block, Holder, Instruction, PredicateCall};
+use expr_instructions::{Block, Instruction, Pointer, PredicateCall};
 use expr_pattern::{Pattern, PatternRoom, Unbuilt};
 use expr_value::{Result, Value};
 use std::alloc::{AllocError, Global};
@@ -17,7 +17,7 @@ pub type KeptCode = Code<Box<Value>, Box<String>, Box<Pattern>>;
 /// An instruction that owns what it holds.
 type OwnInstruction = Instruction<Box<Value>, Box<String>, Box<Pattern>>;
 
-impl<L: Holder<Value>, N: Holder<String>, P: Holder<Pattern>> Code<L, N, P> {
+impl<L: Pointer<Value>, N: Pointer<String>, P: Pointer<Pattern>> Code<L, N, P> {
     /// A copy that owns its literals, its names and its patterns. A pattern is built anew from its text, and isn't kept
     /// where it doesn't build.
     ///
@@ -27,7 +27,7 @@ impl<L: Holder<Value>, N: Holder<String>, P: Holder<Pattern>> Code<L, N, P> {
     pub fn keep(&self, alloc: Global) -> Result<KeptCode>
         ensures blocks { IfOk result (λ c. blocks_of own_value own_text c ≡ blocks_of L.held
             (λ n. string_bytes (N.held n)) self.now) }
-        ensures refused { IfErr result (λ e. fault_of e ≡ memory) }
+        ensures refused { IfErr result (λ e. error_kind e ≡ memory) }
     {
         let first = kept_block(alloc, &self.first)?;
         let mut later = Vec::with_capacity(alloc, self.later.len())?;
@@ -42,7 +42,7 @@ impl<L: Holder<Value>, N: Holder<String>, P: Holder<Pattern>> Code<L, N, P> {
     }
 }
 
-fn kept_block<L: Holder<Value>, N: Holder<String>, P: Holder<Pattern>>(
+fn kept_block<L: Pointer<Value>, N: Pointer<String>, P: Pointer<Pattern>>(
     alloc: Global,
     block: &Block<L, N, P>,
 ) -> std::result::Result<Vec<OwnInstruction>, AllocError>
@@ -56,7 +56,7 @@ fn kept_block<L: Holder<Value>, N: Holder<String>, P: Holder<Pattern>>(
     Ok(kept)
 }
 
-fn kept_instruction<L: Holder<Value>, N: Holder<String>, P: Holder<Pattern>>(
+fn kept_instruction<L: Pointer<Value>, N: Pointer<String>, P: Pointer<Pattern>>(
     alloc: Global,
     instruction: &Instruction<L, N, P>,
 ) -> std::result::Result<OwnInstruction, AllocError>
@@ -107,7 +107,7 @@ fn kept_instruction<L: Holder<Value>, N: Holder<String>, P: Holder<Pattern>>(
     }
 }
 
-fn kept_value<L: Holder<Value>>(
+fn kept_value<L: Pointer<Value>>(
     alloc: Global,
     value: &L,
 ) -> std::result::Result<Box<Value>, AllocError>
@@ -117,7 +117,7 @@ fn kept_value<L: Holder<Value>>(
     Ok(Box::new(alloc, value)?)
 }
 
-fn kept_name<N: Holder<String>>(
+fn kept_name<N: Pointer<String>>(
     alloc: Global,
     name: &N,
 ) -> std::result::Result<Box<String>, AllocError>
@@ -127,7 +127,7 @@ fn kept_name<N: Holder<String>>(
     Ok(Box::new(alloc, name)?)
 }
 
-fn kept_keys<N: Holder<String>>(
+fn kept_keys<N: Pointer<String>>(
     alloc: Global,
     keys: &Vec<N>,
 ) -> std::result::Result<Box<Vec<Box<String>>>, AllocError>
@@ -141,7 +141,7 @@ fn kept_keys<N: Holder<String>>(
     Ok(Box::new(alloc, kept)?)
 }
 
-fn kept_call<N: Holder<String>>(
+fn kept_call<N: Pointer<String>>(
     alloc: Global,
     call: &PredicateCall<N>,
 ) -> std::result::Result<Box<PredicateCall<Box<String>>>, AllocError>
@@ -163,7 +163,7 @@ fn kept_call<N: Holder<String>>(
 }
 
 // The pattern of the same text, none where it doesn't build.
-fn kept_pattern<P: Holder<Pattern>>(
+fn kept_pattern<P: Pointer<Pattern>>(
     alloc: Global,
     pattern: &Option<P>,
 ) -> std::result::Result<Option<Box<Pattern>>, AllocError> {

@@ -5,11 +5,11 @@ mod blocks;
 mod code;
 mod forms;
 mod kept;
+mod literals;
 mod lowering;
-mod made;
 mod scopes;
-mod works;
+mod worklist;
 
 pub use code::Code;
-pub use expr_instructions::{Block, Holder, Instruction, PredicateCall};
+pub use expr_instructions::{Block, Instruction, Pointer, PredicateCall};
 pub use kept::KeptCode;

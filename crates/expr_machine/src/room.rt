@@ -1,6 +1,6 @@
 //! The room that a kept machine's lists stand in.
 use bumpalo::Bump;
-use expr_lowering::{Code, Holder};
+use expr_lowering::{Code, Pointer};
 use expr_pattern::Pattern;
 use expr_value::Value;
 use std::alloc::{AllocError, Global};
@@ -44,7 +44,7 @@ impl Room {
     ///
     /// `AllocError` where it is refused.
     #[inline(always)]
-    pub fn lists<L: Holder<Value>, N: Holder<String>, K: Holder<Pattern>>(
+    pub fn lists<L: Pointer<Value>, N: Pointer<String>, K: Pointer<Pattern>>(
         &mut self,
         alloc: Global,
         code: &Code<L, N, K>,
@@ -60,7 +60,7 @@ impl Room {
 
     /// Takes the room for a code.
     #[inline(never)]
-    fn take<L: Holder<Value>, N: Holder<String>, K: Holder<Pattern>>(
+    fn take<L: Pointer<Value>, N: Pointer<String>, K: Pointer<Pattern>>(
         &mut self,
         alloc: Global,
         code: &Code<L, N, K>,
@@ -93,7 +93,9 @@ impl Room {
 }
 
 /// How many bytes the lists of a run may take: a later block begins with up to three slots more.
-fn room_of<L: Holder<Value>, N: Holder<String>, K: Holder<Pattern>>(code: &Code<L, N, K>) -> usize {
+fn room_of<L: Pointer<Value>, N: Pointer<String>, K: Pointer<Pattern>>(
+    code: &Code<L, N, K>,
+) -> usize {
     let mut count = code.first.len();
     for block in &code.later {
         count = count.saturating_add(block.len()).saturating_add(4);

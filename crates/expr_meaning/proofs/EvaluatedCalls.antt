@@ -1,17 +1,17 @@
 -- Built-ins on values give a value or refuse to evaluate.
 use Rattle.std.proofs.Common.{◌≡◌, ℕ, ℤ, pos, negsuc, ◌==◌, ◌*◌, ◌^◌, nat_lt, cond, List, [], ◌∷◌, length, Option, Some, None, Ok, Err, refl, option_map, rules}
 use Rattle.std.specs.Option.{option_and_then}
-use Rattle.expr_arguments.specs.Arguments.{asked, any_value, array_and_text, all_of, one_of, one_text, text_and_integer, two_integers, two_of, two_texts}
+use Rattle.expr_arguments.specs.Arguments.{answer_on, any_value, array_and_text, all_of, one_of, one_text, text_and_integer, two_integers, two_of, two_texts}
 use Rattle.expr_builtins.specs.Bits as bits
 use Rattle.expr_builtins.specs.Numbers as numbers
-use Rattle.expr_builtins.specs.Nested.{all_opened}
-use Rattle.expr_builtins.specs.Text as text
-use Rattle.expr_builtins.specs.Trimmed as trimmed
+use Rattle.expr_builtins.specs.Nested.{all_flat_items}
+use Rattle.expr_strings.specs.Text as text
+use Rattle.expr_strings.specs.Trimmed as trimmed
 use Rattle.expr_builtins.specs.Collections as collections
 use Rattle.expr_builtins.specs.Conversions as conversions
 use Rattle.expr_encoding.specs.Base64.{FromBase64Layer, FromText, text_in_base64}
-use Rattle.expr_encoding.specs.Calls.{Called as EncodingCalled, Encodes, of_json_layer}
-use Rattle.expr_encoding.specs.Optional.{given as given_encoding}
+use Rattle.expr_encoding.specs.Calls.{EncodingMayReturn as EncodingCalled, Encodes, of_json_layer}
+use Rattle.expr_encoding.specs.Optional.{value_or_refusal as given_encoding}
 use Rattle.expr_encoding.specs.Reading.{json_value}
 use Rattle.expr_encoding.specs.Writing.{json_text}
 use Rattle.expr_functions.specs.declared.functions.BitCall.{BitCall}
@@ -27,8 +27,8 @@ use Rattle.expr_functions.specs.declared.functions.NumberCall.TheVariants as num
 use Rattle.expr_functions.specs.declared.functions.TextCall.{TextCall}
 use Rattle.expr_functions.specs.declared.functions.TextCall.TheVariants as text_call
 use Rattle.expr_value.specs.Answers.{Answer}
-use Rattle.expr_value.specs.Fault.{evaluation}
-use Rattle.expr_value.specs.Values.{integer_of, items_of, joined, scalar_pairs, string_of}
+use Rattle.expr_error.specs.ErrorKind.{evaluation}
+use Rattle.expr_value.specs.Values.{integer_of, items_of, joined_text, scalar_pairs, string_of}
 use Rattle.expr_value.specs.Keys.{key_put_all}
 use Rattle.expr_value.specs.declared.value.Value as value
 use Rattle.expr_value.specs.declared.value.Value.{Value, out-Value}
@@ -36,31 +36,31 @@ use Rattle.expr_value.specs.declared.value.Value.TheOpen.{Value-F}
 use Rattle.expr_meaning.proofs.Evaluated.{Evaluates, either-evaluates, same-evaluates}
 
 -- what a call answers on arguments of its kinds
-asked-evaluates : {A : Type 0} (o : Option A) (answers : A → Answer) → ((x : A) → Evaluates (answers x)) → Evaluates (asked o answers)
-asked-evaluates None answers p = refl
-asked-evaluates (Some x) answers p = p x
+answer_on-evaluates : {A : Type 0} (o : Option A) (answers : A → Answer) → ((x : A) → Evaluates (answers x)) → Evaluates (answer_on o answers)
+answer_on-evaluates None answers p = refl
+answer_on-evaluates (Some x) answers p = p x
 
-on : {A : Type 0} (o : Option A) (answers : A → Answer) (a : Answer) → a ≡ asked o answers → ((x : A) → Evaluates (answers x)) → Evaluates a
-on o answers a e p = same-evaluates a (asked o answers) e (asked-evaluates o answers p)
+on : {A : Type 0} (o : Option A) (answers : A → Answer) (a : Answer) → a ≡ answer_on o answers → ((x : A) → Evaluates (answers x)) → Evaluates a
+on o answers a e p = same-evaluates a (answer_on o answers) e (answer_on-evaluates o answers p)
 
 -- bits and numbers
-counted-evaluates : (shifted : ℕ → ℤ) (n : ℤ) → Evaluates (bits.counted shifted n)
+counted-evaluates : (shifted : ℕ → ℤ) (n : ℤ) → Evaluates (bits.shift_by_count shifted n)
 counted-evaluates shifted (pos n) = tt
 counted-evaluates shifted (negsuc n) = refl
 
 chosen-evaluates : (choice : ℤ → ℤ → ℤ) (vs : List Value) → Evaluates (numbers.chosen_among choice vs)
 chosen-evaluates choice vs =
-    either-evaluates (length vs == 0) (Err evaluation) (asked (all_of integer_of (all_opened vs)) (λ ns. Ok (numbers.chosen choice ns))) refl
-    (asked-evaluates (all_of integer_of (all_opened vs)) (λ ns. Ok (numbers.chosen choice ns)) (λ ns. tt))
+    either-evaluates (length vs == 0) (Err evaluation) (answer_on (all_of integer_of (all_flat_items vs)) (λ ns. Ok (numbers.chosen choice ns))) refl
+    (answer_on-evaluates (all_of integer_of (all_flat_items vs)) (λ ns. Ok (numbers.chosen choice ns)) (λ ns. tt))
 
 -- texts
-repeated-evaluates : (s : List ℕ) (n : ℤ) → Evaluates (text.repeated s n)
+repeated-evaluates : (s : List ℕ) (n : ℤ) → Evaluates (text.repeated_text s n)
 repeated-evaluates s (pos n) =
     either-evaluates (nat_lt 1000000 n) (Err evaluation) (cond (nat_lt (n * length s) (2 ^ 64)) (Ok _) (Err evaluation)) refl
     (either-evaluates (nat_lt (n * length s) (2 ^ 64)) (Ok _) (Err evaluation) tt refl)
 repeated-evaluates s (negsuc n) = refl
 
-cased-evaluates : (changed : ℕ → ℕ) (o : Option (List ℕ)) (a : Answer) → text.CasedOne changed o a → Evaluates a
+cased-evaluates : (changed : ℕ → ℕ) (o : Option (List ℕ)) (a : Answer) → text.ChangesCaseOfOne changed o a → Evaluates a
 cased-evaluates changed None a p = same-evaluates a (Err evaluation) p refl
 cased-evaluates changed (Some s) a p = same-evaluates a (Ok (value.String p.0)) p.1 tt
 
@@ -70,7 +70,7 @@ trimmed-evaluates None (Some q) a p = same-evaluates a (Ok (value.String p.0)) p
 trimmed-evaluates None None a p = same-evaluates a (Err evaluation) p refl
 
 -- arrays and maps
-taken-evaluates : (xs : List Value) (n : ℤ) → Evaluates (collections.taken xs n)
+taken-evaluates : (xs : List Value) (n : ℤ) → Evaluates (collections.taken_items xs n)
 taken-evaluates xs (pos n) = tt
 taken-evaluates xs (negsuc n) = refl
 
@@ -98,11 +98,11 @@ get-evaluates v k key = refl
 
 concat-evaluates : (vs : List Value) → Evaluates (collections.concat vs)
 concat-evaluates vs =
-    either-evaluates (length vs == 0) (Err evaluation) (asked (option_map collections.in_a_row (all_of items_of vs)) (λ xs. Ok (value.Array xs))) refl
-    (asked-evaluates (option_map collections.in_a_row (all_of items_of vs)) (λ xs. Ok (value.Array xs)) (λ xs. tt))
+    either-evaluates (length vs == 0) (Err evaluation) (answer_on (option_map collections.in_a_row (all_of items_of vs)) (λ xs. Ok (value.Array xs))) refl
+    (answer_on-evaluates (option_map collections.in_a_row (all_of items_of vs)) (λ xs. Ok (value.Array xs)) (λ xs. tt))
 
 -- conversions
-read-evaluates : (s : List ℕ) (a : Answer) → conversions.Read s a → Evaluates a
+read-evaluates : (s : List ℕ) (a : Answer) → conversions.ReadsInteger s a → Evaluates a
 read-evaluates s (Ok v) p = tt
 read-evaluates s (Err f) p = p.1
 
@@ -141,10 +141,10 @@ CollectionCalled-evaluates collection.Keys vs a p = on (one_of any_value vs) _ a
 CollectionCalled-evaluates collection.Values vs a p = on (one_of any_value vs) _ a p (λ v. values-evaluates (out-Value v))
 CollectionCalled-evaluates collection.ToPairs vs a p = on (one_of any_value vs) _ a p (λ v. to_pairs-evaluates (out-Value v))
 CollectionCalled-evaluates collection.Get vs a p = on (two_of any_value any_value vs) _ a p (λ x. get-evaluates (out-Value x.0) x.1 (out-Value x.1))
-CollectionCalled-evaluates collection.Join vs a p = on (array_and_text vs) _ a p (λ x. asked-evaluates (all_of string_of x.0) (λ ts. Ok (value.String (joined x.1 ts))) (λ ts. tt))
+CollectionCalled-evaluates collection.Join vs a p = on (array_and_text vs) _ a p (λ x. answer_on-evaluates (all_of string_of x.0) (λ ts. Ok (value.String (joined_text x.1 ts))) (λ ts. tt))
 CollectionCalled-evaluates collection.FromPairs vs a p =
     on (option_and_then (all_of collections.pair_of) (one_of items_of vs)) _ a p (
-    λ ps. asked-evaluates (option_map (key_put_all []) (scalar_pairs ps)) (λ m. Ok (value.KeyedMap m)) (λ m. tt)
+    λ ps. answer_on-evaluates (option_map (key_put_all []) (scalar_pairs ps)) (λ m. Ok (value.KeyedMap m)) (λ m. tt)
     )
 CollectionCalled-evaluates c vs a p = search (rules, same-evaluates)
 

@@ -1,34 +1,34 @@
 -- Methods, and calls of times, give a value or refuse to evaluate.
 use Rattle.std.proofs.Common.{◌≡◌, ℕ, ℤ, List, [], ◌∷◌, Option, Some, None, Ok, Err, inl, inr, refl}
-use Rattle.expr_arguments.specs.Arguments.{alone, one_duration, one_text}
-use Rattle.expr_duration.specs.Methods.{answered, by_step, Read, OfText}
+use Rattle.expr_arguments.specs.Arguments.{without_arguments, one_duration, one_text}
+use Rattle.expr_duration.specs.Methods.{method_answer, by_step, ReadsLength, OfText}
 use Rattle.expr_duration.specs.declared.method.DurationMethod.{DurationMethod}
 use Rattle.expr_duration.specs.declared.method.DurationMethod.TheVariants as of_length
 use Rattle.expr_layout.specs.Layouts.{Formats}
-use Rattle.expr_layout.specs.declared.found.Found.{Found}
+use Rattle.expr_layout.specs.declared.found.KnownFields.{KnownFields}
 use Rattle.expr_moment.specs.Dates.{AddsDate}
 use Rattle.expr_moment.specs.Fields.{between}
-use Rattle.expr_moment.specs.Places.{at_civil, given}
+use Rattle.expr_moment.specs.Zones.{at_civil, moment_or_refusal}
 use Rattle.expr_steps.specs.Methods.{AllowsDurationMethod, AllowsMethod, AllowsMethodLayer, AllowsMomentMethod, AllowsNameMethod}
-use Rattle.expr_time.specs.Calls.{Called}
-use Rattle.expr_time.specs.Civil.{AllowsDate, Dates, DatesLayout, DatesNamed, DatesText, DatesThree, DatesTwo, GivenIf, place_read, by_form}
-use Rattle.expr_time.specs.Moments.{AddsDates, AnsweredAt, answer_for, located, name_answer, one_moment, one_zone, three_integers, timezone_of}
+use Rattle.expr_time.specs.Calls.{TimeCallMayReturn}
+use Rattle.expr_time.specs.Civil.{AllowsDate, Dates, DatesLayout, DatesNamed, DatesText, DatesThree, DatesTwo, MomentMayReturnIf, place_read, by_form}
+use Rattle.expr_time.specs.Moments.{AddsDates, AnsweredAt, answer_for, location_answer, name_answer, one_moment, one_zone, three_integers, timezone_of}
 use Rattle.expr_time.specs.Zones.{now_answer, timezone_answer, zone_named}
 use Rattle.expr_functions.specs.declared.functions.TimeCall.{TimeCall}
 use Rattle.expr_functions.specs.declared.functions.TimeCall.TheVariants as call
 use Rattle.expr_time.specs.declared.moments.DateTimeMethod.{DateTimeMethod}
 use Rattle.expr_time.specs.declared.moments.DateTimeMethod.TheVariants as is
-use Rattle.expr_time.specs.declared.moments.NameMethod.{NameMethod}
-use Rattle.expr_time.specs.declared.moments.NameMethod.TheVariants as named
+use Rattle.expr_time.specs.declared.moments.TextMethod.{TextMethod}
+use Rattle.expr_time.specs.declared.moments.TextMethod.TheVariants as named
 use Rattle.expr_value.specs.Answers.{Answer}
-use Rattle.expr_value.specs.Fault.{evaluation}
+use Rattle.expr_error.specs.ErrorKind.{evaluation}
 use Rattle.expr_value.specs.Values.{string_of}
-use Rattle.expr_value.specs.declared.moment.DateTimeValue.{DateTimeValue}
+use Rattle.expr_datetime.specs.declared.moment.DateTimeValue.{DateTimeValue}
 use Rattle.expr_value.specs.declared.value.Value as value
 use Rattle.expr_value.specs.declared.value.Value.{Value, out-Value}
 use Rattle.expr_value.specs.declared.value.Value.TheOpen.{Value-F}
-use Rattle.expr_value.specs.declared.zone.TimezoneValue.{TimezoneValue}
-use Rattle.expr_meaning.proofs.Evaluated.{Evaluates, between-evaluates, equal-evaluates, given-evaluates, same-evaluates}
+use Rattle.expr_datetime.specs.declared.zone.TimezoneValue.{TimezoneValue}
+use Rattle.expr_meaning.proofs.Evaluated.{Evaluates, between-evaluates, equal-evaluates, moment_or_refusal-evaluates, same-evaluates}
 
 -- a refusal to evaluate, either way round
 refusal : (a : Answer) → a ≡ Err evaluation → Evaluates a
@@ -37,9 +37,9 @@ refusal a e = same-evaluates a (Err evaluation) e refl
 refused : (a : Answer) → Err evaluation ≡ a → Evaluates a
 refused a e = equal-evaluates a (Err evaluation) e refl
 
-alone-evaluates : (vs : List Value) (v : Value) → Evaluates (alone vs v)
-alone-evaluates [] v = tt
-alone-evaluates (w ∷ more) v = refl
+without_arguments-evaluates : (vs : List Value) (v : Value) → Evaluates (without_arguments vs v)
+without_arguments-evaluates [] v = tt
+without_arguments-evaluates (w ∷ more) v = refl
 
 answer_for-evaluates : {A : Type 0} (o : Option A) (f : A → Answer) → ((x : A) → Evaluates (f x)) → Evaluates (answer_for o f)
 answer_for-evaluates None f p = refl
@@ -53,26 +53,26 @@ by_step-evaluates : (o : Option ℤ) (f : ℤ → ℤ) → Evaluates (by_step o 
 by_step-evaluates None f = refl
 by_step-evaluates (Some step) f = tt
 
-answered-evaluates : (m : DurationMethod) (n : ℤ) (vs : List Value) → Evaluates (answered m n vs)
-answered-evaluates of_length.Abs n vs = alone-evaluates vs _
-answered-evaluates of_length.Round n vs = by_step-evaluates (one_duration vs) _
-answered-evaluates of_length.Truncate n vs = by_step-evaluates (one_duration vs) _
-answered-evaluates of_length.Milliseconds n vs = alone-evaluates vs _
-answered-evaluates of_length.Microseconds n vs = alone-evaluates vs _
-answered-evaluates of_length.Nanoseconds n vs = alone-evaluates vs _
-answered-evaluates of_length.String n vs = alone-evaluates vs _
+method_answer-evaluates : (m : DurationMethod) (n : ℤ) (vs : List Value) → Evaluates (method_answer m n vs)
+method_answer-evaluates of_length.Abs n vs = without_arguments-evaluates vs _
+method_answer-evaluates of_length.Round n vs = by_step-evaluates (one_duration vs) _
+method_answer-evaluates of_length.Truncate n vs = by_step-evaluates (one_duration vs) _
+method_answer-evaluates of_length.Milliseconds n vs = without_arguments-evaluates vs _
+method_answer-evaluates of_length.Microseconds n vs = without_arguments-evaluates vs _
+method_answer-evaluates of_length.Nanoseconds n vs = without_arguments-evaluates vs _
+method_answer-evaluates of_length.String n vs = without_arguments-evaluates vs _
 
 duration_method-evaluates : (key : List ℕ) (n : ℤ) (vs : List Value) (a : Answer) → AllowsDurationMethod key n vs a → Evaluates a
-duration_method-evaluates key n vs a (inl p) = same-evaluates a (answered p.0 n vs) p.2 (answered-evaluates p.0 n vs)
+duration_method-evaluates key n vs a (inl p) = same-evaluates a (method_answer p.0 n vs) p.2 (method_answer-evaluates p.0 n vs)
 duration_method-evaluates key n vs a (inr p) = refusal a p.1
 
 -- methods of moments
-located-evaluates : (vs : List Value) (o : Option TimezoneValue) → Evaluates (located vs o)
-located-evaluates vs None = refl
-located-evaluates vs (Some zone) = alone-evaluates vs _
+location_answer-evaluates : (vs : List Value) (o : Option TimezoneValue) → Evaluates (location_answer vs o)
+location_answer-evaluates vs None = refl
+location_answer-evaluates vs (Some zone) = without_arguments-evaluates vs _
 
 adds_date-evaluates : (t : DateTimeValue) (years months days : ℤ) (a : Answer) → AddsDate t years months days a → Evaluates a
-adds_date-evaluates t years months days a (inl p) = equal-evaluates a (given _) p.4 (given-evaluates _)
+adds_date-evaluates t years months days a (inl p) = equal-evaluates a (moment_or_refusal _) p.4 (moment_or_refusal-evaluates _)
 adds_date-evaluates t years months days a (inr p) = refused a p.1
 
 adds_dates-evaluates : (t : DateTimeValue) (o : Option (ℤ × ℤ × ℤ)) (a : Answer) → AddsDates t o a → Evaluates a
@@ -84,15 +84,15 @@ formats-evaluates t None a p = refused a p
 formats-evaluates t (Some layout) a p = equal-evaluates a (Ok _) p.2 tt
 
 answered_at-evaluates : (m : DateTimeMethod) (t : DateTimeValue) (vs : List Value) (a : Answer) → AnsweredAt m t vs a → Evaluates a
-answered_at-evaluates (is.Field field) t vs a p = equal-evaluates a _ p (alone-evaluates vs _)
-answered_at-evaluates is.String t vs a p = equal-evaluates a _ p (alone-evaluates vs _)
-answered_at-evaluates is.Location t vs a p = equal-evaluates a _ p (located-evaluates vs _)
-answered_at-evaluates is.Utc t vs a p = equal-evaluates a _ p (alone-evaluates vs _)
+answered_at-evaluates (is.Field field) t vs a p = equal-evaluates a _ p (without_arguments-evaluates vs _)
+answered_at-evaluates is.String t vs a p = equal-evaluates a _ p (without_arguments-evaluates vs _)
+answered_at-evaluates is.Location t vs a p = equal-evaluates a _ p (location_answer-evaluates vs _)
+answered_at-evaluates is.Utc t vs a p = equal-evaluates a _ p (without_arguments-evaluates vs _)
 answered_at-evaluates is.In t vs a p = on (one_zone vs) _ a p (λ zone. tt)
-answered_at-evaluates is.Add t vs a p = on (one_duration vs) _ a p (λ n. given-evaluates _)
+answered_at-evaluates is.Add t vs a p = on (one_duration vs) _ a p (λ n. moment_or_refusal-evaluates _)
 answered_at-evaluates is.Sub t vs a p = on (one_moment vs) (between t) a p (between-evaluates t)
-answered_at-evaluates is.Round t vs a p = on (one_duration vs) _ a p (λ step. given-evaluates _)
-answered_at-evaluates is.Truncate t vs a p = on (one_duration vs) _ a p (λ step. given-evaluates _)
+answered_at-evaluates is.Round t vs a p = on (one_duration vs) _ a p (λ step. moment_or_refusal-evaluates _)
+answered_at-evaluates is.Truncate t vs a p = on (one_duration vs) _ a p (λ step. moment_or_refusal-evaluates _)
 answered_at-evaluates is.After t vs a p = on (one_moment vs) _ a p (λ u. tt)
 answered_at-evaluates is.Before t vs a p = on (one_moment vs) _ a p (λ u. tt)
 answered_at-evaluates is.Equal t vs a p = on (one_moment vs) _ a p (λ u. tt)
@@ -105,8 +105,8 @@ moment_method-evaluates key t vs a (inl p) = answered_at-evaluates p.0 t vs a p.
 moment_method-evaluates key t vs a (inr p) = refusal a p.1
 
 -- methods of zones, months and days of the week
-name_answer-evaluates : (m : NameMethod) (v : Value) (vs : List Value) → Evaluates (name_answer m v vs)
-name_answer-evaluates named.String v vs = alone-evaluates vs _
+name_answer-evaluates : (m : TextMethod) (v : Value) (vs : List Value) → Evaluates (name_answer m v vs)
+name_answer-evaluates named.String v vs = without_arguments-evaluates vs _
 
 name_method-evaluates : (key : List ℕ) (v : Value) (vs : List Value) (a : Answer) → AllowsNameMethod key v vs a → Evaluates a
 name_method-evaluates key v vs a (inl p) = same-evaluates a (name_answer p.0 v vs) p.2 (name_answer-evaluates p.0 v vs)
@@ -124,7 +124,7 @@ pub AllowsMethod-evaluates : (key : List ℕ) (v : Value) (vs : List Value) (a :
 AllowsMethod-evaluates key v vs a p = method_layer-evaluates key v (out-Value v) vs a p
 
 -- `duration`
-read-evaluates : (s : List ℕ) (a : Answer) → Read s a → Evaluates a
+read-evaluates : (s : List ℕ) (a : Answer) → ReadsLength s a → Evaluates a
 read-evaluates s (Ok v) p = tt
 read-evaluates s (Err f) p = p.1
 
@@ -133,10 +133,10 @@ duration-evaluates None a p = refusal a p
 duration-evaluates (Some s) a p = read-evaluates s a p
 
 -- `date`
-given_if-evaluates : (o : Option Found) (zone : TimezoneValue) (a : Answer) → GivenIf o zone a → Evaluates a
+given_if-evaluates : (o : Option KnownFields) (zone : TimezoneValue) (a : Answer) → MomentMayReturnIf o zone a → Evaluates a
 given_if-evaluates None zone a p = refused a p
 given_if-evaluates (Some f) zone a (inl p) =
-    on (place_read f.offset zone) (λ place. given (at_civil place p.0)) a p.2 (λ place. given-evaluates (at_civil place p.0))
+    on (place_read f.offset zone) (λ place. moment_or_refusal (at_civil place p.0)) a p.2 (λ place. moment_or_refusal-evaluates (at_civil place p.0))
 given_if-evaluates (Some f) zone a (inr p) = refused a p.1
 
 dates_text-evaluates : (zone : TimezoneValue) (o : Option (List ℕ)) (a : Answer) → DatesText zone o a → Evaluates a
@@ -175,7 +175,7 @@ date-evaluates zones (v ∷ w ∷ x ∷ y ∷ more) a p = refused a p
 -- `now` and `timezone`
 now-evaluates : (moment : Option DateTimeValue) (vs : List Value) → Evaluates (now_answer moment vs)
 now-evaluates None vs = refl
-now-evaluates (Some t) vs = alone-evaluates vs _
+now-evaluates (Some t) vs = without_arguments-evaluates vs _
 
 timezone-evaluates : (zones : List ℕ → Option TimezoneValue) (vs : List Value) → Evaluates (timezone_answer zones vs)
 timezone-evaluates zones vs =
@@ -184,7 +184,7 @@ timezone-evaluates zones vs =
     )
 
 pub TimeCalled-evaluates : (zones : List ℕ → Option TimezoneValue) (moment : Option DateTimeValue) (c : TimeCall) (vs : List Value) (a : Answer)
-    → Called zones moment c vs a → Evaluates a
+    → TimeCallMayReturn zones moment c vs a → Evaluates a
 TimeCalled-evaluates zones moment call.Date vs a p = date-evaluates zones vs a p
 TimeCalled-evaluates zones moment call.Duration vs a p = duration-evaluates (one_text vs) a p
 TimeCalled-evaluates zones moment call.Now vs a p = same-evaluates a (now_answer moment vs) p (now-evaluates moment vs)

@@ -1,4 +1,4 @@
-pub mod Beginning
+pub mod Dispatching
 pub mod Evaluated
 pub mod EvaluatedCalls
 pub mod EvaluatedTimes

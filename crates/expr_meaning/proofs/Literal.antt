@@ -2,26 +2,26 @@
 use Rattle.std.proofs.Common.{◌≡◌, Ok, refl, sym, subst, ap, ◌∙◌}
 use Rattle.expr_tree.specs.Term.{Term, literal}
 use Rattle.expr_tree.specs.declared.operator.Operator.{Operator}
-use Rattle.expr_operators.specs.Operators.{applied}
-use Rattle.expr_operators.specs.Sides.{sides_of}
-use Rattle.expr_operators.specs.declared.sides.Sides.TheVariants.{Both}
-use Rattle.expr_value.proofs.Answered.{first_of-After}
+use Rattle.expr_operators.specs.Operators.{operator_answer}
+use Rattle.expr_operators.specs.Strictness.{operator_strictness}
+use Rattle.expr_operators.specs.declared.strictness.Strictness.TheVariants.{Both}
+use Rattle.expr_value.proofs.Answered.{first_of-Then}
 use Rattle.expr_value.specs.declared.value.Value.{Value}
-use Rattle.expr_meaning.specs.Allows.{Allows, Continued, ContinuedAs}
+use Rattle.expr_meaning.specs.Allows.{Allows, OperationMayReturn, OperationMayReturnBy}
 use Rattle.expr_meaning.specs.World.{World}
 
 -- the operator asks both sides, of which the right one is a literal, and gives this value
 abbrev pub OnLiteral : Operator → Value → Term → Value → Type 0
-OnLiteral op x t v = (y : Value) × (t ≡ literal y) × (sides_of op ≡ Both) × (applied op x y ≡ Ok v)
+OnLiteral op x t v = (y : Value) × (t ≡ literal y) × (operator_strictness op ≡ Both) × (operator_answer op x y ≡ Ok v)
 
 pub OnLiteral-continued : (world : World) (op : Operator) (x : Value) (t : Term) (v : Value)
-    → OnLiteral op x t v → Continued op x (Allows world t) (Ok v)
+    → OnLiteral op x t v → OperationMayReturn op x (Allows world t) (Ok v)
 OnLiteral-continued world op x t v p =
-    subst (λ k. ContinuedAs k op x (Allows world t) (Ok v)) (sym p.2) (Ok p.0, subst (λ s. Allows world s (Ok p.0)) (sym p.1) refl, sym p.3)
+    subst (λ k. OperationMayReturnBy k op x (Allows world t) (Ok v)) (sym p.2) (Ok p.0, subst (λ s. Allows world s (Ok p.0)) (sym p.1) refl, sym p.3)
 
 pub OnLiteral-only : (world : World) (op : Operator) (x : Value) (t : Term) (v w : Value)
-    → OnLiteral op x t v → Continued op x (Allows world t) (Ok w) → v ≡ w
+    → OnLiteral op x t v → OperationMayReturn op x (Allows world t) (Ok w) → v ≡ w
 OnLiteral-only world op x t v w p h =
-    let q = first_of-After (Allows world t) (λ y b. b ≡ applied op x y) w (subst (λ k. ContinuedAs k op x (Allows world t) (Ok w)) p.2 h) in
+    let q = first_of-Then (Allows world t) (λ y b. b ≡ operator_answer op x y) w (subst (λ k. OperationMayReturnBy k op x (Allows world t) (Ok w)) p.2 h) in
     let same : q.0 ≡ p.0 = cc (subst (λ s. Allows world s (Ok q.0)) p.1 q.1) in
-    cc (q.2 ∙ ap (applied op x) same ∙ p.3)
+    cc (q.2 ∙ ap (operator_answer op x) same ∙ p.3)

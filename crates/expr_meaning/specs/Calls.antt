@@ -4,19 +4,19 @@ use Rattle.expr_builtins.specs.Bits.{Called as BitCalled}
 use Rattle.expr_builtins.specs.Collections.{Called as CollectionCalled}
 use Rattle.expr_builtins.specs.Conversions.{Called as ConversionCalled}
 use Rattle.expr_builtins.specs.Numbers.{Called as NumberCalled}
-use Rattle.expr_builtins.specs.Text.{Called as TextCalled}
-use Rattle.expr_encoding.specs.Calls.{Called as EncodingCalled}
+use Rattle.expr_strings.specs.Text.{Called as TextCalled}
+use Rattle.expr_encoding.specs.Calls.{EncodingMayReturn as EncodingCalled}
 use Rattle.expr_functions.specs.Functions.{builtin_named}
-use Rattle.expr_functions.specs.declared.functions.Asking.{Asking}
+use Rattle.expr_functions.specs.declared.functions.HigherOrderCall.{HigherOrderCall}
 use Rattle.expr_functions.specs.declared.functions.Builtin.{Builtin}
-use Rattle.expr_functions.specs.declared.functions.Builtin.TheVariants.{Asks, OnValues}
+use Rattle.expr_functions.specs.declared.functions.Builtin.TheVariants.{HigherOrder, OnValues}
 use Rattle.expr_functions.specs.declared.functions.ValueCall.{ValueCall}
 use Rattle.expr_functions.specs.declared.functions.ValueCall.TheVariants.{Sort, Collection, Text, Conversion, Number, Bit, Encoding, Time}
-use Rattle.expr_predicates.specs.Calls.{AllowsAsking, SortsItems}
-use Rattle.expr_predicates.specs.Tasks.{Question}
-use Rattle.expr_time.specs.Calls.{Called as TimeCalled}
+use Rattle.expr_predicates.specs.Calls.{AllowsHigherOrder, SortsItems}
+use Rattle.expr_predicates.specs.Folds.{PredicateArgsView}
+use Rattle.expr_time.specs.Calls.{TimeCallMayReturn as TimeCalled}
 use Rattle.expr_value.specs.Answers.{Answer}
-use Rattle.expr_value.specs.Fault.{evaluation}
+use Rattle.expr_error.specs.ErrorKind.{evaluation}
 use Rattle.expr_value.specs.declared.value.Value.{Value}
 use Rattle.expr_meaning.specs.Host.{Host}
 
@@ -32,15 +32,15 @@ AllowsOnValues host (Encoding c) vs answer = EncodingCalled c vs answer
 AllowsOnValues host (Time c) vs answer = TimeCalled host.zones host.moment c vs answer
 
 -- a call is of no built-in, of one on values alone, or of one that asks a predicate
-abbrev pub ByBuiltin : Option Builtin → Type 0 → (ValueCall → Type 0) → (Asking → Type 0) → Type 0
+abbrev pub ByBuiltin : Option Builtin → Type 0 → (ValueCall → Type 0) → (HigherOrderCall → Type 0) → Type 0
 ByBuiltin None unknown on_values asking = unknown
 ByBuiltin (Some (OnValues c)) unknown on_values asking = on_values c
-ByBuiltin (Some (Asks b)) unknown on_values asking = asking b
+ByBuiltin (Some (HigherOrder b)) unknown on_values asking = asking b
 
-abbrev pub ByName : List ℕ → Type 0 → (ValueCall → Type 0) → (Asking → Type 0) → Type 0
+abbrev pub ByName : List ℕ → Type 0 → (ValueCall → Type 0) → (HigherOrderCall → Type 0) → Type 0
 ByName key unknown on_values asking = ByBuiltin (builtin_named key) unknown on_values asking
 
 -- what a call of this name may answer on these values, with a predicate or without one, and with what that may answer
-abbrev pub AllowsBuiltin : Host → List ℕ → List Value → Bool → (Question → Answer → Type 0) → Answer → Type 0
+abbrev pub AllowsBuiltin : Host → List ℕ → List Value → Bool → (PredicateArgsView → Answer → Type 0) → Answer → Type 0
 AllowsBuiltin host key vs given asks answer =
-    ByName key (answer ≡ Err evaluation) (λ c. AllowsOnValues host c vs answer) (λ b. AllowsAsking b vs given asks answer)
+    ByName key (answer ≡ Err evaluation) (λ c. AllowsOnValues host c vs answer) (λ b. AllowsHigherOrder b vs given asks answer)

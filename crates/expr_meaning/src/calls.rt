@@ -1,28 +1,27 @@
 //! Calls, up to where a predicate is asked.
 ghost use Rattle.std.specs.Prelude.{◌≡◌, ◌≢◌, IfErr, IfOk, false, true};
 ghost use Rattle.expr_meaning.specs.Allows.{AllowsCall};
-ghost use Rattle.expr_meaning.specs.Begun.{Begins, BeginsBuiltin, Refuses, RefusesBuiltin};
+ghost use Rattle.expr_meaning.specs.Dispatch.{DispatchesTo, DispatchesToBuiltin, Refuses, RefusesBuiltin};
 ghost use Rattle.expr_meaning.specs.Calls.{AllowsOnValues};
-ghost use Rattle.expr_predicates.specs.Runs.{AsksItself};
-ghost use Rattle.expr_value.specs.Answers.{Gives};
-ghost use Rattle.expr_value.specs.Fault.{fault_of, memory, RefusesWith};
+ghost use Rattle.expr_predicates.specs.Runs.{AnswersItself};
+ghost use Rattle.expr_value.specs.Answers.{Returns};
+ghost use Rattle.expr_error.specs.ErrorKind.{error_kind, memory, RefusesWith};
 
 use crate::environment::{AddedZones, ExprCall, Functions};
-use expr_builtins::{
-    call_conversion, call_on_bits, call_on_collections, call_on_numbers, call_on_texts,
-};
+use expr_builtins::{call_conversion, call_on_bits, call_on_collections, call_on_numbers};
 use expr_encoding::call_encoding;
 use expr_functions::{Builtin, ValueCall};
-use expr_operators::Held;
+use expr_operators::CowValue;
 use expr_predicates::{PredicateRun, sort};
 use expr_steps::unknown_function;
+use expr_strings::call_on_texts;
 use expr_time::call_time;
 use expr_value::{Items, Result, Value};
 use std::alloc::Global;
 
 /// What a call begins with.
 #[derive(Drop)]
-pub enum Begun<'s> {
+pub enum Dispatch<'s> {
     /// The answer of a function that asks no predicate.
     Answered(Value),
     /// A built-in that asks one, or takes each item as the answer about itself.
@@ -31,43 +30,43 @@ pub enum Begun<'s> {
 
 /// Begins a call on these values, with a predicate or without one: of the host's function of the name, else of the
 /// built-in. A built-in that asks a predicate holds its array as the call did.
-pub fn begin<'s, H: Functions>(
+pub fn dispatch_call<'s, H: Functions>(
     alloc: Global,
     host: &H,
     ident: &str,
-    args: Items<Held<'s>>,
+    args: Items<CowValue<'s>>,
     given: bool,
-) -> Result<Begun<'s>>
-    ensures begun { IfOk result (λ b. Begins (H.host host.now) ident.now args.entry given b) }
+) -> Result<Dispatch<'s>>
+    ensures begun { IfOk result (λ b. DispatchesTo (H.host host.now) ident.now args.entry given b) }
     ensures refused { RefusesWith result
         (λ k. Refuses (H.host host.now) ident.now args.entry given k) }
 {
     if host.has(ident) {
         let args = values_of(alloc, args)?;
         let answer = call_added(alloc, host, ident, args)?;
-        return Ok(Begun::Answered(answer));
+        return Ok(Dispatch::Answered(answer));
     }
-    begin_builtin(alloc, host, ident, args, given)
+    dispatch_builtin(alloc, host, ident, args, given)
 }
 
 /// Begins a call of the built-in of a name.
-fn begin_builtin<'s, H: Functions>(
+fn dispatch_builtin<'s, H: Functions>(
     alloc: Global,
     host: &H,
     ident: &str,
-    args: Items<Held<'s>>,
+    args: Items<CowValue<'s>>,
     given: bool,
-) -> Result<Begun<'s>>
-    ensures begun { IfOk result (λ b. BeginsBuiltin (H.host host.now) ident.now args.entry given b) }
+) -> Result<Dispatch<'s>>
+    ensures begun { IfOk result (λ b. DispatchesToBuiltin (H.host host.now) ident.now args.entry given b) }
     ensures refused { RefusesWith result (λ k. RefusesBuiltin
         (H.host host.now) ident.now args.entry given k) }
 {
-    match Builtin::named(ident) {
-        Some(Builtin::Asks(asking)) => {
-            Ok(Begun::Asks(PredicateRun::begin(alloc, asking, args, given)?))
+    match Builtin::from_name(ident) {
+        Some(Builtin::HigherOrder(asking)) => {
+            Ok(Dispatch::Asks(PredicateRun::begin(alloc, asking, args, given)?))
         }
         Some(Builtin::OnValues(call)) => {
-            Ok(Begun::Answered(call_on_values(alloc, host, call, args)?))
+            Ok(Dispatch::Answered(call_on_values(alloc, host, call, args)?))
         }
         None => Err(unknown_function(alloc, ident)),
     }
@@ -78,9 +77,9 @@ fn call_on_values<H: Functions>(
     alloc: Global,
     host: &H,
     call: ValueCall,
-    args: Items<Held<'_>>,
+    args: Items<CowValue<'_>>,
 ) -> Result<Value>
-    ensures { Gives result (AllowsOnValues (H.host host.now) call args.entry) }
+    ensures { Returns result (AllowsOnValues (H.host host.now) call args.entry) }
 {
     match call {
         ValueCall::Sort => sort(alloc, args),
@@ -102,13 +101,13 @@ pub fn call_alone<'s, H: Functions>(
     alloc: Global,
     host: &H,
     ident: &str,
-    args: Items<Held<'_>>,
-) -> Result<Held<'s>>
-    ensures { Gives result (AllowsCall (H.host host.now) ident.now args.entry false AsksItself) }
+    args: Items<CowValue<'_>>,
+) -> Result<CowValue<'s>>
+    ensures { Returns result (AllowsCall (H.host host.now) ident.now args.entry false AnswersItself) }
 {
-    match begin(alloc, host, ident, args, false)? {
-        Begun::Answered(answer) => Ok(Held::own(answer)),
-        Begun::Asks(run) => Ok(Held::own(run.complete(alloc)?)),
+    match dispatch_call(alloc, host, ident, args, false)? {
+        Dispatch::Answered(answer) => Ok(CowValue::from_owned(answer)),
+        Dispatch::Asks(run) => Ok(CowValue::from_owned(run.complete(alloc)?)),
     }
 }
 
@@ -120,16 +119,16 @@ pub fn call_added<H: Functions>(
     args: Vec<Value>,
 ) -> Result<Value>
     ensures { (H.host host.now).is_added ident.now ≡ true
-        → Gives result ((H.host host.now).calls ident.now args.items) }
+        → Returns result ((H.host host.now).calls ident.now args.items) }
 {
     let ident = String::from_str(alloc, ident)?;
     host.ask(ExprCall { ident, args })
 }
 
 /// The values that are held, to be kept.
-fn values_of(alloc: Global, held: Items<Held<'_>>) -> Result<Vec<Value>>
+fn values_of(alloc: Global, held: Items<CowValue<'_>>) -> Result<Vec<Value>>
     ensures ok { IfOk result (λ vs. vs.items ≡ held.entry) }
-    ensures refusal { IfErr result (λ e. fault_of e ≡ memory) }
+    ensures refusal { IfErr result (λ e. error_kind e ≡ memory) }
 {
     let mut values = Vec::with_capacity(alloc, held.len())?;
     for value in held.into_vec() {

@@ -5,7 +5,7 @@ mod calls;
 mod environment;
 mod laws;
 
-pub use calls::{Begun, begin, call_added, call_alone};
+pub use calls::{Dispatch, call_added, call_alone, dispatch_call};
 pub use environment::{ExprCall, Functions, NoFunctions};
 pub use laws::{
     left_side_decides, none_in_programs_is_the_opposite_of_any, programs_refuse_to_evaluate,

@@ -1,20 +1,20 @@
 -- What every charge leaves as it is, a counted run leaves as it is.
 use Rattle.std.proofs.Common.{◌≡◌, ℕ, zero, suc, Bool, true, false, List, [], ◌∷◌, ◌++◌, length, take, Result, Ok, Err, MatchBool, sym, subst, inl, inr}
 use Rattle.std.specs.Prelude.{if◌then◌else◌}
-use Rattle.expr_code.specs.Asked.{bound_values}
+use Rattle.expr_code.specs.CallBinds.{bound_values}
 use Rattle.expr_code.specs.Machine.{Op, push, load, look, look_with, env, store, act, asks, refuse, jump, jump_if_false, and_then, or_else, unless_nil, Move, onward, refused as refused_by, Step}
-use Rattle.expr_meaning.proofs.Beginning.{ByName-either}
+use Rattle.expr_meaning.proofs.Dispatching.{ByName-either}
 use Rattle.expr_meaning.specs.Calls.{AllowsOnValues, ByName}
 use Rattle.expr_meaning.specs.Host.{Host}
-use Rattle.expr_predicates.specs.Calls.{Start, begun}
-use Rattle.expr_predicates.specs.Tasks.{Question, Reply, Task, Outcome, about, stopped, refused}
+use Rattle.expr_predicates.specs.Calls.{FoldOver, fold_of_call}
+use Rattle.expr_predicates.specs.Folds.{PredicateArgsView, ItemAnswer, Fold, FoldOutcome, args_about, has_stopped, refuses_answer}
 use Rattle.expr_meaning.specs.World.{World}
 use Rattle.expr_value.specs.Answers.{Answer}
-use Rattle.expr_value.specs.Fault.{Fault, evaluation}
+use Rattle.expr_error.specs.ErrorKind.{ErrorKind, evaluation}
 use Rattle.expr_value.specs.declared.value.Value.{Value}
-use Rattle.expr_meter.specs.Asking.{CountsAsks, CountsCall, CountsStart, Predicate, kept_first, kept_of, replaces}
-use Rattle.expr_meter.specs.Counting.{Answers, Charge, Counted, Counting, Ending, Following, Keeping, Then, ended, gives, refuses, stops}
-use Rattle.expr_meter.specs.Counts.{Costs, Counts, CountsEnd, CountsLater, CountsMade, CountsMove, CountsRest, CountsRuns, CountsTop, Next, Whose, Working, lent, own, either, no_block, looked_at}
+use Rattle.expr_meter.specs.HigherOrder.{CountsFold, CountsCall, CountsFoldStart, Predicate, retained_first, retained_of, replaces}
+use Rattle.expr_meter.specs.Counting.{EndsWithAnswer, Charge, ChargeThen, Counting, Ending, ThenIfGives, KeepAllThen, EndingThen, ending_of, gives, refuses, stops}
+use Rattle.expr_meter.specs.Counts.{Costs, Counts, CountsEnd, CountsLater, CountsMade, CountsMove, CountsRest, CountsRuns, CountsTop, Next, Ownership, ChargeWorkThen, borrowed, owned, either, no_block, observed_values}
 
 -- what holds of a tally holds of the next
 abbrev pub Holding : {T : Type 0} → (T → Type 0) → Charge T → Type 0
@@ -40,56 +40,56 @@ module _ (counting : Counting) (holds : counting.Tally → Type 0) (by : Keeps c
   abbrev In : Ending Tally → Type 0
   In e = InEnding holds e
 
-  of_answer : (a : Answer) (now : Tally) → holds now → In (ended a now)
+  of_answer : (a : Answer) (now : Tally) → holds now → In (ending_of a now)
   of_answer (Ok v) now h = h
   of_answer (Err e) now h = tt
 
-  answers : (allowed : Answer → Type 0) (now : Tally) (e : Ending Tally) → holds now → Answers allowed now e → In e
+  answers : (allowed : Answer → Type 0) (now : Tally) (e : Ending Tally) → holds now → EndsWithAnswer allowed now e → In e
   answers allowed now e h (a, p, is) = subst In (sym is) (of_answer a now h)
 
-  counted : (charge : Charge Tally) → Holding holds charge → (now : Tally) (next : Tally → Ending Tally → Type 0) (e : Ending Tally) → holds now → ((u : Tally) → holds u → next u e → In e) → Counted charge now next e → In e
+  counted : (charge : Charge Tally) → Holding holds charge → (now : Tally) (next : Tally → Ending Tally → Type 0) (e : Ending Tally) → holds now → ((u : Tally) → holds u → next u e → In e) → ChargeThen charge now next e → In e
   counted charge k now next e h f (Ok u, c, p) = f u (k now u c h) p
   counted charge k now next e h f (Err limit, c, p) = subst In (sym p) tt
 
-  following : (x : Ending Tally) (next : Value → Tally → Ending Tally → Type 0) (e : Ending Tally) → In x → ((v : Value) (u : Tally) → holds u → next v u e → In e) → Following x next e → In e
+  following : (x : Ending Tally) (next : Value → Tally → Ending Tally → Type 0) (e : Ending Tally) → In x → ((v : Value) (u : Tally) → holds u → next v u e → In e) → ThenIfGives x next e → In e
   following (gives v u) next e h f p = f v u h p
   following (refuses b) next e h f p = subst In (sym p) tt
   following (stops limit) next e h f p = subst In (sym p) tt
 
-  keeping : (vs : List Value) (now : Tally) (next : Tally → Ending Tally → Type 0) (e : Ending Tally) → holds now → ((u : Tally) → holds u → next u e → In e) → Keeping counting vs now next e → In e
+  keeping : (vs : List Value) (now : Tally) (next : Tally → Ending Tally → Type 0) (e : Ending Tally) → holds now → ((u : Tally) → holds u → next u e → In e) → KeepAllThen counting vs now next e → In e
   keeping [] now next e h f p = f now h p
-  keeping (v ∷ vs) now next e h f p = counted (counting.keeps v) (by.keeps v) now (λ kept. Keeping counting vs kept next) e h (λ u g q. keeping vs u next e g f q) p
+  keeping (v ∷ vs) now next e h f p = counted (counting.keeps v) (by.keeps v) now (λ kept. KeepAllThen counting vs kept next) e h (λ u g q. keeping vs u next e g f q) p
 
   one_of : (b : Bool) (P Q R : Type 0) → (P → R) → (Q → R) → MatchBool b P Q → R
   one_of true P Q R f g p = f p
   one_of false P Q R f g p = g p
 
   -- a call, where it holds of what is asked
-  module _ (asks : Predicate Tally) (asked : (q : Question) (now : Tally) (e : Ending Tally) → holds now → asks q now e → In e) where
-    asks_stay : (t : Task) (first : Tally) (left : List Value) (rs : List Reply) (now : Tally) (e : Ending Tally) → holds now → CountsAsks counting t first asks left rs now e → In e
-    asks_stay t first [] rs now e h p = answers (Outcome t rs) now e h p
+  module _ (asks : Predicate Tally) (asked : (q : PredicateArgsView) (now : Tally) (e : Ending Tally) → holds now → asks q now e → In e) where
+    asks_stay : (t : Fold) (first : Tally) (left : List Value) (rs : List ItemAnswer) (now : Tally) (e : Ending Tally) → holds now → CountsFold counting t first asks left rs now e → In e
+    asks_stay t first [] rs now e h p = answers (FoldOutcome t rs) now e h p
     asks_stay t first (x ∷ left) rs now e h p =
-        one_of (stopped t rs) (Answers (Outcome t rs) now e) (Then (asks (about t rs x) now) (λ v ran. Keeping counting (kept_of t (x, v)) (counting.freed (if replaces t then first else now) ran) (λ kept f. MatchBool (refused t v) (f ≡ refuses evaluation) (CountsAsks counting t first asks left (rs ++ (x, v) ∷ []) kept f))) e) (In e) (
-        answers (Outcome t rs) now e h
+        one_of (has_stopped t rs) (EndsWithAnswer (FoldOutcome t rs) now e) (EndingThen (asks (args_about t rs x) now) (λ v ran. KeepAllThen counting (retained_of t (x, v)) (counting.freed (if replaces t then first else now) ran) (λ kept f. MatchBool (refuses_answer t v) (f ≡ refuses evaluation) (CountsFold counting t first asks left (rs ++ (x, v) ∷ []) kept f))) e) (In e) (
+        answers (FoldOutcome t rs) now e h
         ) (
-        λ k. following k.0 (λ v ran. Keeping counting (kept_of t (x, v)) (counting.freed (if replaces t then first else now) ran) (λ kept f. MatchBool (refused t v) (f ≡ refuses evaluation) (CountsAsks counting t first asks left (rs ++ (x, v) ∷ []) kept f))) e (asked (about t rs x) now k.0 h k.1) (
-        λ v u g q. keeping (kept_of t (x, v)) (counting.freed (if replaces t then first else now) u) (λ kept f. MatchBool (refused t v) (f ≡ refuses evaluation) (CountsAsks counting t first asks left (rs ++ (x, v) ∷ []) kept f)) e (by.freed (if replaces t then first else now) u g) (
-        λ w m r. one_of (refused t v) (e ≡ refuses evaluation) (CountsAsks counting t first asks left (rs ++ (x, v) ∷ []) w e) (In e) (λ is. subst In (sym is) tt) (asks_stay t first left (rs ++ (x, v) ∷ []) w e m) r
+        λ k. following k.0 (λ v ran. KeepAllThen counting (retained_of t (x, v)) (counting.freed (if replaces t then first else now) ran) (λ kept f. MatchBool (refuses_answer t v) (f ≡ refuses evaluation) (CountsFold counting t first asks left (rs ++ (x, v) ∷ []) kept f))) e (asked (args_about t rs x) now k.0 h k.1) (
+        λ v u g q. keeping (retained_of t (x, v)) (counting.freed (if replaces t then first else now) u) (λ kept f. MatchBool (refuses_answer t v) (f ≡ refuses evaluation) (CountsFold counting t first asks left (rs ++ (x, v) ∷ []) kept f)) e (by.freed (if replaces t then first else now) u g) (
+        λ w m r. one_of (refuses_answer t v) (e ≡ refuses evaluation) (CountsFold counting t first asks left (rs ++ (x, v) ∷ []) w e) (In e) (λ is. subst In (sym is) tt) (asks_stay t first left (rs ++ (x, v) ∷ []) w e m) r
         ) q
         ) k.2
         ) p
 
-    start_stays : (s : Result Start Fault) (now : Tally) (e : Ending Tally) → holds now → CountsStart counting s asks now e → In e
-    start_stays (Ok s) now e h p = keeping (kept_first s.task) now (λ kept. CountsAsks counting s.task now asks s.items [] kept) e h (λ u g q. asks_stay s.task now s.items [] u e g q) p
+    start_stays : (s : Result FoldOver ErrorKind) (now : Tally) (e : Ending Tally) → holds now → CountsFoldStart counting s asks now e → In e
+    start_stays (Ok s) now e h p = keeping (retained_first s.task) now (λ kept. CountsFold counting s.task now asks s.items [] kept) e h (λ u g q. asks_stay s.task now s.items [] u e g q) p
     start_stays (Err b) now e h p = subst In (sym p) tt
 
     call_stays : (host : Host) (key : List ℕ) (vs : List Value) (now : Tally) (e : Ending Tally) → holds now → CountsCall counting host key vs asks now e → In e
     call_stays host key vs now e h p =
-        one_of (host.is_added key) (Answers (host.calls key vs) now e) (ByName key (e ≡ refuses evaluation) (λ c. Answers (AllowsOnValues host c vs) now e) (λ b. CountsStart counting (begun b vs true) asks now e)) (In e) (
+        one_of (host.is_added key) (EndsWithAnswer (host.calls key vs) now e) (ByName key (e ≡ refuses evaluation) (λ c. EndsWithAnswer (AllowsOnValues host c vs) now e) (λ b. CountsFoldStart counting (fold_of_call b vs true) asks now e)) (In e) (
         answers (host.calls key vs) now e h
         ) (
-        ByName-either key (e ≡ refuses evaluation) (λ c. Answers (AllowsOnValues host c vs) now e) (λ b. CountsStart counting (begun b vs true) asks now e) (In e)
-        (λ is. subst In (sym is) tt) (λ c. answers (AllowsOnValues host c vs) now e h) (λ b. start_stays (begun b vs true) now e h)
+        ByName-either key (e ≡ refuses evaluation) (λ c. EndsWithAnswer (AllowsOnValues host c vs) now e) (λ b. CountsFoldStart counting (fold_of_call b vs true) asks now e) (In e)
+        (λ is. subst In (sym is) tt) (λ c. answers (AllowsOnValues host c vs) now e h) (λ b. start_stays (fold_of_call b vs true) now e h)
         ) p
 
   module _ (costs : Costs) (world : World) where
@@ -100,9 +100,9 @@ module _ (counting : Counting) (holds : counting.Tally → Type 0) (by : Keeps c
     top_stays (v ∷ stack) now next e h f p = counted (counting.makes v) (by.makes v) now next e h f p
     top_stays [] now next e h f p = f now h p
 
-    made_stays : (whose : Whose) (stack : List Value) (now : Tally) (next : Tally → Ending Tally → Type 0) (e : Ending Tally) → holds now → ((u : Tally) → holds u → next u e → In e) → CountsMade counting costs whose stack now next e → In e
-    made_stays lent stack now next e h f p = f now h p
-    made_stays own stack now next e h f p = top_stays stack now next e h f p
+    made_stays : (whose : Ownership) (stack : List Value) (now : Tally) (next : Tally → Ending Tally → Type 0) (e : Ending Tally) → holds now → ((u : Tally) → holds u → next u e → In e) → CountsMade counting costs whose stack now next e → In e
+    made_stays borrowed stack now next e h f p = f now h p
+    made_stays owned stack now next e h f p = top_stays stack now next e h f p
     made_stays either stack now next e h f (inl p) = f now h p
     made_stays either stack now next e h f (inr p) = top_stays stack now next e h f p
 
@@ -113,10 +113,10 @@ module _ (counting : Counting) (holds : counting.Tally → Type 0) (by : Keeps c
     module _ (counts : CountsLater counting costs) (later : (n : ℕ) (slots : List Value) (now : Tally) (e : Ending Tally) → holds now → counts n slots now e → In e) where
       module _ (next : Next counting costs) (e : Ending Tally) (f : (k : ℕ) (st sl : List Value) (u : Tally) → holds u → next k st sl u e → In e) where
         plain_stays : (op : Op) (stack slots : List Value) (now : Tally) → holds now
-            → Working counting costs op (looked_at op stack slots) now (λ begun g. (move : Move) × Step world no_block op stack slots move × CountsMove counting costs op move next begun g) e → In e
+            → ChargeWorkThen counting costs op (observed_values op stack slots) now (λ begun g. (move : Move) × Step world no_block op stack slots move × CountsMove counting costs op move next begun g) e → In e
         plain_stays op stack slots now h p =
-            let n = costs.work op (looked_at op stack slots) in
-            let k = costs.room op (looked_at op stack slots) in
+            let n = costs.work op (observed_values op stack slots) in
+            let k = costs.room op (observed_values op stack slots) in
             counted (counting.works n k) (by.works n k) now (λ begun g. (move : Move) × Step world no_block op stack slots move × CountsMove counting costs op move next begun g) e h (
             λ u m q. move_stays op q.0 next u e m f q.2
             ) p
@@ -126,9 +126,9 @@ module _ (counting : Counting) (holds : counting.Tally → Type 0) (by : Keeps c
             let w = costs.work (asks key n block slot binds) vs in
             let k = costs.room (asks key n block slot binds) vs in
             let call = λ (begun : Tally). CountsCall counting world.host key vs (λ q. counts block (take slot slots ++ bound_values binds q)) begun in
-            let after = λ (v : Value) (ran : Tally). Counted (counting.keeps v) (counting.freed now ran) (next 0 (v ∷ rest) (take slot slots)) in
-            keeping p.0 now (λ kept. Counted (counting.works w k) kept (λ begun. Then (call begun) after)) e h (
-            λ kept m c. counted (counting.works w k) (by.works w k) kept (λ begun. Then (call begun) after) e m (
+            let after = λ (v : Value) (ran : Tally). ChargeThen (counting.keeps v) (counting.freed now ran) (next 0 (v ∷ rest) (take slot slots)) in
+            keeping p.0 now (λ kept. ChargeThen (counting.works w k) kept (λ begun. EndingThen (call begun) after)) e h (
+            λ kept m c. counted (counting.works w k) (by.works w k) kept (λ begun. EndingThen (call begun) after) e m (
             λ b o t. following t.0 after e (call_stays (λ q. counts block (take slot slots ++ bound_values binds q)) (λ q. later block (take slot slots ++ bound_values binds q)) world.host key vs b t.0 o t.1) (
             λ v ran g r. counted (counting.keeps v) (by.keeps v) (counting.freed now ran) (next 0 (v ∷ rest) (take slot slots)) e (by.freed now ran g) (f 0 (v ∷ rest) (take slot slots)) r
             ) t.2

@@ -1,7 +1,7 @@
 -- What is counted of a run, and how a part of a run ends.
 use Rattle.std.specs.Prelude.{◌≡◌, ℕ, List, [], ◌∷◌, Result, Ok, Err}
 use Rattle.expr_value.specs.Answers.{Answer}
-use Rattle.expr_value.specs.Fault.{Fault}
+use Rattle.expr_error.specs.ErrorKind.{ErrorKind}
 use Rattle.expr_value.specs.declared.value.Value.{Value}
 use Rattle.expr_meter.specs.declared.limit.Limit.{Limit}
 
@@ -26,47 +26,47 @@ pub record Counting : Type 1 where
 -- a part of a run gives a value, where so much is counted by then, or it refuses, or it stops at a limit
 pub data Ending (T : Type 0) : Type 0 where
   gives : (value : Value) (now : T) → Ending T
-  refuses : (fault : Fault) → Ending T
+  refuses : (fault : ErrorKind) → Ending T
   stops : (limit : Limit) → Ending T
 
 -- it ends with this answer
-abbrev pub ended : {T : Type 0} → Answer → T → Ending T
-ended (Ok v) now = gives v now
-ended (Err e) now = refuses e
+abbrev pub ending_of : {T : Type 0} → Answer → T → Ending T
+ending_of (Ok v) now = gives v now
+ending_of (Err e) now = refuses e
 
 -- what follows what is counted; where that passes a limit, all stops
-abbrev pub Passing : {T : Type 0} → Result T Limit → (T → Ending T → Type 0) → Ending T → Type 0
-Passing (Ok now) next end = next now end
-Passing (Err limit) next end = end ≡ stops limit
+abbrev pub ThenIfCharged : {T : Type 0} → Result T Limit → (T → Ending T → Type 0) → Ending T → Type 0
+ThenIfCharged (Ok now) next end = next now end
+ThenIfCharged (Err limit) next end = end ≡ stops limit
 
 -- first something is counted
-abbrev pub Counted : {T : Type 0} → Charge T → T → (T → Ending T → Type 0) → Ending T → Type 0
-Counted {T} charge now next end = (r : Result T Limit) × charge now r × Passing r next end
+abbrev pub ChargeThen : {T : Type 0} → Charge T → T → (T → Ending T → Type 0) → Ending T → Type 0
+ChargeThen {T} charge now next end = (r : Result T Limit) × charge now r × ThenIfCharged r next end
 
 -- what follows a part that gave a value; another ending is the ending
-abbrev pub Following : {T : Type 0} → Ending T → (Value → T → Ending T → Type 0) → Ending T → Type 0
-Following (gives v now) next end = next v now end
-Following (refuses e) next end = end ≡ refuses e
-Following (stops limit) next end = end ≡ stops limit
+abbrev pub ThenIfGives : {T : Type 0} → Ending T → (Value → T → Ending T → Type 0) → Ending T → Type 0
+ThenIfGives (gives v now) next end = next v now end
+ThenIfGives (refuses e) next end = end ≡ refuses e
+ThenIfGives (stops limit) next end = end ≡ stops limit
 
 -- first one part, and then, where it gives a value, the next
-abbrev pub Then : {T : Type 0} → (Ending T → Type 0) → (Value → T → Ending T → Type 0) → Ending T → Type 0
-Then {T} first next end = (x : Ending T) × first x × Following x next end
+abbrev pub EndingThen : {T : Type 0} → (Ending T → Type 0) → (Value → T → Ending T → Type 0) → Ending T → Type 0
+EndingThen {T} first next end = (x : Ending T) × first x × ThenIfGives x next end
 
 -- one of these answers, for which nothing more is counted
-abbrev pub Answers : {T : Type 0} → (Answer → Type 0) → T → Ending T → Type 0
-Answers allowed now end = (answer : Answer) × allowed answer × (end ≡ ended answer now)
+abbrev pub EndsWithAnswer : {T : Type 0} → (Answer → Type 0) → T → Ending T → Type 0
+EndsWithAnswer allowed now end = (answer : Answer) × allowed answer × (end ≡ ending_of answer now)
 
 -- first these values are kept, one after the other
-abbrev pub Keeping : (counting : Counting) → List Value → counting.Tally → (counting.Tally → Ending counting.Tally → Type 0) → Ending counting.Tally → Type 0
-Keeping counting [] now next end = next now end
-Keeping counting (v ∷ vs) now next end = Counted (counting.keeps v) now (λ kept. Keeping counting vs kept next) end
+abbrev pub KeepAllThen : (counting : Counting) → List Value → counting.Tally → (counting.Tally → Ending counting.Tally → Type 0) → Ending counting.Tally → Type 0
+KeepAllThen counting [] now next end = next now end
+KeepAllThen counting (v ∷ vs) now next end = ChargeThen (counting.keeps v) now (λ kept. KeepAllThen counting vs kept next) end
 
 -- what keeping values, one after the other, comes to
-abbrev pub KeptOn : {T : Type 0} → Result T Limit → (T → Type 0) → Result T Limit → Type 0
-KeptOn (Ok now) next r = next now
-KeptOn (Err limit) next r = r ≡ Err limit
+abbrev pub ThenIfKept : {T : Type 0} → Result T Limit → (T → Type 0) → Result T Limit → Type 0
+ThenIfKept (Ok now) next r = next now
+ThenIfKept (Err limit) next r = r ≡ Err limit
 
 abbrev pub KeepsAll : (counting : Counting) → List Value → counting.Tally → Result counting.Tally Limit → Type 0
 KeepsAll counting [] now r = r ≡ Ok now
-KeepsAll counting (v ∷ vs) now r = (x : Result counting.Tally Limit) × counting.keeps v now x × KeptOn x (λ u. KeepsAll counting vs u r) r
+KeepsAll counting (v ∷ vs) now r = (x : Result counting.Tally Limit) × counting.keeps v now x × ThenIfKept x (λ u. KeepsAll counting vs u r) r

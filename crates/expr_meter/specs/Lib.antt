@@ -1,6 +1,6 @@
-pub mod Asking
 pub mod Counting
 pub mod Counts
-pub mod Metered
+pub mod HigherOrder
+pub mod MeterView
 pub mod Rooms
 pub mod Shown

@@ -1,13 +1,13 @@
 //! What is left of limits.
 ghost use Rattle.std.specs.Prelude.{◌≡◌, ◌+◌, ◌≤◌, ℕ, IfOk, IfErr, None, Some, min};
-ghost use Rattle.expr_sizes.specs.Sizes.{Passes, depth, inside, weight};
-ghost use Rattle.expr_meter.specs.Metered.{Charges, Metered};
-ghost use Rattle.expr_meter.specs.Rooms.{Holds, Takes, steps_left, within};
+ghost use Rattle.expr_sizes.specs.Sizes.{PassesValueLimit, depth, inner_weight, weight};
+ghost use Rattle.expr_meter.specs.MeterView.{Charges, MeterView};
+ghost use Rattle.expr_meter.specs.Rooms.{Holds, Takes, steps_left, limited};
 
 use crate::limit::Limit;
 use crate::limits::Limits;
 use crate::meter::Meter;
-use expr_sizes::{Passed, is_plain, load, weigh, weigh_inside};
+use expr_sizes::{ValueLimit, byte_units, weigh, weigh_inside, weighs_one};
 use expr_value::Value;
 use std::alloc::AllocError;
 
@@ -25,7 +25,7 @@ impl Budget {
     #[inline(always)]
     pub fn new(limits: &Limits) -> Budget
         ensures { ⟦<Budget as Meter>⟧.metered result
-            ≡ record { room = within limits.now.steps limits.now.size limits.now.depth; stopped = None } }
+            ≡ record { room = limited limits.now.steps limits.now.size limits.now.depth; stopped = None } }
     {
         Budget {
             steps: limits.steps,
@@ -37,7 +37,7 @@ impl Budget {
 
     /// The limit that was passed, if one was.
     #[inline(always)]
-    pub fn stopped(&self) -> Option<Limit>
+    pub fn passed_limit(&self) -> Option<Limit>
         ensures { result ≡ (⟦<Budget as Meter>⟧.metered self.now).stopped }
     {
         self.stopped
@@ -45,7 +45,7 @@ impl Budget {
 
     /// How many steps are left.
     #[inline(always)]
-    pub fn left(&self) -> u64
+    pub fn steps_left(&self) -> u64
         ensures { Some result ≡ steps_left (⟦<Budget as Meter>⟧.metered self.now).room }
     {
         self.steps
@@ -88,12 +88,13 @@ impl Budget {
     }
 
     /// A value is held of which so much is left of the room, or which passes a limit.
-    fn hold(&mut self, measured: Result<u64, Passed>) -> Result<(), AllocError>
+    fn hold(&mut self, measured: Result<u64, ValueLimit>) -> Result<(), AllocError>
         requires { IfOk measured (λ left. left ≤ min self.old.steps self.old.size) }
         ensures { (size deep : ℕ)
             → IfOk measured (λ left. (size + left ≡ min self.old.steps self.old.size)
             × (deep ≤ self.old.depth))
-            → IfErr measured (λ p. Passes p size deep (min self.old.steps self.old.size) self.old.depth)
+            → IfErr measured (λ p. PassesValueLimit p size deep
+            (min self.old.steps self.old.size) self.old.depth)
             → Charges result (Holds size deep)
             (⟦<Budget as Meter>⟧.metered self.old) (⟦<Budget as Meter>⟧.metered self.new) }
     {
@@ -102,11 +103,11 @@ impl Budget {
                 let weight = self.room() - left;
                 self.take(weight, weight)
             }
-            Err(Passed::Depth) => {
+            Err(ValueLimit::Depth) => {
                 self.stopped = Some(Limit::Depth);
                 Err(AllocError)
             }
-            Err(Passed::Weight) => {
+            Err(ValueLimit::Weight) => {
                 let is_size = self.size <= self.steps;
                 self.stopped = Some(if is_size { Limit::Size } else { Limit::Steps });
                 Err(AllocError)
@@ -117,7 +118,7 @@ impl Budget {
     /// What a value holds is held, as its walk tells it.
     #[inline(never)]
     fn hold_inside(&mut self, value: &Value) -> Result<(), AllocError>
-        ensures { Charges result (Holds (inside value.now) (depth value.now))
+        ensures { Charges result (Holds (inner_weight value.now) (depth value.now))
             (⟦<Budget as Meter>⟧.metered self.old) (⟦<Budget as Meter>⟧.metered self.new) }
     {
         let measured = weigh_inside(value, self.room(), self.depth);
@@ -136,7 +137,7 @@ impl Budget {
 
     /// An array of so many scalars was made, whose place is counted already.
     #[inline(always)]
-    pub fn made_array(&mut self, count: u64) -> Result<(), AllocError>
+    pub fn count_made_array(&mut self, count: u64) -> Result<(), AllocError>
         ensures { Charges result (Holds (3 + count) 1)
             (⟦<Budget as Meter>⟧.metered self.old) (⟦<Budget as Meter>⟧.metered self.new) }
     {
@@ -168,7 +169,7 @@ impl Budget {
 }
 
 impl Meter for Budget {
-    ghost metered = { λ b. record { room = within b.steps b.size b.depth; stopped = b.stopped } };
+    ghost metered = { λ b. record { room = limited b.steps b.size b.depth; stopped = b.stopped } };
 
     #[inline(always)]
     fn steps(&self) -> Option<u64> {
@@ -201,23 +202,23 @@ impl Meter for Budget {
     }
 
     #[inline(always)]
-    fn made(&mut self, value: &Value) -> Result<(), AllocError> {
-        if is_plain(value) {
+    fn count_made(&mut self, value: &Value) -> Result<(), AllocError> {
+        if weighs_one(value) {
             return Ok(());
         }
         if let Value::String(text) = value {
-            return self.take_both(1 + load(text.len()));
+            return self.take_both(1 + byte_units(text.len()));
         }
         self.hold_inside(value)
     }
 
     #[inline(always)]
     fn keep(&mut self, value: &Value) -> Result<(), AllocError> {
-        if is_plain(value) {
+        if weighs_one(value) {
             return self.take(1, 1);
         }
         if let Value::String(text) = value {
-            return self.take_both(2 + load(text.len()));
+            return self.take_both(2 + byte_units(text.len()));
         }
         self.hold_whole(value)
     }

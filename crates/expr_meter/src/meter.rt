@@ -1,8 +1,8 @@
 //! What counts as code runs, or counts nothing.
 ghost use Rattle.std.specs.Prelude.{◌≡◌};
-ghost use Rattle.expr_sizes.specs.Sizes.{depth, inside, weight};
-ghost use Rattle.expr_meter.specs.Metered.{Charges, Metered};
-ghost use Rattle.expr_meter.specs.Rooms.{Begins, Holds, Overruns, Takes, size_left, steps_left, with_size};
+ghost use Rattle.expr_sizes.specs.Sizes.{depth, inner_weight, weight};
+ghost use Rattle.expr_meter.specs.MeterView.{Charges, MeterView};
+ghost use Rattle.expr_meter.specs.Rooms.{TakesWork, Holds, Overruns, Takes, size_left, steps_left, with_size};
 
 use expr_value::Value;
 use std::alloc::AllocError;
@@ -13,7 +13,7 @@ use std::alloc::AllocError;
 /// want of memory.
 pub trait Meter: Drop {
     /// What is left of the limits, and the limit that was passed, if one was.
-    ghost metered: { Self → Metered };
+    ghost metered: { Self → MeterView };
 
     /// How many steps are left, where anything is counted.
     fn steps(&self) -> Option<u64>
@@ -26,15 +26,15 @@ pub trait Meter: Drop {
     /// So many steps are taken for what is about to be done. There must be so much room for what it makes, both of steps and
     /// of size, which isn't taken yet.
     fn work(&mut self, steps: u64, room: u64) -> Result<(), AllocError>
-        ensures { Charges result (Begins steps room) (metered self.old) (metered self.new) };
+        ensures { Charges result (TakesWork steps room) (metered self.old) (metered self.new) };
 
     /// More steps are needed than are left.
     fn overrun(&mut self) -> Result<(), AllocError>
         ensures { Charges result Overruns (metered self.old) (metered self.new) };
 
     /// A value was made, whose place is counted already.
-    fn made(&mut self, value: &Value) -> Result<(), AllocError>
-        ensures { Charges result (Holds (inside value.now) (depth value.now))
+    fn count_made(&mut self, value: &Value) -> Result<(), AllocError>
+        ensures { Charges result (Holds (inner_weight value.now) (depth value.now))
             (metered self.old) (metered self.new) };
 
     /// A value is kept beside others.

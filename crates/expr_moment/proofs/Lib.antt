@@ -1,2 +1,2 @@
-pub mod Placing
+pub mod InZone
 pub mod Shown

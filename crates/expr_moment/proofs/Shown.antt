@@ -7,8 +7,8 @@ use Rattle.jiff.specs.Words.{time_nanos, weekday_of}
 unfoldable use Rattle.jiff.specs.Words.{civil_nanos}
 use Rattle.jiff.specs.Types.{DateTime, Time}
 use Rattle.jiff.proofs.Family.{civil_nanos-parts, epoch_day-civil_nanos, time_nanos_bound}
-use Rattle.expr_clock.specs.Calendar.{clock_of, date_shown, day_length, day_of, plain_clock, plain_day, time_shown}
-use Rattle.expr_clock.proofs.Days.{day_of-epoch_day}
+use Rattle.expr_datetime.specs.Calendar.{clock_of, date_shown, day_length, day_of, plain_clock, plain_day, time_shown}
+use Rattle.expr_datetime.proofs.Days.{day_of-epoch_day}
 
 pub date_is_shown : (dt : DateTime) → plain_day dt.date ≡ date_shown (civil_nanos dt)
 date_is_shown dt = sym (day_of-epoch_day dt.date) ∙ ap day_of (epoch_day-civil_nanos dt)

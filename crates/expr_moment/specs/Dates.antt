@@ -4,13 +4,13 @@ use Rattle.std.specs.Int.{int_div_euclid, int_rem_euclid}
 use Rattle.jiff_core.specs.Calendar.{days_from_civil}
 use Rattle.jiff.specs.Words.{IsYear, IsEpochDay, epoch_day}
 use Rattle.jiff.specs.Types.{DateTime}
-use Rattle.expr_clock.specs.Calendar.{Day, plain_clock}
+use Rattle.expr_datetime.specs.Calendar.{Day, plain_clock}
 use Rattle.expr_value.specs.Answers.{Answer}
-use Rattle.expr_value.specs.Fault.{evaluation}
-use Rattle.expr_value.specs.Times.{place_of}
-use Rattle.expr_value.specs.declared.moment.DateTimeValue.{DateTimeValue}
+use Rattle.expr_error.specs.ErrorKind.{evaluation}
+use Rattle.expr_datetime.specs.Times.{moment_zone}
+use Rattle.expr_datetime.specs.declared.moment.DateTimeValue.{DateTimeValue}
 use Rattle.expr_moment.specs.Fields.{date_at, time_at}
-use Rattle.expr_moment.specs.Places.{at_civil, given}
+use Rattle.expr_moment.specs.Zones.{at_civil, moment_or_refusal}
 
 -- the months from January of the year 0 to the month that lies some years and months after a day
 abbrev pub months_on : Day → ℤ → ℤ → ℤ
@@ -39,5 +39,5 @@ IsReached d years months days = IsYear (year_at (months_on d years months)) × I
 abbrev pub AddsDate : DateTimeValue → ℤ → ℤ → ℤ → Answer → Type 0
 AddsDate t years months days answer =
     ((dt : DateTime) × IsReached (date_at t) years months days × (epoch_day dt.date ≡ day_reached (date_at t) years months days) × (plain_clock dt.time ≡ time_at t)
-    × (given (at_civil (place_of t) dt) ≡ answer))
+    × (moment_or_refusal (at_civil (moment_zone t) dt) ≡ answer))
     ⊎ ((¬ (IsReached (date_at t) years months days)) × (Err evaluation ≡ answer))

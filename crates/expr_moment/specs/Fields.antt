@@ -2,13 +2,13 @@
 use Rattle.std.specs.Prelude.{ℕ, ℤ, pos, neg_ℤ, ◌+◌, ◌%◌, ◌-ℤ◌, ◌&&◌, int_le, List, Ok, Err, codes, if◌then◌else◌}
 use Rattle.std.specs.Int.{int_div_euclid}
 use Rattle.std.specs.Ordering.{int_eq}
-use Rattle.expr_clock.specs.Calendar.{Day, Clock, date_shown, day_length, time_shown}
+use Rattle.expr_datetime.specs.Calendar.{Day, Clock, date_shown, day_length, time_shown}
 use Rattle.jiff_core.specs.Calendar.{day_of_year}
 unfoldable use Rattle.jiff_core.specs.Calendar.{weekday_number}
 use Rattle.expr_value.specs.Answers.{Answer}
-use Rattle.expr_value.specs.Fault.{evaluation}
-use Rattle.expr_value.specs.Times.{instant, local_nanos}
-use Rattle.expr_value.specs.declared.moment.DateTimeValue.{DateTimeValue}
+use Rattle.expr_error.specs.ErrorKind.{evaluation}
+use Rattle.expr_datetime.specs.Times.{instant, local_nanos}
+use Rattle.expr_datetime.specs.declared.moment.DateTimeValue.{DateTimeValue}
 use Rattle.expr_value.specs.declared.value.Value as value
 use Rattle.expr_value.specs.declared.value.Value.{Value}
 use Rattle.expr_moment.specs.declared.fields.DateTimeField.{DateTimeField}

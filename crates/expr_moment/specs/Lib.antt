@@ -1,3 +1,3 @@
 pub mod Dates
 pub mod Fields
-pub mod Places
+pub mod Zones

@@ -3,7 +3,7 @@ ghost use Rattle.std.specs.Prelude.{◌≡◌, ℤ, pos, ◌-◌, ◌+ℤ◌, �
 ghost use Rattle.std.specs.Int.{IsInRange};
 ghost use Rattle.jiff.specs.Words.{epoch_day, IsEpochDay, IsWithin, IsYear};
 ghost use Rattle.jiff_core.specs.Calendar.{days_from_civil};
-ghost use Rattle.expr_clock.specs.Calendar.{plain_day};
+ghost use Rattle.expr_datetime.specs.Calendar.{plain_day};
 ghost use Rattle.expr_moment.specs.Dates.{day_reached, first_day, months_on, year_at, IsReached};
 
 use jiff::civil::Date;

@@ -2,8 +2,8 @@
 ghost use Rattle.std.specs.Prelude.{◌≡◌, ◌≢◌, ◌+◌, ◌%◌, pos, MatchOption};
 ghost use Rattle.std.specs.Int.{int_div_euclid};
 ghost use Rattle.jiff.specs.Words.{weekday_of};
-ghost use Rattle.expr_clock.specs.Calendar.{plain_clock, plain_day};
-ghost use Rattle.expr_value.specs.Times.{instant, local_nanos};
+ghost use Rattle.expr_datetime.specs.Calendar.{plain_clock, plain_day};
+ghost use Rattle.expr_datetime.specs.Times.{instant, local_nanos};
 ghost use Rattle.expr_moment.specs.Fields.{date_at, field_name, field_of, time_at, weekday_at, within_64, year_day_at};
 
 use expr_value::{DateTimeValue, Value};
@@ -38,7 +38,7 @@ pub enum DateTimeField {
 
 impl DateTimeField {
     /// The field of a name.
-    pub fn named(name: &str) -> Option<DateTimeField>
+    pub fn from_name(name: &str) -> Option<DateTimeField>
         ensures { MatchOption result ((f : DateTimeField) → field_name f ≢ name.now)
             (λ f. field_name f ≡ name.now) }
     {
@@ -62,7 +62,7 @@ impl DateTimeField {
     }
 
     /// The field of a moment.
-    pub fn of(self, moment: &DateTimeValue) -> Value
+    pub fn value_of(self, moment: &DateTimeValue) -> Value
         ensures { result ≡ field_of self moment.now }
     {
         match self {

@@ -1,5 +1,5 @@
+pub mod AllocFree
 pub mod Counting
 pub mod Moving
 pub mod Opposites
 pub mod Parts
-pub mod Plainly

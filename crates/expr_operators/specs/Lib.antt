@@ -1,10 +1,10 @@
+pub mod AllocFree
 pub mod Matching
 pub mod Operators
-pub mod Plain
 pub mod Positions
-pub mod Sides
-pub use Rattle.expr_held.specs.Holdings
+pub mod Strictness
+pub use Rattle.expr_cow.specs.Cow
 pub use Rattle.expr_value.specs.Answers
-pub use Rattle.expr_value.specs.Fault
+pub use Rattle.expr_error.specs.ErrorKind
 pub use Rattle.expr_value.specs.Names
 pub use Rattle.expr_value.specs.Values

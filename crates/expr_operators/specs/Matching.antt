@@ -2,7 +2,7 @@
 use Rattle.std.specs.Prelude.{◌≡◌, ℕ, Bool, List, Some, Ok, Err}
 use Rattle.expr_pattern.specs.Meaning.{pattern_answer}
 use Rattle.expr_value.specs.Answers.{Answer}
-use Rattle.expr_value.specs.Fault.{evaluation, pattern}
+use Rattle.expr_error.specs.ErrorKind.{evaluation, pattern}
 use Rattle.expr_value.specs.declared.value.Value as value
 use Rattle.expr_value.specs.declared.value.Value.{Value, out-Value}
 use Rattle.expr_value.specs.declared.value.Value.TheOpen.{Value-F}
@@ -12,10 +12,10 @@ abbrev pub MatchesText : List ℕ → List ℕ → Answer → Type 0
 MatchesText text source (Ok v) = (b : Bool) × (pattern_answer source text ≡ Some b) × (v ≡ value.Bool b)
 MatchesText text source (Err e) = e ≡ pattern
 
-abbrev pub MatchedLayers : Value-F Value → Value-F Value → Answer → Type 0
-MatchedLayers (Value-F.String text) (Value-F.String source) answer = MatchesText text source answer
-MatchedLayers a b answer = answer ≡ Err evaluation
+abbrev pub MatchMayReturnLayers : Value-F Value → Value-F Value → Answer → Type 0
+MatchMayReturnLayers (Value-F.String text) (Value-F.String source) answer = MatchesText text source answer
+MatchMayReturnLayers a b answer = answer ≡ Err evaluation
 
 -- whether the pattern on the right matches somewhere in the text on the left; other kinds are refused, and no pattern is built for them
-abbrev pub Matched : Value → Value → Answer → Type 0
-Matched text source answer = MatchedLayers (out-Value text) (out-Value source) answer
+abbrev pub MatchMayReturn : Value → Value → Answer → Type 0
+MatchMayReturn text source answer = MatchMayReturnLayers (out-Value text) (out-Value source) answer

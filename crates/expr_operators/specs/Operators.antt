@@ -9,48 +9,48 @@ use Rattle.expr_tree.specs.declared.operator.Operator.{Operator}
 use Rattle.expr_tree.specs.declared.operator.Operator.TheVariants.{Add, Subtract, Multiply, Modulo, Equal, NotEqual, GreaterThan, GreaterThanOrEqual, LessThan, LessThanOrEqual, In, NotIn, Contains, StartsWith, EndsWith}
 use Rattle.expr_tree.specs.declared.operator.UnaryOperator.{UnaryOperator}
 use Rattle.expr_tree.specs.declared.operator.UnaryOperator.TheVariants.{Not, Positive, Negative}
-use Rattle.expr_value.specs.Fault.{evaluation}
-use Rattle.expr_value.specs.Moved.{moved, moved_back}
+use Rattle.expr_error.specs.ErrorKind.{evaluation}
+use Rattle.expr_datetime.specs.ShiftedMoments.{moment_later, moment_earlier}
 use Rattle.expr_value.specs.Names.{find}
-use Rattle.expr_value.specs.Times.{instant}
+use Rattle.expr_datetime.specs.Times.{instant}
 use Rattle.expr_value.specs.Values.{equals, at_key}
 use Rattle.expr_value.specs.declared.value.Value as value
 use Rattle.expr_value.specs.declared.value.Value.{Value, out-Value}
 use Rattle.expr_value.specs.declared.value.Value.TheOpen.{Value-F}
 use Rattle.expr_value.specs.Answers.{Answer}
 use Rattle.expr_moment.specs.Fields.{between}
-use Rattle.expr_moment.specs.Places.{given}
+use Rattle.expr_moment.specs.Zones.{moment_or_refusal}
 
 -- sums, differences and products wrap at 64 bits; the sum of two texts is the one before the other; a moment is moved within the range of moments, and two have a length of time between them where it fits 64 bits
-abbrev pub added_layers : Value-F Value → Value-F Value → Answer
-added_layers (Value-F.Integer a) (Value-F.Integer b) = Ok (value.Integer (int_wrapping_add w64 a b))
-added_layers (Value-F.Duration a) (Value-F.Duration b) = Ok (value.Duration (int_wrapping_add w64 a b))
-added_layers (Value-F.String a) (Value-F.String b) = Ok (value.String (a ++ b))
-added_layers (Value-F.DateTime t) (Value-F.Duration n) = given (moved t n)
-added_layers (Value-F.Duration n) (Value-F.DateTime t) = given (moved t n)
-added_layers a b = Err evaluation
+abbrev pub sum_of_layers : Value-F Value → Value-F Value → Answer
+sum_of_layers (Value-F.Integer a) (Value-F.Integer b) = Ok (value.Integer (int_wrapping_add w64 a b))
+sum_of_layers (Value-F.Duration a) (Value-F.Duration b) = Ok (value.Duration (int_wrapping_add w64 a b))
+sum_of_layers (Value-F.String a) (Value-F.String b) = Ok (value.String (a ++ b))
+sum_of_layers (Value-F.DateTime t) (Value-F.Duration n) = moment_or_refusal (moment_later t n)
+sum_of_layers (Value-F.Duration n) (Value-F.DateTime t) = moment_or_refusal (moment_later t n)
+sum_of_layers a b = Err evaluation
 
-abbrev pub added : Value → Value → Answer
-added a b = added_layers (out-Value a) (out-Value b)
+abbrev pub sum_of : Value → Value → Answer
+sum_of a b = sum_of_layers (out-Value a) (out-Value b)
 
-abbrev pub subtracted_layers : Value-F Value → Value-F Value → Answer
-subtracted_layers (Value-F.Integer a) (Value-F.Integer b) = Ok (value.Integer (int_wrapping_sub w64 a b))
-subtracted_layers (Value-F.Duration a) (Value-F.Duration b) = Ok (value.Duration (int_wrapping_sub w64 a b))
-subtracted_layers (Value-F.DateTime t) (Value-F.Duration n) = given (moved_back t n)
-subtracted_layers (Value-F.DateTime t) (Value-F.DateTime u) = between t u
-subtracted_layers a b = Err evaluation
+abbrev pub difference_of_layers : Value-F Value → Value-F Value → Answer
+difference_of_layers (Value-F.Integer a) (Value-F.Integer b) = Ok (value.Integer (int_wrapping_sub w64 a b))
+difference_of_layers (Value-F.Duration a) (Value-F.Duration b) = Ok (value.Duration (int_wrapping_sub w64 a b))
+difference_of_layers (Value-F.DateTime t) (Value-F.Duration n) = moment_or_refusal (moment_earlier t n)
+difference_of_layers (Value-F.DateTime t) (Value-F.DateTime u) = between t u
+difference_of_layers a b = Err evaluation
 
-abbrev pub subtracted : Value → Value → Answer
-subtracted a b = subtracted_layers (out-Value a) (out-Value b)
+abbrev pub difference_of : Value → Value → Answer
+difference_of a b = difference_of_layers (out-Value a) (out-Value b)
 
-abbrev pub multiplied_layers : Value-F Value → Value-F Value → Answer
-multiplied_layers (Value-F.Integer a) (Value-F.Integer b) = Ok (value.Integer (int_wrapping_mul w64 a b))
-multiplied_layers (Value-F.Duration a) (Value-F.Integer b) = Ok (value.Duration (int_wrapping_mul w64 a b))
-multiplied_layers (Value-F.Integer a) (Value-F.Duration b) = Ok (value.Duration (int_wrapping_mul w64 a b))
-multiplied_layers a b = Err evaluation
+abbrev pub product_of_layers : Value-F Value → Value-F Value → Answer
+product_of_layers (Value-F.Integer a) (Value-F.Integer b) = Ok (value.Integer (int_wrapping_mul w64 a b))
+product_of_layers (Value-F.Duration a) (Value-F.Integer b) = Ok (value.Duration (int_wrapping_mul w64 a b))
+product_of_layers (Value-F.Integer a) (Value-F.Duration b) = Ok (value.Duration (int_wrapping_mul w64 a b))
+product_of_layers a b = Err evaluation
 
-abbrev pub multiplied : Value → Value → Answer
-multiplied a b = multiplied_layers (out-Value a) (out-Value b)
+abbrev pub product_of : Value → Value → Answer
+product_of a b = product_of_layers (out-Value a) (out-Value b)
 
 -- the remainder has the sign of the left side; none is left by 0
 abbrev pub remainder_layers : Value-F Value → Value-F Value → Answer
@@ -104,29 +104,29 @@ occurs part [] = starts_with nat_eq [] part
 occurs part (b ∷ bs) = starts_with nat_eq (b ∷ bs) part || occurs part bs
 
 -- a text contains its parts, an array what equals an item, and a map its names
-abbrev pub contained_layers : Value-F Value → Value → Value-F Value → Option Bool
-contained_layers (Value-F.String text) v (Value-F.String part) = Some (occurs part text)
-contained_layers (Value-F.Array items) v b = Some (list_any (λ item. equals item v) items)
-contained_layers (Value-F.Map m) v (Value-F.String name) = Some (is_some (find name m))
-contained_layers a v b = None
+abbrev pub containment_layers : Value-F Value → Value → Value-F Value → Option Bool
+containment_layers (Value-F.String text) v (Value-F.String part) = Some (occurs part text)
+containment_layers (Value-F.Array items) v b = Some (list_any (λ item. equals item v) items)
+containment_layers (Value-F.Map m) v (Value-F.String name) = Some (is_some (find name m))
+containment_layers a v b = None
 
-abbrev pub contained : Value → Value → Option Bool
-contained a b = contained_layers (out-Value a) b (out-Value b)
+abbrev pub containment : Value → Value → Option Bool
+containment a b = containment_layers (out-Value a) b (out-Value b)
 
 -- whether a text begins with another, and whether it ends with it
-abbrev pub begun_by_layers : Value-F Value → Value-F Value → Option Bool
-begun_by_layers (Value-F.String text) (Value-F.String front) = Some (starts_with nat_eq text front)
-begun_by_layers a b = None
+abbrev pub begins_with_layers : Value-F Value → Value-F Value → Option Bool
+begins_with_layers (Value-F.String text) (Value-F.String front) = Some (starts_with nat_eq text front)
+begins_with_layers a b = None
 
-abbrev pub begun_by : Value → Value → Option Bool
-begun_by a b = begun_by_layers (out-Value a) (out-Value b)
+abbrev pub begins_with : Value → Value → Option Bool
+begins_with a b = begins_with_layers (out-Value a) (out-Value b)
 
-abbrev pub ended_by_layers : Value-F Value → Value-F Value → Option Bool
-ended_by_layers (Value-F.String text) (Value-F.String back) = Some (ends_with nat_eq text back)
-ended_by_layers a b = None
+abbrev pub ends_in_layers : Value-F Value → Value-F Value → Option Bool
+ends_in_layers (Value-F.String text) (Value-F.String back) = Some (ends_with nat_eq text back)
+ends_in_layers a b = None
 
-abbrev pub ended_by : Value → Value → Option Bool
-ended_by a b = ended_by_layers (out-Value a) (out-Value b)
+abbrev pub ends_in : Value → Value → Option Bool
+ends_in a b = ends_in_layers (out-Value a) (out-Value b)
 
 -- What the operators that answer yes or no say of two values. The others say nothing: quotients and powers among them.
 unfoldable pub verdict : Operator → Value → Value → Option Bool
@@ -138,26 +138,26 @@ verdict LessThan a b = option_map is_lt (order_of a b)
 verdict LessThanOrEqual a b = option_map is_le (order_of a b)
 verdict In a b = belongs a b
 verdict NotIn a b = option_map not (belongs a b)
-verdict Contains a b = contained a b
-verdict StartsWith a b = begun_by a b
-verdict EndsWith a b = ended_by a b
+verdict Contains a b = containment a b
+verdict StartsWith a b = begins_with a b
+verdict EndsWith a b = ends_in a b
 verdict op a b = None
 
 abbrev pub truth_answer : Bool → Answer
 truth_answer b = Ok (value.Bool b)
 
 -- a boolean where something is said, and else a refusal
-abbrev pub judged : Option Bool → Answer
-judged (Some b) = truth_answer b
-judged None = Err evaluation
+abbrev pub truth_or_refusal : Option Bool → Answer
+truth_or_refusal (Some b) = truth_answer b
+truth_or_refusal None = Err evaluation
 
 -- what an operator that asks both sides gives on their values
-unfoldable pub applied : Operator → Value → Value → Answer
-applied Add a b = added a b
-applied Subtract a b = subtracted a b
-applied Multiply a b = multiplied a b
-applied Modulo a b = remainder a b
-applied op a b = judged (verdict op a b)
+unfoldable pub operator_answer : Operator → Value → Value → Answer
+operator_answer Add a b = sum_of a b
+operator_answer Subtract a b = difference_of a b
+operator_answer Multiply a b = product_of a b
+operator_answer Modulo a b = remainder a b
+operator_answer op a b = truth_or_refusal (verdict op a b)
 
 -- one answer is a boolean and the other is the opposite one, or both are refused
 abbrev pub AreOpposite : Answer → Answer → Type 0
@@ -172,11 +172,11 @@ abbrev pub truth : Value → Answer
 truth v = truth_layer (out-Value v)
 
 -- what an operator before its operand gives on its value
-abbrev pub prefixed_layer : UnaryOperator → Value-F Value → Answer
-prefixed_layer Not (Value-F.Bool b) = Ok (value.Bool (not b))
-prefixed_layer Positive (Value-F.Integer n) = Ok (value.Integer n)
-prefixed_layer Negative (Value-F.Integer n) = Ok (value.Integer (int_wrapping_neg w64 n))
-prefixed_layer op v = Err evaluation
+abbrev pub unary_answer_layer : UnaryOperator → Value-F Value → Answer
+unary_answer_layer Not (Value-F.Bool b) = Ok (value.Bool (not b))
+unary_answer_layer Positive (Value-F.Integer n) = Ok (value.Integer n)
+unary_answer_layer Negative (Value-F.Integer n) = Ok (value.Integer (int_wrapping_neg w64 n))
+unary_answer_layer op v = Err evaluation
 
-abbrev pub prefixed : UnaryOperator → Value → Answer
-prefixed op v = prefixed_layer op (out-Value v)
+abbrev pub unary_answer : UnaryOperator → Value → Answer
+unary_answer op v = unary_answer_layer op (out-Value v)

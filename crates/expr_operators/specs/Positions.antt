@@ -3,7 +3,7 @@ use Rattle.std.specs.Prelude.{ℕ, ◌+◌, ◌-◌, min, ℤ, pos, negsuc, ◌+
 use Rattle.std.specs.List.{range_with_len}
 use Rattle.std.specs.Option.{option_map_or}
 use Rattle.bstr.specs.Utf8.{lossy_chars}
-use Rattle.expr_value.specs.Fault.{Fault, evaluation}
+use Rattle.expr_error.specs.ErrorKind.{ErrorKind, evaluation}
 use Rattle.expr_value.specs.Names.{find}
 use Rattle.expr_value.specs.Values.{at_key}
 use Rattle.expr_value.specs.declared.value.Value as value
@@ -23,12 +23,12 @@ in_a_row first count = map (λ k. value.Integer (first +ℤ pos k)) (range_with_
 abbrev pub integers_between : ℤ → ℤ → List Value
 integers_between first last = in_a_row first (how_many first last)
 
-abbrev pub ranged_layers : Value-F Value → Value-F Value → Answer
-ranged_layers (Value-F.Integer first) (Value-F.Integer last) = Ok (value.Array (integers_between first last))
-ranged_layers a b = Err evaluation
+abbrev pub range_answer_layers : Value-F Value → Value-F Value → Answer
+range_answer_layers (Value-F.Integer first) (Value-F.Integer last) = Ok (value.Array (integers_between first last))
+range_answer_layers a b = Err evaluation
 
-abbrev pub ranged : Value → Value → Answer
-ranged a b = ranged_layers (out-Value a) (out-Value b)
+abbrev pub range_answer : Value → Value → Answer
+range_answer a b = range_answer_layers (out-Value a) (out-Value b)
 
 -- the item at a place: from the front, or from the end if the place is negative, so that -1 is the last
 abbrev pub item_from : {X : Type 0} → List X → ℤ → Option X
@@ -39,23 +39,23 @@ abbrev pub or_nil : Option Value → Answer
 or_nil found = Ok (unwrap_or found value.Nil)
 
 -- An integer is a place in an array or in bytes, a text is a name of a map, and any value may be sought as a key. What isn't there is nil.
-abbrev pub indexed_layers : Value-F Value → Value → Value-F Value → Bool → Answer
-indexed_layers (Value-F.Array items) k (Value-F.Integer n) optional = or_nil (item_from items n)
-indexed_layers (Value-F.Bytes bytes) k (Value-F.Integer n) optional = or_nil (option_map (λ b. value.Integer (pos b)) (item_from bytes n))
-indexed_layers (Value-F.Map m) k (Value-F.String name) optional = or_nil (find name m)
-indexed_layers (Value-F.KeyedMap m) k key optional = or_nil (at_key k m)
-indexed_layers v k key optional = if optional then Ok value.Nil else Err evaluation
+abbrev pub index_answer_layers : Value-F Value → Value → Value-F Value → Bool → Answer
+index_answer_layers (Value-F.Array items) k (Value-F.Integer n) optional = or_nil (item_from items n)
+index_answer_layers (Value-F.Bytes bytes) k (Value-F.Integer n) optional = or_nil (option_map (λ b. value.Integer (pos b)) (item_from bytes n))
+index_answer_layers (Value-F.Map m) k (Value-F.String name) optional = or_nil (find name m)
+index_answer_layers (Value-F.KeyedMap m) k key optional = or_nil (at_key k m)
+index_answer_layers v k key optional = if optional then Ok value.Nil else Err evaluation
 
-abbrev pub indexed : Value → Value → Bool → Answer
-indexed v key optional = indexed_layers (out-Value v) key (out-Value key) optional
+abbrev pub index_answer : Value → Value → Bool → Answer
+index_answer v key optional = index_answer_layers (out-Value v) key (out-Value key) optional
 
 -- a bound of a slice is an integer
-abbrev pub bound_checked_layer : Value-F Value → Result ℤ Fault
-bound_checked_layer (Value-F.Integer n) = Ok n
-bound_checked_layer v = Err evaluation
+abbrev pub checked_bound_layer : Value-F Value → Result ℤ ErrorKind
+checked_bound_layer (Value-F.Integer n) = Ok n
+checked_bound_layer v = Err evaluation
 
-abbrev pub bound_checked : Value → Result ℤ Fault
-bound_checked v = bound_checked_layer (out-Value v)
+abbrev pub checked_bound : Value → Result ℤ ErrorKind
+checked_bound v = checked_bound_layer (out-Value v)
 
 -- Where a bound stands among so many items. A negative one counts from the end, and none stands outside.
 abbrev pub bound_at : ℕ → ℤ → ℕ
@@ -75,14 +75,14 @@ abbrev pub part : {X : Type 0} → Option ℤ → Option ℤ → List X → List
 part start stop xs = drop (start_at (length xs) start stop) (take (stop_at (length xs) stop) xs)
 
 -- the text of some bytes, with U+FFFD for each piece that is no character
-abbrev pub repaired : List ℕ → List ℕ
-repaired bytes = encode_utf8_all (lossy_chars bytes)
+abbrev pub lossy_text : List ℕ → List ℕ
+lossy_text bytes = encode_utf8_all (lossy_chars bytes)
 
-abbrev pub sliced_layer : Value-F Value → Option ℤ → Option ℤ → Answer
-sliced_layer (Value-F.Array items) start stop = Ok (value.Array (part start stop items))
-sliced_layer (Value-F.Bytes bytes) start stop = Ok (value.Bytes (part start stop bytes))
-sliced_layer (Value-F.String text) start stop = Ok (value.String (repaired (part start stop text)))
-sliced_layer v start stop = Err evaluation
+abbrev pub slice_answer_layer : Value-F Value → Option ℤ → Option ℤ → Answer
+slice_answer_layer (Value-F.Array items) start stop = Ok (value.Array (part start stop items))
+slice_answer_layer (Value-F.Bytes bytes) start stop = Ok (value.Bytes (part start stop bytes))
+slice_answer_layer (Value-F.String text) start stop = Ok (value.String (lossy_text (part start stop text)))
+slice_answer_layer v start stop = Err evaluation
 
-abbrev pub sliced : Value → Option ℤ → Option ℤ → Answer
-sliced v start stop = sliced_layer (out-Value v) start stop
+abbrev pub slice_answer : Value → Option ℤ → Option ℤ → Answer
+slice_answer v start stop = slice_answer_layer (out-Value v) start stop

@@ -1,20 +1,20 @@
 //! Sums, differences, products and remainders.
 ghost use Rattle.std.specs.Prelude.{◌≡◌, ◌++◌, IfOk, string_bytes, IsTrue};
-ghost use Rattle.expr_value.specs.Answers.{Is};
-ghost use Rattle.expr_operators.specs.Operators.{added, subtracted, multiplied, remainder};
-ghost use Rattle.expr_operators.specs.Plain.{is_plain_value, Surely};
+ghost use Rattle.expr_value.specs.Answers.{ReturnsExactly};
+ghost use Rattle.expr_operators.specs.Operators.{sum_of, difference_of, product_of, remainder};
+ghost use Rattle.expr_operators.specs.AllocFree.{is_alloc_free_value, ReturnsAllocFree};
 
 use crate::messages::mismatch;
-use crate::moments::{between, earlier, later};
+use crate::moments::{difference, earlier, later};
 use expr_tree::operator::Operator;
 use expr_value::{Result, Text, Value, refusal};
 use std::alloc::{AllocError, Global};
 
 /// The sum of two integers or two durations, two texts as one, or a moment moved by a duration.
 pub fn add(alloc: Global, left: &Value, right: &Value) -> Result<Value>
-    ensures answer { Is result (added left.now right.now) }
-    ensures plain { IsTrue (is_plain_value left.now) → IsTrue (is_plain_value right.now)
-        → Surely result (added left.now right.now) }
+    ensures answer { ReturnsExactly result (sum_of left.now right.now) }
+    ensures alloc_free { IsTrue (is_alloc_free_value left.now) → IsTrue (is_alloc_free_value right.now)
+        → ReturnsAllocFree result (sum_of left.now right.now) }
 {
     match (left, right) {
         (Value::Integer(a), Value::Integer(b)) => Ok(Value::Integer(a.wrapping_add(*b))),
@@ -31,24 +31,24 @@ pub fn add(alloc: Global, left: &Value, right: &Value) -> Result<Value>
 
 /// The difference of two integers, two durations or two moments, or a moment moved back by a duration.
 pub fn subtract(alloc: Global, left: &Value, right: &Value) -> Result<Value>
-    ensures answer { Is result (subtracted left.now right.now) }
-    ensures plain { IsTrue (is_plain_value left.now) → IsTrue (is_plain_value right.now)
-        → Surely result (subtracted left.now right.now) }
+    ensures answer { ReturnsExactly result (difference_of left.now right.now) }
+    ensures alloc_free { IsTrue (is_alloc_free_value left.now) → IsTrue (is_alloc_free_value right.now)
+        → ReturnsAllocFree result (difference_of left.now right.now) }
 {
     match (left, right) {
         (Value::Integer(a), Value::Integer(b)) => Ok(Value::Integer(a.wrapping_sub(*b))),
         (Value::Duration(a), Value::Duration(b)) => Ok(Value::Duration(a.wrapping_sub(*b))),
         (Value::DateTime(moment), Value::Duration(n)) => earlier(alloc, moment.get(), n),
-        (Value::DateTime(a), Value::DateTime(b)) => between(alloc, a.get(), b.get()),
+        (Value::DateTime(a), Value::DateTime(b)) => difference(alloc, a.get(), b.get()),
         _ => Err(mismatch(alloc, &Operator::Subtract, left, right)),
     }
 }
 
 /// The product of two integers, or of a duration and an integer either way round.
 pub fn multiply(alloc: Global, left: &Value, right: &Value) -> Result<Value>
-    ensures answer { Is result (multiplied left.now right.now) }
-    ensures plain { IsTrue (is_plain_value left.now) → IsTrue (is_plain_value right.now)
-        → Surely result (multiplied left.now right.now) }
+    ensures answer { ReturnsExactly result (product_of left.now right.now) }
+    ensures alloc_free { IsTrue (is_alloc_free_value left.now) → IsTrue (is_alloc_free_value right.now)
+        → ReturnsAllocFree result (product_of left.now right.now) }
 {
     match (left, right) {
         (Value::Integer(a), Value::Integer(b)) => Ok(Value::Integer(a.wrapping_mul(*b))),
@@ -61,9 +61,9 @@ pub fn multiply(alloc: Global, left: &Value, right: &Value) -> Result<Value>
 
 /// What is left of an integer after whole times another, with the sign of the left one.
 pub fn modulo(alloc: Global, left: &Value, right: &Value) -> Result<Value>
-    ensures answer { Is result (remainder left.now right.now) }
-    ensures plain { IsTrue (is_plain_value left.now) → IsTrue (is_plain_value right.now)
-        → Surely result (remainder left.now right.now) }
+    ensures answer { ReturnsExactly result (remainder left.now right.now) }
+    ensures alloc_free { IsTrue (is_alloc_free_value left.now) → IsTrue (is_alloc_free_value right.now)
+        → ReturnsAllocFree result (remainder left.now right.now) }
 {
     match (left, right) {
         (Value::Integer(a), Value::Integer(b)) => {

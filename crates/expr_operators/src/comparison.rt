@@ -1,7 +1,7 @@
 //! The order and the equality of two values.
 ghost use Rattle.std.specs.Prelude.{◌≡◌};
 ghost use Rattle.std.specs.Ordering.{int_cmp};
-ghost use Rattle.expr_value.specs.Times.{instant};
+ghost use Rattle.expr_datetime.specs.Times.{instant};
 ghost use Rattle.expr_operators.specs.Operators.{are_compared, equality, order_of};
 
 use expr_value::{DateTimeValue, Value};

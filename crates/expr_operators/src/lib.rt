@@ -3,7 +3,7 @@
 
 mod arithmetic;
 mod comparison;
-mod held;
+mod cow;
 mod laws;
 mod matching;
 mod membership;
@@ -11,13 +11,13 @@ mod messages;
 mod moments;
 mod operators;
 mod positions;
-mod sides;
+mod strictness;
 
-pub use expr_held::Held;
-pub use held::{part_of, slice_of};
+pub use cow::{part_of, slice_of};
+pub use expr_cow::CowValue;
 pub use laws::{outside_is_not_within, part_stands_between_front_and_back, unequal_is_not_equal};
 pub use matching::match_pattern;
-pub use messages::{refused, unexpected};
+pub use messages::{refusal_of, unexpected_kind};
 pub use operators::{apply, as_condition, as_truth, judge, prefix};
 pub use positions::{index, range, range_between, slice, slice_bound, slice_lent};
-pub use sides::{Sides, sides_asked};
+pub use strictness::{Strictness, strictness_of};

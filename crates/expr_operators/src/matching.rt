@@ -1,9 +1,9 @@
 //! `matches`: whether a pattern matches somewhere in a text.
 ghost use Rattle.std.specs.Prelude.{◌≡◌, ◌≢◌, ℕ, List, Some, IfErr};
 ghost use Rattle.std.specs.Option.{option_copied};
-ghost use Rattle.expr_operators.specs.Matching.{Matched};
-ghost use Rattle.expr_value.specs.Answers.{Gives};
-ghost use Rattle.expr_value.specs.Fault.{fault_of, pattern as bad_pattern};
+ghost use Rattle.expr_operators.specs.Matching.{MatchMayReturn};
+ghost use Rattle.expr_value.specs.Answers.{Returns};
+ghost use Rattle.expr_error.specs.ErrorKind.{error_kind, pattern as bad_pattern};
 
 use crate::messages::mismatch;
 use expr_pattern::{Matchers, Pattern};
@@ -27,9 +27,9 @@ pub fn match_pattern<'p>(
     source: &Value,
     kept: Option<&'p Pattern>,
 ) -> Result<Value>
-    ensures answer { Gives result (Matched text.now source.now) }
+    ensures answer { Returns result (MatchMayReturn text.now source.now) }
     ensures kept { (s : List ℕ) → source.now ≡ Value.String s → option_copied kept.entry ≡ Some s
-        → IfErr result (λ e. fault_of e ≢ bad_pattern) }
+        → IfErr result (λ e. error_kind e ≢ bad_pattern) }
 {
     match (text, source) {
         (Value::String(text), Value::String(source)) => {

@@ -1,7 +1,7 @@
 //! Whether a value has another among its parts. Kinds that are not asked for this give none.
 ghost use Rattle.std.specs.Prelude.{◌≡◌, nat_eq};
 ghost use Rattle.std.specs.List.{starts_with, ends_with};
-ghost use Rattle.expr_operators.specs.Operators.{begun_by, belongs, contained, ended_by, occurs};
+ghost use Rattle.expr_operators.specs.Operators.{begins_with, belongs, containment, ends_in, occurs};
 
 use expr_value::Value;
 
@@ -19,7 +19,7 @@ pub fn is_within(left: &Value, right: &Value) -> Option<bool>
 
 /// Whether the right value is a part of the left text, equal to an item of the left array, or a name of the left map.
 pub fn contains(left: &Value, right: &Value) -> Option<bool>
-    ensures { result ≡ contained left.now right.now }
+    ensures { result ≡ containment left.now right.now }
 {
     match (left, right) {
         (Value::String(text), Value::String(part)) => Some(has_part(text.as_str(), part.as_str())),
@@ -31,7 +31,7 @@ pub fn contains(left: &Value, right: &Value) -> Option<bool>
 
 /// Whether the left text begins with the right one.
 pub fn begins_with(left: &Value, right: &Value) -> Option<bool>
-    ensures { result ≡ begun_by left.now right.now }
+    ensures { result ≡ begins_with left.now right.now }
 {
     match (left, right) {
         (Value::String(text), Value::String(front)) => {
@@ -43,7 +43,7 @@ pub fn begins_with(left: &Value, right: &Value) -> Option<bool>
 
 /// Whether the left text ends with the right one.
 pub fn ends_in(left: &Value, right: &Value) -> Option<bool>
-    ensures { result ≡ ended_by left.now right.now }
+    ensures { result ≡ ends_in left.now right.now }
 {
     match (left, right) {
         (Value::String(text), Value::String(back)) => Some(has_back(text.as_str(), back.as_str())),

@@ -1,14 +1,14 @@
 //! The texts of refusals: what was met, for people.
 ghost use Rattle.std.specs.Prelude.{◌≡◌, ◌≢◌, Err};
-ghost use Rattle.expr_value.specs.Answers.{Is};
-ghost use Rattle.expr_value.specs.Fault.{evaluation, IsOfKind};
+ghost use Rattle.expr_value.specs.Answers.{ReturnsExactly};
+ghost use Rattle.expr_error.specs.ErrorKind.{evaluation, IsOfKind};
 
 use expr_value::{Error, Value};
 use std::alloc::{AllocError, Global};
 use std::fmt::Display;
 
 /// A refusal to evaluate, of this text, or for want of memory where there is none for it.
-pub fn refused(text: Result<String, AllocError>) -> Error
+pub fn refusal_of(text: Result<String, AllocError>) -> Error
     ensures { IsOfKind result evaluation }
 {
     match text {
@@ -23,7 +23,7 @@ pub fn mismatch<D: Display>(alloc: Global, operator: &D, left: &Value, right: &V
 {
     let left = kind_of(left);
     let right = kind_of(right);
-    refused(format!(in alloc; "operator {operator} does not take {left} and {right}"))
+    refusal_of(format!(in alloc; "operator {operator} does not take {left} and {right}"))
 }
 
 /// What an operator gives on operands that it refuses.
@@ -34,7 +34,7 @@ pub fn refuse<D: Display>(
     left: &Value,
     right: &Value,
 ) -> expr_value::Result<Value>
-    ensures { Is result (Err evaluation) }
+    ensures { ReturnsExactly result (Err evaluation) }
 {
     Err(mismatch(alloc, operator, left, right))
 }
@@ -45,15 +45,15 @@ pub fn not_indexed(alloc: Global, value: &Value, key: &Value) -> Error
 {
     let value = kind_of(value);
     let key = kind_of(key);
-    refused(format!(in alloc; "no index of {value} by {key}"))
+    refusal_of(format!(in alloc; "no index of {value} by {key}"))
 }
 
 /// A refusal of a value where another kind is expected.
-pub fn unexpected(alloc: Global, expected: &str, met: &Value) -> Error
+pub fn unexpected_kind(alloc: Global, expected: &str, met: &Value) -> Error
     ensures { IsOfKind result evaluation }
 {
     let met = kind_of(met);
-    refused(format!(in alloc; "expected {expected}, met {met}"))
+    refusal_of(format!(in alloc; "expected {expected}, met {met}"))
 }
 
 /// A refusal of an operand where an operator before it takes another kind.
@@ -61,7 +61,7 @@ pub fn unexpected_after(alloc: Global, operator: &str, expected: &str, met: &Val
     ensures { IsOfKind result evaluation }
 {
     let met = kind_of(met);
-    refused(format!(in alloc; "expected {expected} after {operator}, met {met}"))
+    refusal_of(format!(in alloc; "expected {expected} after {operator}, met {met}"))
 }
 
 /// A value's kind, for messages.

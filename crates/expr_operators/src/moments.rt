@@ -1,32 +1,32 @@
 //! Moments moved by lengths of time, and what lies between two of them.
 ghost use Rattle.std.specs.Prelude.{◌≡◌};
-ghost use Rattle.expr_value.specs.Answers.{Is};
-ghost use Rattle.expr_value.specs.Moved.{moved, moved_back};
+ghost use Rattle.expr_value.specs.Answers.{ReturnsExactly};
+ghost use Rattle.expr_datetime.specs.ShiftedMoments.{moment_later, moment_earlier};
 ghost use Rattle.expr_moment.specs.Fields.{between};
-ghost use Rattle.expr_moment.specs.Places.{given};
+ghost use Rattle.expr_moment.specs.Zones.{moment_or_refusal};
 
 use expr_value::{DateTimeValue, Result, Value, refusal};
 use std::alloc::Global;
 
 /// The moment so many nanoseconds later, in the same place.
 pub fn later(alloc: Global, moment: &DateTimeValue, nanoseconds: &i64) -> Result<Value>
-    ensures { Is result (given (moved moment.now nanoseconds.now)) }
+    ensures { ReturnsExactly result (moment_or_refusal (moment_later moment.now nanoseconds.now)) }
 {
     let moment = moment.clone()?;
-    given(alloc, moment.checked_add_signed(*nanoseconds))
+    moment_or_refusal(alloc, moment.checked_add_signed(*nanoseconds))
 }
 
 /// The moment so many nanoseconds earlier, in the same place.
 pub fn earlier(alloc: Global, moment: &DateTimeValue, nanoseconds: &i64) -> Result<Value>
-    ensures { Is result (given (moved_back moment.now nanoseconds.now)) }
+    ensures { ReturnsExactly result (moment_or_refusal (moment_earlier moment.now nanoseconds.now)) }
 {
     let moment = moment.clone()?;
-    given(alloc, moment.checked_sub_signed(*nanoseconds))
+    moment_or_refusal(alloc, moment.checked_sub_signed(*nanoseconds))
 }
 
 /// The length of time from the second moment to the first.
-pub fn between(alloc: Global, moment: &DateTimeValue, other: &DateTimeValue) -> Result<Value>
-    ensures { Is result (between moment.now other.now) }
+pub fn difference(alloc: Global, moment: &DateTimeValue, other: &DateTimeValue) -> Result<Value>
+    ensures { ReturnsExactly result (between moment.now other.now) }
 {
     match moment.checked_difference(other) {
         Some(nanoseconds) => Ok(Value::Duration(nanoseconds)),
@@ -34,8 +34,8 @@ pub fn between(alloc: Global, moment: &DateTimeValue, other: &DateTimeValue) -> 
     }
 }
 
-fn given(alloc: Global, moment: Option<DateTimeValue>) -> Result<Value>
-    ensures { Is result (given moment) }
+fn moment_or_refusal(alloc: Global, moment: Option<DateTimeValue>) -> Result<Value>
+    ensures { ReturnsExactly result (moment_or_refusal moment) }
 {
     match moment {
         Some(moment) => Value::datetime(alloc, moment),

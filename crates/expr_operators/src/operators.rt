@@ -1,26 +1,26 @@
 //! The operators, on values.
 ghost use Rattle.std.specs.Prelude.{◌≡◌, ◌≢◌, IfOk, Err, IsTrue};
-ghost use Rattle.expr_value.specs.Answers.{Is};
-ghost use Rattle.expr_operators.specs.Operators.{applied, prefixed, truth, truth_answer, verdict};
-ghost use Rattle.expr_operators.specs.Plain.{is_plain_operator, is_plain_value, Surely};
-ghost use Rattle.expr_value.specs.Fault.{RefusesWith};
+ghost use Rattle.expr_value.specs.Answers.{ReturnsExactly};
+ghost use Rattle.expr_operators.specs.Operators.{operator_answer, unary_answer, truth, truth_answer, verdict};
+ghost use Rattle.expr_operators.specs.AllocFree.{is_alloc_free_operator, is_alloc_free_value, ReturnsAllocFree};
+ghost use Rattle.expr_error.specs.ErrorKind.{RefusesWith};
 
 use crate::arithmetic::{add, modulo, multiply, subtract};
 use crate::comparison::{are_equal, compare};
 use crate::membership::{begins_with, contains, ends_in, is_within};
-use crate::messages::{mismatch, unexpected, unexpected_after};
+use crate::messages::{mismatch, unexpected_after, unexpected_kind};
 use expr_tree::operator::{Operator, UnaryOperator};
 use expr_value::{Result, Value};
 use std::alloc::Global;
 
 /// What an operator that asks both sides gives on their values.
 #[inline(never)]
-#[tactic(auto, unfolding(crate::specs::Operators::applied))]
+#[tactic(auto, unfolding(crate::specs::Operators::operator_answer))]
 pub fn apply(alloc: Global, operator: Operator, left: &Value, right: &Value) -> Result<Value>
-    ensures answer { Is result (applied operator left.now right.now) }
-    ensures plain { IsTrue (is_plain_operator operator) → IsTrue (is_plain_value left.now)
-        → IsTrue (is_plain_value right.now)
-        → Surely result (applied operator left.now right.now) }
+    ensures answer { ReturnsExactly result (operator_answer operator left.now right.now) }
+    ensures alloc_free { IsTrue (is_alloc_free_operator operator) → IsTrue (is_alloc_free_value left.now)
+        → IsTrue (is_alloc_free_value right.now)
+        → ReturnsAllocFree result (operator_answer operator left.now right.now) }
 {
     match operator {
         Operator::Add => add(alloc, left, right),
@@ -59,8 +59,8 @@ pub fn judge(operator: Operator, left: &Value, right: &Value) -> Option<bool>
 
 /// What an operator before its operand gives on its value.
 pub fn prefix(alloc: Global, operator: UnaryOperator, value: &Value) -> Result<Value>
-    ensures answer { Is result (prefixed operator value.now) }
-    ensures plain { Surely result (prefixed operator value.now) }
+    ensures answer { ReturnsExactly result (unary_answer operator value.now) }
+    ensures alloc_free { ReturnsAllocFree result (unary_answer operator value.now) }
 {
     match (operator, value) {
         (UnaryOperator::Not, Value::Bool(b)) => Ok(Value::Bool(!*b)),
@@ -74,12 +74,12 @@ pub fn prefix(alloc: Global, operator: UnaryOperator, value: &Value) -> Result<V
 
 /// A boolean as it is; any other value is refused.
 pub fn as_truth(alloc: Global, value: &Value) -> Result<Value>
-    ensures answer { Is result (truth value.now) }
-    ensures plain { Surely result (truth value.now) }
+    ensures answer { ReturnsExactly result (truth value.now) }
+    ensures alloc_free { ReturnsAllocFree result (truth value.now) }
 {
     match value {
         Value::Bool(b) => Ok(Value::Bool(*b)),
-        other => Err(unexpected(alloc, "a Bool", other)),
+        other => Err(unexpected_kind(alloc, "a Bool", other)),
     }
 }
 
@@ -90,6 +90,6 @@ pub fn as_condition(alloc: Global, value: &Value) -> Result<bool>
 {
     match value {
         Value::Bool(b) => Ok(*b),
-        other => Err(unexpected(alloc, "a Bool", other)),
+        other => Err(unexpected_kind(alloc, "a Bool", other)),
     }
 }

@@ -1,4 +1,4 @@
-mod Begun
+mod Prefixes
 mod Reach
 mod Runs
 mod Whole

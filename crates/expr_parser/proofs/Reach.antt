@@ -6,30 +6,30 @@ use Rattle.expr_token.specs.Reading.{Begins, NoPiece, Reads, ReadsAt}
 use Rattle.expr_token.specs.declared.token.Token.{Token}
 use Rattle.expr_token.proofs.Lexing.{one_reading}
 use Rattle.expr_token.proofs.Readings.{begun_front, begun_none, begun_paired, begun_refused}
-use Rattle.expr_parts.specs.Parts.{MeasuredBlock, no_lines}
+use Rattle.expr_parts.specs.Parts.{BlockWithHeight, no_lines}
 use Rattle.expr_grammar.specs.Grammar.{TreeProgram, Spells, LiteralsFit, IntegerFits}
 use Rattle.expr_grammar.specs.Prefixes.{SomeBegins}
-use Rattle.expr_frames.specs.Measures.{measured_program}
+use Rattle.expr_frames.specs.Measures.{program_with_height}
 use Rattle.expr_frames.specs.Nodes.{On, Fail, step_in, finish, finish_in, block_of_tokens}
 use Rattle.expr_frames.specs.declared.frame.Frame.{Frame}
 use Rattle.expr_frames.specs.declared.frame.Frame.TheVariants as frame
-use Rattle.expr_frames.specs.declared.frame.Place.{Place}
-use Rattle.expr_frames.specs.declared.frame.Place.TheVariants as place
+use Rattle.expr_frames.specs.declared.frame.ParseState.{ParseState}
+use Rattle.expr_frames.specs.declared.frame.ParseState.TheVariants as parse_state
 use Rattle.expr_frames.specs.declared.frame.Section.TheVariants as section
 use Rattle.expr_parser.specs.Texts.{FaultPlace, AtEnd, AtToken, AtUnreadable, HasLargeLiteral, HasNoTree, IsMeasureOf, IsTreeOf}
-use Rattle.expr_parser.proofs.Begun.{goes_on, stops}
+use Rattle.expr_parser.proofs.Prefixes.{goes_on, stops}
 use Rattle.expr_parser.proofs.Whole.{after, after_more, literals_in, no_tree, only_program, parsed, stuck_only, too_large}
 
 -- the text up to a place was read as tokens, which lead to the frames and the place of the machine, and whether their integers fit
-pub record ReadTo (text : List ℕ) (at : ℕ) (fit : Bool) (k : List Frame) (p : Place) : Type 0 where
+pub record ReadTo (text : List ℕ) (at : ℕ) (fit : Bool) (k : List Frame) (p : ParseState) : Type 0 where
   pub tokens : List Token
   pub starts : List ℕ
   pub begins : Begins text at tokens starts
   pub stands : after tokens ≡ On k p
   pub fits : IsTrue fit ↔ AllByRecursion IntegerFits tokens
 
-pub read_none : (text : List ℕ) (k : List Frame) → k ≡ frame.Body section.Top no_lines ∷ [] → ReadTo text 0 true k place.Want
-read_none text k e = record { tokens = []; starts = []; begins = begun_none text; stands = ap (λ j. On j place.Want) (sym e); fits = (λ _. tt, λ _. refl) }
+pub read_none : (text : List ℕ) (k : List Frame) → k ≡ frame.Body section.Top no_lines ∷ [] → ReadTo text 0 true k parse_state.Want
+read_none text k e = record { tokens = []; starts = []; begins = begun_none text; stands = ap (λ j. On j parse_state.Want) (sym e); fits = (λ _. tt, λ _. refl) }
 
 all_more : (P : Token → Type 0) (xs : List Token) (x : Token) → AllByRecursion P xs → P x → AllByRecursion P (xs ++ x ∷ [])
 all_more P [] x h q = (q, tt)
@@ -43,13 +43,13 @@ at_seam : (xs : List ℕ) (x : ℕ) → slice_get (xs ++ x ∷ []) (length xs) �
 at_seam [] x = refl
 at_seam (y ∷ ys) x = at_seam ys x
 
-module _ (text : List ℕ) (at : ℕ) (fit : Bool) (k : List Frame) (p : Place) (read : ReadTo text at fit k p) where
+module _ (text : List ℕ) (at : ℕ) (fit : Bool) (k : List Frame) (p : ParseState) (read : ReadTo text at fit k p) where
   begun : SomeBegins read.tokens
   begun = goes_on read.tokens k p read.stands
 
   -- one more token
   module _ (token : Token) (start end : ℕ) (more : Begins text end (read.tokens ++ token ∷ []) (read.starts ++ start ∷ [])) where
-    pub read_more : (more_fit : Bool) (k_next : List Frame) (p_next : Place) → (IsTrue more_fit ↔ (IsTrue fit × IntegerFits token)) → step_in k p token ≡ On k_next p_next → ReadTo text end more_fit k_next p_next
+    pub read_more : (more_fit : Bool) (k_next : List Frame) (p_next : ParseState) → (IsTrue more_fit ↔ (IsTrue fit × IntegerFits token)) → step_in k p token ≡ On k_next p_next → ReadTo text end more_fit k_next p_next
     read_more more_fit k_next p_next same e = record {
       tokens = read.tokens ++ token ∷ [];
       starts = read.starts ++ start ∷ [];
@@ -97,13 +97,13 @@ module _ (text : List ℕ) (at : ℕ) (fit : Bool) (k : List Frame) (p : Place) 
     block : block_of_tokens read.tokens ≡ finish_in k p
     block = ap (λ s. finish s) read.stands
 
-    pub ends_parsed : (m : MeasuredBlock) → finish_in k p ≡ Some m → IsTrue fit → IsMeasureOf text m
+    pub ends_parsed : (m : BlockWithHeight) → finish_in k p ≡ Some m → IsTrue fit → IsMeasureOf text m
     ends_parsed m e is = parsed text read.tokens reads m (block ∙ e) (read.fits.0 is)
 
-    pub ends_only : (m : MeasuredBlock) → finish_in k p ≡ Some m → IsTrue fit → (t : TreeProgram) → IsTreeOf text t → (m ≡ measured_program t) × LiteralsFit t
+    pub ends_only : (m : BlockWithHeight) → finish_in k p ≡ Some m → IsTrue fit → (t : TreeProgram) → IsTreeOf text t → (m ≡ program_with_height t) × LiteralsFit t
     ends_only m e is t h = only_program read.tokens m (read.fits.0 is) (block ∙ e) t (spelled t h) h.fits
 
-    pub ends_large : (m : MeasuredBlock) → finish_in k p ≡ Some m → ¬ IsTrue fit → HasLargeLiteral text
+    pub ends_large : (m : BlockWithHeight) → finish_in k p ≡ Some m → ¬ IsTrue fit → HasLargeLiteral text
     ends_large m e unfit = too_large text read.tokens reads m (block ∙ e) (λ all. unfit (read.fits.1 all))
 
     pub ends_unfit : ¬ IsTrue fit → (t : TreeProgram) → IsTreeOf text t → ¬ LiteralsFit t

@@ -5,11 +5,11 @@ use Rattle.std.proofs.Math.Seq.{take-append_seam}
 use Rattle.std.proofs.lemmas.List.Sums.{fold-append}
 use Rattle.expr_token.specs.Reading.{Reads}
 use Rattle.expr_token.specs.declared.token.Token.{Token}
-use Rattle.expr_parts.specs.Parts.{MeasuredBlock}
+use Rattle.expr_parts.specs.Parts.{BlockWithHeight}
 use Rattle.expr_grammar.specs.Grammar.{TreeProgram, Spells, Fits, LiteralsFit, IntegerFits}
 use Rattle.std.specs.List.{AllByRecursion}
 use Rattle.expr_grammar.specs.Machine.{tree_of}
-use Rattle.expr_frames.specs.Measures.{measured_program, measured_if_any}
+use Rattle.expr_frames.specs.Measures.{program_with_height, with_height_if_any}
 use Rattle.expr_frames.specs.Nodes.{State, first_state, Fail, step, finish, block_of_tokens}
 use Rattle.expr_grammar.specs.Prefixes.{NoneBegins}
 use Rattle.expr_parser.specs.Texts.{HasLargeLiteral, IsMeasureOf, IsTreeOf}
@@ -21,8 +21,8 @@ use Rattle.expr_frames.proofs.Erase.{erases}
 abbrev pub after : List Token → State
 after ts = fold step first_state ts
 
-pub program_is : (ts : List Token) (t : TreeProgram) → Spells t ts → Fits t → block_of_tokens ts ≡ Some (measured_program t)
-program_is ts t s f = erases ts ∙ ap measured_if_any (complete t ts s f)
+pub program_is : (ts : List Token) (t : TreeProgram) → Spells t ts → Fits t → block_of_tokens ts ≡ Some (program_with_height t)
+program_is ts t s f = erases ts ∙ ap with_height_if_any (complete t ts s f)
 
 -- a tree's literals are those of its tokens
 pub literals_of : (ts : List Token) (t : TreeProgram) → Spells t ts → AllByRecursion IntegerFits ts → LiteralsFit t
@@ -32,15 +32,15 @@ pub literals_in : (ts : List Token) (t : TreeProgram) → Spells t ts → Litera
 literals_in ts t s h = subst (λ us. AllByRecursion IntegerFits us) s h
 
 -- a program of the tokens that a text reads as is of a tree of the text
-module _ (text : List ℕ) (ts : List Token) (reads : Reads text ts) (b : MeasuredBlock) (h : block_of_tokens ts ≡ Some b) where
-  found : (A : Type 0) → ((t : TreeProgram) → Spells t ts → Fits t → b ≡ measured_program t → A) → A
+module _ (text : List ℕ) (ts : List Token) (reads : Reads text ts) (b : BlockWithHeight) (h : block_of_tokens ts ≡ Some b) where
+  found : (A : Type 0) → ((t : TreeProgram) → Spells t ts → Fits t → b ≡ program_with_height t → A) → A
   found A of = choose (tree_of ts) refl
     where
       choose : (o : Option TreeProgram) → tree_of ts ≡ o → A
-      choose None e = let c : None ≡ Some b = sym (erases ts ∙ ap measured_if_any e) ∙ h in let d : ⊥ = cc in absurd d
+      choose None e = let c : None ≡ Some b = sym (erases ts ∙ ap with_height_if_any e) ∙ h in let d : ⊥ = cc in absurd d
       choose (Some t) e =
           let s = sound t ts e in
-          let c : Some (measured_program t) ≡ Some b = sym (erases ts ∙ ap measured_if_any e) ∙ h in
+          let c : Some (program_with_height t) ≡ Some b = sym (erases ts ∙ ap with_height_if_any e) ∙ h in
           of t s.0 s.1 (cc)
 
   tree : (t : TreeProgram) → Spells t ts → Fits t → IsTreeOf text t
@@ -52,7 +52,7 @@ module _ (text : List ℕ) (ts : List Token) (reads : Reads text ts) (b : Measur
   pub too_large : ¬ AllByRecursion IntegerFits ts → HasLargeLiteral text
   too_large l = found (HasLargeLiteral text) (λ t s f e. record { tree = t; is_tree = tree t s f; literals = λ fit. l (literals_in ts t s fit) })
 
-pub only_program : (ts : List Token) (b : MeasuredBlock) → AllByRecursion IntegerFits ts → block_of_tokens ts ≡ Some b → (t : TreeProgram) → Spells t ts → Fits t → (b ≡ measured_program t) × LiteralsFit t
+pub only_program : (ts : List Token) (b : BlockWithHeight) → AllByRecursion IntegerFits ts → block_of_tokens ts ≡ Some b → (t : TreeProgram) → Spells t ts → Fits t → (b ≡ program_with_height t) × LiteralsFit t
 only_program ts b l h t s f = let p = program_is ts t s f in (cc, literals_of ts t s l)
 
 pub no_tree : (ts : List Token) → block_of_tokens ts ≡ None → (t : TreeProgram) → Spells t ts → Fits t → ⊥

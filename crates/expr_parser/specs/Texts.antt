@@ -4,8 +4,8 @@ use Rattle.expr_token.specs.Reading.{Begins, NoPiece, Reads}
 use Rattle.expr_token.specs.declared.token.Token.{Token}
 use Rattle.expr_grammar.specs.Grammar.{TreeProgram, Spells, Fits, LiteralsFit}
 use Rattle.expr_grammar.specs.Prefixes.{SomeBegins, NoneBegins}
-use Rattle.expr_parts.specs.Parts.{MeasuredBlock}
-use Rattle.expr_frames.specs.Measures.{measured_program}
+use Rattle.expr_parts.specs.Parts.{BlockWithHeight}
+use Rattle.expr_frames.specs.Measures.{program_with_height}
 
 -- the tree spells what the text reads as, and fits
 pub record IsTreeOf (text : List ℕ) (t : TreeProgram) : Type 0 where
@@ -24,11 +24,11 @@ abbrev pub HasNoTree : List ℕ → Type 0
 HasNoTree text = (t : TreeProgram) → IsTreeOf text t → ⊥
 
 -- the program and the height of a tree of the text whose integer literals are below 2^63
-pub record IsMeasureOf (text : List ℕ) (m : MeasuredBlock) : Type 0 where
+pub record IsMeasureOf (text : List ℕ) (m : BlockWithHeight) : Type 0 where
   pub tree : TreeProgram
   pub is_tree : IsTreeOf text tree
   pub literals : LiteralsFit tree
-  pub same : m ≡ measured_program tree
+  pub same : m ≡ program_with_height tree
 
 -- the place of the first fault of a text
 pub data FaultPlace (text : List ℕ) (place : ℕ) : Type 0 where

@@ -3,11 +3,11 @@ use Rattle.std.proofs.Common.{◌≡◌, ℕ, zero, suc, List, [], ◌∷◌, Gl
 use Rattle.std.specs.List.{All, remove}
 use Rattle.std.proofs.lemmas.List.Elements.{All-cons, All-head, All-nil, All-same, All-tail}
 use Rattle.expr_value.specs.declared.value.Value.{Value}
-use Rattle.expr_tree.specs.Beside.{operations, program_operations}
+use Rattle.expr_tree.specs.KeptPatterns.{operations, program_operations}
 use Rattle.expr_tree.specs.declared.node.Node.{Node}
 use Rattle.expr_tree.specs.declared.node.Node.TheVariants as node
 use Rattle.expr_tree.specs.declared.node.Program.{Program}
-use Rattle.expr_tree.proofs.Beside.{beside-Ident, beside-Value}
+use Rattle.expr_tree.proofs.KeptPatterns.{beside-Ident, beside-Value}
 use Rattle.expr_parts.specs.Kept.{IsKeptBeside, KeepPatterns}
 
 pub keeps-none : KeepPatterns []

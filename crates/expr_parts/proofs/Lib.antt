@@ -1,4 +1,4 @@
+pub mod HashUses
 pub mod Kept
 pub mod Literals
 pub mod Parts
-pub mod Places

@@ -2,7 +2,7 @@
 use Rattle.std.proofs.Common.{◌≡◌, ℕ, zero, suc, Bool, true, false, ◌||◌, List, [], ◌∷◌, map, refl, sym, ap, ◌∙◌}
 use Rattle.std.specs.List.{remove}
 use Rattle.expr_tree.specs.Term.{Term, Block, LineTerms, block_with, pairs_of}
-use Rattle.expr_parts.specs.Parts.{Measured, MeasuredBlock}
+use Rattle.expr_parts.specs.Parts.{WithHeight, BlockWithHeight}
 use Rattle.expr_parts.specs.Promotion.{has_free_hash, block_has_free_hash, lines_have_free_hash, pairs_have_free_hash}
 
 pub or_assoc : (a b c : Bool) → (a || b || c) ≡ (a || (b || c))
@@ -17,10 +17,10 @@ pub pairs_free : (ps : LineTerms) → pairs_have_free_hash (pairs_of ps) ≡ lin
 pairs_free [] = refl
 pairs_free (p ∷ ps) = ap (λ b. has_free_hash p.1 || b) (pairs_free ps)
 
-abbrev pub measured : Term → ℕ → Measured
+abbrev pub measured : Term → ℕ → WithHeight
 measured t height = record { term = t; height = height }
 
-abbrev pub measured_block : Block → ℕ → MeasuredBlock
+abbrev pub measured_block : Block → ℕ → BlockWithHeight
 measured_block b height = record { block = b; height = height }
 
 pub same_measured : {t u : Term} {h k : ℕ} → t ≡ u → h ≡ k → measured t h ≡ measured u k

@@ -5,7 +5,7 @@ use Rattle.std.specs.declared.alloc.Global.{Global}
 use Rattle.regex.specs.Failures.{IsPattern}
 use Rattle.regex.specs.Patterns.{default_config}
 use Rattle.expr_pattern.specs.Meaning.{IsNoPattern}
-use Rattle.expr_tree.specs.Beside.{Beside, operations, line_operations}
+use Rattle.expr_tree.specs.KeptPatterns.{KeptPattern, operations, line_operations}
 use Rattle.expr_tree.specs.declared.node.CompiledRegex.{CompiledRegex}
 use Rattle.expr_tree.specs.declared.node.CompiledRegex.TheVariants as compiled
 use Rattle.expr_tree.specs.declared.node.Node.{Node}
@@ -21,10 +21,10 @@ abbrev pub IsKept : Option (List ℕ) → CompiledRegex → Type 0
 IsKept None kept = kept ≡ compiled.None
 IsKept (Some text) kept = IsKeptOf text kept
 
-abbrev pub IsKeptBeside : Beside → Type 0
+abbrev pub IsKeptBeside : KeptPattern → Type 0
 IsKeptBeside b = IsKept b.literal b.kept
 
-abbrev pub KeepPatterns : List Beside → Type 0
+abbrev pub KeepPatterns : List KeptPattern → Type 0
 KeepPatterns bs = All IsKeptBeside bs
 
 -- the same of each node, and of each value of lines or of a map's pairs

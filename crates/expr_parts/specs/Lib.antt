@@ -1,5 +1,5 @@
+pub mod HashUses
 pub mod Kept
 pub mod Maps
 pub mod Parts
-pub mod Places
 pub mod Promotion

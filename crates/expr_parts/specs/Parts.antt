@@ -4,142 +4,142 @@ use Rattle.std.specs.Coded.{Coded, code_by, coded×, coded_ℕ, coded_list}
 use Rattle.expr_value.specs.declared.value.Value.TheVariants as value
 use Rattle.expr_tree.specs.Codes.{term_code, block_code, predicate_code}
 use Rattle.expr_tree.specs.Term.{Term, name, literal, list, range, unary, operation, postfix, choice, index, slice, coalesce, pipe, ternary, method, Bound, unbounded, bound, Predicate, no_predicate, predicate, Block, LineTerms, block_with}
-use Rattle.expr_tree.specs.Written.{terms_of}
+use Rattle.expr_tree.specs.TermOf.{terms_of}
 use Rattle.expr_tree.specs.declared.operator.Operator.{Operator}
 use Rattle.expr_tree.specs.declared.operator.UnaryOperator.{UnaryOperator}
 use Rattle.expr_parts.specs.Maps.{map_term}
 use Rattle.expr_parts.specs.Promotion.{call_of}
 
 -- an expression: the term of its program, and the height of its tree
-pub record Measured : Type 0 where
+pub record WithHeight : Type 0 where
   pub term : Term
   pub height : ℕ
 
 -- a program: its block, and the height of its highest tree
-pub record MeasuredBlock : Type 0 where
+pub record BlockWithHeight : Type 0 where
   pub block : Block
   pub height : ℕ
 
 -- lines as they are read; the height is that of the highest value, and 0 where there are none (so in the next two)
-pub record MeasuredLines : Type 0 where
+pub record LinesWithHeight : Type 0 where
   pub lines : LineTerms
   pub height : ℕ
 
 -- the pairs of a map literal as they are read, in the order of the text, repeated keys included
-pub record MeasuredPairs : Type 0 where
+pub record PairsWithHeight : Type 0 where
   pub pairs : List (List ℕ × Term)
   pub height : ℕ
 
 -- the arguments of a call, and the program that was last given in braces
-pub record Given : Type 0 where
+pub record ArgumentsWithHeight : Type 0 where
   pub terms : List Term
   pub program : Predicate
   pub height : ℕ
 
-abbrev pub measured_code : Coded Measured
-measured_code = code_by (Term × ℕ) (coded× term_code coded_ℕ) (λ m. (m.term, m.height)) (λ p. record { term = p.0; height = p.1 }) (λ _. refl)
+abbrev pub with_height_code : Coded WithHeight
+with_height_code = code_by (Term × ℕ) (coded× term_code coded_ℕ) (λ m. (m.term, m.height)) (λ p. record { term = p.0; height = p.1 }) (λ _. refl)
 
-abbrev pub measured_block_code : Coded MeasuredBlock
-measured_block_code = code_by (Block × ℕ) (coded× block_code coded_ℕ) (λ m. (m.block, m.height)) (λ p. record { block = p.0; height = p.1 }) (λ _. refl)
+abbrev pub block_with_height_code : Coded BlockWithHeight
+block_with_height_code = code_by (Block × ℕ) (coded× block_code coded_ℕ) (λ m. (m.block, m.height)) (λ p. record { block = p.0; height = p.1 }) (λ _. refl)
 
 abbrev pub named_code : Coded LineTerms
 named_code = coded_list (coded× (coded_list coded_ℕ) term_code)
 
-abbrev pub lines_code : Coded MeasuredLines
+abbrev pub lines_code : Coded LinesWithHeight
 lines_code = code_by (LineTerms × ℕ) (coded× named_code coded_ℕ) (λ m. (m.lines, m.height)) (λ p. record { lines = p.0; height = p.1 }) (λ _. refl)
 
-abbrev pub pairs_code : Coded MeasuredPairs
+abbrev pub pairs_code : Coded PairsWithHeight
 pairs_code = code_by (LineTerms × ℕ) (coded× named_code coded_ℕ) (λ m. (m.pairs, m.height)) (λ p. record { pairs = p.0; height = p.1 }) (λ _. refl)
 
-abbrev pub given_code : Coded Given
-given_code = code_by (List Term × (Predicate × ℕ)) (coded× (coded_list term_code) (coded× predicate_code coded_ℕ)) (λ g. (g.terms, (g.program, g.height))) (λ p. record { terms = p.0; program = p.1.0; height = p.1.1 }) (λ _. refl)
+abbrev pub arguments_code : Coded ArgumentsWithHeight
+arguments_code = code_by (List Term × (Predicate × ℕ)) (coded× (coded_list term_code) (coded× predicate_code coded_ℕ)) (λ g. (g.terms, (g.program, g.height))) (λ p. record { terms = p.0; program = p.1.0; height = p.1.1 }) (λ _. refl)
 
 -- Expressions.
-abbrev pub leaf : Term → Measured
+abbrev pub leaf : Term → WithHeight
 leaf t = record { term = t; height = 1 }
 
-abbrev pub bracketed : Measured → Measured
-bracketed m = record { term = m.term; height = suc m.height }
+abbrev pub brackets_of : WithHeight → WithHeight
+brackets_of m = record { term = m.term; height = suc m.height }
 
-abbrev pub prefixed : UnaryOperator → Measured → Measured
-prefixed o m = record { term = unary o m.term; height = suc m.height }
+abbrev pub unary_of : UnaryOperator → WithHeight → WithHeight
+unary_of o m = record { term = unary o m.term; height = suc m.height }
 
-abbrev pub ranged : Measured → Measured → Measured
-ranged a b = record { term = range a.term b.term; height = suc (max a.height b.height) }
+abbrev pub range_of : WithHeight → WithHeight → WithHeight
+range_of a b = record { term = range a.term b.term; height = suc (max a.height b.height) }
 
-abbrev pub operated : Operator → Measured → Measured → Measured
-operated o a b = record { term = operation o a.term b.term; height = suc (max a.height b.height) }
+abbrev pub operation_of : Operator → WithHeight → WithHeight → WithHeight
+operation_of o a b = record { term = operation o a.term b.term; height = suc (max a.height b.height) }
 
-abbrev pub coalesced : Measured → Measured → Measured
-coalesced a b = record { term = postfix (coalesce b.term) a.term; height = suc (max a.height b.height) }
+abbrev pub coalesce_of : WithHeight → WithHeight → WithHeight
+coalesce_of a b = record { term = postfix (coalesce b.term) a.term; height = suc (max a.height b.height) }
 
-abbrev pub chosen : Measured → MeasuredBlock → MeasuredBlock → Measured
-chosen c a b = record { term = choice c.term a.block b.block; height = suc (max (max c.height a.height) b.height) }
+abbrev pub conditional_of : WithHeight → BlockWithHeight → BlockWithHeight → WithHeight
+conditional_of c a b = record { term = choice c.term a.block b.block; height = suc (max (max c.height a.height) b.height) }
 
-abbrev pub indexed : Measured → Measured → Bool → Measured
-indexed l i optional = record { term = postfix (index i.term optional) l.term; height = suc (max l.height i.height) }
+abbrev pub index_of : WithHeight → WithHeight → Bool → WithHeight
+index_of l i optional = record { term = postfix (index i.term optional) l.term; height = suc (max l.height i.height) }
 
 -- a member is an index by the text of its word
-abbrev pub member_of : Measured → Bool → List ℕ → Measured
+abbrev pub member_of : WithHeight → Bool → List ℕ → WithHeight
 member_of l optional w = record { term = postfix (index (literal (value.String w)) optional) l.term; height = suc l.height }
 
 -- a field of its own is a member of `#`
-abbrev pub field_of : List ℕ → Measured
+abbrev pub field_of : List ℕ → WithHeight
 field_of w = leaf (postfix (index (literal (value.String w)) false) (name (codes "#")))
 
 -- a bound that may be left out
-abbrev pub bound_with : Option Measured → Bound
+abbrev pub bound_with : Option WithHeight → Bound
 bound_with None = unbounded
 bound_with (Some m) = bound m.term
 
-abbrev pub bound_height : Option Measured → ℕ
+abbrev pub bound_height : Option WithHeight → ℕ
 bound_height None = 0
 bound_height (Some m) = m.height
 
-abbrev pub sliced : Measured → Option Measured → Option Measured → Measured
-sliced l a b = record { term = postfix (slice (bound_with a) (bound_with b)) l.term; height = suc (max l.height (max (bound_height a) (bound_height b))) }
+abbrev pub slice_of : WithHeight → Option WithHeight → Option WithHeight → WithHeight
+slice_of l a b = record { term = postfix (slice (bound_with a) (bound_with b)) l.term; height = suc (max l.height (max (bound_height a) (bound_height b))) }
 
-abbrev pub piped : Measured → Measured → Measured
-piped l call = record { term = postfix (pipe call.term) l.term; height = suc (max l.height call.height) }
+abbrev pub pipe_of : WithHeight → WithHeight → WithHeight
+pipe_of l call = record { term = postfix (pipe call.term) l.term; height = suc (max l.height call.height) }
 
-abbrev pub ternary_of : Measured → Measured → Measured → Measured
+abbrev pub ternary_of : WithHeight → WithHeight → WithHeight → WithHeight
 ternary_of c a b = record { term = postfix (ternary a.term b.term) c.term; height = suc (max c.height (max a.height b.height)) }
 
-abbrev pub method_of : Measured → List ℕ → Given → Measured
+abbrev pub method_of : WithHeight → List ℕ → ArgumentsWithHeight → WithHeight
 method_of l w g = record { term = postfix (method w (terms_of g.terms)) l.term; height = suc (max l.height g.height) }
 
-abbrev pub array_of : Given → Measured
+abbrev pub array_of : ArgumentsWithHeight → WithHeight
 array_of g = record { term = list (terms_of g.terms); height = suc g.height }
 
-abbrev pub called : List ℕ → Given → Measured
-called w g = record { term = call_of w g.terms g.program; height = suc g.height }
+abbrev pub function_of : List ℕ → ArgumentsWithHeight → WithHeight
+function_of w g = record { term = call_of w g.terms g.program; height = suc g.height }
 
-abbrev pub mapped : MeasuredPairs → Measured
-mapped p = record { term = map_term p.pairs; height = suc p.height }
+abbrev pub map_of : PairsWithHeight → WithHeight
+map_of p = record { term = map_term p.pairs; height = suc p.height }
 
 -- Programs.
-abbrev pub answering : MeasuredLines → Measured → MeasuredBlock
-answering ls m = record { block = block_with ls.lines m.term; height = max ls.height m.height }
+abbrev pub block_of_lines : LinesWithHeight → WithHeight → BlockWithHeight
+block_of_lines ls m = record { block = block_with ls.lines m.term; height = max ls.height m.height }
 
-abbrev pub no_lines : MeasuredLines
+abbrev pub no_lines : LinesWithHeight
 no_lines = record { lines = []; height = 0 }
 
-abbrev pub line_more : MeasuredLines → List ℕ → Measured → MeasuredLines
+abbrev pub line_more : LinesWithHeight → List ℕ → WithHeight → LinesWithHeight
 line_more ls w m = record { lines = ls.lines ++ (w, m.term) ∷ []; height = max ls.height m.height }
 
 -- Arguments; a program that was given before still counts for the height.
-abbrev pub none_given : Given
-none_given = record { terms = []; program = no_predicate; height = 0 }
+abbrev pub no_arguments : ArgumentsWithHeight
+no_arguments = record { terms = []; program = no_predicate; height = 0 }
 
-abbrev pub given_more : Given → Measured → Given
-given_more g m = record { terms = g.terms ++ m.term ∷ []; program = g.program; height = max g.height m.height }
+abbrev pub argument_more : ArgumentsWithHeight → WithHeight → ArgumentsWithHeight
+argument_more g m = record { terms = g.terms ++ m.term ∷ []; program = g.program; height = max g.height m.height }
 
-abbrev pub given_program : Given → MeasuredBlock → Given
-given_program g b = record { terms = g.terms; program = predicate b.block; height = max g.height b.height }
+abbrev pub argument_program : ArgumentsWithHeight → BlockWithHeight → ArgumentsWithHeight
+argument_program g b = record { terms = g.terms; program = predicate b.block; height = max g.height b.height }
 
 -- Pairs of a map literal.
-abbrev pub no_pairs : MeasuredPairs
+abbrev pub no_pairs : PairsWithHeight
 no_pairs = record { pairs = []; height = 0 }
 
-abbrev pub pair_more : MeasuredPairs → List ℕ → Measured → MeasuredPairs
+abbrev pub pair_more : PairsWithHeight → List ℕ → WithHeight → PairsWithHeight
 pair_more p key m = record { pairs = p.pairs ++ (key, m.term) ∷ []; height = max p.height m.height }

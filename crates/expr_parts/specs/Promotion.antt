@@ -1,11 +1,11 @@
 -- Which argument of a call is the program that it runs, where none is given in braces.
 use Rattle.std.specs.Prelude.{ℕ, Bool, true, false, ◌==◌, ◌||◌, List, [], ◌∷◌, Option, Some, is_some, if◌then◌else◌}
 use Rattle.std.specs.List.{list_any}
-use Rattle.expr_functions.specs.Functions.{asking_named}
-use Rattle.expr_functions.specs.declared.functions.Asking.{Asking}
-use Rattle.expr_functions.specs.declared.functions.Asking.TheVariants.{Reduce}
-use Rattle.expr_tree.specs.Term.{Term, name, literal, list, mapping, range, call, unary, operation, postfix, choice, Postfix, index, slice, coalesce, pipe, ternary, method, Bound, unbounded, bound, Terms, no_terms, term, Pairs, pairs_end, pair, Predicate, no_predicate, predicate, Block, answers, line, LineTerms}
-use Rattle.expr_tree.specs.Written.{terms_of}
+use Rattle.expr_functions.specs.Functions.{higher_order_named}
+use Rattle.expr_functions.specs.declared.functions.HigherOrderCall.{HigherOrderCall}
+use Rattle.expr_functions.specs.declared.functions.HigherOrderCall.TheVariants.{Reduce}
+use Rattle.expr_tree.specs.Term.{Term, name, literal, list, mapping, range, call, unary, operation, postfix, choice, Postfix, index, slice, coalesce, pipe, ternary, method, Bound, unbounded, bound, Terms, no_terms, term, TermPairs, pairs_end, pair, Predicate, no_predicate, predicate, Block, answers, line, LineTerms}
+use Rattle.expr_tree.specs.TermOf.{terms_of}
 
 -- a hash name begins with `#`
 abbrev pub is_hash_name : List ℕ → Bool
@@ -42,7 +42,7 @@ abbrev mutual
   any_free_hash no_terms = false
   any_free_hash (term t ts) = has_free_hash t || any_free_hash ts
 
-  pub pairs_have_free_hash : Pairs → Bool
+  pub pairs_have_free_hash : TermPairs → Bool
   pairs_have_free_hash pairs_end = false
   pairs_have_free_hash (pair key t ps) = has_free_hash t || pairs_have_free_hash ps
 
@@ -55,39 +55,39 @@ abbrev pub lines_have_free_hash : LineTerms → Bool
 lines_have_free_hash ls = list_any (λ l. has_free_hash l.1) ls
 
 -- whether it is the built-in that tells its predicate what it has made so far
-abbrev pub reduces : Option Asking → Bool
+abbrev pub reduces : Option HigherOrderCall → Bool
 reduces (Some Reduce) = true
 reduces asking = false
 
 -- the arguments but one, and that one as the program of the call, if one is promoted
-pub record Promoted : Type 0 where
+pub record Promotion : Type 0 where
   pub arguments : List Term
   pub program : Predicate
 
 -- the last argument, if it has a free hash
-abbrev pub last_promoted : List Term → Promoted
-last_promoted [] = record { arguments = []; program = no_predicate }
-last_promoted (t ∷ []) = if has_free_hash t then record { arguments = []; program = predicate (answers t) } else record { arguments = t ∷ []; program = no_predicate }
-last_promoted (t ∷ u ∷ ts) = let rest = last_promoted (u ∷ ts) in record { arguments = t ∷ rest.arguments; program = rest.program }
+abbrev pub last_promotion : List Term → Promotion
+last_promotion [] = record { arguments = []; program = no_predicate }
+last_promotion (t ∷ []) = if has_free_hash t then record { arguments = []; program = predicate (answers t) } else record { arguments = t ∷ []; program = no_predicate }
+last_promotion (t ∷ u ∷ ts) = let rest = last_promotion (u ∷ ts) in record { arguments = t ∷ rest.arguments; program = rest.program }
 
 -- argument 1, if it has a free hash, else argument 0, if it has one
-abbrev pub reducer_promoted : List Term → Promoted
-reducer_promoted [] = record { arguments = []; program = no_predicate }
-reducer_promoted (t ∷ []) = if has_free_hash t then record { arguments = []; program = predicate (answers t) } else record { arguments = t ∷ []; program = no_predicate }
-reducer_promoted (t ∷ u ∷ ts) =
+abbrev pub reducer_promotion : List Term → Promotion
+reducer_promotion [] = record { arguments = []; program = no_predicate }
+reducer_promotion (t ∷ []) = if has_free_hash t then record { arguments = []; program = predicate (answers t) } else record { arguments = t ∷ []; program = no_predicate }
+reducer_promotion (t ∷ u ∷ ts) =
     if has_free_hash u then record { arguments = t ∷ ts; program = predicate (answers u) }
     else (if has_free_hash t then record { arguments = u ∷ ts; program = predicate (answers t) } else record { arguments = t ∷ u ∷ ts; program = no_predicate })
 
 -- by the built-in of the call's name that asks a predicate, if there is one
-abbrev pub promoted_by : Option Asking → List Term → Promoted
+abbrev pub promoted_by : Option HigherOrderCall → List Term → Promotion
 promoted_by asking ts =
-    if reduces asking then reducer_promoted ts
-    else (if is_some asking then last_promoted ts else record { arguments = ts; program = no_predicate })
+    if reduces asking then reducer_promotion ts
+    else (if is_some asking then last_promotion ts else record { arguments = ts; program = no_predicate })
 
-abbrev pub promoted : List ℕ → List Term → Promoted
-promoted key ts = promoted_by (asking_named key) ts
+abbrev pub promotion_of : List ℕ → List Term → Promotion
+promotion_of key ts = promoted_by (higher_order_named key) ts
 
 -- the call of these arguments, whose program is the one that is given or else the one that is promoted
 abbrev pub call_of : List ℕ → List Term → Predicate → Term
 call_of key ts (predicate b) = call key (terms_of ts) (predicate b)
-call_of key ts no_predicate = let p = promoted key ts in call key (terms_of p.arguments) p.program
+call_of key ts no_predicate = let p = promotion_of key ts in call key (terms_of p.arguments) p.program

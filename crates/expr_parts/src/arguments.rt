@@ -1,15 +1,15 @@
 //! Arguments of a call or items of an array, one after another, and the call or array of them.
 ghost use Rattle.std.specs.Prelude.{◌≡◌, IfOk, OnOk, OnErr, map, string_bytes};
 ghost use Rattle.expr_tree.specs.Term.{call, predicate};
-ghost use Rattle.expr_tree.specs.Beside.{program_operations};
-ghost use Rattle.expr_tree.specs.Written.{written, program_written, terms_of};
+ghost use Rattle.expr_tree.specs.KeptPatterns.{program_operations};
+ghost use Rattle.expr_tree.specs.TermOf.{term_of, program_term, terms_of};
 ghost use Rattle.expr_parts.specs.Kept.{KeepPatterns, NodesKeepPatterns};
-ghost use Rattle.expr_parts.specs.Parts.{none_given, given_more, given_program, array_of, called};
+ghost use Rattle.expr_parts.specs.Parts.{no_arguments, argument_more, argument_program, array_of, function_of};
 ghost use Rattle.expr_parts.specs.Promotion.{any_free_hash};
 
-use crate::part::{Part, above};
-use crate::program::ProgramPart;
-use crate::promotion::Marks;
+use crate::annotated_node::{AnnotatedNode, height_above};
+use crate::program::AnnotatedProgram;
+use crate::promotion::HashUses;
 use expr_tree::node::{Node, Program};
 use std::alloc::{AllocError, Global};
 use std::marker::Model;
@@ -17,7 +17,7 @@ use std::marker::Model;
 /// The arguments of a call as far as they have been read, and the program that was last given in braces.
 pub struct Arguments {
     nodes: Vec<Node>,
-    marks: Marks,
+    marks: HashUses,
     program: Option<Box<Program>>,
     height: usize,
 }
@@ -36,23 +36,23 @@ impl Drop for Arguments {
 
 impl Model for Arguments {
     ghost use Rattle.std.specs.Prelude.{◌≡◌, map};
-    ghost use Rattle.expr_tree.specs.Beside.{predicate_operations};
-    ghost use Rattle.expr_tree.specs.Written.{predicate_written, written};
+    ghost use Rattle.expr_tree.specs.KeptPatterns.{predicate_operations};
+    ghost use Rattle.expr_tree.specs.TermOf.{predicate_term, term_of};
     ghost use Rattle.expr_parts.specs.Kept.{KeepPatterns, NodesKeepPatterns};
-    ghost use Rattle.expr_parts.specs.Parts.{Given, given_code};
-    ghost use Rattle.expr_parts.specs.Places.{marks_of};
+    ghost use Rattle.expr_parts.specs.Parts.{ArgumentsWithHeight, arguments_code};
+    ghost use Rattle.expr_parts.specs.HashUses.{hash_uses_of};
 
-    ghost Value = { Given };
+    ghost Value = { ArgumentsWithHeight };
 
-    ghost coded = { given_code };
+    ghost coded = { arguments_code };
 
     ghost view = { λ a. record {
-      terms = map written a.nodes.items;
-      program = predicate_written a.program;
+      terms = map term_of a.nodes.items;
+      program = predicate_term a.program;
       height = a.height;
     } };
 
-    ghost invariant = { λ a. (a.marks ≡ marks_of (map written a.nodes.items))
+    ghost invariant = { λ a. (a.marks ≡ hash_uses_of (map term_of a.nodes.items))
         × NodesKeepPatterns a.nodes.items
         × KeepPatterns (predicate_operations a.program) };
 }
@@ -60,19 +60,19 @@ impl Model for Arguments {
 impl Arguments {
     /// No arguments.
     pub fn new(alloc: Global) -> Arguments
-        ensures { result ≡ none_given }
+        ensures { result ≡ no_arguments }
     {
         Arguments {
             nodes: Vec::new(alloc),
-            marks: Marks::none(),
+            marks: HashUses::new(),
             program: None,
             height: 0,
         }
     }
 
     /// Adds an argument.
-    pub fn push(&mut self, part: Part) -> Result<(), AllocError>
-        ensures ok { OnOk result (self.new ≡ given_more self.old part) }
+    pub fn push(&mut self, part: AnnotatedNode) -> Result<(), AllocError>
+        ensures ok { OnOk result (self.new ≡ argument_more self.old part) }
         ensures err { OnErr result (self.new ≡ self.old) }
     {
         let count = self.nodes.len();
@@ -85,8 +85,8 @@ impl Arguments {
     }
 
     /// Gives the call a program, in place of one given before, which still counts for the height.
-    pub fn give(&mut self, program: ProgramPart) -> Result<(), AllocError>
-        ensures ok { OnOk result (self.new ≡ given_program self.old program) }
+    pub fn give(&mut self, program: AnnotatedProgram) -> Result<(), AllocError>
+        ensures ok { OnOk result (self.new ≡ argument_program self.old program) }
         ensures err { OnErr result (self.new ≡ self.old) }
     {
         let alloc = *self.nodes.allocator();
@@ -111,7 +111,7 @@ impl Arguments {
     }
 
     pub(crate) fn into_nodes(self) -> Vec<Node>
-        ensures terms { map written result.items ≡ self.terms }
+        ensures terms { map term_of result.items ≡ self.terms }
         ensures patterns { NodesKeepPatterns result.items }
     {
         let Arguments {
@@ -124,12 +124,12 @@ impl Arguments {
     }
 
     /// The array of these items.
-    pub fn array(self) -> Result<Part, AllocError>
+    pub fn array(self) -> Result<AnnotatedNode, AllocError>
         ensures { IfOk result (λ p. p ≡ array_of self) }
     {
         let has_free_hash = self.has_free_hash();
-        let height = above(self.height())?;
-        Ok(Part {
+        let height = height_above(self.height())?;
+        Ok(AnnotatedNode {
             node: Node::Array(self.into_nodes()),
             has_free_hash,
             height,
@@ -137,8 +137,8 @@ impl Arguments {
     }
 
     /// The call of a function, after promotion.
-    pub fn call(self, ident: String) -> Result<Part, AllocError>
-        ensures { IfOk result (λ p. p ≡ called (string_bytes ident) self) }
+    pub fn call(self, ident: String) -> Result<AnnotatedNode, AllocError>
+        ensures { IfOk result (λ p. p ≡ function_of (string_bytes ident) self) }
     {
         let Arguments {
             mut nodes,
@@ -146,12 +146,12 @@ impl Arguments {
             program,
             height,
         } = self;
-        let height = above(height)?;
+        let height = height_above(height)?;
         if let Some(program) = program {
             return Ok(call_with(ident, nodes, marks.free > 0, program, height));
         }
         match marks.promoted_place(ident.as_str(), nodes.len()) {
-            None => Ok(Part {
+            None => Ok(AnnotatedNode {
                 node: Node::Func {
                     ident,
                     args: nodes,
@@ -178,17 +178,17 @@ fn call_with(
     has_free_hash: bool,
     program: Box<Program>,
     height: usize,
-) -> Part
-    requires hash { has_free_hash ≡ any_free_hash (terms_of (map written args.items)) }
+) -> AnnotatedNode
+    requires hash { has_free_hash ≡ any_free_hash (terms_of (map term_of args.items)) }
     requires arguments { NodesKeepPatterns args.items }
     requires program { KeepPatterns (program_operations program.value) }
     ensures { result ≡ record {
-      term = call (string_bytes ident) (terms_of (map written args.items))
-          (predicate (program_written program.value));
+      term = call (string_bytes ident) (terms_of (map term_of args.items))
+          (predicate (program_term program.value));
       height = height;
     } }
 {
-    Part {
+    AnnotatedNode {
         node: Node::Func {
             ident,
             args,

@@ -1,11 +1,11 @@
 //! The pairs of a map literal, one after another, and the literal of them.
 ghost use Rattle.std.specs.Prelude.{◌≡◌, [], IfOk, OnOk, OnErr, is_none, map};
-ghost use Rattle.expr_tree.specs.Written.{line_written, written};
+ghost use Rattle.expr_tree.specs.TermOf.{line_term, term_of};
 ghost use Rattle.expr_value.specs.Names.{put_all};
 ghost use Rattle.expr_parts.specs.Maps.{literals, value_of};
-ghost use Rattle.expr_parts.specs.Parts.{no_pairs, pair_more, mapped};
+ghost use Rattle.expr_parts.specs.Parts.{no_pairs, pair_more, map_of};
 
-use crate::part::{Part, above};
+use crate::annotated_node::{AnnotatedNode, height_above};
 use expr_tree::node::Node;
 use expr_value::{Text, Value, ValueMap};
 use std::alloc::{AllocError, Global};
@@ -36,20 +36,20 @@ impl Drop for Entries {
 
 impl Model for Entries {
     ghost use Rattle.std.specs.Prelude.{◌≡◌, map};
-    ghost use Rattle.expr_tree.specs.Written.{line_written};
+    ghost use Rattle.expr_tree.specs.TermOf.{line_term};
     ghost use Rattle.expr_parts.specs.Kept.{LinesKeepPatterns};
     ghost use Rattle.expr_parts.specs.Maps as maps;
-    ghost use Rattle.expr_parts.specs.Parts.{MeasuredPairs, pairs_code};
+    ghost use Rattle.expr_parts.specs.Parts.{PairsWithHeight, pairs_code};
     ghost use Rattle.expr_parts.specs.Promotion.{lines_have_free_hash};
 
-    ghost Value = { MeasuredPairs };
+    ghost Value = { PairsWithHeight };
 
     ghost coded = { pairs_code };
 
-    ghost view = { λ e. record { pairs = map line_written e.pairs.items; height = e.height } };
+    ghost view = { λ e. record { pairs = map line_term e.pairs.items; height = e.height } };
 
-    ghost invariant = { λ e. (e.has_expression ≡ maps.has_expression (map line_written e.pairs.items))
-        × (e.has_free_hash ≡ lines_have_free_hash (map line_written e.pairs.items))
+    ghost invariant = { λ e. (e.has_expression ≡ maps.has_expression (map line_term e.pairs.items))
+        × (e.has_free_hash ≡ lines_have_free_hash (map line_term e.pairs.items))
         × LinesKeepPatterns e.pairs.items };
 }
 
@@ -68,7 +68,7 @@ impl Entries {
     }
 
     /// Adds a key and its value.
-    pub fn push(&mut self, key: Text, value: Part) -> Result<(), AllocError>
+    pub fn push(&mut self, key: Text, value: AnnotatedNode) -> Result<(), AllocError>
         ensures ok { OnOk result (self.new ≡ pair_more self.old key value) }
         ensures err { OnErr result (self.new ≡ self.old) }
     {
@@ -87,8 +87,8 @@ impl Entries {
     /// # Errors
     ///
     /// `AllocError`, if a growth is refused.
-    pub fn map(self) -> Result<Part, AllocError>
-        ensures { IfOk result (λ p. p ≡ mapped self) }
+    pub fn map(self) -> Result<AnnotatedNode, AllocError>
+        ensures { IfOk result (λ p. p ≡ map_of self) }
     {
         let Entries {
             alloc,
@@ -97,16 +97,16 @@ impl Entries {
             has_free_hash,
             height,
         } = self;
-        let height = above(height)?;
+        let height = height_above(height)?;
         if has_expression {
-            return Ok(Part {
+            return Ok(AnnotatedNode {
                 node: Node::Map(pairs),
                 has_free_hash,
                 height,
             });
         }
         let map = literal_map(alloc, pairs)?;
-        Ok(Part {
+        Ok(AnnotatedNode {
             node: Node::Value(Value::Map(map)),
             has_free_hash: false,
             height,
@@ -116,7 +116,7 @@ impl Entries {
 
 // Whether a node is no literal.
 fn is_expression(node: &Node) -> bool
-    ensures { result ≡ is_none (value_of (written node.now)) }
+    ensures { result ≡ is_none (value_of (term_of node.now)) }
 {
     match node {
         Node::Value(_) => false,
@@ -125,7 +125,7 @@ fn is_expression(node: &Node) -> bool
 }
 
 fn into_value(mut node: Node) -> Option<Value>
-    ensures { result ≡ value_of (written node) }
+    ensures { result ≡ value_of (term_of node) }
 {
     match &mut node {
         Node::Value(value) => Some(mem::replace(value, Value::Nil)),
@@ -135,7 +135,7 @@ fn into_value(mut node: Node) -> Option<Value>
 
 // The map of the keys whose values are literals. A repeated key keeps its place and takes its later value.
 fn literal_map(alloc: Global, pairs: Vec<(String, Node)>) -> Result<ValueMap, AllocError>
-    ensures { IfOk result (λ m. m ≡ put_all [] (literals (map line_written pairs.items))) }
+    ensures { IfOk result (λ m. m ≡ put_all [] (literals (map line_term pairs.items))) }
 {
     let mut map = ValueMap::new(alloc);
     for (key, node) in pairs {

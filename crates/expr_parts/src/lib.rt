@@ -1,13 +1,13 @@
 //! The tree of a program, made from its parts.
 #![tactic(auto)]
 
+mod annotated_node;
 mod arguments;
 mod entries;
-mod part;
 mod program;
 mod promotion;
 
+pub use annotated_node::AnnotatedNode;
 pub use arguments::Arguments;
 pub use entries::Entries;
-pub use part::Part;
-pub use program::{Lines, ProgramPart};
+pub use program::{AnnotatedProgram, Lines};

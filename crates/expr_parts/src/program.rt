@@ -1,26 +1,26 @@
 //! Programs made from their lines, one after another, and from what they answer.
 ghost use Rattle.std.specs.Prelude.{◌≡◌, OnOk, OnErr, string_bytes};
-ghost use Rattle.expr_tree.specs.Beside.{program_operations};
-ghost use Rattle.expr_tree.specs.Written.{program_written};
+ghost use Rattle.expr_tree.specs.KeptPatterns.{program_operations};
+ghost use Rattle.expr_tree.specs.TermOf.{program_term};
 ghost use Rattle.expr_parts.specs.Kept.{KeepPatterns};
-ghost use Rattle.expr_parts.specs.Parts.{no_lines, line_more, answering};
+ghost use Rattle.expr_parts.specs.Parts.{no_lines, line_more, block_of_lines};
 
-use crate::part::Part;
+use crate::annotated_node::AnnotatedNode;
 use expr_tree::node::{Node, Program};
 use std::alloc::{AllocError, Global};
 use std::marker::Model;
 
 /// A program, whether a hash name is free in it, and the height of its highest tree. Contracts see its lines and what it answers, and the height.
-pub struct ProgramPart {
+pub struct AnnotatedProgram {
     program: Program,
     pub(crate) has_free_hash: bool,
     height: usize,
 }
 
 // Written out so that letting go of one is a single step in the proofs above.
-impl Drop for ProgramPart {
+impl Drop for AnnotatedProgram {
     fn drop(self) {
-        let ProgramPart {
+        let AnnotatedProgram {
             program: _,
             has_free_hash: _,
             height: _,
@@ -28,32 +28,32 @@ impl Drop for ProgramPart {
     }
 }
 
-impl Model for ProgramPart {
-    ghost use Rattle.expr_parts.specs.Parts.{MeasuredBlock, measured_block_code};
+impl Model for AnnotatedProgram {
+    ghost use Rattle.expr_parts.specs.Parts.{BlockWithHeight, block_with_height_code};
 
-    ghost Value = { MeasuredBlock };
+    ghost Value = { BlockWithHeight };
 
-    ghost coded = { measured_block_code };
+    ghost coded = { block_with_height_code };
 
     ghost use Rattle.std.specs.Prelude.{◌≡◌};
-    ghost use Rattle.expr_tree.specs.Beside.{program_operations};
-    ghost use Rattle.expr_tree.specs.Written.{program_written};
+    ghost use Rattle.expr_tree.specs.KeptPatterns.{program_operations};
+    ghost use Rattle.expr_tree.specs.TermOf.{program_term};
     ghost use Rattle.expr_parts.specs.Kept.{KeepPatterns};
     ghost use Rattle.expr_parts.specs.Promotion.{block_has_free_hash};
 
-    ghost view = { λ p. record { block = program_written p.program; height = p.height } };
+    ghost view = { λ p. record { block = program_term p.program; height = p.height } };
 
-    ghost invariant = { λ p. (p.has_free_hash ≡ block_has_free_hash (program_written p.program))
+    ghost invariant = { λ p. (p.has_free_hash ≡ block_has_free_hash (program_term p.program))
         × KeepPatterns (program_operations p.program) };
 }
 
-impl ProgramPart {
+impl AnnotatedProgram {
     /// The program, alone.
     pub fn into_program(self) -> Program
-        ensures block { program_written result ≡ self.block }
+        ensures block { program_term result ≡ self.block }
         ensures patterns { KeepPatterns (program_operations result) }
     {
-        let ProgramPart {
+        let AnnotatedProgram {
             program,
             has_free_hash: _,
             height: _,
@@ -88,20 +88,20 @@ impl Drop for Lines {
 }
 
 impl Model for Lines {
-    ghost use Rattle.expr_parts.specs.Parts.{MeasuredLines, lines_code};
+    ghost use Rattle.expr_parts.specs.Parts.{LinesWithHeight, lines_code};
 
-    ghost Value = { MeasuredLines };
+    ghost Value = { LinesWithHeight };
 
     ghost coded = { lines_code };
 
     ghost use Rattle.std.specs.Prelude.{◌≡◌, map};
-    ghost use Rattle.expr_tree.specs.Written.{line_written};
+    ghost use Rattle.expr_tree.specs.TermOf.{line_term};
     ghost use Rattle.expr_parts.specs.Kept.{LinesKeepPatterns};
     ghost use Rattle.expr_parts.specs.Promotion.{lines_have_free_hash};
 
-    ghost view = { λ l. record { lines = map line_written l.lines.items; height = l.height } };
+    ghost view = { λ l. record { lines = map line_term l.lines.items; height = l.height } };
 
-    ghost invariant = { λ l. (l.has_free_hash ≡ lines_have_free_hash (map line_written l.lines.items))
+    ghost invariant = { λ l. (l.has_free_hash ≡ lines_have_free_hash (map line_term l.lines.items))
         × LinesKeepPatterns l.lines.items };
 }
 
@@ -118,7 +118,7 @@ impl Lines {
     }
 
     /// Adds the line that names a value.
-    pub fn push(&mut self, name: String, value: Part) -> Result<(), AllocError>
+    pub fn push(&mut self, name: String, value: AnnotatedNode) -> Result<(), AllocError>
         ensures ok { OnOk result (self.new ≡ line_more self.old (string_bytes name) value) }
         ensures err { OnErr result (self.new ≡ self.old) }
     {
@@ -131,8 +131,8 @@ impl Lines {
     }
 
     /// The program of these lines that answers a node.
-    pub fn answering(self, last: Part) -> ProgramPart
-        ensures { result ≡ answering self last }
+    pub fn finish(self, last: AnnotatedNode) -> AnnotatedProgram
+        ensures { result ≡ block_of_lines self last }
     {
         let Lines {
             lines,
@@ -141,7 +141,7 @@ impl Lines {
         } = self;
         let has_free_hash = has_free_hash || last.has_free_hash;
         let height = height.max(last.height());
-        ProgramPart {
+        AnnotatedProgram {
             program: Program {
                 lines,
                 expr: last.into_node(),

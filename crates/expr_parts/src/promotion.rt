@@ -3,27 +3,27 @@ ghost use Rattle.std.specs.Prelude.{◌≡◌, ◌+◌, ◌<◌, ◌^◌, ◌∷
 ghost use Rattle.expr_tree.specs.Term.{Term};
 ghost use Rattle.expr_parts.specs.Promotion.{has_free_hash};
 ghost use Rattle.expr_parts.specs.Promotion as promotion;
-ghost use Rattle.expr_parts.specs.Places.{marks_of};
-ghost use Rattle.expr_parts.specs.Places as places;
+ghost use Rattle.expr_parts.specs.HashUses.{hash_uses_of};
+ghost use Rattle.expr_parts.specs.HashUses as places;
 
-use expr_functions::Asking;
+use expr_functions::HigherOrderCall;
 
 /// In how many arguments a hash name is free, and whether it is in those that a call may promote. One that is missing
 /// has none.
 #[derive(Clone, Copy)]
-pub(crate) struct Marks {
+pub(crate) struct HashUses {
     pub(crate) free: usize,
     first: bool,
     second: bool,
     last: bool,
 }
 
-impl Marks {
-    // The marks of no arguments.
-    pub(crate) fn none() -> Marks
-        ensures { result ≡ marks_of [] }
+impl HashUses {
+    // No argument yet.
+    pub(crate) fn new() -> HashUses
+        ensures { result ≡ hash_uses_of [] }
     {
-        Marks {
+        HashUses {
             free: 0,
             first: false,
             second: false,
@@ -34,10 +34,10 @@ impl Marks {
     // Marks one more, which follows so many.
     pub(crate) fn add(&mut self, count: usize, is_free: bool)
         requires { self.old.free + 1 < 2 ^ 64 }
-        ensures { (ts : List Term) (t : Term) → self.old ≡ marks_of ts → count ≡ length ts
-            → is_free ≡ has_free_hash t → self.new ≡ marks_of (ts ++ t ∷ []) }
+        ensures { (ts : List Term) (t : Term) → self.old ≡ hash_uses_of ts → count ≡ length ts
+            → is_free ≡ has_free_hash t → self.new ≡ hash_uses_of (ts ++ t ∷ []) }
     {
-        *self = Marks {
+        *self = HashUses {
             free: self.free + usize::from(is_free),
             first: self.first || (count == 0 && is_free),
             second: self.second || (count == 1 && is_free),
@@ -49,7 +49,7 @@ impl Marks {
     pub(crate) fn promoted_place(self, ident: &str, count: usize) -> Option<usize>
         ensures { result ≡ places.promoted_place ident.now self count }
     {
-        let asking = Asking::named(ident);
+        let asking = HigherOrderCall::from_name(ident);
         if reduces(asking) {
             return if self.second {
                 Some(1)
@@ -65,10 +65,10 @@ impl Marks {
 }
 
 // Whether it is `reduce`, which takes its program as the second argument, or else as the first.
-fn reduces(asking: Option<Asking>) -> bool
+fn reduces(asking: Option<HigherOrderCall>) -> bool
     ensures { result ≡ promotion.reduces asking }
 {
-    matches!(asking, Some(Asking::Reduce))
+    matches!(asking, Some(HigherOrderCall::Reduce))
 }
 
 fn place_if(is_free: bool, place: usize) -> Option<usize>

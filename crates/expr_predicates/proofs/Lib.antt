@@ -1,9 +1,9 @@
+pub mod Accumulating
 pub mod Answered
-pub mod Beginning
-pub mod Gathering
+pub mod FoldStarts
 pub mod Grouped
+pub mod InTurn
 pub mod OneOrder
 pub mod Opposite
 pub mod Own
-pub mod Replied
 pub mod Turns

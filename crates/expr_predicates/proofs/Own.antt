@@ -6,13 +6,13 @@ use Rattle.std.proofs.lemmas.List.{get_or-map, length-map}
 use Rattle.std.proofs.lemmas.List.Sorted.{IsPermutation-map}
 use Rattle.std.proofs.lemmas.Simd.{map-map}
 use Rattle.expr_value.specs.Answers.{Answer}
-use Rattle.expr_value.specs.Fault.{evaluation}
+use Rattle.expr_error.specs.ErrorKind.{evaluation}
 use Rattle.expr_value.specs.Values.{of_key}
 use Rattle.expr_value.specs.declared.key.Key.{Key}
 use Rattle.expr_value.specs.declared.value.Value as value
 use Rattle.expr_value.specs.declared.value.Value.{Value, roll-Value, ind-Value}
 use Rattle.expr_value.specs.declared.value.Value.TheOpen.{Value-F}
-use Rattle.expr_predicates.specs.Sorting.{IsSorting, Sorts, are_alike, beside_keys, is_integer, is_text, precedes, sort_key, alone, twice}
+use Rattle.expr_predicates.specs.Sorting.{IsSorting, Sorts, are_alike, beside_keys, is_integer, is_text, precedes, sort_key, own_keys, own_answers}
 
 abbrev Sorted_by : Key → Bool
 Sorted_by k = is_integer k || is_text k
@@ -52,27 +52,27 @@ one_of true c e = inl refl
 one_of false c e = inr e
 
 module _ (t : Key → Bool) where
-  all_same : (xs : List Value) → list_all (λ p. t p.0) (beside_keys (twice xs)) ≡ list_all (λ p. t p.0) (alone xs)
+  all_same : (xs : List Value) → list_all (λ p. t p.0) (beside_keys (own_answers xs)) ≡ list_all (λ p. t p.0) (own_keys xs)
   all_same [] = refl
   all_same (x ∷ xs) = ap (λ b. t (sort_key x) && b) (all_same xs)
 
-  back : ((k : Key) → t k ≡ true → Sorted_by k ≡ true) → (xs : List Value) → list_all (λ p. t p.0) (alone xs) ≡ true → beside_keys (twice xs) ≡ map whole (alone xs)
+  back : ((k : Key) → t k ≡ true → Sorted_by k ≡ true) → (xs : List Value) → list_all (λ p. t p.0) (own_keys xs) ≡ true → beside_keys (own_answers xs) ≡ map whole (own_keys xs)
   back h [] e = refl
   back h (x ∷ xs) e =
-      let p = both (t (sort_key x)) (list_all (λ p. t p.0) (alone xs)) e in
+      let p = both (t (sort_key x)) (list_all (λ p. t p.0) (own_keys xs)) e in
       (λ i. (sort_key x, own x (h (sort_key x) p.0) i) ∷ back h xs p.1 i)
 
 by_text : (b : Bool) → (b || true) ≡ true
 by_text true = refl
 by_text false = refl
 
-alike_same : (xs : List Value) → are_alike (beside_keys (twice xs)) ≡ are_alike (alone xs)
+alike_same : (xs : List Value) → are_alike (beside_keys (own_answers xs)) ≡ are_alike (own_keys xs)
 alike_same xs = λ i. all_same is_integer xs i || all_same is_text xs i
 
-items_back : (xs : List Value) → are_alike (alone xs) ≡ true → beside_keys (twice xs) ≡ map whole (alone xs)
-items_back xs e = by (one_of (list_all (λ p. is_integer p.0) (alone xs)) (list_all (λ p. is_text p.0) (alone xs)) e)
+items_back : (xs : List Value) → are_alike (own_keys xs) ≡ true → beside_keys (own_answers xs) ≡ map whole (own_keys xs)
+items_back xs e = by (one_of (list_all (λ p. is_integer p.0) (own_keys xs)) (list_all (λ p. is_text p.0) (own_keys xs)) e)
   where
-    by : (list_all (λ p. is_integer p.0) (alone xs) ≡ true) ⊎ (list_all (λ p. is_text p.0) (alone xs) ≡ true) → beside_keys (twice xs) ≡ map whole (alone xs)
+    by : (list_all (λ p. is_integer p.0) (own_keys xs) ≡ true) ⊎ (list_all (λ p. is_text p.0) (own_keys xs) ≡ true) → beside_keys (own_answers xs) ≡ map whole (own_keys xs)
     by (inl p) = back is_integer (λ k h. ap (λ b. b || is_text k) h) xs p
     by (inr p) = back is_text (λ k h. ap (λ b. is_integer k || b) h ∙ by_text (is_integer k)) xs p
 
@@ -108,16 +108,16 @@ Given xs = Ok (value.Array xs)
 made_of : {xs ys : List Value} → xs ≡ ys → Given xs ≡ Given ys
 made_of e = λ i. Given (e i)
 
-pub sorts_alone : (down : Bool) (xs : List Value) (qs : List (Key × Unit {0})) → are_alike (alone xs) ≡ true → IsSorting down (alone xs) qs → Sorts down (twice xs) (Ok (value.Array (values qs)))
+pub sorts_alone : (down : Bool) (xs : List Value) (qs : List (Key × Unit {0})) → are_alike (own_keys xs) ≡ true → IsSorting down (own_keys xs) qs → Sorts down (own_answers xs) (Ok (value.Array (values qs)))
 sorts_alone down xs qs e h =
     let answer : Answer = Ok (value.Array (values qs)) in
-    let is : IsSorting down (beside_keys (twice xs)) (map whole qs) = subst (λ l. IsSorting down l (map whole qs)) (sym (items_back xs e)) (whole_sorting down (alone xs) qs h) in
+    let is : IsSorting down (beside_keys (own_answers xs)) (map whole qs) = subst (λ l. IsSorting down l (map whole qs)) (sym (items_back xs e)) (whole_sorting down (own_keys xs) qs h) in
     let made : answer ≡ Ok (value.Array (map (λ p. p.1) (map whole qs))) = made_of (sym (map-map (λ p. p.1) whole qs)) in
-    subst (λ b. MatchBool b ((rs : List (Key × Value)) × IsSorting down (beside_keys (twice xs)) rs × (answer ≡ Ok (value.Array (map (λ p. p.1) rs)))) (answer ≡ Err evaluation))
+    subst (λ b. MatchBool b ((rs : List (Key × Value)) × IsSorting down (beside_keys (own_answers xs)) rs × (answer ≡ Ok (value.Array (map (λ p. p.1) rs)))) (answer ≡ Err evaluation))
     (sym (alike_same xs ∙ e)) (map whole qs, is, made)
 
-pub refuses_alone : (down : Bool) (xs : List Value) → are_alike (alone xs) ≡ false → Sorts down (twice xs) (Err evaluation)
+pub refuses_alone : (down : Bool) (xs : List Value) → are_alike (own_keys xs) ≡ false → Sorts down (own_answers xs) (Err evaluation)
 refuses_alone down xs e =
     let answer : Answer = Err evaluation in
-    subst (λ b. MatchBool b ((rs : List (Key × Value)) × IsSorting down (beside_keys (twice xs)) rs × (answer ≡ Ok (value.Array (map (λ p. p.1) rs)))) (answer ≡ Err evaluation))
+    subst (λ b. MatchBool b ((rs : List (Key × Value)) × IsSorting down (beside_keys (own_answers xs)) rs × (answer ≡ Ok (value.Array (map (λ p. p.1) rs)))) (answer ≡ Err evaluation))
     (sym (alike_same xs ∙ e)) refl

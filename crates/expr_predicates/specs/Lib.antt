@@ -1,11 +1,11 @@
+pub mod Accumulators
 pub mod Allowed
+pub mod AnswersInTurn
 pub mod Calls
-pub mod Gathered
+pub mod Folds
 pub mod Grouped
 pub mod Grouping
-pub mod Lefts
-pub mod Questions
-pub mod Replies
+pub mod PredicateArgs
+pub mod Remaining
 pub mod Runs
 pub mod Sorting
-pub mod Tasks

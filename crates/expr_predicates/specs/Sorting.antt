@@ -3,7 +3,7 @@ use Rattle.std.specs.Prelude.{◌≡◌, Bool, true, false, not, ◌||◌, List,
 use Rattle.std.specs.List.{filter, list_all}
 use Rattle.std.specs.List.Sorted.{IsPermutation, IsSortedBy, IsStableBy}
 use Rattle.std.specs.Ordering.{is_lt}
-use Rattle.expr_value.specs.Fault.{evaluation}
+use Rattle.expr_error.specs.ErrorKind.{evaluation}
 use Rattle.expr_value.specs.Keys.{key_cmp}
 use Rattle.expr_value.specs.Values.{key_of}
 use Rattle.expr_value.specs.declared.key.Key.{Key}
@@ -58,9 +58,9 @@ abbrev pub Sorts : Bool → List (Value × Value) → Answer → Type 0
 Sorts down rs answer = SortsPairs down (beside_keys rs) answer
 
 -- the keys of items that are their own keys, each beside nothing
-abbrev pub alone : List Value → List (Key × Unit {0})
-alone xs = map (λ x. (sort_key x, tt)) xs
+abbrev pub own_keys : List Value → List (Key × Unit {0})
+own_keys xs = map (λ x. (sort_key x, tt)) xs
 
 -- items, each with itself as the answer about it
-abbrev pub twice : List Value → List (Value × Value)
-twice xs = map (λ x. (x, x)) xs
+abbrev pub own_answers : List Value → List (Value × Value)
+own_answers xs = map (λ x. (x, x)) xs

@@ -2,9 +2,9 @@
 ghost use Rattle.std.specs.Prelude.{◌≡◌, ◌<◌, ◌++◌, ◌∷◌, [], List, IfOk, map, set, get_or, vec_len, length, ◌+◌, if◌then◌else◌};
 ghost use Rattle.expr_value.specs.declared.key.Key.{Key as AKey};
 ghost use Rattle.expr_value.specs.declared.value.Value.{Value as AValue};
-ghost use Rattle.expr_predicates.specs.Tasks.{grouped};
+ghost use Rattle.expr_predicates.specs.Folds.{groups_of};
 ghost use Rattle.expr_predicates.specs.Grouping.{item_lists};
-ghost use Rattle.expr_value.specs.Fault.{OnlyMemory};
+ghost use Rattle.expr_error.specs.ErrorKind.{OnlyMemory};
 
 use expr_value::{Items, Key, KeyedMap, Result, Value};
 use indexmap::IndexSet;
@@ -46,7 +46,7 @@ impl Groups {
 
     /// The keys, each with the array of its items.
     fn into_map(self, alloc: Global) -> Result<KeyedMap>
-        ensures ok { IfOk result (λ m. (ps : List (AKey × AValue)) → IsGrouping self ps → m ≡ grouped ps) }
+        ensures ok { IfOk result (λ m. (ps : List (AKey × AValue)) → IsGrouping self ps → m ≡ groups_of ps) }
         ensures err { OnlyMemory result }
     {
         let Groups { keys, items } = self;
@@ -84,8 +84,8 @@ fn with_item(mut lists: Vec<Vec<Value>>, index: usize, item: Value) -> Result<Ve
 }
 
 /// Each key once, as first seen and in that order, with the items that have it.
-pub fn grouped(alloc: Global, pairs: Vec<(Key, Value)>) -> Result<KeyedMap>
-    ensures ok { IfOk result (λ m. m ≡ grouped pairs.items) }
+pub fn group_by_key(alloc: Global, pairs: Vec<(Key, Value)>) -> Result<KeyedMap>
+    ensures ok { IfOk result (λ m. m ≡ groups_of pairs.items) }
     ensures err { OnlyMemory result }
 {
     let mut groups = Groups::new(alloc);

@@ -1,52 +1,54 @@
 //! A run of a predicate over the items of an array.
 ghost use Rattle.std.specs.Prelude.{◌≡◌, ◌≢◌, ℕ, ◌+◌, ◌<◌, ◌^◌, ◌∷◌, ◌++◌, [], List, reverse, length, IfOk, IfSome, Ok, Err, Some, None, option_map, true, false};
-ghost use Rattle.expr_value.specs.Answers.{Gives};
-ghost use Rattle.expr_value.specs.Fault.{evaluation, RefusesWith};
-ghost use Rattle.expr_arguments.specs.Arrays.{items_held};
+ghost use Rattle.expr_value.specs.Answers.{Returns};
+ghost use Rattle.expr_error.specs.ErrorKind.{evaluation, RefusesWith};
+ghost use Rattle.expr_arguments.specs.Arrays.{array_items};
 ghost use Rattle.expr_predicates.specs.Calls.{SortsItems};
-ghost use Rattle.expr_predicates.specs.Lefts.{left_of};
+ghost use Rattle.expr_predicates.specs.Remaining.{items_remaining};
 
 use crate::arguments::{array_and_more, direction, is_downward, runs_alone};
-use crate::kept::Kept;
-use crate::left::Left;
-use crate::noted::Noted;
-use crate::question::Asked;
-use crate::sorting::sorted_alone;
+use crate::predicate_args::PredicateArgs;
+use crate::remaining::Remaining;
+use crate::scalar_accumulator::ScalarAccumulator;
+use crate::sorting::sort_items;
+use crate::value_accumulator::ValueAccumulator;
 use expr_arguments::{Array, count_items, into_items};
-use expr_functions::Asking;
-use expr_held::Held;
+use expr_cow::CowValue;
+use expr_functions::HigherOrderCall;
 use expr_value::{Items, Result, Value, refusal};
 use std::alloc::Global;
 
 /// What is kept of the answers so far.
 #[derive(Drop)]
-enum Gathered {
-    Noted(Noted),
-    Kept(Kept),
+enum Accumulator {
+    Scalar(ScalarAccumulator),
+    Values(ValueAccumulator),
 }
 
-impl Gathered {
-    ghost use Rattle.expr_predicates.specs.Tasks.{Task, Reply, Outcome, first_place, refused, stopped};
-    ghost use Rattle.expr_predicates.specs.Gathered.{Gathers, GathersRest, acc_beside, index_beside};
+impl Accumulator {
+    ghost use Rattle.expr_predicates.specs.Folds.{Fold, ItemAnswer, FoldOutcome, first_place, refuses_answer, has_stopped};
+    ghost use Rattle.expr_predicates.specs.Accumulators.{Represents, RepresentsRest, acc_arg, index_arg};
 
     /// Whether no more is to be asked.
     #[inline(always)]
     fn has_stopped(&self) -> bool
-        ensures { (t : Task) (rs : List Reply) → Gathers self.now t rs → result ≡ stopped t rs }
+        ensures { (t : Fold) (rs : List ItemAnswer) → Represents self.now t rs → result ≡ has_stopped t rs }
     {
         match self {
-            Gathered::Noted(noted) => noted.has_stopped(),
-            Gathered::Kept(kept) => kept.has_stopped(),
+            Accumulator::Scalar(noted) => noted.has_stopped(),
+            Accumulator::Values(kept) => kept.has_stopped(),
         }
     }
 
     /// What is told beside the item at a place: the place, where the built-in binds `#index`.
     #[inline(always)]
     fn index(&self, place: usize) -> Option<Value>
-        ensures { result ≡ index_beside self.now place }
+        ensures { result ≡ index_arg self.now place }
     {
         match self {
-            Gathered::Kept(Kept::Map(_) | Kept::Reduce(_)) => Some(Value::from(place)),
+            Accumulator::Values(ValueAccumulator::Map(_) | ValueAccumulator::Reduce(_)) => Some(
+                Value::from(place),
+            ),
             _ => None,
         }
     }
@@ -54,44 +56,49 @@ impl Gathered {
     /// What has been made so far, where the built-in binds `#acc`; nil is left of it.
     #[inline(always)]
     fn take_acc(&mut self) -> Option<Value>
-        ensures acc { result ≡ acc_beside self.old }
-        ensures rest { (t : Task) (rs : List Reply) → GathersRest self.old t rs → GathersRest self.new t rs }
-        ensures index { (place : ℕ) → index_beside self.new place ≡ index_beside self.old place }
+        ensures acc { result ≡ acc_arg self.old }
+        ensures rest { (t : Fold) (rs : List ItemAnswer) → RepresentsRest self.old t rs
+            → RepresentsRest self.new t rs }
+        ensures index { (place : ℕ) → index_arg self.new place ≡ index_arg self.old place }
     {
         match self {
-            Gathered::Kept(Kept::Reduce(acc)) => Some(std::mem::replace(acc, Value::Nil)),
+            Accumulator::Values(ValueAccumulator::Reduce(acc)) => Some(std::mem::replace(
+                acc,
+                Value::Nil,
+            )),
             _ => None,
         }
     }
 
     /// One more answer, about the item at a place.
     #[inline(always)]
-    fn take(&mut self, alloc: Global, place: usize, item: Held<'_>, answer: Value) -> Result<()>
+    fn take(&mut self, alloc: Global, place: usize, item: CowValue<'_>, answer: Value) -> Result<()>
         requires { place + 1 < 2 ^ 64 }
-        ensures gathered { IfOk result (λ _. (t : Task) (rs : List Reply) → GathersRest self.old t rs
+        ensures gathered { IfOk result (λ _. (t : Fold) (rs : List ItemAnswer) → RepresentsRest self.old t rs
             → place ≡ first_place t + length rs
-            → Gathers self.new t (rs ++ (item.entry, answer) ∷ []) × (refused t answer ≡ false)) }
-        ensures refused { RefusesWith result (λ k. (t : Task) (rs : List Reply)
-            → GathersRest self.old t rs → (refused t answer ≡ true) × (k ≡ evaluation)) }
+            → Represents self.new t (rs ++ (item.entry, answer) ∷ []) × (refuses_answer t answer ≡ false)) }
+        ensures refused { RefusesWith result (λ k. (t : Fold) (rs : List ItemAnswer)
+            → RepresentsRest self.old t rs → (refuses_answer t answer ≡ true) × (k ≡ evaluation)) }
     {
         match self {
-            Gathered::Noted(noted) => noted.take(alloc, place, &answer),
-            Gathered::Kept(kept) => kept.take(alloc, item, answer),
+            Accumulator::Scalar(noted) => noted.take(alloc, place, &answer),
+            Accumulator::Values(kept) => kept.take(alloc, item, answer),
         }
     }
 
     /// The item at a place, as the answer about itself.
-    fn take_itself(&mut self, alloc: Global, place: usize, item: Held<'_>) -> Result<()>
+    fn take_itself(&mut self, alloc: Global, place: usize, item: CowValue<'_>) -> Result<()>
         requires { place + 1 < 2 ^ 64 }
-        ensures gathered { IfOk result (λ _. (t : Task) (rs : List Reply) → GathersRest self.old t rs
+        ensures gathered { IfOk result (λ _. (t : Fold) (rs : List ItemAnswer) → RepresentsRest self.old t rs
             → place ≡ first_place t + length rs
-            → Gathers self.new t (rs ++ (item.entry, item.entry) ∷ []) × (refused t item.entry ≡ false)) }
-        ensures refused { RefusesWith result (λ k. (t : Task) (rs : List Reply)
-            → GathersRest self.old t rs → (refused t item.entry ≡ true) × (k ≡ evaluation)) }
+            → Represents self.new t (rs ++ (item.entry, item.entry) ∷ [])
+            × (refuses_answer t item.entry ≡ false)) }
+        ensures refused { RefusesWith result (λ k. (t : Fold) (rs : List ItemAnswer)
+            → RepresentsRest self.old t rs → (refuses_answer t item.entry ≡ true) × (k ≡ evaluation)) }
     {
         match self {
-            Gathered::Noted(noted) => noted.take(alloc, place, item.get()),
-            Gathered::Kept(kept) => {
+            Accumulator::Scalar(noted) => noted.take(alloc, place, item.get()),
+            Accumulator::Values(kept) => {
                 let answer = item.get().clone()?;
                 kept.take(alloc, item, answer)
             }
@@ -100,11 +107,12 @@ impl Gathered {
 
     /// What the answers come to.
     fn outcome(self, alloc: Global) -> Result<Value>
-        ensures { (t : Task) (rs : List Reply) → Gathers self t rs → Gives result (Outcome t rs) }
+        ensures { (t : Fold) (rs : List ItemAnswer) → Represents self t rs
+            → Returns result (FoldOutcome t rs) }
     {
         match self {
-            Gathered::Noted(noted) => Ok(noted.outcome()),
-            Gathered::Kept(kept) => kept.outcome(alloc),
+            Accumulator::Scalar(noted) => Ok(noted.outcome()),
+            Accumulator::Values(kept) => kept.outcome(alloc),
         }
     }
 }
@@ -113,11 +121,11 @@ impl Gathered {
 /// with the answer, and gives its value once no more is asked. Items that are lent to it are copied only where they are
 /// kept.
 pub struct PredicateRun<'s> {
-    left: Left<'s>,
+    left: Remaining<'s>,
     /// How many items have been handed out.
     asked: usize,
-    gathered: Gathered,
-    ghost fits: { asked + length (left_of left) < 2 ^ 64 },
+    gathered: Accumulator,
+    ghost fits: { asked + length (items_remaining remaining_items) < 2 ^ 64 },
 }
 
 // Written out so that letting go of one is a single step in the proofs above.
@@ -134,11 +142,11 @@ impl<'s> Drop for PredicateRun<'s> {
 
 impl<'s> PredicateRun<'s> {
     ghost use Rattle.expr_value.specs.declared.value.Value.{Value};
-    ghost use Rattle.expr_predicates.specs.Calls.{begun, reduced_from_first, started};
-    ghost use Rattle.expr_predicates.specs.Gathered.{Awaits, Stands, StartsWith, acc_out, asked_by, index_out, left, to_ask};
-    ghost use Rattle.expr_predicates.specs.Questions.{asked_of};
-    ghost use Rattle.expr_predicates.specs.Runs.{Asks, AsksItself, next_question};
-    ghost use Rattle.expr_predicates.specs.Tasks.{Task, Reply, Outcome, refused};
+    ghost use Rattle.expr_predicates.specs.Calls.{fold_of_call, reduce_from_first, fold_of};
+    ghost use Rattle.expr_predicates.specs.Accumulators.{Awaits, RunRepresents, StartsWith, acc_out, pending_args, index_out, remaining_items, remaining_count};
+    ghost use Rattle.expr_predicates.specs.PredicateArgs.{args_view};
+    ghost use Rattle.expr_predicates.specs.Runs.{FoldMayReturn, AnswersItself, next_args};
+    ghost use Rattle.expr_predicates.specs.Folds.{Fold, ItemAnswer, FoldOutcome, refuses_answer};
 
     /// A built-in on its arguments, with or without a predicate: an array, and for `reduce` what it begins with or for
     /// `sortBy` its direction. An array that is lent stays where it stands. Other arguments, no predicate where one is
@@ -146,93 +154,121 @@ impl<'s> PredicateRun<'s> {
     /// [`Error::ExprError`](expr_value::Error::ExprError).
     pub fn begin(
         alloc: Global,
-        asking: Asking,
-        args: Items<Held<'s>>,
+        asking: HigherOrderCall,
+        args: Items<CowValue<'s>>,
         given: bool,
     ) -> Result<PredicateRun<'s>>
-        ensures begun { IfOk result (λ r. StartsWith r (begun asking args.entry given)) }
-        ensures refused { RefusesWith result (λ k. begun asking args.entry given ≡ Err k) }
+        ensures begun { IfOk result (λ r. StartsWith r (fold_of_call asking args.entry given)) }
+        ensures refused { RefusesWith result (λ k. fold_of_call asking args.entry given ≡ Err k) }
     {
         if !given && !runs_alone(asking) {
             return Err(refusal(alloc, "the function takes a predicate"));
         }
         let (array, more) = array_and_more(alloc, args)?;
         match more {
-            None => PredicateRun::on(alloc, asking, array),
-            Some(more) => PredicateRun::on_more(alloc, asking, array, more),
+            None => PredicateRun::over_array(alloc, asking, array),
+            Some(more) => PredicateRun::over_array_with(alloc, asking, array, more),
         }
     }
 
     /// A built-in on an array alone.
-    fn on(alloc: Global, asking: Asking, array: Array<'s>) -> Result<PredicateRun<'s>>
-        ensures begun { IfOk result (λ r. StartsWith r (started asking (items_held array.entry) None)) }
-        ensures refused { RefusesWith result (λ k. started asking (items_held array.entry) None ≡ Err k) }
+    fn over_array(
+        alloc: Global,
+        asking: HigherOrderCall,
+        array: Array<'s>,
+    ) -> Result<PredicateRun<'s>>
+        ensures begun { IfOk result (λ r. StartsWith r (fold_of asking (array_items array.entry) None)) }
+        ensures refused { RefusesWith result (λ k. fold_of asking (array_items array.entry) None ≡ Err k) }
     {
         match asking {
-            Asking::All => Ok(PredicateRun::forward(array, Gathered::Noted(Noted::All(false)))),
-            Asking::Any => Ok(PredicateRun::forward(array, Gathered::Noted(Noted::Any(false)))),
-            Asking::NoneOf => Ok(PredicateRun::forward(
+            HigherOrderCall::All => Ok(PredicateRun::forward(
                 array,
-                Gathered::Noted(Noted::NoneOf(false)),
+                Accumulator::Scalar(ScalarAccumulator::All(false)),
             )),
-            Asking::One => Ok(PredicateRun::forward(array, Gathered::Noted(Noted::One(0)))),
-            Asking::Map => Ok(PredicateRun::forward(
+            HigherOrderCall::Any => Ok(PredicateRun::forward(
                 array,
-                Gathered::Kept(Kept::Map(Vec::new(alloc))),
+                Accumulator::Scalar(ScalarAccumulator::Any(false)),
             )),
-            Asking::Filter => Ok(PredicateRun::forward(
+            HigherOrderCall::NoneOf => Ok(PredicateRun::forward(
                 array,
-                Gathered::Kept(Kept::Filter(Vec::new(alloc))),
+                Accumulator::Scalar(ScalarAccumulator::NoneOf(false)),
             )),
-            Asking::Find => Ok(PredicateRun::forward(array, Gathered::Kept(Kept::Find(None)))),
-            Asking::FindIndex => Ok(PredicateRun::forward(
+            HigherOrderCall::One => Ok(PredicateRun::forward(
                 array,
-                Gathered::Noted(Noted::FindIndex(None)),
+                Accumulator::Scalar(ScalarAccumulator::One(0)),
             )),
-            Asking::FindLast => Ok(PredicateRun::backward(array, Gathered::Kept(Kept::Find(None)))),
-            Asking::FindLastIndex => {
+            HigherOrderCall::Map => Ok(PredicateRun::forward(
+                array,
+                Accumulator::Values(ValueAccumulator::Map(Vec::new(alloc))),
+            )),
+            HigherOrderCall::Filter => Ok(PredicateRun::forward(
+                array,
+                Accumulator::Values(ValueAccumulator::Filter(Vec::new(alloc))),
+            )),
+            HigherOrderCall::Find => Ok(PredicateRun::forward(
+                array,
+                Accumulator::Values(ValueAccumulator::Find(None)),
+            )),
+            HigherOrderCall::FindIndex => Ok(PredicateRun::forward(
+                array,
+                Accumulator::Scalar(ScalarAccumulator::FindIndex(None)),
+            )),
+            HigherOrderCall::FindLast => Ok(PredicateRun::backward(
+                array,
+                Accumulator::Values(ValueAccumulator::Find(None)),
+            )),
+            HigherOrderCall::FindLastIndex => {
                 let count = count_items(&array);
                 Ok(PredicateRun::backward(
                     array,
-                    Gathered::Noted(Noted::FindLastIndex(count, None)),
+                    Accumulator::Scalar(ScalarAccumulator::FindLastIndex(count, None)),
                 ))
             }
-            Asking::Count => Ok(PredicateRun::forward(array, Gathered::Noted(Noted::Count(0)))),
-            Asking::Sum => Ok(PredicateRun::forward(array, Gathered::Noted(Noted::Sum(0)))),
-            Asking::Reduce => PredicateRun::from_first(alloc, array),
-            Asking::GroupBy => Ok(PredicateRun::forward(
+            HigherOrderCall::Count => Ok(PredicateRun::forward(
                 array,
-                Gathered::Kept(Kept::GroupBy(Vec::new(alloc))),
+                Accumulator::Scalar(ScalarAccumulator::Count(0)),
             )),
-            Asking::SortBy => Ok(PredicateRun::forward(
+            HigherOrderCall::Sum => Ok(PredicateRun::forward(
                 array,
-                Gathered::Kept(Kept::SortBy(false, Vec::new(alloc))),
+                Accumulator::Scalar(ScalarAccumulator::Sum(0)),
+            )),
+            HigherOrderCall::Reduce => PredicateRun::from_first(alloc, array),
+            HigherOrderCall::GroupBy => Ok(PredicateRun::forward(
+                array,
+                Accumulator::Values(ValueAccumulator::GroupBy(Vec::new(alloc))),
+            )),
+            HigherOrderCall::SortBy => Ok(PredicateRun::forward(
+                array,
+                Accumulator::Values(ValueAccumulator::SortBy(false, Vec::new(alloc))),
             )),
         }
     }
 
     /// A built-in on an array and one more argument.
-    fn on_more(
+    fn over_array_with(
         alloc: Global,
-        asking: Asking,
+        asking: HigherOrderCall,
         array: Array<'s>,
-        more: Held<'_>,
+        more: CowValue<'_>,
     ) -> Result<PredicateRun<'s>>
         ensures begun { IfOk result (λ r. StartsWith r
-            (started asking (items_held array.entry) (Some more.entry))) }
-        ensures refused { RefusesWith result (λ k. started asking (items_held array.entry) (Some more.entry)
+            (fold_of asking (array_items array.entry) (Some more.entry))) }
+        ensures refused { RefusesWith result (λ k. fold_of asking (array_items array.entry) (Some more.entry)
             ≡ Err k) }
     {
         match asking {
-            Asking::Reduce => {
+            HigherOrderCall::Reduce => {
                 let init = more.into_value()?;
-                Ok(PredicateRun::forward(array, Gathered::Kept(Kept::Reduce(init))))
+                Ok(PredicateRun::forward(
+                    array,
+                    Accumulator::Values(ValueAccumulator::Reduce(init)),
+                ))
             }
-            Asking::SortBy => {
+            HigherOrderCall::SortBy => {
                 let down = direction(alloc, more.get())?;
                 Ok(PredicateRun::forward(
                     array,
-                    Gathered::Kept(Kept::SortBy(down, Vec::new(alloc))),
+                    Accumulator::Values(ValueAccumulator::SortBy(down, Vec::new(alloc))),
                 ))
             }
             _ => Err(refusal(alloc, "the function takes an array alone")),
@@ -240,26 +276,26 @@ impl<'s> PredicateRun<'s> {
     }
 
     /// A run that asks about the items from the front.
-    fn forward(array: Array<'s>, gathered: Gathered) -> PredicateRun<'s>
-        ensures left { left result ≡ items_held array.entry }
+    fn forward(array: Array<'s>, gathered: Accumulator) -> PredicateRun<'s>
+        ensures left { remaining_items result ≡ array_items array.entry }
         ensures asked { result.asked ≡ 0 }
         ensures gathered { result.gathered ≡ gathered }
     {
         PredicateRun {
-            left: Left::forward(array),
+            left: Remaining::forward(array),
             asked: 0,
             gathered,
         }
     }
 
     /// A run that asks about the items from the back.
-    fn backward(array: Array<'s>, gathered: Gathered) -> PredicateRun<'s>
-        ensures left { left result ≡ reverse (items_held array.entry) }
+    fn backward(array: Array<'s>, gathered: Accumulator) -> PredicateRun<'s>
+        ensures left { remaining_items result ≡ reverse (array_items array.entry) }
         ensures asked { result.asked ≡ 0 }
         ensures gathered { result.gathered ≡ gathered }
     {
         PredicateRun {
-            left: Left::backward(array),
+            left: Remaining::backward(array),
             asked: 0,
             gathered,
         }
@@ -267,17 +303,17 @@ impl<'s> PredicateRun<'s> {
 
     /// A run that begins with the first item as what has been made so far, which is copied where it is lent.
     fn from_first(alloc: Global, array: Array<'s>) -> Result<PredicateRun<'s>>
-        ensures begun { IfOk result (λ r. StartsWith r (reduced_from_first (items_held array.entry))) }
-        ensures refused { RefusesWith result (λ k. reduced_from_first (items_held array.entry) ≡ Err k) }
+        ensures begun { IfOk result (λ r. StartsWith r (reduce_from_first (array_items array.entry))) }
+        ensures refused { RefusesWith result (λ k. reduce_from_first (array_items array.entry) ≡ Err k) }
     {
-        let mut left = Left::forward(array);
+        let mut left = Remaining::forward(array);
         match left.pop() {
             Some(first) => {
                 let acc = first.into_value()?;
                 Ok(PredicateRun {
                     left,
                     asked: 1,
-                    gathered: Gathered::Kept(Kept::Reduce(acc)),
+                    gathered: Accumulator::Values(ValueAccumulator::Reduce(acc)),
                 })
             }
             None => Err(refusal(alloc, "reduce of no items takes a value to begin with")),
@@ -285,32 +321,32 @@ impl<'s> PredicateRun<'s> {
     }
 
     /// What is asked next, handed out by value, or none where no more is.
-    pub fn next(&mut self) -> Option<Asked<'s>>
-        ensures question { (t : Task) (rs : List Reply) → Stands self.old t rs
-            → option_map asked_of result ≡ next_question t rs (left self.old) }
-        ensures out { IfSome result (λ q. (t : Task) (rs : List Reply) → Stands self.old t rs
-            → (left self.old ≡ q.item ∷ left self.new) × Awaits self.new t rs) }
-        ensures fewer { IfSome result (λ _. to_ask self.new < to_ask self.old) }
-        ensures done { result ≡ None → (t : Task) (rs : List Reply) → Stands self.old t rs
-            → Stands self.new t rs }
+    pub fn next(&mut self) -> Option<PredicateArgs<'s>>
+        ensures question { (t : Fold) (rs : List ItemAnswer) → RunRepresents self.old t rs
+            → option_map args_view result ≡ next_args t rs (remaining_items self.old) }
+        ensures out { IfSome result (λ q. (t : Fold) (rs : List ItemAnswer) → RunRepresents self.old t rs
+            → (remaining_items self.old ≡ q.item ∷ remaining_items self.new) × Awaits self.new t rs) }
+        ensures fewer { IfSome result (λ _. remaining_count self.new < remaining_count self.old) }
+        ensures done { result ≡ None → (t : Fold) (rs : List ItemAnswer) → RunRepresents self.old t rs
+            → RunRepresents self.new t rs }
     {
         let item = self.next_item()?;
         let index = self.index();
         let acc = self.take_acc();
-        Some(Asked { item, index, acc })
+        Some(PredicateArgs { item, index, acc })
     }
 
     /// The item that is asked about next, by value, or none where no more is. What is told beside it is had by
     /// [`index`](PredicateRun::index) and [`take_acc`](PredicateRun::take_acc), before the answer.
     #[inline(always)]
-    pub fn next_item(&mut self) -> Option<Held<'s>>
-        ensures question { (t : Task) (rs : List Reply) → Stands self.old t rs
-            → option_map (asked_by self.new) result ≡ next_question t rs (left self.old) }
-        ensures out { IfSome result (λ item. (t : Task) (rs : List Reply) → Stands self.old t rs
-            → (left self.old ≡ item ∷ left self.new) × Awaits self.new t rs) }
-        ensures fewer { IfSome result (λ _. to_ask self.new < to_ask self.old) }
-        ensures done { result ≡ None → (t : Task) (rs : List Reply) → Stands self.old t rs
-            → Stands self.new t rs }
+    pub fn next_item(&mut self) -> Option<CowValue<'s>>
+        ensures question { (t : Fold) (rs : List ItemAnswer) → RunRepresents self.old t rs
+            → option_map (pending_args self.new) result ≡ next_args t rs (remaining_items self.old) }
+        ensures out { IfSome result (λ item. (t : Fold) (rs : List ItemAnswer) → RunRepresents self.old t rs
+            → (remaining_items self.old ≡ item ∷ remaining_items self.new) × Awaits self.new t rs) }
+        ensures fewer { IfSome result (λ _. remaining_count self.new < remaining_count self.old) }
+        ensures done { result ≡ None → (t : Fold) (rs : List ItemAnswer) → RunRepresents self.old t rs
+            → RunRepresents self.new t rs }
     {
         if self.gathered.has_stopped() {
             return None;
@@ -333,8 +369,8 @@ impl<'s> PredicateRun<'s> {
     pub fn take_acc(&mut self) -> Option<Value>
         ensures acc { result ≡ acc_out self.old }
         ensures index { index_out self.new ≡ index_out self.old }
-        ensures awaits { (t : Task) (rs : List Reply) → Awaits self.old t rs → Awaits self.new t rs }
-        ensures left { left self.new ≡ left self.old }
+        ensures awaits { (t : Fold) (rs : List ItemAnswer) → Awaits self.old t rs → Awaits self.new t rs }
+        ensures left { remaining_items self.new ≡ remaining_items self.old }
     {
         self.gathered.take_acc()
     }
@@ -343,26 +379,26 @@ impl<'s> PredicateRun<'s> {
     /// integer for `sum` or no scalar for `groupBy` is refused with [`Error::ExprError`](expr_value::Error::ExprError),
     /// and nothing is left of the run.
     #[inline(always)]
-    pub fn answer(&mut self, alloc: Global, item: Held<'_>, answer: Value) -> Result<()>
-        ensures value { IfOk result (λ _. (t : Task) (rs : List Reply) → Awaits self.old t rs
-            → (refused t answer ≡ false) × (left self.new ≡ left self.old)
-            × Stands self.new t (rs ++ (item.entry, answer) ∷ [])) }
-        ensures refused { RefusesWith result (λ k. (t : Task) (rs : List Reply)
-            → Awaits self.old t rs → (refused t answer ≡ true) × (k ≡ evaluation)) }
-        ensures same { to_ask self.new ≡ to_ask self.old }
+    pub fn answer(&mut self, alloc: Global, item: CowValue<'_>, answer: Value) -> Result<()>
+        ensures value { IfOk result (λ _. (t : Fold) (rs : List ItemAnswer) → Awaits self.old t rs
+            → (refuses_answer t answer ≡ false) × (remaining_items self.new ≡ remaining_items self.old)
+            × RunRepresents self.new t (rs ++ (item.entry, answer) ∷ [])) }
+        ensures refused { RefusesWith result (λ k. (t : Fold) (rs : List ItemAnswer)
+            → Awaits self.old t rs → (refuses_answer t answer ≡ true) × (k ≡ evaluation)) }
+        ensures same { remaining_count self.new ≡ remaining_count self.old }
     {
         let place = self.asked.saturating_sub(1);
         self.gathered.take(alloc, place, item, answer)
     }
 
     /// Takes an item back that was handed out, as the answer about itself.
-    fn answer_itself(&mut self, alloc: Global, item: Held<'_>) -> Result<()>
-        ensures value { IfOk result (λ _. (t : Task) (rs : List Reply) → Awaits self.old t rs
-            → (refused t item.entry ≡ false) × (left self.new ≡ left self.old)
-            × Stands self.new t (rs ++ (item.entry, item.entry) ∷ [])) }
-        ensures refused { RefusesWith result (λ k. (t : Task) (rs : List Reply)
-            → Awaits self.old t rs → (refused t item.entry ≡ true) × (k ≡ evaluation)) }
-        ensures same { to_ask self.new ≡ to_ask self.old }
+    fn answer_itself(&mut self, alloc: Global, item: CowValue<'_>) -> Result<()>
+        ensures value { IfOk result (λ _. (t : Fold) (rs : List ItemAnswer) → Awaits self.old t rs
+            → (refuses_answer t item.entry ≡ false) × (remaining_items self.new ≡ remaining_items self.old)
+            × RunRepresents self.new t (rs ++ (item.entry, item.entry) ∷ [])) }
+        ensures refused { RefusesWith result (λ k. (t : Fold) (rs : List ItemAnswer)
+            → Awaits self.old t rs → (refuses_answer t item.entry ≡ true) × (k ≡ evaluation)) }
+        ensures same { remaining_count self.new ≡ remaining_count self.old }
     {
         let place = self.asked.saturating_sub(1);
         self.gathered.take_itself(alloc, place, item)
@@ -371,8 +407,8 @@ impl<'s> PredicateRun<'s> {
     /// What the run comes to where each item is the answer about itself, as for `count` and `sum` without a predicate. An
     /// item that is refused as an answer is refused with [`Error::ExprError`](expr_value::Error::ExprError).
     pub fn complete(self, alloc: Global) -> Result<Value>
-        ensures { (t : Task) → Stands self.entry t []
-            → Gives result (Asks t AsksItself (left self.entry) []) }
+        ensures { (t : Fold) → RunRepresents self.entry t []
+            → Returns result (FoldMayReturn t AnswersItself (remaining_items self.entry) []) }
     {
         let mut run = self;
         while let Some(item) = run.next_item() {
@@ -384,7 +420,8 @@ impl<'s> PredicateRun<'s> {
     /// What the answers come to, once no more is asked. Keys of `sortBy` that are neither all integers nor all texts are
     /// refused with [`Error::ExprError`](expr_value::Error::ExprError).
     pub fn finish(self, alloc: Global) -> Result<Value>
-        ensures { (t : Task) (rs : List Reply) → Stands self.entry t rs → Gives result (Outcome t rs) }
+        ensures { (t : Fold) (rs : List ItemAnswer) → RunRepresents self.entry t rs
+            → Returns result (FoldOutcome t rs) }
     {
         let PredicateRun {
             left: _,
@@ -398,11 +435,11 @@ impl<'s> PredicateRun<'s> {
 /// The items of an array in their order, upward or, with `"desc"`, downward, each being its own key. No predicate is
 /// asked, and items are copied only where the array is lent. Items that are neither all integers nor all texts, and other
 /// arguments, are refused with [`Error::ExprError`](expr_value::Error::ExprError).
-pub fn sort(alloc: Global, args: Items<Held<'_>>) -> Result<Value>
-    ensures { Gives result (SortsItems args.entry) }
+pub fn sort(alloc: Global, args: Items<CowValue<'_>>) -> Result<Value>
+    ensures { Returns result (SortsItems args.entry) }
 {
     let (array, order) = array_and_more(alloc, args)?;
     let down = is_downward(alloc, order)?;
     let items = into_items(alloc, array)?;
-    sorted_alone(alloc, down, items)
+    sort_items(alloc, down, items)
 }

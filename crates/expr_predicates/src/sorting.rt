@@ -2,16 +2,16 @@
 ghost use Rattle.std.specs.Prelude.{◌≡◌, map, true, false, IfOk, OnOk};
 ghost use Rattle.std.specs.List.{list_all};
 ghost use Rattle.std.specs.List.Sorted.{IsPermutation, IsSortedBy, IsStableBy};
-ghost use Rattle.expr_value.specs.Answers.{Gives};
+ghost use Rattle.expr_value.specs.Answers.{Returns};
 ghost use Rattle.expr_value.specs.Values.{of_key};
-ghost use Rattle.expr_predicates.specs.Sorting.{IsSorting, Sorts, SortsPairs, alone, are_alike, is_integer, is_text, precedes, twice};
+ghost use Rattle.expr_predicates.specs.Sorting.{IsSorting, Sorts, SortsPairs, own_keys, are_alike, is_integer, is_text, precedes, own_answers};
 
 use expr_value::{Items, Key, Result, Value, refusal};
 use std::alloc::{AllocError, Global};
 
 /// The items in the order of their keys, which are all integers or all texts. Equal ones keep their order.
-pub fn sorted(alloc: Global, down: bool, pairs: Vec<(Key, Value)>) -> Result<Value>
-    ensures { Gives result (SortsPairs down pairs.items) }
+pub fn sort_by_keys(alloc: Global, down: bool, pairs: Vec<(Key, Value)>) -> Result<Value>
+    ensures { Returns result (SortsPairs down pairs.items) }
 {
     if !are_alike(&pairs) {
         drop(pairs);
@@ -25,8 +25,8 @@ pub fn sorted(alloc: Global, down: bool, pairs: Vec<(Key, Value)>) -> Result<Val
 
 /// Items in their own order, which are all integers or all texts. Equal ones keep their order. They are moved into their
 /// keys and back, and none is copied.
-pub(crate) fn sorted_alone(alloc: Global, down: bool, items: Vec<Value>) -> Result<Value>
-    ensures { Gives result (Sorts down (twice items.items)) }
+pub(crate) fn sort_items(alloc: Global, down: bool, items: Vec<Value>) -> Result<Value>
+    ensures { Returns result (Sorts down (own_answers items.items)) }
 {
     let mut keys = own_keys(alloc, items)?;
     if !are_alike(&keys) {
@@ -39,7 +39,7 @@ pub(crate) fn sorted_alone(alloc: Global, down: bool, items: Vec<Value>) -> Resu
 
 /// The keys that some items are.
 fn own_keys(alloc: Global, items: Vec<Value>) -> std::result::Result<Vec<(Key, ())>, AllocError>
-    ensures { IfOk result (λ v. v.items ≡ alone items.items) }
+    ensures { IfOk result (λ v. v.items ≡ own_keys items.items) }
 {
     items
         .into_iter()
@@ -117,7 +117,7 @@ fn sort_pairs<T>(down: bool, pairs: &mut Vec<(Key, T)>) -> std::result::Result<(
 
 fn sort_upward<T>(pairs: &mut Vec<(Key, T)>) -> std::result::Result<(), AllocError>
     ensures permutation { IsPermutation pairs.old.items pairs.new.items }
-    ensures sorted { OnOk result (IsSortedBy (precedes false) pairs.new.items) }
+    ensures sort_by_keys { OnOk result (IsSortedBy (precedes false) pairs.new.items) }
     ensures stable { IsStableBy (precedes false) pairs.old.items pairs.new.items }
 {
     pairs.sort_by(|a: &(Key, T), b: &(Key, T)| a.0.cmp(&b.0))
@@ -125,7 +125,7 @@ fn sort_upward<T>(pairs: &mut Vec<(Key, T)>) -> std::result::Result<(), AllocErr
 
 fn sort_downward<T>(pairs: &mut Vec<(Key, T)>) -> std::result::Result<(), AllocError>
     ensures permutation { IsPermutation pairs.old.items pairs.new.items }
-    ensures sorted { OnOk result (IsSortedBy (precedes true) pairs.new.items) }
+    ensures sort_by_keys { OnOk result (IsSortedBy (precedes true) pairs.new.items) }
     ensures stable { IsStableBy (precedes true) pairs.old.items pairs.new.items }
 {
     pairs.sort_by(|a: &(Key, T), b: &(Key, T)| b.0.cmp(&a.0))

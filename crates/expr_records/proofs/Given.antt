@@ -3,23 +3,23 @@ use Rattle.std.proofs.Common.{◌≡◌, ◌≢◌, refl, sym, ap, subst, ◌∙
 use Rattle.std.specs.Prelude.{Option, None, Some, option_and_then, option_map}
 use Rattle.std.proofs.lemmas.Option.{same_Some}
 use Rattle.std.specs.Result.{IsErrAnd}
-use Rattle.expr_encoding.specs.Optional.{given}
-use Rattle.expr_value.specs.Fault.{Fault, fault_of, memory, RefusesWith}
-use Rattle.expr_value.specs.declared.error.Error.{Error}
+use Rattle.expr_encoding.specs.Optional.{value_or_refusal}
+use Rattle.expr_error.specs.ErrorKind.{ErrorKind, error_kind, memory, RefusesWith}
+use Rattle.expr_error.specs.declared.error.Error.{Error}
 
 module _ {A : Type 0} where
-  abbrev taken : Result A Fault → Option A
+  abbrev taken : Result A ErrorKind → Option A
   taken (Ok v) = Some v
   taken (Err e) = None
 
-  taken_of_given : (o : Option A) → taken (given o) ≡ o
+  taken_of_given : (o : Option A) → taken (value_or_refusal o) ≡ o
   taken_of_given (Some v) = refl
   taken_of_given None = refl
 
-  pub given_ok : (o : Option A) (v : A) → given o ≡ Ok v → o ≡ Some v
+  pub given_ok : (o : Option A) (v : A) → value_or_refusal o ≡ Ok v → o ≡ Some v
   given_ok o v e = sym (taken_of_given o) ∙ ap taken e
 
-  pub given_err : (o : Option A) (e : Fault) → given o ≡ Err e → o ≡ None
+  pub given_err : (o : Option A) (e : ErrorKind) → value_or_refusal o ≡ Err e → o ≡ None
   given_err o e p = sym (taken_of_given o) ∙ ap taken p
 
 -- what comes of a value, where it is known whether there is one
@@ -32,7 +32,7 @@ none_before f None e = refl
 none_before f (Some a) e = absurd (cc)
 
 -- a refusal that a `?` passes on, of a call that is allowed to refuse so
-pub refused_passed : {A B : Type 0} (r : Result A Error) (e : Error) (R : Result B Fault → Type 0)
-    → IsErrAnd r (λ x. x ≡ e) → (fault_of e ≢ memory → R (Err (fault_of e))) → RefusesWith r (λ k. R (Err k))
+pub refused_passed : {A B : Type 0} (r : Result A Error) (e : Error) (R : Result B ErrorKind → Type 0)
+    → IsErrAnd r (λ x. x ≡ e) → (error_kind e ≢ memory → R (Err (error_kind e))) → RefusesWith r (λ k. R (Err k))
 refused_passed (Ok v) e R is p = absurd is
-refused_passed (Err x) e R is p = subst (λ y. fault_of y ≢ memory → R (Err (fault_of y))) (sym is) p
+refused_passed (Err x) e R is p = subst (λ y. error_kind y ≢ memory → R (Err (error_kind y))) (sym is) p

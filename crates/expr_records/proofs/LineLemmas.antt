@@ -4,12 +4,12 @@ use Rattle.std.proofs.lemmas.List.{take_more}
 use Rattle.std.specs.Prelude.{Option}
 use Rattle.std.specs.Io.KnownBytes.{Consumes, IsAtEnd}
 use Rattle.memchr.specs.Find.{Passes, is_byte}
-use Rattle.expr_records.specs.Held.{Holds}
+use Rattle.expr_records.specs.LineBuffers.{Holds}
 use Rattle.expr_records.specs.Lines.{lines_of, onto_first, TakesLine}
-use Rattle.expr_records.specs.Taken.{HasNoFeed, IsNextLine, Takes}
-use Rattle.expr_records.specs.declared.lines.Taken.TheVariants.{Part, Interrupted, LineFeed, End}
+use Rattle.expr_records.specs.LineSteps.{HasNoFeed, IsNextLine, Takes}
+use Rattle.expr_records.specs.declared.lines.LineStep.TheVariants.{Part, Interrupted, LineFeed, End}
 use Rattle.std.proofs.KnownBytes.{Consumes-trans}
-use Rattle.expr_records.specs.declared.held.Held.{Held}
+use Rattle.expr_records.specs.declared.line_buffer.LineBuffer.{LineBuffer}
 
 -- a line with its line feed, and what stands behind it
 first_line_of : (line rest : List ℕ) → HasNoFeed line → lines_of (line ++ 10 ∷ rest) ≡ line ∷ lines_of rest
@@ -64,7 +64,7 @@ IsBegun true bytes = 0 < length bytes
 IsBegun false bytes = bytes ≡ []
 
 -- what was taken of a line so far
-pub record Reading (old now : Option (List ℕ)) (line : Held) (is_begun : Bool) : Type 0 where
+pub record Reading (old now : Option (List ℕ)) (line : LineBuffer) (is_begun : Bool) : Type 0 where
   pub bytes : List ℕ
   pub no_feed : HasNoFeed bytes
   pub consumed : Consumes old now bytes
@@ -75,7 +75,7 @@ pub record Reading (old now : Option (List ℕ)) (line : Held) (is_begun : Bool)
 read_on : (a b c : Option (List ℕ)) (xs ys end : List ℕ) → Consumes a b xs → Consumes b c (ys ++ end) → Consumes a c ((xs ++ ys) ++ end)
 read_on a b c xs ys end p q = subst (Consumes a c) (sym (append_assoc xs ys end)) (Consumes-trans a b c xs (ys ++ end) p q)
 
-pub reads_part : (old mid new : Option (List ℕ)) (before after : Held) (begun : Bool) → Reading old mid before begun → Takes Part mid new before after → Reading old new after true
+pub reads_part : (old mid new : Option (List ℕ)) (before after : LineBuffer) (begun : Bool) → Reading old mid before begun → Takes Part mid new before after → Reading old new after true
 reads_part old mid new before after begun r t = record {
   bytes = r.bytes ++ t.bytes;
   no_feed = no_feed_append r.bytes t.bytes r.no_feed t.no_feed;
@@ -84,7 +84,7 @@ reads_part old mid new before after begun r t = record {
   begun = omega (arith, t.comes, length-append r.bytes t.bytes);
 }
 
-pub reads_none : (old mid new : Option (List ℕ)) (before after : Held) (begun : Bool) → Reading old mid before begun → Takes Interrupted mid new before after → Reading old new after begun
+pub reads_none : (old mid new : Option (List ℕ)) (before after : LineBuffer) (begun : Bool) → Reading old mid before begun → Takes Interrupted mid new before after → Reading old new after begun
 reads_none old mid new before after begun r t =
     let same : r.bytes ++ t.bytes ≡ r.bytes = ap (λ l. r.bytes ++ l) t.comes ∙ append-nil r.bytes in
     record {
@@ -95,14 +95,14 @@ reads_none old mid new before after begun r t =
       begun = r.begun;
     }
 
-pub reads_feed : (old mid new : Option (List ℕ)) (before after : Held) (begun : Bool) → Reading old mid before begun → Takes LineFeed mid new before after → IsNextLine true old new after
+pub reads_feed : (old mid new : Option (List ℕ)) (before after : LineBuffer) (begun : Bool) → Reading old mid before begun → Takes LineFeed mid new before after → IsNextLine true old new after
 reads_feed old mid new before after begun r t = (
   r.bytes ++ t.bytes,
   t.held r.bytes r.held,
   takes_whole (r.bytes ++ t.bytes) old new (no_feed_append r.bytes t.bytes r.no_feed t.no_feed) (read_on old mid new r.bytes t.bytes (10 ∷ []) r.consumed t.consumed),
 )
 
-pub reads_end : (old mid new : Option (List ℕ)) (before after : Held) (begun : Bool) → Reading old mid before begun → Takes End mid new before after → IsNextLine begun old new after
+pub reads_end : (old mid new : Option (List ℕ)) (before after : LineBuffer) (begun : Bool) → Reading old mid before begun → Takes End mid new before after → IsNextLine begun old new after
 reads_end old mid new before after true r t =
     let same : r.bytes ++ t.bytes ≡ r.bytes = ap (λ l. r.bytes ++ l) t.comes.0 ∙ append-nil r.bytes in (
       r.bytes,

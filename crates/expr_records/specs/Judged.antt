@@ -2,7 +2,7 @@
 use Rattle.std.specs.Prelude.{◌≡◌, ◌≢◌, ℕ, Bool, true, false, not, List, Option, None, Some, Ok, Err, option_map, ◌⊎◌}
 use Rattle.expr_encoding.specs.Writing.{json_text}
 use Rattle.expr_records.specs.Lines.{is_blank, text_of}
-use Rattle.expr_records.specs.Records.{IsRecord, MayRefuseText, Pairs}
+use Rattle.expr_records.specs.Records.{IsRecord, MayRefuseText, NamedValues}
 use Rattle.expr_records.specs.declared.outcome.Outcome.{Outcome}
 use Rattle.expr_records.specs.declared.outcome.Outcome.TheVariants.{Blank, Dropped, Kept, Counted, Rewritten, Refused}
 use Rattle.expr_records.specs.declared.outcome.Refusal.{Refusal}
@@ -10,9 +10,9 @@ use Rattle.expr_records.specs.declared.outcome.Refusal.TheVariants.{TooLong, NoM
 use Rattle.expr_records.specs.declared.query.Purpose.{Purpose}
 use Rattle.expr_records.specs.declared.query.Purpose.TheVariants.{Keep, Count, Rewrite}
 use Rattle.expr_value.specs.Answers.{Answer}
-use Rattle.expr_value.specs.Fault.{fault_of, memory}
+use Rattle.expr_error.specs.ErrorKind.{error_kind, memory}
 use Rattle.expr_value.specs.Values.{truth_of}
-use Rattle.expr_value.specs.declared.error.Error.{Error}
+use Rattle.expr_error.specs.declared.error.Error.{Error}
 use Rattle.expr_value.specs.declared.value.Value.{Value}
 
 -- whether a truth is the one that is sought
@@ -39,7 +39,7 @@ IsUnwritable v (NotJson error) = ⊥
 IsUnwritable v NotObject = ⊥
 IsUnwritable v (Expression error) = ⊥
 IsUnwritable v NotBoolean = ⊥
-IsUnwritable v (NotWritable error) = fault_of error ≢ memory → json_text v ≡ None
+IsUnwritable v (NotWritable error) = error_kind error ≢ memory → json_text v ≡ None
 
 -- the answer's JSON, or its refusal
 abbrev pub IsRewritten : Value → Outcome → Type 0
@@ -60,19 +60,19 @@ IsOutcomeOf Rewrite v outcome = IsRewritten v outcome
 abbrev pub ComesOfRecord : Purpose → (Answer → Type 0) → Outcome → Type 0
 ComesOfRecord purpose allowed outcome =
     ((v : Value) × allowed (Ok v) × IsOutcomeOf purpose v outcome)
-    ⊎ ((error : Error) × (outcome ≡ Refused (Expression error)) × (fault_of error ≢ memory → allowed (Err (fault_of error))))
+    ⊎ ((error : Error) × (outcome ≡ Refused (Expression error)) × (error_kind error ≢ memory → allowed (Err (error_kind error))))
 
 -- what a text comes to: what its record does, or the refusal of one that is no record
-abbrev pub ComesOfText : Purpose → (Pairs → Answer → Type 0) → List ℕ → Outcome → Type 0
+abbrev pub ComesOfText : Purpose → (NamedValues → Answer → Type 0) → List ℕ → Outcome → Type 0
 ComesOfText purpose allowed text outcome =
-    ((members : Pairs) × IsRecord text members × ComesOfRecord purpose (allowed members) outcome)
+    ((members : NamedValues) × IsRecord text members × ComesOfRecord purpose (allowed members) outcome)
     ⊎ ((refusal : Refusal) × (outcome ≡ Refused refusal) × MayRefuseText text refusal)
 
 -- what a line comes to, where it is known whether it is blank
-abbrev pub ComesBy : Bool → Purpose → (Pairs → Answer → Type 0) → List ℕ → Outcome → Type 0
+abbrev pub ComesBy : Bool → Purpose → (NamedValues → Answer → Type 0) → List ℕ → Outcome → Type 0
 ComesBy true purpose allowed text outcome = outcome ≡ Blank
 ComesBy false purpose allowed text outcome = ComesOfText purpose allowed text outcome
 
 -- what a line may come to, given what the expression may answer of a record
-abbrev pub MayCome : Purpose → (Pairs → Answer → Type 0) → List ℕ → Outcome → Type 0
+abbrev pub MayCome : Purpose → (NamedValues → Answer → Type 0) → List ℕ → Outcome → Type 0
 MayCome purpose allowed line outcome = ComesBy (is_blank line) purpose allowed (text_of line) outcome

@@ -1,8 +1,8 @@
-pub mod Asked
-pub mod Held
 pub mod Judged
+pub mod LineBuffers
+pub mod LineSteps
 pub mod Lines
 pub mod Outcomes
+pub mod RecordCode
 pub mod Records
 pub mod Sifted
-pub mod Taken

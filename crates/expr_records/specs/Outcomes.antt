@@ -4,13 +4,13 @@ use Rattle.expr_records.specs.declared.outcome.Outcome.{Outcome}
 use Rattle.expr_records.specs.declared.outcome.Outcome.TheVariants.{Blank, Dropped, Kept, Counted, Rewritten, Refused}
 
 -- what is written of a line: the line as it is, or the JSON that it becomes, and a line feed
-abbrev pub written : List ℕ → Outcome → List ℕ
-written line Blank = []
-written line Dropped = []
-written line Kept = line ++ 10 ∷ []
-written line Counted = []
-written line (Rewritten text) = text ++ 10 ∷ []
-written line (Refused refusal) = []
+abbrev pub line_output : List ℕ → Outcome → List ℕ
+line_output line Blank = []
+line_output line Dropped = []
+line_output line Kept = line ++ 10 ∷ []
+line_output line Counted = []
+line_output line (Rewritten text) = text ++ 10 ∷ []
+line_output line (Refused refusal) = []
 
 abbrev pub is_kept : Outcome → Bool
 is_kept Blank = false
@@ -29,8 +29,8 @@ is_refused (Rewritten text) = false
 is_refused (Refused refusal) = true
 
 -- counts stop at the greatest number of 64 bits
-abbrev pub capped : ℕ → ℕ
-capped n = min n (2 ^ 64 - 1)
+abbrev pub saturated_count : ℕ → ℕ
+saturated_count n = min n (2 ^ 64 - 1)
 
 abbrev pub one_if : Bool → ℕ
 one_if b = if b then 1 else 0

@@ -1,6 +1,6 @@
 //! What a line comes to by an expression.
 ghost use Rattle.std.specs.Prelude.{◌≡◌, ℕ, List};
-ghost use Rattle.expr_records.specs.Asked.{IsCodeOf, code_of, may_answer};
+ghost use Rattle.expr_records.specs.RecordCode.{IsCodeOf, code_of, may_answer};
 ghost use Rattle.expr_records.specs.Judged.{ComesOfRecord, IsOutcomeOf, is_sought, same};
 
 use crate::outcome::{Outcome, Refusal};
@@ -70,7 +70,7 @@ fn record_outcome<H: Functions>(
 
 impl<'h, H: Functions> Judge for Query<'h, H> {
     ghost use Rattle.std.specs.Prelude.{List, ℕ};
-    ghost use Rattle.expr_records.specs.Asked.{IsCodeOf, code_of, may_answer};
+    ghost use Rattle.expr_records.specs.RecordCode.{IsCodeOf, code_of, may_answer};
     ghost use Rattle.expr_records.specs.Judged.{MayCome};
 
     ghost judged = { λ q line outcome. (text : List ℕ) → IsCodeOf text (code_of q.machine.code.now)

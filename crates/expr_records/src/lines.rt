@@ -1,14 +1,14 @@
 //! Lines of a stream, one at a time.
 ghost use Rattle.std.specs.Prelude.{◌≡◌, ℕ, List, [], ◌∷◌, ◌++◌, IfOk, MatchOption};
-ghost use Rattle.expr_records.specs.Taken.{Takes, IsNextLine};
+ghost use Rattle.expr_records.specs.LineSteps.{Takes, IsNextLine};
 
-use crate::held::Held;
+use crate::line_buffer::LineBuffer;
 use memchr::memchr;
 use std::io::{self, BufRead, ErrorKind};
 
 /// What one look at a stream came to.
 #[derive(Clone, Copy, Debug, PartialEq, Eq)]
-enum Taken {
+enum LineStep {
     /// Bytes of the line.
     Part,
     /// None since a signal came.
@@ -20,7 +20,7 @@ enum Taken {
 }
 
 /// Takes the bytes that stand ready, up to the first line feed and with it.
-fn take_ready<R: BufRead>(reader: &mut R, held: &mut Held) -> io::Result<Taken>
+fn take_ready<R: BufRead>(reader: &mut R, held: &mut LineBuffer) -> io::Result<LineStep>
     ensures taken { IfOk result
         (λ taken. Takes taken (R.remaining reader.old) (R.remaining reader.new) held.old held.new) }
     ensures bound { held.new.bound ≡ held.old.bound }
@@ -29,7 +29,7 @@ fn take_ready<R: BufRead>(reader: &mut R, held: &mut Held) -> io::Result<Taken>
         Ok(ready) => ready,
         Err(error) => {
             return if error.kind() == ErrorKind::Interrupted {
-                Ok(Taken::Interrupted)
+                Ok(LineStep::Interrupted)
             } else {
                 Err(error)
             };
@@ -39,13 +39,17 @@ fn take_ready<R: BufRead>(reader: &mut R, held: &mut Held) -> io::Result<Taken>
         Some(place) => {
             held.add(&ready[..place]);
             reader.consume(place + 1);
-            Ok(Taken::LineFeed)
+            Ok(LineStep::LineFeed)
         }
         None => {
             let count = ready.len();
             held.add(ready);
             reader.consume(count);
-            Ok(if count == 0 { Taken::End } else { Taken::Part })
+            Ok(if count == 0 {
+                LineStep::End
+            } else {
+                LineStep::Part
+            })
         }
     }
 }
@@ -56,7 +60,7 @@ fn take_ready<R: BufRead>(reader: &mut R, held: &mut Held) -> io::Result<Taken>
 /// # Errors
 ///
 /// What the reader fails with; an interrupted read is tried again.
-pub fn next_line<R: BufRead>(reader: &mut R, held: &mut Held) -> io::Result<bool>
+pub fn next_line<R: BufRead>(reader: &mut R, held: &mut LineBuffer) -> io::Result<bool>
     ensures next { IfOk result
         (λ more. IsNextLine more (R.remaining reader.old) (R.remaining reader.new) held.new) }
     ensures bound { held.new.bound ≡ held.old.bound }
@@ -65,10 +69,10 @@ pub fn next_line<R: BufRead>(reader: &mut R, held: &mut Held) -> io::Result<bool
     let mut is_begun = false;
     for _ in 0..u64::MAX {
         match take_ready(reader, held)? {
-            Taken::Part => is_begun = true,
-            Taken::Interrupted => {}
-            Taken::LineFeed => return Ok(true),
-            Taken::End => return Ok(is_begun),
+            LineStep::Part => is_begun = true,
+            LineStep::Interrupted => {}
+            LineStep::LineFeed => return Ok(true),
+            LineStep::End => return Ok(is_begun),
         }
     }
     Err(io::Error::from(ErrorKind::TimedOut))

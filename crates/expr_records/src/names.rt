@@ -1,8 +1,8 @@
 //! Names that stand before those of the records.
 ghost use Rattle.std.specs.Prelude.{◌≡◌, ◌≢◌, Ok, Err, OnErr, OnOk};
-ghost use Rattle.expr_records.specs.Asked.{may_name};
-ghost use Rattle.expr_value.specs.Answers.{Gives};
-ghost use Rattle.expr_value.specs.Fault.{RefusesWith};
+ghost use Rattle.expr_records.specs.RecordCode.{may_name};
+ghost use Rattle.expr_value.specs.Answers.{Returns};
+ghost use Rattle.expr_error.specs.ErrorKind.{RefusesWith};
 ghost use Rattle.expr_value.specs.Names.{put};
 ghost use Rattle.expr_value.specs.declared.value.Value.{Value};
 
@@ -14,7 +14,7 @@ use std::alloc::Global;
 
 /// The value of a code, which is evaluated among no names.
 fn value_of<H: Functions>(alloc: Global, host: &H, code: &str) -> Result<Value>
-    ensures { Gives result (may_name (H.host host.now) code.now) }
+    ensures { Returns result (may_name (H.host host.now) code.now) }
 {
     let program = compile_within(alloc, code, HEIGHT)?;
     let machine = Machine {

@@ -1,10 +1,10 @@
 //! An expression that is ready to be asked about records.
 ghost use Rattle.std.specs.Prelude.{◌≡◌, ◌≢◌, ◌↔◌, ℕ, List, Err, IfOk, IsTrue};
 ghost use Rattle.expr.specs.Texts.{IsRefusedWithin};
-ghost use Rattle.expr_records.specs.Asked.{IsCodeOf, code_of, may_answer};
+ghost use Rattle.expr_records.specs.RecordCode.{IsCodeOf, code_of, may_answer};
 ghost use Rattle.expr_syntax.specs.Texts.{IsPlaced};
-ghost use Rattle.expr_value.specs.Answers.{Gives};
-ghost use Rattle.expr_value.specs.Fault.{RefusesWith};
+ghost use Rattle.expr_value.specs.Answers.{Returns};
+ghost use Rattle.expr_error.specs.ErrorKind.{RefusesWith};
 
 use crate::record::Record;
 use expr::{
@@ -97,7 +97,7 @@ impl<'h, H: Functions> Query<'h, H> {
     /// The first refusal in the order of evaluation: `ExprError`, or `MemoryError` where a growth is refused.
     pub fn answer(&mut self, members: Members<'_>) -> Result<Value>
         ensures answer { (text : List ℕ) → IsCodeOf text (code_of self.old.machine.code.now)
-            → Gives result (may_answer (H.host self.old.host.now) self.old.names.now text members.entry) }
+            → Returns result (may_answer (H.host self.old.host.now) self.old.names.now text members.entry) }
         ensures same { self.new ≡ self.old }
     {
         let provider = Record {

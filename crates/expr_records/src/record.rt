@@ -20,9 +20,9 @@ pub struct Record<'t, 'n> {
 }
 
 impl<'t, 'n> ContextProvider for Record<'t, 'n> {
-    ghost use Rattle.expr_records.specs.Records.{lent};
+    ghost use Rattle.expr_records.specs.Records.{record_context};
 
-    ghost context = { λ r. lent r.names.now r.members };
+    ghost context = { λ r. record_context r.names.now r.members };
 
     fn get(&self, key: &str) -> Option<&Value> {
         match self.names.get(key) {

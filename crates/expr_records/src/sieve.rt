@@ -1,11 +1,11 @@
 //! A stream's records, each brought to its outcome.
 ghost use Rattle.std.specs.Prelude.{◌≡◌, ℕ, List, IfOk, OnOk, OnErr};
 ghost use Rattle.std.specs.Io.KnownBytes.{Appends};
-ghost use Rattle.expr_records.specs.Held.{Holds};
-ghost use Rattle.expr_records.specs.Outcomes.{written};
-ghost use Rattle.expr_records.specs.Sifted.{Comes, Settles, Sifts};
+ghost use Rattle.expr_records.specs.LineBuffers.{Holds};
+ghost use Rattle.expr_records.specs.Outcomes.{line_output};
+ghost use Rattle.expr_records.specs.Sifted.{LineComesTo, Settles, Sifts};
 
-use crate::held::{Held, State};
+use crate::line_buffer::{LineBuffer, LineState};
 use crate::lines::next_line;
 use crate::outcome::{Outcome, Refusal};
 use crate::tally::Tally;
@@ -29,7 +29,7 @@ pub trait Judge {
 
 /// How the reading of a stream ended.
 #[derive(Debug, Drop)]
-pub enum Ended {
+pub enum StreamEnd {
     /// All of it was read.
     Whole,
     /// A record was refused, and that ends it.
@@ -46,7 +46,7 @@ pub struct Sieve<J, W, E> {
     pub judge: J,
     /// Whether a refused record ends a stream.
     pub stops: bool,
-    pub held: Held,
+    pub held: LineBuffer,
     pub reader: JsonReader,
     pub out: W,
     pub err: E,
@@ -55,7 +55,8 @@ pub struct Sieve<J, W, E> {
 
 /// Writes what is left of a line that came to this.
 fn put<W: Write>(out: &mut W, line: &[u8], outcome: &Outcome) -> io::Result<()>
-    ensures { OnOk result (Appends (W.contents out.old) (W.contents out.new) (written line.now outcome.now)) }
+    ensures { OnOk result (Appends (W.contents out.old) (W.contents out.new)
+        (line_output line.now outcome.now)) }
 {
     match outcome {
         Outcome::Kept => {
@@ -71,28 +72,28 @@ fn put<W: Write>(out: &mut W, line: &[u8], outcome: &Outcome) -> io::Result<()>
 }
 
 /// What a line that was read comes to, and whether what is left of it could be written.
-fn brought<J: Judge, W: Write>(
+fn outcome_of_line<J: Judge, W: Write>(
     alloc: Global,
     judge: &mut J,
     reader: &mut JsonReader,
-    held: &Held,
+    held: &LineBuffer,
     out: &mut W,
 ) -> (Outcome, io::Result<()>)
     ensures comes { (line : List ℕ) → Holds held.now line
-        → Comes held.now.bound (J.judged judge.old) line result.0 }
+        → LineComesTo held.now.bound (J.judged judge.old) line result.0 }
     ensures output { OnOk result.1 ((line : List ℕ) → Holds held.now line
-        → Appends (W.contents out.old) (W.contents out.new) (written line result.0)) }
+        → Appends (W.contents out.old) (W.contents out.new) (line_output line result.0)) }
     ensures same { judge.new ≡ judge.old }
 {
     match held.state {
-        State::Fits => {
+        LineState::Fits => {
             let line = held.bytes.as_slice();
             let outcome = judge.judge(alloc, reader, line);
             let written = put(out, line, &outcome);
             (outcome, written)
         }
-        State::TooLong => (Outcome::Refused(Refusal::TooLong), Ok(())),
-        State::NoMemory => (Outcome::Refused(Refusal::NoMemory), Ok(())),
+        LineState::TooLong => (Outcome::Refused(Refusal::TooLong), Ok(())),
+        LineState::NoMemory => (Outcome::Refused(Refusal::NoMemory), Ok(())),
     }
 }
 
@@ -107,7 +108,7 @@ impl<J: Judge, W: Write, E: Write> Sieve<J, W, E> {
         ensures stops { self.new.stops ≡ self.old.stops }
         ensures tally { OnErr result (self.new.tally ≡ self.old.tally) }
     {
-        let (outcome, written) = brought(
+        let (outcome, written) = outcome_of_line(
             alloc,
             &mut self.judge,
             &mut self.reader,
@@ -124,7 +125,7 @@ impl<J: Judge, W: Write, E: Write> Sieve<J, W, E> {
 
     /// Reads a stream to its end, and writes what is left of its lines. Each refusal is told with the stream's name and
     /// the line's number, from 1; a failure to tell changes nothing.
-    pub fn sift<R: BufRead>(&mut self, alloc: Global, name: &str, reader: &mut R) -> Ended
+    pub fn sift<R: BufRead>(&mut self, alloc: Global, name: &str, reader: &mut R) -> StreamEnd
         ensures sifted { Sifts (J.judged self.old.judge) self.old.held.bound self.old.stops
             (R.remaining reader.old) (W.contents self.old.out) (W.contents self.new.out)
             self.old.tally self.new.tally result }
@@ -135,15 +136,15 @@ impl<J: Judge, W: Write, E: Write> Sieve<J, W, E> {
         for number in 1..u64::MAX {
             match next_line(reader, &mut self.held) {
                 Ok(true) => {}
-                Ok(false) => return Ended::Whole,
-                Err(error) => return Ended::Unread(error),
+                Ok(false) => return StreamEnd::Whole,
+                Err(error) => return StreamEnd::Unread(error),
             }
             match self.settle(alloc, name, number) {
                 Ok(true) => {}
-                Ok(false) => return Ended::Stopped,
-                Err(error) => return Ended::Unwritten(error),
+                Ok(false) => return StreamEnd::Stopped,
+                Err(error) => return StreamEnd::Unwritten(error),
             }
         }
-        Ended::Unread(io::Error::from(ErrorKind::TimedOut))
+        StreamEnd::Unread(io::Error::from(ErrorKind::TimedOut))
     }
 }

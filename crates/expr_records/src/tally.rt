@@ -1,6 +1,6 @@
 //! How many records came to what.
 ghost use Rattle.std.specs.Prelude.{◌≡◌, ◌+◌, ◌^◌, ◌<◌, ◌==◌, ◌&&◌, nat_lt, if◌then◌else◌};
-ghost use Rattle.expr_records.specs.Outcomes.{capped, one_if, is_kept, is_refused};
+ghost use Rattle.expr_records.specs.Outcomes.{saturated_count, one_if, is_kept, is_refused};
 
 use crate::outcome::Outcome;
 
@@ -34,8 +34,9 @@ impl Tally {
 
     /// Counts what a line came to.
     pub fn add(&mut self, outcome: &Outcome)
-        ensures kept { self.new.kept ≡ capped (self.old.kept + one_if (is_kept outcome.now)) }
-        ensures refused { self.new.refused ≡ capped (self.old.refused + one_if (is_refused outcome.now)) }
+        ensures kept { self.new.kept ≡ saturated_count (self.old.kept + one_if (is_kept outcome.now)) }
+        ensures refused { self.new.refused
+            ≡ saturated_count (self.old.refused + one_if (is_refused outcome.now)) }
     {
         self.kept = self.kept.saturating_add(one_if(outcome.is_kept()));
         self.refused = self.refused.saturating_add(one_if(outcome.is_refused()));

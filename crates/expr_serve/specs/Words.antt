@@ -1,7 +1,7 @@
 -- The words of the program: bindings as it is given them, and what it says of refusals.
 use Rattle.std.specs.Prelude.{ℕ, Bool, false, nat_lt, ◌==◌, ◌&&◌, List, [], ◌∷◌, length, codes}
 use Rattle.std.specs.List.{list_all, position_or_len, before_first, after_first}
-use Rattle.expr_value.specs.Fault.{Fault, syntax, literal, evaluation, pattern, memory}
+use Rattle.expr_error.specs.ErrorKind.{ErrorKind, syntax, literal, evaluation, pattern, memory}
 
 abbrev pub is_equals_sign : ℕ → Bool
 is_equals_sign b = b == 61
@@ -27,7 +27,7 @@ is_call [] = false
 is_call (code ∷ bindings) = list_all is_binding bindings
 
 -- what is said of a refusal
-abbrev pub word_for : Fault → List ℕ
+abbrev pub word_for : ErrorKind → List ℕ
 word_for syntax = codes "syntax"
 word_for literal = codes "literal"
 word_for evaluation = codes "evaluation"

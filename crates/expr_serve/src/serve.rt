@@ -7,8 +7,8 @@ ghost use Rattle.expr.specs.World.{world_of};
 ghost use Rattle.expr.specs.Texts.{MayAnswerWithin};
 ghost use Rattle.expr_serve.specs.Served.{MayBind, MayGive, MayPrint, MayServe};
 ghost use Rattle.expr_serve.specs.Words.{code_of, is_binding, is_call, name_of, word_for};
-ghost use Rattle.expr_value.specs.Answers.{Gives};
-ghost use Rattle.expr_value.specs.Fault.{fault_of, literal, memory, RefusesWith, IsOfKind};
+ghost use Rattle.expr_value.specs.Answers.{Returns};
+ghost use Rattle.expr_error.specs.ErrorKind.{error_kind, literal, memory, RefusesWith, IsOfKind};
 ghost use Rattle.expr_value.specs.Names.{put};
 ghost use Rattle.expr_value.specs.Values.{text_of};
 ghost use Rattle.expr_value.specs.declared.value.Value.{Value};
@@ -51,7 +51,7 @@ fn are_bindings(words: &[String]) -> bool
 }
 
 /// What the program lets a code take. Evaluation, printing and letting go of values take stack by depth.
-fn wide() -> Limits
+fn wide_limits() -> Limits
     ensures height { result.height ≡ 500 }
     ensures patterns { result.patterns ≡ 2000000 }
     ensures steps { result.steps ≡ 1000000000 }
@@ -69,7 +69,7 @@ fn wide() -> Limits
 
 /// The value of a code under some names.
 fn value_under(alloc: Global, code: &str, names: &Context) -> Result<Value>
-    ensures { Gives result (MayGive names.now code.now) }
+    ensures { Returns result (MayGive names.now code.now) }
 {
     value_in(alloc, code, names)
 }
@@ -77,21 +77,21 @@ fn value_under(alloc: Global, code: &str, names: &Context) -> Result<Value>
 /// The value of a code in a context. A tree that is higher than is allowed is refused as a literal is that can't be held, and
 /// for want of memory what passes another limit.
 fn value_in(alloc: Global, code: &str, ctx: &dyn ContextProvider) -> Result<Value>
-    ensures { Gives result (MayAnswerWithin 500 code.now (world_of no_host (context ctx.now))) }
+    ensures { Returns result (MayAnswerWithin 500 code.now (world_of no_host (context ctx.now))) }
 {
-    let limits = wide();
+    let limits = wide_limits();
     let outcome = eval_limited(alloc, code, ctx, &limits)?;
     match outcome {
         Outcome::Answered(value) => Ok(value),
         Outcome::Stopped(limit) => match limit {
-            Limit::Height => Err(too_high(alloc)),
+            Limit::Height => Err(height_refusal(alloc)),
             _ => Err(Error::MemoryError),
         },
     }
 }
 
 /// The refusal of a code whose tree is higher than is allowed.
-fn too_high(alloc: Global) -> Error
+fn height_refusal(alloc: Global) -> Error
     ensures { IsOfKind result literal }
 {
     match String::from_str(alloc, "the expression nests deeper than is allowed") {
@@ -102,7 +102,7 @@ fn too_high(alloc: Global) -> Error
 
 /// Puts the value of a binding under its name. Its code is evaluated in an empty context.
 fn bind(alloc: Global, word: &str, context: &mut Context) -> Result<()>
-    ensures bound { OnOk result ((v : Value) × MayGive [] (code_of word.now) (Ok v)
+    ensures context_of { OnOk result ((v : Value) × MayGive [] (code_of word.now) (Ok v)
         × context.new ≡ put (name_of word.now) v context.old) }
     ensures refused { RefusesWith result
         (λ k. MayGive [] (code_of word.now) (Err k)) }
@@ -113,8 +113,8 @@ fn bind(alloc: Global, word: &str, context: &mut Context) -> Result<()>
 }
 
 /// The names that bindings give values to, from left to right.
-fn bound(alloc: Global, bindings: &[String]) -> Result<Context>
-    ensures { Gives result (MayBind (map string_bytes bindings.now) []) }
+fn context_of(alloc: Global, bindings: &[String]) -> Result<Context>
+    ensures { Returns result (MayBind (map string_bytes bindings.now) []) }
 {
     let mut context = Context::new(alloc);
     for word in bindings {
@@ -125,15 +125,15 @@ fn bound(alloc: Global, bindings: &[String]) -> Result<Context>
 
 /// The value of a code, under the names that bindings give values to.
 fn answer(alloc: Global, code: &str, bindings: &[String]) -> Result<Value>
-    ensures { Gives result (MayServe code.now (map string_bytes bindings.now)) }
+    ensures { Returns result (MayServe code.now (map string_bytes bindings.now)) }
 {
-    let context = bound(alloc, bindings)?;
+    let context = context_of(alloc, bindings)?;
     value_under(alloc, code, &context)
 }
 
 /// The word for a kind of refusal.
 fn word_of(error: &Error) -> &'static str
-    ensures { result.now ≡ word_for (fault_of error.now) }
+    ensures { result.now ≡ word_for (error_kind error.now) }
 {
     match error {
         Error::PestError(_) => "syntax",

@@ -4,25 +4,25 @@ use Rattle.std.specs.List.{fold}
 use Rattle.std.specs.Map.{values_of}
 use Rattle.expr_value.specs.declared.value.Value.{Value, roll-Value, ind-Value, map-Value, fold-roll-Value}
 use Rattle.expr_value.specs.declared.value.Value.TheOpen.{Value-F}
-use Rattle.expr_sizes.specs.Sizes.{depth, depth_layer, inside, inside_layer}
+use Rattle.expr_sizes.specs.Sizes.{depth, depth_layer, inner_weight, inner_weight_layer}
 
 abbrev Deep : Type 0
-Deep = (v : Value) × (depth v ≤ inside v)
+Deep = (v : Value) × (depth v ≤ inner_weight v)
 
 abbrev bare : Value-F Deep → Value-F Value
 bare layer = map-Value Deep Value (λ e. e.0) layer
 
-items_deep : (es : List Deep) (b a : ℕ) → b ≤ a → fold max b (map depth (map (λ e. e.0) es)) ≤ fold (λ n m. n + suc m) a (map inside (map (λ e. e.0) es))
+items_deep : (es : List Deep) (b a : ℕ) → b ≤ a → fold max b (map depth (map (λ e. e.0) es)) ≤ fold (λ n m. n + suc m) a (map inner_weight (map (λ e. e.0) es))
 items_deep [] b a l = l
-items_deep (e ∷ es) b a l = items_deep es (max b (depth e.0)) (a + suc (inside e.0)) (omega (arith, l, e.1))
+items_deep (e ∷ es) b a l = items_deep es (max b (depth e.0)) (a + suc (inner_weight e.0)) (omega (arith, l, e.1))
 
 pairs_deep : {K : Type 0} (es : List (K × Deep)) (b a : ℕ) → b ≤ a
     → fold max b (values_of (map (λ (p : K × Value). (p.0, depth p.1)) (map (λ (p : K × Deep). (p.0, p.1.0)) es)))
-    ≤ fold (λ n m. n + suc m) a (values_of (map (λ (p : K × Value). (p.0, inside p.1)) (map (λ (p : K × Deep). (p.0, p.1.0)) es)))
+    ≤ fold (λ n m. n + suc m) a (values_of (map (λ (p : K × Value). (p.0, inner_weight p.1)) (map (λ (p : K × Deep). (p.0, p.1.0)) es)))
 pairs_deep [] b a l = l
-pairs_deep (e ∷ es) b a l = pairs_deep es (max b (depth e.1.0)) (a + suc (inside e.1.0)) (omega (arith, l, e.1.1))
+pairs_deep (e ∷ es) b a l = pairs_deep es (max b (depth e.1.0)) (a + suc (inner_weight e.1.0)) (omega (arith, l, e.1.1))
 
-layer_deep : (y : Value-F Deep) → depth_layer (map-Value Value ℕ depth (bare y)) ≤ inside_layer (map-Value Value ℕ inside (bare y))
+layer_deep : (y : Value-F Deep) → depth_layer (map-Value Value ℕ depth (bare y)) ≤ inner_weight_layer (map-Value Value ℕ inner_weight (bare y))
 layer_deep (Value-F.Integer n) = omega arith
 layer_deep (Value-F.Bool b) = omega arith
 layer_deep Value-F.Nil = omega arith
@@ -37,8 +37,8 @@ layer_deep (Value-F.Bytes bs) = omega arith
 layer_deep (Value-F.Map es) = omega (arith, pairs_deep es 0 0 (omega arith))
 layer_deep (Value-F.KeyedMap es) = omega (arith, pairs_deep es 0 0 (omega arith))
 
-rolled_deep : (y : Value-F Deep) → depth (roll-Value (bare y)) ≤ inside (roll-Value (bare y))
-rolled_deep y = omega (arith, fold-roll-Value ℕ depth_layer (bare y), fold-roll-Value ℕ inside_layer (bare y), layer_deep y)
+rolled_deep : (y : Value-F Deep) → depth (roll-Value (bare y)) ≤ inner_weight (roll-Value (bare y))
+rolled_deep y = omega (arith, fold-roll-Value ℕ depth_layer (bare y), fold-roll-Value ℕ inner_weight_layer (bare y), layer_deep y)
 
-pub no_deeper : (v : Value) → depth v ≤ inside v
-no_deeper = ind-Value (λ v. depth v ≤ inside v) (λ x y is. subst (λ l. depth (roll-Value l) ≤ inside (roll-Value l)) is (rolled_deep y))
+pub no_deeper : (v : Value) → depth v ≤ inner_weight v
+no_deeper = ind-Value (λ v. depth v ≤ inner_weight v) (λ x y is. subst (λ l. depth (roll-Value l) ≤ inner_weight (roll-Value l)) is (rolled_deep y))

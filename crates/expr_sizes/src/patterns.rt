@@ -1,10 +1,10 @@
 //! The weight of a pattern, as its text tells it before it is built.
 ghost use Rattle.std.specs.Prelude.{◌≡◌, ◌+◌, ◌<◌, ◌≤◌, ◌^◌, IfOk, IfErr};
-ghost use Rattle.expr_sizes.specs.Patterns.{IsSmall, byte_weight as weight_of_byte, escape_weight as weight_of_escape, begun, longer, pattern_weight, read as with_byte, read_class as class_with, read_outside as outside_with, read_times as times_with, repeated, with_digit as digits_with};
-ghost use Rattle.expr_sizes.specs.declared.passed.Passed.{Passed as passed};
+ghost use Rattle.expr_sizes.specs.Patterns.{IsSmall, byte_weight as weight_of_byte, escape_weight as weight_of_escape, with_new_part, with_longer_part, pattern_weight, read as with_byte, read_class as class_with, read_outside as outside_with, read_times as times_with, with_repeated_part, with_digit as digits_with};
+ghost use Rattle.expr_sizes.specs.declared.value_limit.ValueLimit.{ValueLimit as passed};
 
-use crate::passed::Passed;
 use crate::units::take;
+use crate::value_limit::ValueLimit;
 
 /// What is left of a room, in units, once the pattern of a text is weighed.
 ///
@@ -15,7 +15,7 @@ use crate::units::take;
 /// # Errors
 ///
 /// `Weight`: it weighs more than the room.
-pub fn weigh_pattern(text: &str, room: u64) -> Result<u64, Passed>
+pub fn weigh_pattern(text: &str, room: u64) -> Result<u64, ValueLimit>
     ensures within { IfOk result (λ left. pattern_weight text.now + left ≡ room) }
     ensures passed { IfErr result (λ p. (p ≡ passed.Weight) × (room < pattern_weight text.now)) }
 {
@@ -23,24 +23,24 @@ pub fn weigh_pattern(text: &str, room: u64) -> Result<u64, Passed>
         weight: 8,
         last: 0,
         factor: 1,
-        place: Place::Outside,
+        place: PatternState::Outside,
     };
     for byte in text.as_bytes() {
         sketch.read(*byte);
         if sketch.weight > room as u128 || sketch.factor > room as u128 {
-            return Err(Passed::Weight);
+            return Err(ValueLimit::Weight);
         }
     }
     let weight = sketch.weight * sketch.factor;
     if weight > room as u128 {
-        return Err(Passed::Weight);
+        return Err(ValueLimit::Weight);
     }
     take(room, weight as u64)
 }
 
 /// Where in a pattern a byte stands.
 #[derive(Clone, Copy)]
-enum Place {
+enum PatternState {
     Outside,
     /// Behind a backslash.
     Escaped,
@@ -62,7 +62,7 @@ struct Sketch {
     last: u128,
     /// How often groups are repeated.
     factor: u128,
-    place: Place,
+    place: PatternState,
 }
 
 impl Sketch {
@@ -72,11 +72,11 @@ impl Sketch {
         ensures { self.new ≡ with_byte self.old byte }
     {
         match self.place {
-            Place::Outside => self.read_outside(byte),
-            Place::Escaped => self.begin(escape_weight(byte), Place::Outside),
-            Place::Class => self.read_class(byte),
-            Place::ClassEscaped => self.lengthen(escape_weight(byte), Place::Class),
-            Place::Times(least, number) => self.read_times(least, number, byte),
+            PatternState::Outside => self.read_outside(byte),
+            PatternState::Escaped => self.begin(escape_weight(byte), PatternState::Outside),
+            PatternState::Class => self.read_class(byte),
+            PatternState::ClassEscaped => self.lengthen(escape_weight(byte), PatternState::Class),
+            PatternState::Times(least, number) => self.read_times(least, number, byte),
         }
     }
 
@@ -85,15 +85,15 @@ impl Sketch {
         ensures { self.new ≡ outside_with byte self.old }
     {
         match byte {
-            b'\\' => self.pass(Place::Escaped),
-            b'[' => self.begin(4, Place::Class),
-            b'{' => self.pass(Place::Times(0, 0)),
-            b'*' | b'+' | b'?' => self.pass(Place::Outside),
+            b'\\' => self.pass(PatternState::Escaped),
+            b'[' => self.begin(4, PatternState::Class),
+            b'{' => self.pass(PatternState::Times(0, 0)),
+            b'*' | b'+' | b'?' => self.pass(PatternState::Outside),
             b')' => {
                 self.last = 0;
-                self.pass(Place::Outside);
+                self.pass(PatternState::Outside);
             }
-            other => self.begin(byte_weight(other), Place::Outside),
+            other => self.begin(byte_weight(other), PatternState::Outside),
         }
     }
 
@@ -102,9 +102,9 @@ impl Sketch {
         ensures { self.new ≡ class_with byte self.old }
     {
         match byte {
-            b'\\' => self.lengthen(4, Place::ClassEscaped),
-            b']' => self.lengthen(4, Place::Outside),
-            other => self.lengthen(byte_weight(other), Place::Class),
+            b'\\' => self.lengthen(4, PatternState::ClassEscaped),
+            b']' => self.lengthen(4, PatternState::Outside),
+            other => self.lengthen(byte_weight(other), PatternState::Class),
         }
     }
 
@@ -113,21 +113,21 @@ impl Sketch {
         ensures { self.new ≡ times_with least number byte self.old }
     {
         match byte {
-            b'0'..=b'9' => self.pass(Place::Times(least, with_digit(number, byte))),
-            b',' => self.pass(Place::Times(number, 0)),
+            b'0'..=b'9' => self.pass(PatternState::Times(least, with_digit(number, byte))),
+            b',' => self.pass(PatternState::Times(number, 0)),
             b'}' => {
-                self.pass(Place::Outside);
+                self.pass(PatternState::Outside);
                 self.repeat(least.max(number) as u128);
             }
-            _ => self.pass(Place::Outside),
+            _ => self.pass(PatternState::Outside),
         }
     }
 
     /// A part begins that weighs so much.
-    fn begin(&mut self, weight: u128, place: Place)
+    fn begin(&mut self, weight: u128, place: PatternState)
         requires small { IsSmall self.old }
         requires weight { weight < 2 ^ 64 }
-        ensures { self.new ≡ begun weight weight place self.old }
+        ensures { self.new ≡ with_new_part weight weight place self.old }
     {
         self.weight += weight;
         self.last = weight;
@@ -135,10 +135,10 @@ impl Sketch {
     }
 
     /// The part before goes on, and weighs so much more.
-    fn lengthen(&mut self, weight: u128, place: Place)
+    fn lengthen(&mut self, weight: u128, place: PatternState)
         requires small { IsSmall self.old }
         requires weight { weight < 2 ^ 64 }
-        ensures { self.new ≡ longer weight weight place self.old }
+        ensures { self.new ≡ with_longer_part weight weight place self.old }
     {
         self.weight += weight;
         self.last += weight;
@@ -146,9 +146,9 @@ impl Sketch {
     }
 
     /// A sign that is no part.
-    fn pass(&mut self, place: Place)
+    fn pass(&mut self, place: PatternState)
         requires { IsSmall self.old }
-        ensures { self.new ≡ longer 4 0 place self.old }
+        ensures { self.new ≡ with_longer_part 4 0 place self.old }
     {
         self.weight += 4;
         self.place = place;
@@ -160,14 +160,14 @@ impl Sketch {
         requires last { self.old.last < 2 ^ 65 }
         requires factor { self.old.factor < 2 ^ 64 }
         requires times { times < 2 ^ 32 }
-        ensures { self.new ≡ repeated times self.old }
+        ensures { self.new ≡ with_repeated_part times self.old }
     {
         if self.last == 0 {
             self.factor *= times.max(1);
         }
         self.last *= times;
         self.weight += self.last;
-        self.place = Place::Outside;
+        self.place = PatternState::Outside;
     }
 }
 

@@ -1,9 +1,9 @@
 //! The walk over a value and all that it holds.
 ghost use Rattle.std.specs.Prelude.{◌≡◌, ◌+◌, ◌<◌, ◌≤◌, IfOk, IfErr, IsTrue};
-ghost use Rattle.expr_sizes.specs.Sizes.{AreBare, IsBare, Passes, deepest, depth, inside, weight, weights};
+ghost use Rattle.expr_sizes.specs.Sizes.{AreBare, IsBare, PassesValueLimit, deepest, depth, inner_weight, weight, weights};
 
-use crate::passed::Passed;
-use crate::units::{load, take, take_keys, take_names};
+use crate::units::{byte_units, take, take_keys, take_names};
+use crate::value_limit::ValueLimit;
 use expr_value::Value;
 
 /// What is left of a room, in units, once a value is weighed.
@@ -19,12 +19,12 @@ use expr_value::Value;
 /// either.
 #[cycle(walk)]
 #[inline(always)]
-pub fn weigh(value: &Value, room: u64, depths: usize) -> Result<u64, Passed>
+pub fn weigh(value: &Value, room: u64, depths: usize) -> Result<u64, ValueLimit>
     ensures within { IfOk result (λ left. (weight value.now + left ≡ room) × (depth value.now ≤ depths)) }
-    ensures passed { IfErr result (λ p. Passes p (weight value.now) (depth value.now) room depths) }
+    ensures passed { IfErr result (λ p. PassesValueLimit p (weight value.now) (depth value.now) room depths) }
 {
     let left = take(room, 1)?;
-    if is_plain(value) {
+    if weighs_one(value) {
         return Ok(left);
     }
     weigh_inside(value, left, depths)
@@ -36,13 +36,15 @@ pub fn weigh(value: &Value, room: u64, depths: usize) -> Result<u64, Passed>
 ///
 /// Those of [`weigh`].
 #[cycle(walk)]
-pub fn weigh_inside(value: &Value, room: u64, depths: usize) -> Result<u64, Passed>
-    ensures within { IfOk result (λ left. (inside value.now + left ≡ room) × (depth value.now ≤ depths)) }
-    ensures passed { IfErr result (λ p. Passes p (inside value.now) (depth value.now) room depths) }
+pub fn weigh_inside(value: &Value, room: u64, depths: usize) -> Result<u64, ValueLimit>
+    ensures within { IfOk result
+        (λ left. (inner_weight value.now + left ≡ room) × (depth value.now ≤ depths)) }
+    ensures passed { IfErr result
+        (λ p. PassesValueLimit p (inner_weight value.now) (depth value.now) room depths) }
 {
     match value {
-        Value::String(text) => take(room, 1 + load(text.len())),
-        Value::Bytes(bytes) => take(room, 1 + load(bytes.len())),
+        Value::String(text) => take(room, 1 + byte_units(text.len())),
+        Value::Bytes(bytes) => take(room, 1 + byte_units(bytes.len())),
         Value::DateTime(_) => take(room, 5),
         Value::Timezone(_) => take(room, 5),
         Value::Array(items) => {
@@ -63,14 +65,15 @@ pub fn weigh_inside(value: &Value, room: u64, depths: usize) -> Result<u64, Pass
 
 // The parts of a value that may be so deep.
 #[cycle(walk)]
-fn weigh_items(items: &[Value], room: u64, depths: usize) -> Result<u64, Passed>
+fn weigh_items(items: &[Value], room: u64, depths: usize) -> Result<u64, ValueLimit>
     ensures within { IfOk result (λ left. (weights items.now + left ≡ room) × (deepest items.now < depths)) }
-    ensures passed { IfErr result (λ p. Passes p (weights items.now) (1 + deepest items.now) room depths) }
+    ensures passed { IfErr result
+        (λ p. PassesValueLimit p (weights items.now) (1 + deepest items.now) room depths) }
 {
     if depths == 0 {
-        return Err(Passed::Depth);
+        return Err(ValueLimit::Depth);
     }
-    if are_plain(items) {
+    if weigh_one_each(items) {
         return take(room, items.len() as u64);
     }
     let mut left = room;
@@ -82,7 +85,7 @@ fn weigh_items(items: &[Value], room: u64, depths: usize) -> Result<u64, Passed>
 
 // Whether all of these hold nothing. Integers are passed by fours.
 #[inline(always)]
-fn are_plain(items: &[Value]) -> bool
+fn weigh_one_each(items: &[Value]) -> bool
     ensures { IsTrue result → AreBare items.now }
 {
     let mut left = items;
@@ -117,7 +120,7 @@ fn are_plain_each(items: &[Value]) -> bool
     ensures { IsTrue result → AreBare items.now }
 {
     for item in items {
-        if !is_plain(item) {
+        if !weighs_one(item) {
             return false;
         }
     }
@@ -126,7 +129,7 @@ fn are_plain_each(items: &[Value]) -> bool
 
 /// Whether it is a value, of those that are met most, that holds nothing.
 #[inline(always)]
-pub fn is_plain(value: &Value) -> bool
+pub fn weighs_one(value: &Value) -> bool
     ensures { IsTrue result → IsBare value.now }
 {
     matches!(value, Value::Integer(_) | Value::Bool(_) | Value::Nil)

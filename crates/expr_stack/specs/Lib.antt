@@ -1,5 +1,5 @@
 pub mod Cells
-pub mod Made
 pub mod Memories
 pub mod Operands
+pub mod Pushes
 pub mod Stacked

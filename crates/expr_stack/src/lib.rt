@@ -13,5 +13,5 @@ mod stack;
 pub use cell::Cell;
 pub use many::map_under;
 pub use memory::Memory;
-pub use operand::{Operand, Taken};
+pub use operand::{Operand, TopOperand};
 pub use stack::Stack;

@@ -1,14 +1,14 @@
 //! Many top values at once, the deepest of them first.
 ghost use Rattle.std.specs.Prelude.{◌≡◌, ◌≤◌, [], Ok, IfErr, IfOk, drop, length, reverse, take, vec_len};
-ghost use Rattle.expr_code.specs.Machine.{beside};
-ghost use Rattle.expr_stack.specs.Cells.{shown_all};
-ghost use Rattle.expr_stack.specs.Made.{Makes, OnMany};
-ghost use Rattle.expr_value.specs.Fault.{fault_of, memory};
+ghost use Rattle.expr_code.specs.Machine.{zip_names};
+ghost use Rattle.expr_stack.specs.Cells.{cell_values};
+ghost use Rattle.expr_stack.specs.Pushes.{Pushes, OnMany};
+ghost use Rattle.expr_error.specs.ErrorKind.{error_kind, memory};
 ghost use Rattle.expr_value.specs.Names.{put_all};
 ghost use Rattle.expr_value.specs.declared.value.Value as value;
 
 use crate::stack::Stack;
-use expr_held::Held;
+use expr_cow::CowValue;
 use expr_value::{Items, Result, Text, Value, ValueMap};
 use std::alloc::{Allocator, Global};
 
@@ -20,13 +20,13 @@ impl<'s, A: Allocator + Copy> Stack<'s, A> {
         alloc: Global,
         kept: &'k [Value],
         count: usize,
-    ) -> Result<Vec<Held<'k>>>
+    ) -> Result<Vec<CowValue<'k>>>
     where
         's: 'k,
         requires { count ≤ length self.old }
         ensures taken { OnMany count kept.now self.old
             (λ vs rest. IfOk result (λ hs. (hs.items ≡ vs) × (self.new ≡ rest))) }
-        ensures refusal { IfErr result (λ e. fault_of e ≡ memory) }
+        ensures refusal { IfErr result (λ e. error_kind e ≡ memory) }
     {
         let mut values = Vec::with_capacity(alloc, count)?;
         while values.len() < count {
@@ -43,15 +43,15 @@ impl<'s, A: Allocator + Copy> Stack<'s, A> {
         alloc: Global,
         kept: &[Value],
         count: usize,
-    ) -> Result<Vec<Held<'s>>>
+    ) -> Result<Vec<CowValue<'s>>>
         requires { count ≤ length self.old }
         ensures taken { OnMany count kept.now self.old
             (λ vs rest. IfOk result (λ hs. (hs.items ≡ vs) × (self.new ≡ rest))) }
-        ensures refusal { IfErr result (λ e. fault_of e ≡ memory) }
+        ensures refusal { IfErr result (λ e. error_kind e ≡ memory) }
     {
         let mut values = Vec::with_capacity(alloc, count)?;
         while values.len() < count {
-            values.push_reserved(self.take_top().held_apart(kept)?);
+            values.push_reserved(self.take_top().to_cow_slow(kept)?);
         }
         values.reverse();
         Ok(values)
@@ -63,11 +63,11 @@ impl<'s, A: Allocator + Copy> Stack<'s, A> {
         requires { count ≤ length self.old }
         ensures taken { OnMany count kept.now self.old
             (λ vs rest. IfOk result (λ got. (got.items ≡ vs) × (self.new ≡ rest))) }
-        ensures refusal { IfErr result (λ e. fault_of e ≡ memory) }
+        ensures refusal { IfErr result (λ e. error_kind e ≡ memory) }
     {
         let mut values = Vec::with_capacity(alloc, count)?;
         while values.len() < count {
-            match self.take_plain() {
+            match self.take_integer_or_bool() {
                 Some(value) => values.push_reserved(value),
                 None => values.push_reserved(self.pop_other(kept)?),
             }
@@ -81,7 +81,7 @@ impl<'s, A: Allocator + Copy> Stack<'s, A> {
     pub fn collect(&mut self, alloc: Global, kept: &[Value], count: usize) -> Result<()>
         requires { count ≤ length self.old }
         ensures { OnMany count kept.now self.old
-            (λ vs rest. Makes result (λ a. a ≡ Ok (value.Array vs)) rest self.new) }
+            (λ vs rest. Pushes result (λ a. a ≡ Ok (value.Array vs)) rest self.new) }
     {
         let values = self.take_values(alloc, kept, count)?;
         self.push_kept(Value::Array(Items::from_vec(values)))?;
@@ -94,8 +94,8 @@ impl<'s, A: Allocator + Copy> Stack<'s, A> {
     pub fn gather(&mut self, alloc: Global, kept: &[Value], keys: Vec<Text>) -> Result<()>
         requires { vec_len keys ≤ length self.old }
         ensures { OnMany (vec_len keys) kept.now self.old
-            (λ vs rest. Makes result
-            (λ a. a ≡ Ok (value.Map (put_all [] (beside keys.items vs)))) rest self.new) }
+            (λ vs rest. Pushes result
+            (λ a. a ≡ Ok (value.Map (put_all [] (zip_names keys.items vs)))) rest self.new) }
     {
         let values = self.take_values(alloc, kept, keys.len())?;
         let map = map_under(alloc, keys, values)?;
@@ -106,8 +106,8 @@ impl<'s, A: Allocator + Copy> Stack<'s, A> {
 
 /// The map of these values, each under its key.
 pub fn map_under(alloc: Global, keys: Vec<Text>, values: Vec<Value>) -> Result<ValueMap>
-    ensures ok { IfOk result (λ map. map ≡ put_all [] (beside keys.items values.items)) }
-    ensures refusal { IfErr result (λ e. fault_of e ≡ memory) }
+    ensures ok { IfOk result (λ map. map ≡ put_all [] (zip_names keys.items values.items)) }
+    ensures refusal { IfErr result (λ e. error_kind e ≡ memory) }
 {
     let mut map = ValueMap::with_capacity(alloc, keys.len())?;
     for (key, value) in keys.into_iter().zip(values.into_iter()) {

@@ -1,8 +1,8 @@
 pub mod Context
-pub mod Given
 pub mod Methods
+pub mod Options
 pub mod Scope
 pub use Rattle.expr_operators.specs.Operators
 pub use Rattle.expr_operators.specs.Positions
 pub use Rattle.expr_value.specs.Answers
-pub use Rattle.expr_value.specs.Fault
+pub use Rattle.expr_error.specs.ErrorKind

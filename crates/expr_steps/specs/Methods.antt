@@ -1,20 +1,20 @@
 -- What a method answers of its receiver.
 use Rattle.std.specs.Prelude.{◌≡◌, ◌≢◌, ◌⊎◌, ℕ, ℤ, List, Err}
-use Rattle.expr_duration.specs.Methods.{answered, name_of as method_name}
+use Rattle.expr_duration.specs.Methods.{method_answer, name_of as method_name}
 use Rattle.expr_duration.specs.declared.method.DurationMethod.{DurationMethod}
 use Rattle.expr_time.specs.Moments.{AnsweredAt, moment_method, name_answer, name_method}
 use Rattle.expr_time.specs.declared.moments.DateTimeMethod.{DateTimeMethod}
-use Rattle.expr_time.specs.declared.moments.NameMethod.{NameMethod}
+use Rattle.expr_time.specs.declared.moments.TextMethod.{TextMethod}
 use Rattle.expr_value.specs.Answers.{Answer}
-use Rattle.expr_value.specs.Fault.{evaluation}
-use Rattle.expr_value.specs.declared.moment.DateTimeValue.{DateTimeValue}
+use Rattle.expr_error.specs.ErrorKind.{evaluation}
+use Rattle.expr_datetime.specs.declared.moment.DateTimeValue.{DateTimeValue}
 use Rattle.expr_value.specs.declared.value.Value.{Value, out-Value}
 use Rattle.expr_value.specs.declared.value.Value.TheOpen.{Value-F}
 
 -- what the method of a name may answer of a length of time, or a refusal where none has it
 abbrev pub AllowsDurationMethod : List ℕ → ℤ → List Value → Answer → Type 0
 AllowsDurationMethod key n vs answer =
-    ((m : DurationMethod) × (method_name m ≡ key) × (answer ≡ answered m n vs)) ⊎ (((m : DurationMethod) → method_name m ≢ key) × (answer ≡ Err evaluation))
+    ((m : DurationMethod) × (method_name m ≡ key) × (answer ≡ method_answer m n vs)) ⊎ (((m : DurationMethod) → method_name m ≢ key) × (answer ≡ Err evaluation))
 
 -- what it may of a moment
 abbrev pub AllowsMomentMethod : List ℕ → DateTimeValue → List Value → Answer → Type 0
@@ -24,7 +24,7 @@ AllowsMomentMethod key t vs answer =
 -- and of a zone, a month or a day of the week
 abbrev pub AllowsNameMethod : List ℕ → Value → List Value → Answer → Type 0
 AllowsNameMethod key v vs answer =
-    ((m : NameMethod) × (name_method m ≡ key) × (answer ≡ name_answer m v vs)) ⊎ (((m : NameMethod) → name_method m ≢ key) × (answer ≡ Err evaluation))
+    ((m : TextMethod) × (name_method m ≡ key) × (answer ≡ name_answer m v vs)) ⊎ (((m : TextMethod) → name_method m ≢ key) × (answer ≡ Err evaluation))
 
 abbrev pub AllowsMethodLayer : List ℕ → Value → Value-F Value → List Value → Answer → Type 0
 AllowsMethodLayer key v (Value-F.Duration n) vs answer = AllowsDurationMethod key n vs answer

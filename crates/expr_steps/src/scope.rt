@@ -1,12 +1,13 @@
 //! Inner names, beside the context that a host lends.
 ghost use Rattle.std.specs.Prelude.{◌≡◌, Some, MatchOption, bytes_eq, codes};
 ghost use Rattle.std.specs.Option.{option_copied};
-ghost use Rattle.expr_steps.specs.Context.{Context, asked_in};
-ghost use Rattle.expr_steps.specs.Scope.{inside, overridden};
-ghost use Rattle.expr_predicates.specs.Questions.{question_of};
+ghost use Rattle.expr_steps.specs.Context.{ContextView, predicate_context};
+ghost use Rattle.expr_steps.specs.Scope.{context_in, with_bindings};
+ghost use Rattle.expr_predicates.specs.PredicateArgs.{args_ref_view};
 
-use expr_predicates::Question;
-use expr_value::{ContextProvider, Value};
+use expr_context::ContextProvider;
+use expr_predicates::PredicateArgsRef;
+use expr_value::Value;
 use std::alloc::Global;
 
 /// A name that a line binds.
@@ -20,14 +21,14 @@ pub struct Binding<'s> {
 #[derive(Drop)]
 pub struct Scope<'s> {
     pub bindings: Vec<Binding<'s>>,
-    pub question: Option<Question<'s>>,
+    pub question: Option<PredicateArgsRef<'s>>,
     pub outer: Option<&'s Scope<'s>>,
 }
 
 impl<'s> Scope<'s> {
     /// No bindings.
     pub fn outermost(alloc: Global) -> Scope<'s>
-        ensures { (ctx : Context) → inside result ctx ≡ ctx }
+        ensures { (ctx : ContextView) → context_in result ctx ≡ ctx }
     {
         Scope {
             bindings: Vec::new(alloc),
@@ -43,15 +44,15 @@ pub fn look_up<'s, P: ContextProvider>(
     provider: &'s P,
     key: &str,
 ) -> Option<&'s Value>
-    ensures { option_copied result ≡ (inside scope.now (P.context provider.now)).value_of key.now }
+    ensures { option_copied result ≡ (context_in scope.now (P.context provider.now)).value_of key.now }
 {
     let mut at = scope;
     loop {
-        if let Some(value) = bound(&at.bindings, key) {
+        if let Some(value) = binding_of(&at.bindings, key) {
             return Some(value);
         }
         if let Some(question) = &at.question {
-            if let Some(value) = asked(question, key) {
+            if let Some(value) = argument_of(question, key) {
                 return Some(value);
             }
         }
@@ -63,10 +64,10 @@ pub fn look_up<'s, P: ContextProvider>(
 }
 
 // The value of the last of these bindings that is of the name.
-fn bound<'s>(bindings: &'s [Binding<'s>], key: &str) -> Option<&'s Value>
+fn binding_of<'s>(bindings: &'s [Binding<'s>], key: &str) -> Option<&'s Value>
     ensures { MatchOption result
-        ((ctx : Context) → (overridden bindings.now ctx).value_of key.now ≡ ctx.value_of key.now)
-        (λ v. (ctx : Context) → (overridden bindings.now ctx).value_of key.now ≡ Some v.now) }
+        ((ctx : ContextView) → (with_bindings bindings.now ctx).value_of key.now ≡ ctx.value_of key.now)
+        (λ v. (ctx : ContextView) → (with_bindings bindings.now ctx).value_of key.now ≡ Some v.now) }
 {
     let mut count = bindings.len();
     while count > 0 {
@@ -80,10 +81,12 @@ fn bound<'s>(bindings: &'s [Binding<'s>], key: &str) -> Option<&'s Value>
 }
 
 // What a predicate is asked about under a name.
-fn asked<'s>(question: &'s Question<'s>, key: &str) -> Option<&'s Value>
+fn argument_of<'s>(question: &'s PredicateArgsRef<'s>, key: &str) -> Option<&'s Value>
     ensures { MatchOption result
-        ((ctx : Context) → (asked_in ctx (question_of question.now)).value_of key.now ≡ ctx.value_of key.now)
-        (λ v. (ctx : Context) → (asked_in ctx (question_of question.now)).value_of key.now ≡ Some v.now) }
+        ((ctx : ContextView) → (predicate_context ctx (args_ref_view question.now)).value_of key.now
+        ≡ ctx.value_of key.now)
+        (λ v. (ctx : ContextView)
+        → (predicate_context ctx (args_ref_view question.now)).value_of key.now ≡ Some v.now) }
 {
     if is_hash(key) {
         return Some(question.item);

@@ -1,20 +1,21 @@
 //! Code within limits, or where there are none.
 ghost use Rattle.std.specs.Prelude.{◌≡◌, ◌≢◌, IfErr, None};
-ghost use Rattle.expr_limited.specs.Outcomes.{Ends};
+ghost use Rattle.expr_limited.specs.Outcomes.{ReturnsOutcome};
 ghost use Rattle.expr_lowering.specs.Blocks.{CodeKeeps, blocks_of};
 ghost use Rattle.expr_machine.specs.Texts.{text_of};
 ghost use Rattle.expr_meaning.specs.Refusals.{NeverRefusesWith};
 ghost use Rattle.expr_stops.specs.Stops.{CodeComes};
-ghost use Rattle.expr_value.specs.Fault.{fault_of, pattern as bad_pattern};
+ghost use Rattle.expr_error.specs.ErrorKind.{error_kind, pattern as bad_pattern};
 ghost use Rattle.expr_meaning.specs.World.{world_of};
 
+use expr_context::ContextProvider;
 use expr_limited::execute_limited;
-use expr_lowering::{Code, Holder};
+use expr_lowering::{Code, Pointer};
 use expr_machine::Machine;
 use expr_meaning::Functions;
 use expr_meter::{Limits, Outcome};
 use expr_pattern::Pattern;
-use expr_value::{ContextProvider, Result, Value};
+use expr_value::{Result, Value};
 use std::alloc::Global;
 
 /// What code answers in a host within limits, or where there are none, among the names of a provider.
@@ -26,9 +27,9 @@ use std::alloc::Global;
 pub fn execute_in<
     H: Functions,
     P: ContextProvider + Drop,
-    L: Holder<Value>,
-    N: Holder<String>,
-    K: Holder<Pattern>,
+    L: Pointer<Value>,
+    N: Pointer<String>,
+    K: Pointer<Pattern>,
 >(
     alloc: Global,
     host: &H,
@@ -36,10 +37,10 @@ pub fn execute_in<
     provider: P,
     limits: Option<Limits>,
 ) -> Result<Outcome<Value>>
-    ensures ends { Ends result (CodeComes limits (world_of (H.host host.now) (P.context provider))
+    ensures ends { ReturnsOutcome result (CodeComes limits (world_of (H.host host.now) (P.context provider))
         (blocks_of L.held (text_of N.held) code.now)) }
     ensures pattern { limits ≡ None → NeverRefusesWith (H.host host.now) bad_pattern
-        → CodeKeeps L.held K.held code.now → IfErr result (λ e. fault_of e ≢ bad_pattern) }
+        → CodeKeeps L.held K.held code.now → IfErr result (λ e. error_kind e ≢ bad_pattern) }
 {
     let machine = Machine {
         alloc,

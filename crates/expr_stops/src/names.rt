@@ -1,9 +1,9 @@
 //! The names of functions that a host answers itself.
 ghost use Rattle.std.specs.Prelude.{◌≡◌, ℕ, List, OnErr, OnOk, bytes_eq, false, if◌then◌else◌, true};
 ghost use Rattle.expr_stops.specs.Stops.{is_named};
-ghost use Rattle.expr_value.specs.Fault.{OnlyMemory};
+ghost use Rattle.expr_error.specs.ErrorKind.{OnlyMemory};
 
-use expr_value::{Result};
+use expr_value::Result;
 use indexmap::IndexSet;
 use std::alloc::Global;
 

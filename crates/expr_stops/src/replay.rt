@@ -1,8 +1,8 @@
 //! A host that answers calls from what was answered before.
 ghost use Rattle.std.specs.Prelude.{◌≡◌};
 
-use crate::given::Given;
 use crate::names::StopNames;
+use crate::replies::CallReply;
 use expr_meaning::{ExprCall, Functions};
 use expr_value::{DateTimeValue, Error, Result, TimezoneValue, Value};
 use std::cell::Cell;
@@ -21,14 +21,14 @@ pub struct Stop {
 pub struct Replay<'a, H> {
     pub host: &'a H,
     pub names: &'a StopNames,
-    pub given: &'a [Given],
+    pub given: &'a [CallReply],
     called: Cell<usize>,
     stop: Cell<Option<Stop>>,
 }
 
 impl<'a, H: Functions> Replay<'a, H> {
     /// A host for one run.
-    pub fn new(host: &'a H, names: &'a StopNames, given: &'a [Given]) -> Replay<'a, H>
+    pub fn new(host: &'a H, names: &'a StopNames, given: &'a [CallReply]) -> Replay<'a, H>
         ensures host { result.host.now ≡ host.now }
         ensures names { result.names.now ≡ names.now }
         ensures given { result.given.now ≡ given.now }
@@ -55,9 +55,9 @@ impl<'a, H: Functions> Replay<'a, H> {
 }
 
 impl<'a, H: Functions> Functions for Replay<'a, H> {
-    ghost use Rattle.expr_stops.specs.Stops.{answered_by, is_named};
+    ghost use Rattle.expr_stops.specs.Stops.{host_replying, is_named};
 
-    ghost host = { λ replay. answered_by (H.host replay.host.now)
+    ghost host = { λ replay. host_replying (H.host replay.host.now)
         (is_named replay.names.now) replay.given.now };
 
     fn has(&self, name: &str) -> bool {

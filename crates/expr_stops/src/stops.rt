@@ -8,26 +8,27 @@ ghost use Rattle.expr_machine.specs.Texts.{text_of};
 ghost use Rattle.expr_meaning.specs.Allows.{AllowsBlock};
 ghost use Rattle.expr_meaning.specs.Independence.{AgreeAt};
 ghost use Rattle.expr_meaning.specs.Refusals.{NeverRefusesWith};
-ghost use Rattle.expr_steps.specs.Context.{Context};
+ghost use Rattle.expr_steps.specs.Context.{ContextView};
 ghost use Rattle.expr_meaning.specs.World.{world_of};
-ghost use Rattle.expr_stops.specs.Stops.{CodeComes, ComesTo, EndsTurn, IfEnded, IsAsItWent, IsRefused, IsReplied, IsSame, StopsWell, answered_by, asked_of, given_of, is_named};
-ghost use Rattle.expr_stops.specs.declared.given.Given.{Given};
-ghost use Rattle.expr_stops.specs.declared.given.Reply.{Reply};
+ghost use Rattle.expr_stops.specs.Stops.{CodeComes, ComesTo, EndsTurn, IfEnded, IsAsItWent, IsRefused, IsReplied, IsSame, StopsWell, host_replying, waiting_call_of, replies_of, is_named};
+ghost use Rattle.expr_stops.specs.declared.replies.CallReply.{CallReply};
+ghost use Rattle.expr_stops.specs.declared.replies.Reply.{Reply};
 ghost use Rattle.expr_tree.specs.Names.{AreNamesOf};
-ghost use Rattle.expr_tree.specs.Written.{program_written};
-ghost use Rattle.expr_value.specs.Answers.{Gives};
-ghost use Rattle.expr_value.specs.Fault.{fault_of, pattern as bad_pattern, RefusesWith};
+ghost use Rattle.expr_tree.specs.TermOf.{program_term};
+ghost use Rattle.expr_value.specs.Answers.{Returns};
+ghost use Rattle.expr_error.specs.ErrorKind.{error_kind, pattern as bad_pattern, RefusesWith};
 
-use crate::given::{Given, Reply};
 use crate::names::StopNames;
-use crate::playing::{Played, play, play_code};
 use crate::replay::Stop;
-use expr_lowering::{Code, Holder};
+use crate::replays::{RunOutcome, play, play_code};
+use crate::replies::{CallReply, Reply};
+use expr_context::ContextProvider;
+use expr_lowering::{Code, Pointer};
 use expr_meaning::Functions;
 use expr_meter::{Limit, Limits, Outcome};
 use expr_pattern::Pattern;
 use expr_tree::node::Program;
-use expr_value::{ContextProvider, Error, Result, Value, refusal};
+use expr_value::{Error, Result, Value, refusal};
 use std::alloc::Global;
 
 /// How a run went that may stop.
@@ -35,7 +36,7 @@ use std::alloc::Global;
 pub enum Turn {
     /// It came to its end: the program's answer.
     Ended(Result<Value>),
-    /// It stopped at a call of the host's that waits for a reply: [`Stops::asked`].
+    /// It stopped at a call of the host's that waits for a reply: [`Stops::waiting_call`].
     Asks,
     /// It stopped at a call of the host's that isn't the one to which the reply at its place was given.
     Differs(Stop),
@@ -47,7 +48,7 @@ impl Turn {
     /// How a run went that stopped at no call.
     pub fn of(went: Result<Outcome<Value>>) -> Turn
         ensures went { IsAsItWent went result }
-        ensures stops { (named : List ℕ → Bool) (given : List Given) → StopsWell named given result None }
+        ensures stops { (named : List ℕ → Bool) (given : List CallReply) → StopsWell named given result None }
     {
         match went {
             Ok(Outcome::Answered(value)) => Turn::Ended(Ok(value)),
@@ -64,15 +65,15 @@ impl Turn {
 #[derive(Drop)]
 pub struct Stops {
     alloc: Global,
-    given: Vec<Given>,
+    given: Vec<CallReply>,
     asked: Option<Stop>,
 }
 
 impl Stops {
     /// A run at its beginning. It takes no memory.
     pub fn new(alloc: Global) -> Stops
-        ensures given { given_of result ≡ [] }
-        ensures asked { asked_of result ≡ None }
+        ensures given { replies_of result ≡ [] }
+        ensures asked { waiting_call_of result ≡ None }
     {
         Stops {
             alloc,
@@ -92,19 +93,21 @@ impl Stops {
         // An answer is one that the program's meaning allows where these names answer what the host answered. There are no
         // limits, so that it stops at none.
         ensures ended { EndsTurn result (ComesTo (AllowsBlock
-            (world_of (answered_by (H.host host.now) (is_named names.now) (given_of self.old))
-            (context ctx.now)) (program_written program.now))) }
+            (world_of (host_replying (H.host host.now) (is_named names.now) (replies_of self.old))
+            (context ctx.now)) (program_term program.now))) }
         // The answer is allowed in each context that agrees with this one at the program's names.
         ensures independent { EndsTurn result (ComesTo
-            (λ a. (other : Context) (keys : List (List ℕ)) → AreNamesOf keys (program_written program.now)
-            → AgreeAt keys (program_written program.now) (context ctx.now) other
-            → AllowsBlock (world_of (answered_by (H.host host.now) (is_named names.now) (given_of self.old))
-            other) (program_written program.now) a)) }
+            (λ a. (other : ContextView) (keys : List (List ℕ)) → AreNamesOf keys (program_term program.now)
+            → AgreeAt keys (program_term program.now) (context ctx.now) other
+            → AllowsBlock (world_of (host_replying (H.host host.now)
+            (is_named names.now) (replies_of self.old))
+            other) (program_term program.now) a)) }
         // Where each `matches` keeps the pattern of the text on its right, none is built.
         ensures pattern { NeverRefusesWith (H.host host.now) bad_pattern → ProgramKeeps program.now
-            → IfEnded result (λ r. IfErr r (λ e. fault_of e ≢ bad_pattern)) }
-        ensures stops { StopsWell (is_named names.now) (given_of self.old) result (asked_of self.new) }
-        ensures given { given_of self.new ≡ given_of self.old }
+            → IfEnded result (λ r. IfErr r (λ e. error_kind e ≢ bad_pattern)) }
+        ensures stops { StopsWell (is_named names.now) (replies_of self.old) result
+            (waiting_call_of self.new) }
+        ensures given { replies_of self.new ≡ replies_of self.old }
     {
         let played = play(self.alloc, host, names, &self.given, program, ctx);
         self.turn(names, played)
@@ -115,9 +118,9 @@ impl Stops {
     pub fn execute<
         H: Functions,
         P: ContextProvider + Drop,
-        L: Holder<Value>,
-        N: Holder<String>,
-        K: Holder<Pattern>,
+        L: Pointer<Value>,
+        N: Pointer<String>,
+        K: Pointer<Pattern>,
     >(
         &mut self,
         host: &H,
@@ -129,30 +132,32 @@ impl Stops {
         // It ends or stops at a limit as a run of the code does that counts within these limits, or as one that counts
         // nothing where there are none.
         ensures ends { EndsTurn result (CodeComes limits
-            (world_of (answered_by (H.host host.now) (is_named names.now) (given_of self.old))
+            (world_of (host_replying (H.host host.now) (is_named names.now) (replies_of self.old))
             (P.context provider)) (blocks_of L.held (text_of N.held) code.now)) }
         // An answer is one that the code may give where there are no limits.
-        ensures ended { IfEnded result (λ r. Gives r (CodeAnswers
-            (world_of (answered_by (H.host host.now) (is_named names.now) (given_of self.old))
+        ensures ended { IfEnded result (λ r. Returns r (CodeAnswers
+            (world_of (host_replying (H.host host.now) (is_named names.now) (replies_of self.old))
             (P.context provider)) (blocks_of L.held (text_of N.held) code.now))) }
         ensures pattern { limits ≡ None → NeverRefusesWith (H.host host.now) bad_pattern
             → CodeKeeps L.held K.held code.now
-            → IfEnded result (λ r. IfErr r (λ e. fault_of e ≢ bad_pattern)) }
-        ensures stops { StopsWell (is_named names.now) (given_of self.old) result (asked_of self.new) }
-        ensures given { given_of self.new ≡ given_of self.old }
+            → IfEnded result (λ r. IfErr r (λ e. error_kind e ≢ bad_pattern)) }
+        ensures stops { StopsWell (is_named names.now) (replies_of self.old) result
+            (waiting_call_of self.new) }
+        ensures given { replies_of self.new ≡ replies_of self.old }
     {
         let played = play_code(self.alloc, host, names, &self.given, code, provider, limits);
         self.turn(names, played)
     }
 
     /// How a run went that came to this.
-    fn turn(&mut self, names: &StopNames, played: Played) -> Turn
+    fn turn(&mut self, names: &StopNames, played: RunOutcome) -> Turn
         ensures went { IsAsItWent played.went result }
-        ensures stops { StopsWell (is_named names.now) (given_of self.old) result (asked_of self.new) }
-        ensures given { given_of self.new ≡ given_of self.old }
+        ensures stops { StopsWell (is_named names.now) (replies_of self.old) result
+            (waiting_call_of self.new) }
+        ensures given { replies_of self.new ≡ replies_of self.old }
     {
         self.asked = None;
-        let Played { went, stop } = played;
+        let RunOutcome { went, stop } = played;
         let Some(stop) = stop else {
             return Turn::of(went);
         };
@@ -170,15 +175,15 @@ impl Stops {
     }
 
     /// The call that waits for an answer.
-    pub fn asked(&self) -> Option<&Stop>
-        ensures { option_copied result ≡ asked_of self.now }
+    pub fn waiting_call(&self) -> Option<&Stop>
+        ensures { option_copied result ≡ waiting_call_of self.now }
     {
         self.asked.as_ref()
     }
 
     /// What the host has answered, in the order of the calls.
-    pub fn given(&self) -> &[Given]
-        ensures { result.now ≡ given_of self.now }
+    pub fn replies(&self) -> &[CallReply]
+        ensures { result.now ≡ replies_of self.now }
     {
         &self.given
     }
@@ -191,7 +196,7 @@ impl Stops {
     pub fn answer(&mut self, value: Value) -> Result<()>
         ensures given { OnOk result (IsReplied self.old self.new (Reply.Value value)) }
         ensures err { OnErr result (IsSame self.old self.new) }
-        ensures waits { RefusesWith result (λ k. asked_of self.old ≡ None) }
+        ensures waits { RefusesWith result (λ k. waiting_call_of self.old ≡ None) }
     {
         self.reply(Reply::Value(value))
     }
@@ -204,7 +209,7 @@ impl Stops {
     pub fn refuse(&mut self, text: &str) -> Result<()>
         ensures given { OnOk result (IsRefused self.old self.new text.now) }
         ensures err { OnErr result (IsSame self.old self.new) }
-        ensures waits { RefusesWith result (λ k. asked_of self.old ≡ None) }
+        ensures waits { RefusesWith result (λ k. waiting_call_of self.old ≡ None) }
     {
         let text = String::from_str(self.alloc, text)?;
         self.reply(Reply::Refusal(text))
@@ -214,17 +219,17 @@ impl Stops {
     fn reply(&mut self, reply: Reply) -> Result<()>
         ensures given { OnOk result (IsReplied self.old self.new reply) }
         ensures err { OnErr result (IsSame self.old self.new) }
-        ensures waits { RefusesWith result (λ k. asked_of self.old ≡ None) }
+        ensures waits { RefusesWith result (λ k. waiting_call_of self.old ≡ None) }
     {
         let Some(stop) = self.asked.take() else {
             return Err(refusal(self.alloc, "no call waits for an answer"));
         };
         let Stop { call, place } = stop;
-        match self.given.push(Given { call, reply }) {
+        match self.given.push(CallReply { call, reply }) {
             Ok(()) => Ok(()),
             Err(failed) => {
                 let given = failed.value;
-                let Given { call, reply: _ } = given;
+                let CallReply { call, reply: _ } = given;
                 self.asked = Some(Stop { call, place });
                 Err(Error::MemoryError)
             }
@@ -233,8 +238,8 @@ impl Stops {
 
     /// Lets go of all answers and of the call that waits, so that the next run is at its beginning.
     pub fn forget(&mut self)
-        ensures given { given_of self.new ≡ [] }
-        ensures asked { asked_of self.new ≡ None }
+        ensures given { replies_of self.new ≡ [] }
+        ensures asked { waiting_call_of self.new ≡ None }
     {
         self.given.clear();
         self.asked = None;

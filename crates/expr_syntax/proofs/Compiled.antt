@@ -5,8 +5,8 @@ use Rattle.std.specs.Str.{IsCharBoundary}
 use Rattle.std.proofs.lemmas.Str.{IsCharBoundary-end}
 use Rattle.std.specs.Prelude.{slice_get}
 use Rattle.expr_token.proofs.Boundaries.{begun_boundary}
-use Rattle.expr_value.specs.declared.error.Error.{Error}
-use Rattle.expr_value.specs.declared.error.Error.TheVariants.{PestError, ParseError, ExprError, RegexError, MemoryError}
+use Rattle.expr_error.specs.declared.error.Error.{Error}
+use Rattle.expr_error.specs.declared.error.Error.TheVariants.{PestError, ParseError, ExprError, RegexError, MemoryError}
 use Rattle.expr_grammar.specs.Grammar.{TreeProgram, LiteralsFit}
 use Rattle.expr_parser.specs.Texts.{FaultPlace, AtToken, AtEnd, AtUnreadable}
 use Rattle.expr_syntax.specs.Texts.{IsAnswerFor, IsAnswerWithin, IsReadFor, IsParseRefusal, IsPlaced}

@@ -2,11 +2,11 @@
 use Rattle.std.proofs.Common.{◌≡◌, ℕ, ℤ, pos, negsuc, suc, ◌^◌, nat_lt, Bool, true, false, ◌&&◌, IsTrue, List, [], ◌∷◌, ◌++◌, map, flat_map, Option, Some, None, refl, sym, ap, ◌∙◌, subst, append_assoc, append-nil}
 use Rattle.std.specs.List.{list_all, AllByRecursion}
 use Rattle.std.proofs.lemmas.Bool.{and_parts, cond-true, false≢true}
-use Rattle.expr_token.proofs.Printed.{printed_reads}
-use Rattle.expr_token.proofs.Such.{Such, values_of, pairs_of, bare, with_each, by_layers, readable_at}
+use Rattle.expr_printed.proofs.Printed.{printed_reads}
+use Rattle.expr_printed.proofs.Such.{Such, values_of, pairs_of, bare, with_each, by_layers, readable_at}
 use Rattle.expr_token.proofs.Words.{reserved_sound}
 use Rattle.expr_token.specs.Lexer.{reserved_of, word_token}
-use Rattle.expr_token.specs.Printed.{is_above_least, readable_layer, is_readable, integer_tokens, truth_token, pair_tokens, tokens_layer, printed_tokens}
+use Rattle.expr_printed.specs.Printed.{is_above_least, readable_layer, is_readable, integer_tokens, truth_token, pair_tokens, tokens_layer, printed_tokens}
 use Rattle.expr_token.specs.Tokens.{integer, is_word}
 use Rattle.expr_token.specs.declared.reserved.Reserved.{Reserved}
 use Rattle.expr_token.specs.declared.sign.Sign.TheVariants as sign
@@ -14,7 +14,7 @@ use Rattle.expr_token.specs.declared.token.Token.{Token}
 use Rattle.expr_token.specs.declared.token.Token.TheVariants as token
 use Rattle.expr_parts.specs.Maps.{map_term}
 use Rattle.expr_tree.specs.Term.{Term, literal, list, unary, answers}
-use Rattle.expr_tree.specs.Written.{terms_of}
+use Rattle.expr_tree.specs.TermOf.{terms_of}
 use Rattle.expr_tree.specs.declared.operator.UnaryOperator.TheVariants as prefixed
 use Rattle.expr_value.specs.Values.{text_of}
 use Rattle.expr_value.specs.declared.value.Value.{Value, roll-Value, map-Value, fold-roll-Value}
@@ -22,7 +22,7 @@ use Rattle.expr_value.specs.declared.value.Value.TheOpen.{Value-F}
 use Rattle.expr_value.specs.declared.value.Value.TheVariants as value
 use Rattle.expr_grammar.specs.declared.sign.PrefixSign.TheVariants as prefix
 use Rattle.expr_grammar.specs.Grammar.{Usual, ReservedWord, True, False, Nil, Integer, Quoted, Key, WordKey, Tree, Literal, Array, Map, Prefix, NoItems, SomeItems, Row, One, More, NoEntries, SomeEntries, EntryRow, OneEntry, MoreEntries, Program, NoLines, key_token, tokens_of, row_tokens, entry_row_tokens, TreeFits, RowFits, EntryRowFits, IntegerFits}
-use Rattle.expr_frames.specs.Programs.{key_text, term_of, row_terms, entry_row_pairs}
+use Rattle.expr_frames.specs.Programs.{key_text, tree_term, row_terms, entry_row_pairs}
 use Rattle.expr_syntax.specs.Printed.{integer_term, term_layer, printed_term}
 use Rattle.expr_syntax.specs.Texts.{IsProgramOf}
 
@@ -32,7 +32,7 @@ record Spelled (tokens : List Token) (term : Term) : Type 0 where
   pub spells : tokens_of tree ≡ tokens
   pub fits : TreeFits tree
   pub literals : AllByRecursion IntegerFits tokens
-  pub same : term_of tree ≡ term
+  pub same : tree_term tree ≡ term
 
 record SpelledRow (tokens : List Token) (terms : List Term) : Type 0 where
   pub row : Row
@@ -60,8 +60,8 @@ integer_fits n h = cond-true _ _ _ h
 literal_fits : (n : ℕ) → nat_lt n (2 ^ 63) ≡ true → IntegerFits (token.Integer (integer n))
 literal_fits n h = subst (λ o. IntegerFits (token.Integer o)) (sym (integer_fits n h)) tt
 
-literal_term : (n : ℕ) → nat_lt n (2 ^ 63) ≡ true → term_of (Literal (Integer (integer n))) ≡ literal (value.Integer (pos n))
-literal_term n h = ap (λ o. term_of (Literal (Integer o))) (integer_fits n h)
+literal_term : (n : ℕ) → nat_lt n (2 ^ 63) ≡ true → tree_term (Literal (Integer (integer n))) ≡ literal (value.Integer (pos n))
+literal_term n h = ap (λ o. tree_term (Literal (Integer o))) (integer_fits n h)
 
 integer_spelled : (n : ℤ) → is_above_least n ≡ true → Spelled (integer_tokens n) (integer_term n)
 integer_spelled (pos n) h = record { tree = Literal (Integer (integer n)); spells = refl; fits = tt; literals = (literal_fits n h, tt); same = literal_term n h }

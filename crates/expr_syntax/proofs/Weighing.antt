@@ -1,10 +1,10 @@
 -- How far the literal patterns of a text were weighed, and what is left.
 use Rattle.std.proofs.Common.{◌≡◌, ℕ, ◌+◌, ◌<◌, Bool, false, List, [], ◌∷◌, ◌++◌, length, drop, refl, sym, ap, ◌∙◌, arith, append_assoc, append-nil}
-use Rattle.expr_syntax.specs.Bounds.{IsHeavier, IsLight, patterns_weight, stands_behind, token_weight, weight_from}
+use Rattle.expr_syntax.specs.Bounds.{IsHeavier, IsLight, patterns_weight, is_behind_matches, token_weight, weight_from}
 use Rattle.expr_token.specs.Reading.{Begins, NoPiece, ReadsAt}
-use Rattle.expr_token.specs.Steps.{GoesOn, StandsWithin}
-use Rattle.expr_token.specs.declared.reading.Next.{Next}
-use Rattle.expr_token.specs.declared.reading.Next.TheVariants as next
+use Rattle.expr_token.specs.Steps.{GoesOn, IsTokenWithin}
+use Rattle.expr_token.specs.declared.reading.NextToken.{NextToken}
+use Rattle.expr_token.specs.declared.reading.NextToken.TheVariants as next_token
 use Rattle.expr_token.specs.declared.token.Token.{Token}
 use Rattle.expr_token.proofs.Lexing.{one_reading}
 use Rattle.expr_token.proofs.Readings.{begun_none, begun_refused}
@@ -22,15 +22,15 @@ weighed_none text patterns = record { tokens = []; starts = []; begins = begun_n
 module _ (text : List ℕ) (patterns at left : ℕ) (behind : Bool) (read : WeighedTo text patterns at left behind) where
   -- one more token
   module _ (token : Token) (start end : ℕ) (more : Begins text end (read.tokens ++ token ∷ []) (read.starts ++ start ∷ [])) where
-    pub weighed_more : (rest : ℕ) (behind_next : Bool) → token_weight behind token + rest ≡ left → behind_next ≡ stands_behind token behind → WeighedTo text patterns end rest behind_next
+    pub weighed_more : (rest : ℕ) (behind_next : Bool) → token_weight behind token + rest ≡ left → behind_next ≡ is_behind_matches token behind → WeighedTo text patterns end rest behind_next
     weighed_more rest behind_next e same = record {
       tokens = read.tokens ++ token ∷ [];
       starts = read.starts ++ start ∷ [];
       begins = more;
       weighed = λ ts.
           let split : patterns_weight ((read.tokens ++ token ∷ []) ++ ts) ≡ patterns_weight (read.tokens ++ token ∷ ts) = ap patterns_weight (append_assoc read.tokens (token ∷ []) ts) in
-          let all : patterns + (token_weight behind token + weight_from (stands_behind token behind) ts) ≡ left + patterns_weight (read.tokens ++ token ∷ ts) = read.weighed (token ∷ ts) in
-          let after : weight_from behind_next ts ≡ weight_from (stands_behind token behind) ts = ap (λ b. weight_from b ts) same in
+          let all : patterns + (token_weight behind token + weight_from (is_behind_matches token behind) ts) ≡ left + patterns_weight (read.tokens ++ token ∷ ts) = read.weighed (token ∷ ts) in
+          let after : weight_from behind_next ts ≡ weight_from (is_behind_matches token behind) ts = ap (λ b. weight_from b ts) same in
           omega (arith, split, all, after, e);
     }
 
@@ -51,7 +51,7 @@ module _ (text : List ℕ) (patterns at left : ℕ) (behind : Bool) (read : Weig
   unread_light stuck here below ts r = absurd (begun_refused text stuck read.tokens read.starts here.0 below here.1 ts r)
 
   -- no more tokens
-  pub ended_light : (x : Next) → GoesOn text read.tokens read.starts x → StandsWithin text at x → ((t : Token) (start end : ℕ) → x ≡ next.Token t start end → ⊥) → IsLight text patterns
-  ended_light (next.Token t start end) on within none = absurd (none t start end refl)
-  ended_light next.End on within none = weighed_light on
-  ended_light (next.Stuck place) on within none = unread_light place on within.1
+  pub ended_light : (x : NextToken) → GoesOn text read.tokens read.starts x → IsTokenWithin text at x → ((t : Token) (start end : ℕ) → x ≡ next_token.Token t start end → ⊥) → IsLight text patterns
+  ended_light (next_token.Token t start end) on within none = absurd (none t start end refl)
+  ended_light next_token.End on within none = weighed_light on
+  ended_light (next_token.Stuck place) on within none = unread_light place on within.1

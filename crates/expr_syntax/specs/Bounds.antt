@@ -5,23 +5,23 @@ use Rattle.expr_grammar.specs.Height.{program_height}
 use Rattle.expr_frames.specs.Programs.{program_of}
 use Rattle.expr_sizes.specs.Patterns.{pattern_weight}
 use Rattle.expr_syntax.specs.Texts.{FitsWithin, HasLargeLiteral, HasNoTree, IsProgramWithin, IsTreeOf}
-use Rattle.expr_syntax.specs.declared.bounded.Bounded.{Bounded}
-use Rattle.expr_syntax.specs.declared.bounded.Bounded.TheVariants.{Program, TooHigh, TooHeavy}
+use Rattle.expr_syntax.specs.declared.bounded.BoundedProgram.{BoundedProgram}
+use Rattle.expr_syntax.specs.declared.bounded.BoundedProgram.TheVariants.{Program, TooHigh, TooHeavy}
 use Rattle.expr_token.specs.Reading.{Begins, Reads}
 use Rattle.expr_token.specs.declared.reserved.Reserved.TheVariants as reserved
 use Rattle.expr_token.specs.declared.sign.Sign.TheVariants as sign
 use Rattle.expr_token.specs.declared.token.Token.{Token}
 use Rattle.expr_token.specs.declared.token.Token.TheVariants as token
-use Rattle.expr_tree.specs.Written.{program_written}
+use Rattle.expr_tree.specs.TermOf.{program_term}
 use Rattle.expr_tree.specs.declared.node.Program.{Program as declared}
-use Rattle.expr_value.specs.declared.error.Error.{Error}
-use Rattle.expr_value.specs.declared.error.Error.TheVariants.{PestError, ParseError, ExprError, RegexError, MemoryError}
+use Rattle.expr_error.specs.declared.error.Error.{Error}
+use Rattle.expr_error.specs.declared.error.Error.TheVariants.{PestError, ParseError, ExprError, RegexError, MemoryError}
 
 -- whether what follows a token stands right behind `matches`, with opening brackets between
-abbrev pub stands_behind : Token → Bool → Bool
-stands_behind (token.Reserved reserved.Matches) behind = true
-stands_behind (token.Sign sign.ParenOpen) behind = behind
-stands_behind t behind = false
+abbrev pub is_behind_matches : Token → Bool → Bool
+is_behind_matches (token.Reserved reserved.Matches) behind = true
+is_behind_matches (token.Sign sign.ParenOpen) behind = behind
+is_behind_matches t behind = false
 
 -- the text of a literal
 abbrev pub literal_text : Token → Option (List ℕ)
@@ -39,7 +39,7 @@ token_weight behind t = if behind then weight_if_any (literal_text t) else 0
 
 abbrev pub weight_from : Bool → List Token → ℕ
 weight_from behind [] = 0
-weight_from behind (t ∷ ts) = token_weight behind t + weight_from (stands_behind t behind) ts
+weight_from behind (t ∷ ts) = token_weight behind t + weight_from (is_behind_matches t behind) ts
 
 -- what the literal patterns of tokens weigh together
 abbrev pub patterns_weight : List Token → ℕ
@@ -65,8 +65,8 @@ abbrev pub IsLight : List ℕ → ℕ → Type 0
 IsLight text patterns = (ts : List Token) → Reads text ts → patterns_weight ts ≤ patterns
 
 -- what each answer says of the text
-abbrev pub IsCompiledBounded : List ℕ → (height patterns : ℕ) → Result Bounded Error → Type 0
-IsCompiledBounded text height patterns (Ok (Program p)) = IsProgramWithin text height (program_written p) × IsLight text patterns
+abbrev pub IsCompiledBounded : List ℕ → (height patterns : ℕ) → Result BoundedProgram Error → Type 0
+IsCompiledBounded text height patterns (Ok (Program p)) = IsProgramWithin text height (program_term p) × IsLight text patterns
 IsCompiledBounded text height patterns (Ok TooHigh) = IsHigher text height
 IsCompiledBounded text height patterns (Ok TooHeavy) = IsHeavier text patterns
 IsCompiledBounded text height patterns (Err (PestError place)) = HasNoTree text
@@ -76,8 +76,8 @@ IsCompiledBounded text height patterns (Err (RegexError error)) = ⊥
 IsCompiledBounded text height patterns (Err MemoryError) = Unit {0}
 
 -- the answers for a text that has the tree t
-abbrev pub IsAnswerBounded : TreeProgram → (height : ℕ) → Result Bounded Error → Type 0
-IsAnswerBounded t height (Ok (Program p)) = (program_written p ≡ program_of t) × FitsWithin t height
+abbrev pub IsAnswerBounded : TreeProgram → (height : ℕ) → Result BoundedProgram Error → Type 0
+IsAnswerBounded t height (Ok (Program p)) = (program_term p ≡ program_of t) × FitsWithin t height
 IsAnswerBounded t height (Ok TooHigh) = LiteralsFit t × (height < program_height t)
 IsAnswerBounded t height (Ok TooHeavy) = Unit {0}
 IsAnswerBounded t height (Err (PestError place)) = ⊥
@@ -87,7 +87,7 @@ IsAnswerBounded t height (Err (RegexError error)) = ⊥
 IsAnswerBounded t height (Err MemoryError) = Unit {0}
 
 -- this is said of a program
-abbrev pub OnProgram : Bounded → (declared → Type 0) → Type 0
+abbrev pub OnProgram : BoundedProgram → (declared → Type 0) → Type 0
 OnProgram (Program p) said = said p
 OnProgram TooHigh said = Unit {0}
 OnProgram TooHeavy said = Unit {0}

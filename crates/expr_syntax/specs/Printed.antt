@@ -2,7 +2,7 @@
 use Rattle.std.specs.Prelude.{ℤ, pos, negsuc, suc}
 use Rattle.expr_parts.specs.Maps.{map_term}
 use Rattle.expr_tree.specs.Term.{Term, literal, list, unary, no_terms}
-use Rattle.expr_tree.specs.Written.{terms_of}
+use Rattle.expr_tree.specs.TermOf.{terms_of}
 use Rattle.expr_tree.specs.declared.operator.UnaryOperator.TheVariants as prefixed
 use Rattle.expr_value.specs.declared.value.Value.{Value, fold-Value}
 use Rattle.expr_value.specs.declared.value.Value.TheOpen.{Value-F}

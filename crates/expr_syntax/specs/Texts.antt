@@ -1,13 +1,13 @@
 -- The program of a text, and the answers of `compile`.
 use Rattle.std.specs.Prelude.{◌≡◌, ℕ, ◌≤◌, List, length, Result, Ok, Err}
 use Rattle.expr_tree.specs.Term.{Block}
-use Rattle.expr_tree.specs.Written.{program_written}
+use Rattle.expr_tree.specs.TermOf.{program_term}
 use Rattle.expr_tree.specs.declared.node.Program.{Program}
-use Rattle.expr_value.specs.declared.error.Error.{Error}
-use Rattle.expr_value.specs.declared.error.Error.TheVariants.{PestError, ParseError, ExprError, RegexError, MemoryError}
+use Rattle.expr_error.specs.declared.error.Error.{Error}
+use Rattle.expr_error.specs.declared.error.Error.TheVariants.{PestError, ParseError, ExprError, RegexError, MemoryError}
 use Rattle.expr_grammar.specs.Grammar.{TreeProgram, LiteralsFit}
-use Rattle.expr_parts.specs.Parts.{MeasuredBlock}
-use Rattle.expr_frames.specs.Measures.{measured_program}
+use Rattle.expr_parts.specs.Parts.{BlockWithHeight}
+use Rattle.expr_frames.specs.Measures.{program_with_height}
 use Rattle.expr_frames.specs.Programs.{program_of}
 use Rattle.expr_grammar.specs.Height.{program_height}
 pub use Rattle.expr_parser.specs.Texts.{FaultPlace, HasLargeLiteral, HasNoTree, IsMeasureOf, IsTreeOf}
@@ -25,7 +25,7 @@ pub record IsProgramOf (text : List ℕ) (b : Block) : Type 0 where
 
 -- what each answer says of the text
 abbrev pub IsCompiled : List ℕ → Result Program Error → Type 0
-IsCompiled text (Ok p) = IsProgramOf text (program_written p)
+IsCompiled text (Ok p) = IsProgramOf text (program_term p)
 IsCompiled text (Err (PestError place)) = HasNoTree text
 IsCompiled text (Err (ParseError message)) = HasLargeLiteral text
 IsCompiled text (Err (ExprError message)) = ⊥
@@ -34,7 +34,7 @@ IsCompiled text (Err MemoryError) = Unit {0}
 
 -- the answers for a text that has the tree t
 abbrev pub IsAnswerFor : TreeProgram → Result Program Error → Type 0
-IsAnswerFor t (Ok p) = (program_written p ≡ program_of t) × LiteralsFit t
+IsAnswerFor t (Ok p) = (program_term p ≡ program_of t) × LiteralsFit t
 IsAnswerFor t (Err (PestError place)) = ⊥
 IsAnswerFor t (Err (ParseError message)) = ¬ LiteralsFit t
 IsAnswerFor t (Err (ExprError message)) = ⊥
@@ -59,7 +59,7 @@ pub record IsBeyond (text : List ℕ) (height : ℕ) : Type 0 where
   pub beyond : ¬ FitsWithin tree height
 
 abbrev pub IsCompiledWithin : List ℕ → ℕ → Result Program Error → Type 0
-IsCompiledWithin text height (Ok p) = IsProgramWithin text height (program_written p)
+IsCompiledWithin text height (Ok p) = IsProgramWithin text height (program_term p)
 IsCompiledWithin text height (Err (PestError place)) = HasNoTree text
 IsCompiledWithin text height (Err (ParseError message)) = IsBeyond text height
 IsCompiledWithin text height (Err (ExprError message)) = ⊥
@@ -67,7 +67,7 @@ IsCompiledWithin text height (Err (RegexError error)) = ⊥
 IsCompiledWithin text height (Err MemoryError) = Unit {0}
 
 abbrev pub IsAnswerWithin : TreeProgram → ℕ → Result Program Error → Type 0
-IsAnswerWithin t height (Ok p) = (program_written p ≡ program_of t) × FitsWithin t height
+IsAnswerWithin t height (Ok p) = (program_term p ≡ program_of t) × FitsWithin t height
 IsAnswerWithin t height (Err (PestError place)) = ⊥
 IsAnswerWithin t height (Err (ParseError message)) = ¬ FitsWithin t height
 IsAnswerWithin t height (Err (ExprError message)) = ⊥
@@ -75,7 +75,7 @@ IsAnswerWithin t height (Err (RegexError error)) = ⊥
 IsAnswerWithin t height (Err MemoryError) = Unit {0}
 
 -- What is read of a text, before it is known whether a bound is asked for.
-abbrev pub IsRead : List ℕ → Result MeasuredBlock Error → Type 0
+abbrev pub IsRead : List ℕ → Result BlockWithHeight Error → Type 0
 IsRead text (Ok m) = IsMeasureOf text m
 IsRead text (Err (PestError place)) = HasNoTree text
 IsRead text (Err (ParseError message)) = HasLargeLiteral text
@@ -83,8 +83,8 @@ IsRead text (Err (ExprError message)) = ⊥
 IsRead text (Err (RegexError error)) = ⊥
 IsRead text (Err MemoryError) = Unit {0}
 
-abbrev pub IsReadFor : TreeProgram → Result MeasuredBlock Error → Type 0
-IsReadFor t (Ok m) = (m ≡ measured_program t) × LiteralsFit t
+abbrev pub IsReadFor : TreeProgram → Result BlockWithHeight Error → Type 0
+IsReadFor t (Ok m) = (m ≡ program_with_height t) × LiteralsFit t
 IsReadFor t (Err (PestError place)) = ⊥
 IsReadFor t (Err (ParseError message)) = ¬ LiteralsFit t
 IsReadFor t (Err (ExprError message)) = ⊥

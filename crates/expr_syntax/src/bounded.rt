@@ -4,22 +4,22 @@ ghost use Rattle.std.specs.Str.{IsCharBoundary};
 ghost use Rattle.std.specs.Str.Iter.{HasSubslice};
 ghost use Rattle.expr_grammar.specs.Grammar.{TreeProgram};
 ghost use Rattle.expr_parts.specs.Kept.{KeepPatterns};
-ghost use Rattle.expr_syntax.specs.Bounds.{IsAnswerBounded, IsCompiledBounded, IsHeavier, IsLight, OnProgram, literal_text, stands_behind as behind, token_weight};
+ghost use Rattle.expr_syntax.specs.Bounds.{IsAnswerBounded, IsCompiledBounded, IsHeavier, IsLight, OnProgram, literal_text, is_behind_matches as behind, token_weight};
 ghost use Rattle.expr_syntax.specs.Texts.{IsPlaced, IsTreeOf};
-ghost use Rattle.expr_tree.specs.Beside.{program_operations};
-ghost use Rattle.expr_value.specs.declared.error.Error.{Error as declared};
-ghost use Rattle.expr_value.specs.Fault.{OnlyMemory};
+ghost use Rattle.expr_tree.specs.KeptPatterns.{program_operations};
+ghost use Rattle.expr_error.specs.declared.error.Error.{Error as declared};
+ghost use Rattle.expr_error.specs.ErrorKind.{OnlyMemory};
 
 use crate::text::read_program;
 use expr_sizes::weigh_pattern;
-use expr_token::{Next, Reserved, Sign, Token, next_token};
+use expr_token::{NextToken, Reserved, Sign, Token, next_token};
 use expr_tree::node::Program;
 use expr_value::{Result, Text};
 use std::alloc::Global;
 
 /// What comes of a text within bounds.
 #[derive(Drop)]
-pub enum Bounded {
+pub enum BoundedProgram {
     /// Its program.
     Program(Program),
     /// Its tree is higher than is allowed.
@@ -35,7 +35,12 @@ pub enum Bounded {
 /// # Errors
 ///
 /// Those of [`compile`](crate::compile).
-pub fn compile_bounded(alloc: Global, code: &str, height: usize, patterns: u64) -> Result<Bounded>
+pub fn compile_bounded(
+    alloc: Global,
+    code: &str,
+    height: usize,
+    patterns: u64,
+) -> Result<BoundedProgram>
     // Each answer says of the text what it means: a program that of a tree within the bounds, and a refusal what it does
     // where there is no bound.
     ensures answer { IsCompiledBounded code.now height patterns result }
@@ -48,13 +53,13 @@ pub fn compile_bounded(alloc: Global, code: &str, height: usize, patterns: u64) 
     ensures patterns { IfOk result (λ b. OnProgram b (λ p. KeepPatterns (program_operations p))) }
 {
     if !is_light(alloc, code, patterns)? {
-        return Ok(Bounded::TooHeavy);
+        return Ok(BoundedProgram::TooHeavy);
     }
     let program = read_program(alloc, code)?;
     if program.height() > height {
-        return Ok(Bounded::TooHigh);
+        return Ok(BoundedProgram::TooHigh);
     }
-    Ok(Bounded::Program(program.into_program()))
+    Ok(BoundedProgram::Program(program.into_program()))
 }
 
 /// Whether the literal patterns of a text weigh no more together than this. A text in which the bytes `matches` stand
@@ -70,9 +75,9 @@ fn is_light(alloc: Global, code: &str, patterns: u64) -> Result<bool>
     let mut left = patterns;
     let mut is_behind = false;
     let mut at = 0;
-    while let Next::Token(token, _, end) = next_token(alloc, code, at)? {
-        let is_next_behind = stands_behind(&token, is_behind);
-        let Some(rest) = left_after(token, is_behind, left) else {
+    while let NextToken::Token(token, _, end) = next_token(alloc, code, at)? {
+        let is_next_behind = is_behind_matches(&token, is_behind);
+        let Some(rest) = remaining_weight(token, is_behind, left) else {
             return Ok(false);
         };
         left = rest;
@@ -90,7 +95,7 @@ fn has_matches(code: &str) -> bool
 }
 
 /// What is left of a weight after a token, if it weighs no more: it does where it is a literal pattern.
-fn left_after(token: Token, is_behind: bool, left: u64) -> Option<u64>
+fn remaining_weight(token: Token, is_behind: bool, left: u64) -> Option<u64>
     ensures { MatchOption result (left < token_weight is_behind token)
         (λ rest. token_weight is_behind token + rest ≡ left) }
 {
@@ -115,7 +120,7 @@ fn text_of(token: &Token) -> Option<&Text>
 }
 
 /// Whether what follows a token stands right behind `matches`.
-fn stands_behind(token: &Token, is_behind: bool) -> bool
+fn is_behind_matches(token: &Token, is_behind: bool) -> bool
     ensures { result ≡ behind token.now is_behind }
 {
     match token {

@@ -3,7 +3,7 @@
 ghost use Rattle.std.specs.Prelude.{IsTrue};
 ghost use Rattle.expr_syntax.specs.Printed.{printed_term};
 ghost use Rattle.expr_syntax.specs.Texts.{IsProgramOf, OneTreeOfText};
-ghost use Rattle.expr_token.specs.Printed.{is_readable};
+ghost use Rattle.expr_printed.specs.Printed.{is_readable};
 ghost use Rattle.expr_tree.specs.Term.{answers};
 ghost use Rattle.expr_value.specs.Values.{text_of};
 ghost use Rattle.expr_value.specs.declared.value.Value.{Value};

@@ -5,5 +5,5 @@ mod bounded;
 pub mod laws;
 mod text;
 
-pub use bounded::{Bounded, compile_bounded};
+pub use bounded::{BoundedProgram, compile_bounded};
 pub use text::{compile, compile_within};

@@ -3,12 +3,12 @@ ghost use Rattle.std.specs.Prelude.{◌≡◌, ℕ, Err, IfOk};
 ghost use Rattle.expr_grammar.specs.Grammar.{TreeProgram};
 ghost use Rattle.expr_parts.specs.Kept.{KeepPatterns};
 ghost use Rattle.expr_syntax.specs.Texts.{IsAnswerFor, IsAnswerWithin, IsCompiled, IsCompiledWithin, IsParseRefusal, IsPlaced, IsRead, IsReadFor, IsTreeOf};
-ghost use Rattle.expr_tree.specs.Beside.{program_operations};
+ghost use Rattle.expr_tree.specs.KeptPatterns.{program_operations};
 ghost use Rattle.std.specs.Str.{IsCharBoundary};
-ghost use Rattle.expr_value.specs.declared.error.Error.{Error};
+ghost use Rattle.expr_error.specs.declared.error.Error.{Error};
 
 use expr_parser::parser::{ParseError, parse};
-use expr_parts::ProgramPart;
+use expr_parts::AnnotatedProgram;
 use expr_tree::node::Program;
 use expr_value::{Error, Result};
 use std::alloc::Global;
@@ -64,7 +64,7 @@ pub fn compile_within(alloc: Global, code: &str, height: usize) -> Result<Progra
 }
 
 // The program of a text, and the height of its tree.
-pub(crate) fn read_program(alloc: Global, code: &str) -> Result<ProgramPart>
+pub(crate) fn read_program(alloc: Global, code: &str) -> Result<AnnotatedProgram>
     ensures answer { IsRead code.now result }
     ensures only { (t : TreeProgram) → IsTreeOf code.now t → IsReadFor t result }
     ensures place { IsPlaced code.now result }

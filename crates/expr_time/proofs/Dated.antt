@@ -7,7 +7,7 @@ use Rattle.jiff_core.specs.Calendar.{days_from_civil, days_in_year}
 use Rattle.jiff.specs.Types.{Date}
 use Rattle.jiff.specs.Words.{ordinal}
 use Rattle.expr_time.specs.Civil.{Agrees, HasParts, names_date}
-use Rattle.expr_layout.specs.declared.found.Found.{Found}
+use Rattle.expr_layout.specs.declared.found.KnownFields.{KnownFields}
 use Rattle.jiff.proofs.Family.{epoch_day_same, epoch_day-ordinal, same_date}
 
 pub one_by_month : (d e : Date) → d.year ≡ e.year → d.month ≡ e.month → d.day ≡ e.day → d ≡ e
@@ -30,7 +30,7 @@ agreed : (known : Option ℕ) (m n : ℕ) → known ≡ Some m → Agrees known 
 agreed None m n e h = absurd (cc)
 agreed (Some k) m n e h = let same : n ≡ k = h in cc
 
-year_known : (f : Found) (d : Date) (y : ℕ) → f.year ≡ Some y → HasParts f d → d.year ≡ pos y
+year_known : (f : KnownFields) (d : Date) (y : ℕ) → f.year ≡ Some y → HasParts f d → d.year ≡ pos y
 year_known f d y e h =
     let found : f.year ≡ Some h.0.0 = h.0.1 in
     let same : h.0.0 ≡ y = cc in
@@ -41,7 +41,7 @@ or_true true = refl
 or_true false = refl
 
 -- the one date of a year, a month and a day, and of a year and a day of the year
-pub named_by_month : (f : Found) (y m n : ℕ) → f.year ≡ Some y → f.month ≡ Some m → f.day ≡ Some n → (r : Option Date) → MatchOption r ((d : Date) → d.year ≡ pos y → d.month ≡ m → ¬ (d.day ≡ n)) (λ named. (named.year ≡ pos y) × (named.month ≡ m) × (named.day ≡ n)) → MatchOption r ((d : Date) → names_date f ≡ true → ¬ (HasParts f d)) (λ named. (names_date f ≡ true) × ((d : Date) → HasParts f d → d ≡ named))
+pub named_by_month : (f : KnownFields) (y m n : ℕ) → f.year ≡ Some y → f.month ≡ Some m → f.day ≡ Some n → (r : Option Date) → MatchOption r ((d : Date) → d.year ≡ pos y → d.month ≡ m → ¬ (d.day ≡ n)) (λ named. (named.year ≡ pos y) × (named.month ≡ m) × (named.day ≡ n)) → MatchOption r ((d : Date) → names_date f ≡ true → ¬ (HasParts f d)) (λ named. (names_date f ≡ true) × ((d : Date) → HasParts f d → d ≡ named))
 named_by_month f y m n year month day None none =
     λ d names parts. none d (year_known f d y year parts) (agreed f.month m d.month month parts.1) (agreed f.day n d.day day parts.2)
 named_by_month f y m n year month day (Some named) is = (
@@ -50,7 +50,7 @@ named_by_month f y m n year month day (Some named) is = (
       one_by_month d named (year_known f d y year parts ∙ sym is.0) (agreed f.month m d.month month parts.1 ∙ sym is.1) (agreed f.day n d.day day parts.2 ∙ sym is.2),
 )
 
-pub named_by_day : (f : Found) (y n : ℕ) → f.year ≡ Some y → f.year_day ≡ Some n → (r : Option Date) → MatchOption r ((d : Date) → d.year ≡ pos y → ¬ (ordinal d ≡ n)) (λ named. (named.year ≡ pos y) × (ordinal named ≡ n)) → MatchOption r ((d : Date) → names_date f ≡ true → ¬ (HasParts f d)) (λ named. (names_date f ≡ true) × ((d : Date) → HasParts f d → d ≡ named))
+pub named_by_day : (f : KnownFields) (y n : ℕ) → f.year ≡ Some y → f.year_day ≡ Some n → (r : Option Date) → MatchOption r ((d : Date) → d.year ≡ pos y → ¬ (ordinal d ≡ n)) (λ named. (named.year ≡ pos y) × (ordinal named ≡ n)) → MatchOption r ((d : Date) → names_date f ≡ true → ¬ (HasParts f d)) (λ named. (names_date f ≡ true) × ((d : Date) → HasParts f d → d ≡ named))
 named_by_day f y n year day None none =
     λ d names parts. none d (year_known f d y year parts) (agreed f.year_day n (ordinal d) day parts.3)
 named_by_day f y n year day (Some named) is = (

@@ -8,24 +8,25 @@ use Rattle.jiff.proofs.Family.{civil_nanos-parts, epoch_day_same}
 use Rattle.jiff.specs.Types.{DateTime, Offset}
 use Rattle.jiff.specs.Words.{IsOffsetSeconds, ambiguous_at, epoch_day, nanos_of_seconds, offset_at, time_nanos}
 unfoldable use Rattle.jiff.specs.Words.{civil_nanos}
-use Rattle.expr_clock.specs.Calendar.{Clock, Day, date_shown, plain_clock, plain_day, time_shown}
+use Rattle.expr_datetime.specs.Calendar.{Clock, Day, date_shown, plain_clock, plain_day, time_shown}
 use Rattle.expr_value.specs.Answers.{Answer}
-use Rattle.expr_value.specs.Times.{ahead, instant, local_nanos, offset_of}
-use Rattle.expr_value.specs.declared.moment.DateTimeValue.{DateTimeValue}
-use Rattle.expr_value.specs.declared.moment.Place.{Place}
-use Rattle.expr_value.specs.declared.moment.Place.TheVariants.{Fixed, Zone}
+use Rattle.expr_datetime.specs.Times.{instant, local_nanos, offset_of, utc, zone_offset}
+use Rattle.expr_datetime.specs.declared.moment.DateTimeValue.{DateTimeValue}
+use Rattle.expr_datetime.specs.declared.moment.MomentZone.{MomentZone}
+use Rattle.expr_datetime.specs.declared.moment.MomentZone.TheVariants.{Fixed, Named}
 use Rattle.expr_value.specs.declared.value.Value as value
-use Rattle.expr_value.specs.declared.zone.TimezoneValue.{TimezoneValue}
-use Rattle.expr_layout.specs.declared.found.Found.{Found}
-use Rattle.expr_time.specs.Civil.{ByForm, Given, GivenIf, HasParts, Is, IsCivil, ReadBy, answer_in, place_at}
+use Rattle.expr_datetime.specs.declared.zone.TimezoneValue.{TimezoneValue}
+use Rattle.expr_layout.specs.declared.found.KnownFields.{KnownFields}
+use Rattle.expr_time.specs.Civil.{ByForm, MomentMayReturn, MomentMayReturnIf, HasParts, IsOrZero, IsCivil, ReadBy, answer_in, place_at}
 use Rattle.expr_moment.specs.Fields.{date_at, time_at}
-use Rattle.expr_layout.specs.Layouts.{printed}
-use Rattle.expr_layout.specs.declared.token.Token.{Token}
-use Rattle.expr_moment.specs.Places.{given, picked_in, placed, utc}
+use Rattle.expr_layout.specs.Layouts.{printed_text}
+use Rattle.expr_layout.specs.declared.token.LayoutToken.{LayoutToken}
+use Rattle.expr_moment.specs.Zones.{moment_or_refusal, picked_in}
+use Rattle.expr_datetime.specs.ShiftedMoments.{moment_in}
 use Rattle.expr_time.specs.Stamps.{CanStamp, ReadsAlone, ReadsBack, SaysInstant, stamp_layout}
 use Rattle.expr_layout.proofs.OneLayout.{layout_one}
 use Rattle.expr_time.proofs.Placed.{others_are_fixed}
-use Rattle.expr_moment.proofs.Placing.{civil_shown}
+use Rattle.expr_moment.proofs.InZone.{civil_shown}
 use Rattle.expr_moment.proofs.Shown.{date_is_shown, time_is_shown}
 use Rattle.expr_time.proofs.StampTokens.{stamp_is}
 use Rattle.expr_time.proofs.Stamped.{Shows, form_read, fraction_known, known, stamp, stamp_read}
@@ -73,16 +74,16 @@ shows t dt e is =
     }
 
 -- what is known of a civil time
-abbrev found_of : DateTime → ℤ → Found
+abbrev found_of : DateTime → ℤ → KnownFields
 found_of dt off =
     known (Some (year_of dt)) (Some dt.date.month) (Some dt.date.day) (Some dt.time.hour) (Some dt.time.minute) (Some dt.time.second) (fraction_known dt.time.subsec_nanosecond) (Some off)
 
-fraction_is : (n : ℕ) → Is (fraction_known n) n
+fraction_is : (n : ℕ) → IsOrZero (fraction_known n) n
 unfolding fraction_known
 fraction_is zero = refl
 fraction_is (suc n) = refl
 
-fraction_one : (n m : ℕ) → Is (fraction_known n) m → m ≡ n
+fraction_one : (n m : ℕ) → IsOrZero (fraction_known n) m → m ≡ n
 unfolding fraction_known
 fraction_one zero m h = h
 fraction_one (suc n) m h = h
@@ -108,14 +109,14 @@ civil_one dt e off year h =
 
 -- the place of an offset, and the instant that is picked in it
 abbrev Picks : DateTimeValue → DateTime → ℤ → Type 0
-Picks t e off = (place : Place) × (place_at off ≡ Some place) × (instant t ≡ picked_in place e) × (ahead place (instant t) ≡ off)
+Picks t e off = (place : MomentZone) × (place_at off ≡ Some place) × (instant t ≡ picked_in place e) × (zone_offset place (instant t) ≡ off)
 
 abbrev IsLocal : DateTimeValue → DateTime → ℤ → Type 0
 IsLocal t e off = civil_nanos e ≡ instant t +ℤ nanos_of_seconds off
 
 in_utc : (t : DateTimeValue) (e : DateTime) → IsLocal t e (pos 0) → Picks t e (pos 0)
 unfolding Rattle.jiff.specs.Words.ambiguous_at Rattle.jiff.specs.Words.offset_at
-in_utc t e local = (Zone utc, refl, omega (arith, signed_arith, local), refl)
+in_utc t e local = (Named utc, refl, omega (arith, signed_arith, local), refl)
 
 in_fixed : (t : DateTimeValue) (e : DateTime) (off : ℤ) (h : IsOffsetSeconds off) → ¬ (off ≡ pos 0) → IsLocal t e off → Picks t e off
 in_fixed t e off h other local =
@@ -127,35 +128,35 @@ picks t e (pos zero) h local = in_utc t e local
 picks t e (pos (suc n)) h local = in_fixed t e (pos (suc n)) (omega (arith, signed_arith, h), omega (arith, signed_arith, h)) (λ z. absurd (omega (arith, signed_arith, z))) local
 picks t e (negsuc n) h local = in_fixed t e (negsuc n) (omega (arith, signed_arith, h), omega (arith, signed_arith, h)) (λ z. absurd (cc)) local
 
-answered : (t : DateTimeValue) (e : DateTime) (off : ℤ) → IsLocal t e off → (p : Picks t e off) → answer_in (place_at off) e ≡ Ok (value.DateTime (placed t p.0))
+answered : (t : DateTimeValue) (e : DateTime) (off : ℤ) → IsLocal t e off → (p : Picks t e off) → answer_in (place_at off) e ≡ Ok (value.DateTime (moment_in t p.0))
 answered t e off local p =
-    let shown : local_nanos (placed t p.0) ≡ civil_nanos e = ap (λ (s : ℤ). instant t +ℤ nanos_of_seconds s) p.3 ∙ sym local in
-    ap (λ (place : Option Place). answer_in place e) p.1 ∙ ap (λ (u : Option DateTimeValue). given u) (sym (civil_shown p.0 e (placed t p.0) p.2 refl shown))
+    let shown : local_nanos (moment_in t p.0) ≡ civil_nanos e = ap (λ (s : ℤ). instant t +ℤ nanos_of_seconds s) p.3 ∙ sym local in
+    ap (λ (place : Option MomentZone). answer_in place e) p.1 ∙ ap (λ (u : Option DateTimeValue). moment_or_refusal u) (sym (civil_shown p.0 e (moment_in t p.0) p.2 refl shown))
 
-says : (t : DateTimeValue) (dt : DateTime) (zone : TimezoneValue) (answer : Answer) → civil_nanos dt ≡ local_nanos t → CanStamp t → Given (found_of dt (offset_of t)) zone answer → SaysInstant t answer
+says : (t : DateTimeValue) (dt : DateTime) (zone : TimezoneValue) (answer : Answer) → civil_nanos dt ≡ local_nanos t → CanStamp t → MomentMayReturn (found_of dt (offset_of t)) zone answer → SaysInstant t answer
 says t dt zone answer e is (inl found) =
     let off = offset_of t in
     let local : IsLocal t found.0 off = civil_one dt found.0 off (year_same t dt e is) found.1 ∙ e in
     let p : Picks t found.0 off = picks t found.0 off is.2 local in
-    (placed t p.0, refl, sym (answered t found.0 off local p) ∙ found.2)
+    (moment_in t p.0, refl, sym (answered t found.0 off local p) ∙ found.2)
 says t dt zone answer e is (inr none) = absurd (none.0 dt (civil_is dt (offset_of t) (year_same t dt e is)))
 
-stamp_says : (t : DateTimeValue) (dt : DateTime) (zone : TimezoneValue) (answer : Answer) → civil_nanos dt ≡ local_nanos t → CanStamp t → ReadBy stamp (printed t stamp) zone answer → SaysInstant t answer
+stamp_says : (t : DateTimeValue) (dt : DateTime) (zone : TimezoneValue) (answer : Answer) → civil_nanos dt ≡ local_nanos t → CanStamp t → ReadBy stamp (printed_text t stamp) zone answer → SaysInstant t answer
 stamp_says t dt zone answer e is reads =
     let found = stamp_read t (year_of dt) dt.date.month dt.date.day dt.time.hour dt.time.minute dt.time.second dt.time.subsec_nanosecond (offset_of t) (shows t dt e is) in
-    says t dt zone answer e is (subst (λ (o : Option Found). GivenIf o zone answer) found reads)
+    says t dt zone answer e is (subst (λ (o : Option KnownFields). MomentMayReturnIf o zone answer) found reads)
 
 pub reads_back : (t : DateTimeValue) (dt : DateTime) → civil_nanos dt ≡ local_nanos t → (zone : TimezoneValue) (text : List ℕ) (answer : Answer) → ReadsBack t zone text answer
 reads_back t dt e zone text answer is prints reads =
     let printing : prints.0 ≡ stamp = layout_one prints.0 stamp false stamp_layout prints.1 stamp_is in
     let reading : reads.0 ≡ stamp = layout_one reads.0 stamp false stamp_layout reads.1 stamp_is in
-    let same : text ≡ printed t stamp = prints.2 ∙ ap (λ (ts : List Token). printed t ts) printing in
-    stamp_says t dt zone answer e is (subst (λ (p : List Token × List ℕ). ReadBy p.0 p.1 zone answer) (λ i. (reading i, same i)) reads.2)
+    let same : text ≡ printed_text t stamp = prints.2 ∙ ap (λ (ts : List LayoutToken). printed_text t ts) printing in
+    stamp_says t dt zone answer e is (subst (λ (p : List LayoutToken × List ℕ). ReadBy p.0 p.1 zone answer) (λ i. (reading i, same i)) reads.2)
 
 pub reads_alone : (t : DateTimeValue) (dt : DateTime) → civil_nanos dt ≡ local_nanos t → (zone : TimezoneValue) (text : List ℕ) (answer : Answer) → ReadsAlone t zone text answer
 reads_alone t dt e zone text answer is prints reads =
     let printing : prints.0 ≡ stamp = layout_one prints.0 stamp false stamp_layout prints.1 stamp_is in
-    let same : text ≡ printed t stamp = prints.2 ∙ ap (λ (ts : List Token). printed t ts) printing in
-    let alone : ByForm (printed t stamp) zone answer = subst (λ (s : List ℕ). ByForm s zone answer) same reads in
+    let same : text ≡ printed_text t stamp = prints.2 ∙ ap (λ (ts : List LayoutToken). printed_text t ts) printing in
+    let alone : ByForm (printed_text t stamp) zone answer = subst (λ (s : List ℕ). ByForm s zone answer) same reads in
     let found = form_read t (year_of dt) dt.date.month dt.date.day dt.time.hour dt.time.minute dt.time.second dt.time.subsec_nanosecond (offset_of t) (shows t dt e is) in
-    says t dt zone answer e is (subst (λ (o : Option Found). GivenIf o zone answer) found alone)
+    says t dt zone answer e is (subst (λ (o : Option KnownFields). MomentMayReturnIf o zone answer) found alone)

@@ -3,26 +3,26 @@ use Rattle.std.specs.Prelude.{◌≡◌, ℕ, ℤ, pos, neg_ℤ, ◌+ℤ◌, ◌
 use Rattle.std.specs.Int.{int_rem_euclid}
 use Rattle.std.specs.Ordering.{int_eq}
 use Rattle.expr_value.specs.Answers.{Answer}
-use Rattle.expr_value.specs.Fault.{evaluation}
-use Rattle.expr_value.specs.Moved.{at_instant, moved}
+use Rattle.expr_error.specs.ErrorKind.{evaluation}
+use Rattle.expr_datetime.specs.ShiftedMoments.{at_instant, moment_in, moment_later}
 use Rattle.expr_value.specs.Strings.{string_text}
-use Rattle.expr_value.specs.Times.{instant, moment_string, place_of}
+use Rattle.expr_datetime.specs.Times.{instant, moment_string, moment_zone, utc}
 use Rattle.expr_value.specs.Values.{integer_of, moment_of}
-use Rattle.expr_value.specs.declared.moment.DateTimeValue.{DateTimeValue}
-use Rattle.expr_value.specs.declared.moment.Place.TheVariants.{Zone}
+use Rattle.expr_datetime.specs.declared.moment.DateTimeValue.{DateTimeValue}
+use Rattle.expr_datetime.specs.declared.moment.MomentZone.TheVariants.{Named}
 use Rattle.expr_value.specs.declared.value.Value as value
 use Rattle.expr_value.specs.declared.value.Value.{Value, out-Value}
 use Rattle.expr_value.specs.declared.value.Value.TheOpen.{Value-F}
-use Rattle.expr_value.specs.declared.zone.TimezoneValue.{TimezoneValue}
+use Rattle.expr_datetime.specs.declared.zone.TimezoneValue.{TimezoneValue}
 use Rattle.expr_moment.specs.Dates.{AddsDate}
 use Rattle.expr_moment.specs.Fields.{between, field_name, field_of, zero_instant}
 use Rattle.expr_layout.specs.Layouts.{Formats}
-use Rattle.expr_arguments.specs.Arguments.{alone, one_duration, one_of, one_text}
-use Rattle.expr_moment.specs.Places.{given, location_of, placed, utc}
+use Rattle.expr_arguments.specs.Arguments.{without_arguments, one_duration, one_of, one_text}
+use Rattle.expr_moment.specs.Zones.{moment_or_refusal, location_of}
 use Rattle.expr_time.specs.declared.moments.DateTimeMethod.{DateTimeMethod}
 use Rattle.expr_time.specs.declared.moments.DateTimeMethod.TheVariants as is
-use Rattle.expr_time.specs.declared.moments.NameMethod.{NameMethod}
-use Rattle.expr_time.specs.declared.moments.NameMethod.TheVariants as named
+use Rattle.expr_time.specs.declared.moments.TextMethod.{TextMethod}
+use Rattle.expr_time.specs.declared.moments.TextMethod.TheVariants as named
 
 -- the zone of a zone
 abbrev pub timezone_of : Value → Option TimezoneValue
@@ -53,8 +53,8 @@ answer_for None f = Err evaluation
 answer_for (Some a) f = f a
 
 -- which of two moments is the later one
-abbrev pub compared : DateTimeValue → DateTimeValue → ℤ
-compared t u = if int_lt (instant t) (instant u) then neg_ℤ (pos 1) else (if int_eq (instant t) (instant u) then pos 0 else pos 1)
+abbrev pub comparison : DateTimeValue → DateTimeValue → ℤ
+comparison t u = if int_lt (instant t) (instant u) then neg_ℤ (pos 1) else (if int_eq (instant t) (instant u) then pos 0 else pos 1)
 
 -- the last multiple of a step since the zero instant that is no later, where the step is above zero
 abbrev pub instant_truncated : ℤ → ℤ → ℤ
@@ -65,9 +65,9 @@ abbrev pub instant_rounded : ℤ → ℤ → ℤ
 instant_rounded n step = if int_le step (pos 0) then n else instant_truncated (n +ℤ int_div step (pos 2)) step
 
 -- the zone of a moment, or a refusal where it has none
-abbrev pub located : List Value → Option TimezoneValue → Answer
-located arguments None = Err evaluation
-located arguments (Some zone) = alone arguments (value.Timezone zone)
+abbrev pub location_answer : List Value → Option TimezoneValue → Answer
+location_answer arguments None = Err evaluation
+location_answer arguments (Some zone) = without_arguments arguments (value.Timezone zone)
 
 -- what `AddDate` answers on its three numbers
 abbrev pub AddsDates : DateTimeValue → Option (ℤ × ℤ × ℤ) → Answer → Type 0
@@ -76,19 +76,19 @@ AddsDates t (Some amounts) answer = AddsDate t amounts.0 amounts.1 amounts.2 ans
 
 -- what a method of a moment may answer
 abbrev pub AnsweredAt : DateTimeMethod → DateTimeValue → List Value → Answer → Type 0
-AnsweredAt (is.Field field) t arguments answer = alone arguments (field_of field t) ≡ answer
-AnsweredAt is.String t arguments answer = alone arguments (value.String (moment_string t)) ≡ answer
-AnsweredAt is.Location t arguments answer = located arguments (location_of t) ≡ answer
-AnsweredAt is.Utc t arguments answer = alone arguments (value.DateTime (placed t (Zone utc))) ≡ answer
-AnsweredAt is.In t arguments answer = answer_for (one_zone arguments) (λ zone. Ok (value.DateTime (placed t (Zone zone)))) ≡ answer
-AnsweredAt is.Add t arguments answer = answer_for (one_duration arguments) (λ n. given (moved t n)) ≡ answer
+AnsweredAt (is.Field field) t arguments answer = without_arguments arguments (field_of field t) ≡ answer
+AnsweredAt is.String t arguments answer = without_arguments arguments (value.String (moment_string t)) ≡ answer
+AnsweredAt is.Location t arguments answer = location_answer arguments (location_of t) ≡ answer
+AnsweredAt is.Utc t arguments answer = without_arguments arguments (value.DateTime (moment_in t (Named utc))) ≡ answer
+AnsweredAt is.In t arguments answer = answer_for (one_zone arguments) (λ zone. Ok (value.DateTime (moment_in t (Named zone)))) ≡ answer
+AnsweredAt is.Add t arguments answer = answer_for (one_duration arguments) (λ n. moment_or_refusal (moment_later t n)) ≡ answer
 AnsweredAt is.Sub t arguments answer = answer_for (one_moment arguments) (between t) ≡ answer
-AnsweredAt is.Round t arguments answer = answer_for (one_duration arguments) (λ step. given (at_instant (instant_rounded (instant t) step) (place_of t))) ≡ answer
-AnsweredAt is.Truncate t arguments answer = answer_for (one_duration arguments) (λ step. given (at_instant (instant_truncated (instant t) step) (place_of t))) ≡ answer
+AnsweredAt is.Round t arguments answer = answer_for (one_duration arguments) (λ step. moment_or_refusal (at_instant (instant_rounded (instant t) step) (moment_zone t))) ≡ answer
+AnsweredAt is.Truncate t arguments answer = answer_for (one_duration arguments) (λ step. moment_or_refusal (at_instant (instant_truncated (instant t) step) (moment_zone t))) ≡ answer
 AnsweredAt is.After t arguments answer = answer_for (one_moment arguments) (λ u. Ok (value.Bool (int_lt (instant u) (instant t)))) ≡ answer
 AnsweredAt is.Before t arguments answer = answer_for (one_moment arguments) (λ u. Ok (value.Bool (int_lt (instant t) (instant u)))) ≡ answer
 AnsweredAt is.Equal t arguments answer = answer_for (one_moment arguments) (λ u. Ok (value.Bool (int_eq (instant t) (instant u)))) ≡ answer
-AnsweredAt is.Compare t arguments answer = answer_for (one_moment arguments) (λ u. Ok (value.Integer (compared t u))) ≡ answer
+AnsweredAt is.Compare t arguments answer = answer_for (one_moment arguments) (λ u. Ok (value.Integer (comparison t u))) ≡ answer
 AnsweredAt is.AddDate t arguments answer = AddsDates t (three_integers arguments) answer
 AnsweredAt is.Format t arguments answer = Formats t (one_text arguments) answer
 
@@ -111,8 +111,8 @@ moment_method is.AddDate = codes "AddDate"
 moment_method is.Format = codes "Format"
 
 -- the methods of zones, months and days of the week: their text as the built-in `string` gives it
-abbrev pub name_method : NameMethod → List ℕ
+abbrev pub name_method : TextMethod → List ℕ
 name_method named.String = codes "String"
 
-abbrev pub name_answer : NameMethod → Value → List Value → Answer
-name_answer named.String v arguments = alone arguments (value.String (string_text v))
+abbrev pub name_answer : TextMethod → Value → List Value → Answer
+name_answer named.String v arguments = without_arguments arguments (value.String (string_text v))

@@ -1,15 +1,16 @@
 -- Zones by name, and what the built-ins `timezone` and `now` answer.
 use Rattle.std.specs.Prelude.{ℕ, List, Option, None, Some, Ok, Err, bytes_eq, codes, if◌then◌else◌}
 use Rattle.expr_value.specs.Answers.{Answer}
-use Rattle.expr_value.specs.Fault.{evaluation}
-use Rattle.expr_value.specs.declared.moment.DateTimeValue.{DateTimeValue}
-use Rattle.expr_value.specs.declared.moment.Place.TheVariants.{Zone}
+use Rattle.expr_error.specs.ErrorKind.{evaluation}
+use Rattle.expr_datetime.specs.declared.moment.DateTimeValue.{DateTimeValue}
+use Rattle.expr_datetime.specs.declared.moment.MomentZone.TheVariants.{Named}
 use Rattle.expr_value.specs.declared.value.Value as value
 use Rattle.expr_value.specs.declared.value.Value.{Value}
-use Rattle.expr_value.specs.declared.zone.TimezoneValue.{TimezoneValue}
-use Rattle.expr_arguments.specs.Arguments.{alone, one_text}
+use Rattle.expr_datetime.specs.declared.zone.TimezoneValue.{TimezoneValue}
+use Rattle.expr_arguments.specs.Arguments.{without_arguments, one_text}
 use Rattle.expr_time.specs.Moments.{answer_for}
-use Rattle.expr_moment.specs.Places.{placed, utc}
+use Rattle.expr_datetime.specs.ShiftedMoments.{moment_in}
+use Rattle.expr_datetime.specs.Times.{utc}
 
 -- the zone of a name: UTC, or one that was added
 abbrev pub zone_named : (List ℕ → Option TimezoneValue) → List ℕ → Option TimezoneValue
@@ -22,4 +23,4 @@ timezone_answer zones arguments = answer_for (one_text arguments) (λ name. answ
 -- what `now` answers where a moment is set, and where none is
 abbrev pub now_answer : Option DateTimeValue → List Value → Answer
 now_answer None arguments = Err evaluation
-now_answer (Some t) arguments = alone arguments (value.DateTime (placed t (Zone utc)))
+now_answer (Some t) arguments = without_arguments arguments (value.DateTime (moment_in t (Named utc)))

@@ -1,13 +1,13 @@
 //! The calls of times.
 ghost use Rattle.std.specs.Option.{option_copied};
-ghost use Rattle.expr_value.specs.Answers.{Gives};
-ghost use Rattle.expr_time.specs.Calls.{Called};
+ghost use Rattle.expr_value.specs.Answers.{Returns};
+ghost use Rattle.expr_time.specs.Calls.{TimeCallMayReturn};
 
 use crate::date::date;
 use crate::zones::{Zones, now, timezone};
+use expr_cow::CowValue;
 use expr_duration::duration;
 use expr_functions::TimeCall;
-use expr_held::Held;
 use expr_value::{DateTimeValue, Result, Value};
 use std::alloc::Global;
 
@@ -19,9 +19,10 @@ pub fn call_time<Z: Zones>(
     call: TimeCall,
     zones: &Z,
     moment: Option<&DateTimeValue>,
-    arguments: &[Held<'_>],
+    arguments: &[CowValue<'_>],
 ) -> Result<Value>
-    ensures { Gives result (Called (Z.zones zones.now) (option_copied moment.entry) call arguments.now) }
+    ensures { Returns result
+        (TimeCallMayReturn (Z.zones zones.now) (option_copied moment.entry) call arguments.now) }
 {
     match call {
         TimeCall::Date => date(alloc, zones, arguments),

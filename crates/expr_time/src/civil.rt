@@ -2,14 +2,14 @@
 ghost use Rattle.std.specs.Prelude.{◌≡◌, ℕ, pos, Some, ◌<◌, ◌≤◌, ◌↔◌, IsTrue, true, MatchBool, MatchOption};
 ghost use Rattle.jiff.specs.Types.{Date, DateTime, Time};
 ghost use Rattle.jiff.specs.Words.{ordinal};
-ghost use Rattle.expr_time.specs.Civil.{Agrees, HasHour, HasParts, Is, IsCivil, IsDated, IsHour, IsTimed, has_date, names_date};
+ghost use Rattle.expr_time.specs.Civil.{Agrees, HasHour, HasParts, IsOrZero, IsCivil, IsDated, IsHour, IsTimed, has_date, names_date};
 
-use expr_layout::Found;
+use expr_layout::KnownFields;
 use jiff::civil::{Date, DateTime, Time};
 use jiff_core::civil::days_in_month;
 
 /// The civil time of what is known, if there is one.
-pub(crate) fn civil_of(found: &Found) -> Option<DateTime>
+pub(crate) fn civil_of(found: &KnownFields) -> Option<DateTime>
     ensures { MatchOption result ((dt : DateTime) → ¬ (IsCivil found.now dt)) (IsCivil found.now) }
 {
     let Some(date) = date_of(found) else {
@@ -22,7 +22,7 @@ pub(crate) fn civil_of(found: &Found) -> Option<DateTime>
 }
 
 // The date of what is known, and 1 January of the year 0 where nothing of a date is.
-fn date_of(found: &Found) -> Option<Date>
+fn date_of(found: &KnownFields) -> Option<Date>
     ensures { MatchOption result ((d : Date) → ¬ (IsDated found.now d)) (IsDated found.now) }
 {
     if !has_date(found) {
@@ -51,14 +51,14 @@ fn january_first() -> Date
     })
 }
 
-fn has_date(found: &Found) -> bool
+fn has_date(found: &KnownFields) -> bool
     ensures { result ≡ has_date found.now }
 {
     found.year.is_some() || found.month.is_some() || found.day.is_some() || found.year_day.is_some()
 }
 
 // The one date that can have the parts that are known.
-fn named_date(found: &Found) -> Option<Date>
+fn named_date(found: &KnownFields) -> Option<Date>
     ensures { MatchOption result ((d : Date) → names_date found.now ≡ true → ¬ (HasParts found.now d))
         (λ named. (names_date found.now ≡ true) × ((d : Date) → HasParts found.now d → d ≡ named)) }
 {
@@ -117,7 +117,7 @@ fn date_by_day(year: u32, day: u32) -> Option<Date>
 }
 
 // Whether a date has the parts that are known of it.
-fn has_parts(found: &Found, date: Date) -> bool
+fn has_parts(found: &KnownFields, date: Date) -> bool
     ensures { MatchBool result (HasParts found.now date) (¬ (HasParts found.now date)) }
 {
     let plain = date.to_plain();
@@ -148,7 +148,7 @@ fn agrees(known: Option<u32>, number: u32) -> bool
 }
 
 // The time of day of what is known.
-fn time_of(found: &Found) -> Option<Time>
+fn time_of(found: &KnownFields) -> Option<Time>
     ensures { MatchOption result ((t : Time) → ¬ (IsTimed found.now t)) (IsTimed found.now) }
 {
     let Some(hour) = hour_of(found) else {
@@ -175,7 +175,7 @@ fn time_of(found: &Found) -> Option<Time>
 }
 
 // The hour of what is known.
-fn hour_of(found: &Found) -> Option<u32>
+fn hour_of(found: &KnownFields) -> Option<u32>
     ensures { MatchOption result ((h : ℕ) → h < 24 → ¬ (HasHour found.now h))
         (λ hour. HasHour found.now hour × (hour < 24) × ((h : ℕ) → HasHour found.now h → h ≡ hour)) }
 {

@@ -1,19 +1,20 @@
 //! The built-in `date`.
 ghost use Rattle.std.specs.Prelude.{◌≡◌, Some};
-ghost use Rattle.expr_value.specs.Answers.{Gives, Is};
+ghost use Rattle.expr_value.specs.Answers.{Returns, ReturnsExactly};
 ghost use Rattle.expr_value.specs.Values.{string_of};
-ghost use Rattle.expr_value.specs.declared.moment.Place.TheVariants.{Zone};
-ghost use Rattle.expr_time.specs.Civil.{AllowsDate, ByLayout, DatesLayout, DatesText, DatesThree, DatesTwo, Given, GivenIf, answer_in, both_form, by_form, date_form, place_at, stamp_form, time_form};
-ghost use Rattle.expr_layout.specs.Found.{read_all, unknown};
+ghost use Rattle.expr_datetime.specs.declared.moment.MomentZone.TheVariants.{Named};
+ghost use Rattle.expr_time.specs.Civil.{AllowsDate, ByLayout, DatesLayout, DatesText, DatesThree, DatesTwo, MomentMayReturn, MomentMayReturnIf, answer_in, both_form, by_form, date_form, place_at, stamp_form, time_form};
+ghost use Rattle.expr_layout.specs.KnownFields.{read_all, no_fields};
 ghost use Rattle.expr_layout.specs.Layouts.{either};
 ghost use Rattle.expr_time.specs.Moments.{timezone_of};
 
 use crate::civil::civil_of;
 use crate::moments::timezone_in;
 use crate::zones::{Zones, zone_named};
-use expr_held::Held;
-use expr_layout::{Field, Found, Pad, Token, read_all, tokens_of};
-use expr_moment::{civil_at_offset, civil_in_zone, given, utc};
+use expr_cow::CowValue;
+use expr_datetime::utc;
+use expr_layout::{Field, KnownFields, LayoutToken, Pad, read_all, tokens_of};
+use expr_moment::{civil_at_offset, civil_in_zone, moment_or_refusal};
 use expr_value::{Result, TimezoneValue, Value, refusal};
 use jiff::civil::DateTime;
 use jiff::tz::Offset;
@@ -22,8 +23,8 @@ use std::alloc::Global;
 /// The built-in `date`: a moment that a text says, in a zone that may stand before it, by a layout that may stand behind
 /// it, or in a zone whose name stands behind that. Other arguments, texts that do not say a moment and unknown zones are
 /// refused with [`expr_value::Error::ExprError`].
-pub(crate) fn date<Z: Zones>(alloc: Global, zones: &Z, arguments: &[Held<'_>]) -> Result<Value>
-    ensures { Gives result (AllowsDate (Z.zones zones.now) arguments.now) }
+pub(crate) fn date<Z: Zones>(alloc: Global, zones: &Z, arguments: &[CowValue<'_>]) -> Result<Value>
+    ensures { Returns result (AllowsDate (Z.zones zones.now) arguments.now) }
 {
     match arguments {
         [text] => {
@@ -37,7 +38,7 @@ pub(crate) fn date<Z: Zones>(alloc: Global, zones: &Z, arguments: &[Held<'_>]) -
 }
 
 fn of_two(alloc: Global, first: &Value, second: &Value) -> Result<Value>
-    ensures { Gives result (DatesTwo (timezone_of first.now) first.now second.now) }
+    ensures { Returns result (DatesTwo (timezone_of first.now) first.now second.now) }
 {
     if let Some(zone) = timezone_in(first) {
         return of_text(alloc, zone, second);
@@ -53,7 +54,7 @@ fn of_three<Z: Zones>(
     second: &Value,
     third: &Value,
 ) -> Result<Value>
-    ensures { Gives result (DatesThree (Z.zones zones.now)
+    ensures { Returns result (DatesThree (Z.zones zones.now)
         (timezone_of first.now) first.now second.now third.now) }
 {
     if let Some(zone) = timezone_in(first) {
@@ -70,7 +71,7 @@ fn of_three<Z: Zones>(
 }
 
 fn of_text(alloc: Global, zone: &TimezoneValue, text: &Value) -> Result<Value>
-    ensures { Gives result (DatesText zone.now (string_of text.now)) }
+    ensures { Returns result (DatesText zone.now (string_of text.now)) }
 {
     let Some(text) = text.as_string() else {
         return Err(refusal(alloc, "date reads a text"));
@@ -79,7 +80,7 @@ fn of_text(alloc: Global, zone: &TimezoneValue, text: &Value) -> Result<Value>
 }
 
 fn of_layout(alloc: Global, zone: &TimezoneValue, text: &Value, layout: &Value) -> Result<Value>
-    ensures { Gives result (DatesLayout zone.now (string_of text.now) (string_of layout.now)) }
+    ensures { Returns result (DatesLayout zone.now (string_of text.now) (string_of layout.now)) }
 {
     let Some(text) = text.as_string() else {
         return Err(refusal(alloc, "date reads a text"));
@@ -91,14 +92,14 @@ fn of_layout(alloc: Global, zone: &TimezoneValue, text: &Value, layout: &Value) 
 }
 
 fn by_layout(alloc: Global, zone: &TimezoneValue, text: &str, layout: &str) -> Result<Value>
-    ensures { Gives result (ByLayout text.now layout.now zone.now) }
+    ensures { Returns result (ByLayout text.now layout.now zone.now) }
 {
     let tokens = tokens_of(alloc, layout)?;
     answer(alloc, read_all(tokens.as_slice(), text.as_bytes()), zone)
 }
 
-fn answer(alloc: Global, found: Option<Found>, zone: &TimezoneValue) -> Result<Value>
-    ensures { Gives result (GivenIf found zone.now) }
+fn answer(alloc: Global, found: Option<KnownFields>, zone: &TimezoneValue) -> Result<Value>
+    ensures { Returns result (MomentMayReturnIf found zone.now) }
 {
     match found {
         Some(found) => moment(alloc, &found, zone),
@@ -106,8 +107,8 @@ fn answer(alloc: Global, found: Option<Found>, zone: &TimezoneValue) -> Result<V
     }
 }
 
-fn moment(alloc: Global, found: &Found, zone: &TimezoneValue) -> Result<Value>
-    ensures { Gives result (Given found.now zone.now) }
+fn moment(alloc: Global, found: &KnownFields, zone: &TimezoneValue) -> Result<Value>
+    ensures { Returns result (MomentMayReturn found.now zone.now) }
 {
     let Some(civil) = civil_of(found) else {
         return Err(refusal(alloc, "there is no such time"));
@@ -119,27 +120,27 @@ fn moment(alloc: Global, found: &Found, zone: &TimezoneValue) -> Result<Value>
 }
 
 fn at_offset(alloc: Global, seconds: i32, civil: DateTime) -> Result<Value>
-    ensures { Is result (answer_in (place_at seconds) civil) }
+    ensures { ReturnsExactly result (answer_in (place_at seconds) civil) }
 {
     if seconds == 0 {
         let zone = utc(alloc)?;
         return in_zone(alloc, &zone, civil);
     }
     match Offset::from_seconds(seconds) {
-        Ok(offset) => given(alloc, civil_at_offset(offset, civil)),
+        Ok(offset) => moment_or_refusal(alloc, civil_at_offset(offset, civil)),
         Err(_) => Err(refusal(alloc, "no such offset")),
     }
 }
 
 fn in_zone(alloc: Global, zone: &TimezoneValue, civil: DateTime) -> Result<Value>
-    ensures { Is result (answer_in (Some (Zone zone.now)) civil) }
+    ensures { ReturnsExactly result (answer_in (Some (Named zone.now)) civil) }
 {
     let found = civil_in_zone(zone, civil)?;
-    given(alloc, found)
+    moment_or_refusal(alloc, found)
 }
 
 // What the first form that reads the whole text finds.
-fn by_form(text: &str) -> Option<Found>
+fn by_form(text: &str) -> Option<KnownFields>
     ensures { result ≡ by_form text.now }
 {
     let text = text.as_bytes();
@@ -149,7 +150,7 @@ fn by_form(text: &str) -> Option<Found>
     )
 }
 
-fn either(one: Option<Found>, other: Option<Found>) -> Option<Found>
+fn either(one: Option<KnownFields>, other: Option<KnownFields>) -> Option<KnownFields>
     ensures { result ≡ either one other }
 {
     match one {
@@ -158,68 +159,68 @@ fn either(one: Option<Found>, other: Option<Found>) -> Option<Found>
     }
 }
 
-fn by_stamp(text: &[u8]) -> Option<Found>
-    ensures { result ≡ read_all stamp_form unknown text.now }
+fn by_stamp(text: &[u8]) -> Option<KnownFields>
+    ensures { result ≡ read_all stamp_form no_fields text.now }
 {
     let form = [
-        Token::Year,
-        Token::Literal('-'),
-        Token::TwoDigits(Field::Month),
-        Token::Literal('-'),
-        Token::TwoDigits(Field::Day),
-        Token::Mark,
-        Token::TwoDigits(Field::Hour),
-        Token::Literal(':'),
-        Token::TwoDigits(Field::Minute),
-        Token::Literal(':'),
-        Token::TwoDigits(Field::Second),
-        Token::ShortFraction('.', 9),
-        Token::StampOffset,
+        LayoutToken::Year,
+        LayoutToken::Literal('-'),
+        LayoutToken::TwoDigits(Field::Month),
+        LayoutToken::Literal('-'),
+        LayoutToken::TwoDigits(Field::Day),
+        LayoutToken::Mark,
+        LayoutToken::TwoDigits(Field::Hour),
+        LayoutToken::Literal(':'),
+        LayoutToken::TwoDigits(Field::Minute),
+        LayoutToken::Literal(':'),
+        LayoutToken::TwoDigits(Field::Second),
+        LayoutToken::ShortFraction('.', 9),
+        LayoutToken::StampOffset,
     ];
     read_all(&form, text)
 }
 
-fn by_date(text: &[u8]) -> Option<Found>
-    ensures { result ≡ read_all date_form unknown text.now }
+fn by_date(text: &[u8]) -> Option<KnownFields>
+    ensures { result ≡ read_all date_form no_fields text.now }
 {
     let form = [
-        Token::Year,
-        Token::Literal('-'),
-        Token::Number(Field::Month, Pad::Zero),
-        Token::Literal('-'),
-        Token::Number(Field::Day, Pad::Zero),
+        LayoutToken::Year,
+        LayoutToken::Literal('-'),
+        LayoutToken::Number(Field::Month, Pad::Zero),
+        LayoutToken::Literal('-'),
+        LayoutToken::Number(Field::Day, Pad::Zero),
     ];
     read_all(&form, text)
 }
 
-fn by_time(text: &[u8]) -> Option<Found>
-    ensures { result ≡ read_all time_form unknown text.now }
+fn by_time(text: &[u8]) -> Option<KnownFields>
+    ensures { result ≡ read_all time_form no_fields text.now }
 {
     let form = [
-        Token::Number(Field::Hour, Pad::Zero),
-        Token::Literal(':'),
-        Token::Number(Field::Minute, Pad::Zero),
-        Token::Literal(':'),
-        Token::Number(Field::Second, Pad::Zero),
+        LayoutToken::Number(Field::Hour, Pad::Zero),
+        LayoutToken::Literal(':'),
+        LayoutToken::Number(Field::Minute, Pad::Zero),
+        LayoutToken::Literal(':'),
+        LayoutToken::Number(Field::Second, Pad::Zero),
     ];
     read_all(&form, text)
 }
 
-fn by_both(text: &[u8]) -> Option<Found>
-    ensures { result ≡ read_all both_form unknown text.now }
+fn by_both(text: &[u8]) -> Option<KnownFields>
+    ensures { result ≡ read_all both_form no_fields text.now }
 {
     let form = [
-        Token::Year,
-        Token::Literal('-'),
-        Token::Number(Field::Month, Pad::Zero),
-        Token::Literal('-'),
-        Token::Number(Field::Day, Pad::Zero),
-        Token::Literal(' '),
-        Token::Number(Field::Hour, Pad::Zero),
-        Token::Literal(':'),
-        Token::Number(Field::Minute, Pad::Zero),
-        Token::Literal(':'),
-        Token::Number(Field::Second, Pad::Zero),
+        LayoutToken::Year,
+        LayoutToken::Literal('-'),
+        LayoutToken::Number(Field::Month, Pad::Zero),
+        LayoutToken::Literal('-'),
+        LayoutToken::Number(Field::Day, Pad::Zero),
+        LayoutToken::Literal(' '),
+        LayoutToken::Number(Field::Hour, Pad::Zero),
+        LayoutToken::Literal(':'),
+        LayoutToken::Number(Field::Minute, Pad::Zero),
+        LayoutToken::Literal(':'),
+        LayoutToken::Number(Field::Second, Pad::Zero),
     ];
     read_all(&form, text)
 }

@@ -3,7 +3,7 @@ ghost use Rattle.std.specs.Prelude.{ℕ, List, false};
 ghost use Rattle.expr_layout.specs.Layouts.{IsLayout, stamp_tokens};
 ghost use Rattle.expr_time.specs.Stamps.{ReadsAlone, ReadsBack, stamp_layout};
 ghost use Rattle.expr_value.specs.Answers.{Answer};
-ghost use Rattle.expr_value.specs.declared.zone.TimezoneValue.{TimezoneValue};
+ghost use Rattle.expr_datetime.specs.declared.zone.TimezoneValue.{TimezoneValue};
 
 use expr_value::DateTimeValue;
 

@@ -10,5 +10,5 @@ mod zones;
 
 pub use calls::call_time;
 pub use laws::{printed_moments_are_read, stamps_go_by_a_layout};
-pub use moments::{DateTimeMethod, NameMethod};
+pub use moments::{DateTimeMethod, TextMethod};
 pub use zones::{UtcAlone, Zones};

@@ -4,25 +4,25 @@ ghost use Rattle.std.specs.Option.{option_copied};
 ghost use Rattle.std.specs.Fmt.{WritesOnOk};
 ghost use Rattle.std.specs.Ordering.{int_eq};
 ghost use Rattle.jiff.specs.Words.{IsTimestampNanos, IsWithin};
-ghost use Rattle.expr_value.specs.Answers.{Gives, Is};
-ghost use Rattle.expr_value.specs.Moved.{at_instant, moved};
+ghost use Rattle.expr_value.specs.Answers.{Returns, ReturnsExactly};
+ghost use Rattle.expr_datetime.specs.ShiftedMoments.{at_instant, moment_in, moment_later};
 ghost use Rattle.expr_value.specs.Strings.{string_text};
-ghost use Rattle.expr_value.specs.Times.{instant, moment_string, place_of};
-ghost use Rattle.expr_value.specs.declared.moment.Place.TheVariants.{Zone};
+ghost use Rattle.expr_datetime.specs.Times.{instant, moment_string, moment_zone, utc};
+ghost use Rattle.expr_datetime.specs.declared.moment.MomentZone.TheVariants.{Named};
 ghost use Rattle.expr_moment.specs.Dates.{AddsDate};
 ghost use Rattle.expr_moment.specs.Fields.{between, field_of};
-ghost use Rattle.expr_arguments.specs.Arguments.{alone, one_duration};
-ghost use Rattle.expr_time.specs.Moments.{AddsDates, AnsweredAt, answer_for, compared, instant_rounded, instant_truncated, located, moment_method, name_answer, name_method, one_moment, one_zone, three_integers, timezone_of};
-ghost use Rattle.expr_moment.specs.Places.{given, location_of, placed, utc};
-ghost use Rattle.expr_value.specs.Fault.{OnlyMemory};
+ghost use Rattle.expr_arguments.specs.Arguments.{without_arguments, one_duration};
+ghost use Rattle.expr_time.specs.Moments.{AddsDates, AnsweredAt, answer_for, comparison, instant_rounded, instant_truncated, location_answer, moment_method, name_answer, name_method, one_moment, one_zone, three_integers, timezone_of};
+ghost use Rattle.expr_moment.specs.Zones.{moment_or_refusal, location_of};
+ghost use Rattle.expr_error.specs.ErrorKind.{OnlyMemory};
 
-use expr_arguments::{one_duration, without};
-use expr_clock::show_stamp;
-use expr_held::Held;
+use expr_arguments::{one_duration, without_arguments};
+use expr_cow::CowValue;
+use expr_datetime::{show_stamp, utc};
 use expr_layout::format;
 use expr_moment::{
-    DateTimeField, ZERO_INSTANT, at_instant, civil_beside, date_after, date_shown, given, in_zone,
-    location, show_place, time_shown, utc,
+    DateTimeField, ZERO_INSTANT, at_instant, civil_beside, date_after, date_shown, in_zone,
+    location, moment_or_refusal, show_place, time_shown,
 };
 use expr_value::{DateTimeValue, Result, Text, TimezoneValue, Value, refusal};
 use jiff::civil::DateTime;
@@ -53,11 +53,11 @@ pub enum DateTimeMethod {
 
 impl DateTimeMethod {
     /// The method of a name.
-    pub fn named(name: &str) -> Option<DateTimeMethod>
+    pub fn from_name(name: &str) -> Option<DateTimeMethod>
         ensures { MatchOption result ((m : DateTimeMethod) → moment_method m ≢ name.now)
             (λ m. moment_method m ≡ name.now) }
     {
-        if let Some(field) = DateTimeField::named(name) {
+        if let Some(field) = DateTimeField::from_name(name) {
             return Some(DateTimeMethod::Field(field));
         }
         match name {
@@ -85,14 +85,18 @@ impl DateTimeMethod {
         self,
         alloc: Global,
         moment: &DateTimeValue,
-        arguments: &[Held<'_>],
+        arguments: &[CowValue<'_>],
     ) -> Result<Value>
-        ensures { Gives result (AnsweredAt self moment.now arguments.now) }
+        ensures { Returns result (AnsweredAt self moment.now arguments.now) }
     {
         match self {
-            DateTimeMethod::Field(field) => without(alloc, arguments, field.of(moment)),
+            DateTimeMethod::Field(field) => without_arguments(
+                alloc,
+                arguments,
+                field.value_of(moment),
+            ),
             DateTimeMethod::String => string(alloc, moment, arguments),
-            DateTimeMethod::Location => located(alloc, moment, arguments),
+            DateTimeMethod::Location => location_answer(alloc, moment, arguments),
             DateTimeMethod::Utc => in_utc(alloc, moment, arguments),
             DateTimeMethod::In => moved_into(alloc, moment, arguments),
             DateTimeMethod::Add => add(alloc, moment, arguments),
@@ -111,41 +115,42 @@ impl DateTimeMethod {
 
 /// A method of zones, months and days of the week, under the language's own name for it.
 #[derive(Clone, Copy, Debug, PartialEq, Eq)]
-pub enum NameMethod {
+pub enum TextMethod {
     String,
 }
 
-impl NameMethod {
+impl TextMethod {
     /// The method of a name.
-    pub fn named(name: &str) -> Option<NameMethod>
-        ensures { MatchOption result ((m : NameMethod) → name_method m ≢ name.now)
+    pub fn from_name(name: &str) -> Option<TextMethod>
+        ensures { MatchOption result ((m : TextMethod) → name_method m ≢ name.now)
             (λ m. name_method m ≡ name.now) }
     {
         match name {
-            "String" => Some(NameMethod::String),
+            "String" => Some(TextMethod::String),
             _ => None,
         }
     }
 
     /// What the method answers of a zone, a month or a day of the week: its text as the built-in `string` gives it. Any
     /// arguments are refused with [`expr_value::Error::ExprError`].
-    pub fn call(self, alloc: Global, receiver: &Value, arguments: &[Held<'_>]) -> Result<Value>
-        ensures { Is result (name_answer self receiver.now arguments.now) }
+    pub fn call(self, alloc: Global, receiver: &Value, arguments: &[CowValue<'_>]) -> Result<Value>
+        ensures { ReturnsExactly result (name_answer self receiver.now arguments.now) }
     {
         let text = receiver.string_text(alloc)?;
         match self {
-            NameMethod::String => {
-                without(alloc, arguments, Value::String(Text::from_string(text)))
+            TextMethod::String => {
+                without_arguments(alloc, arguments, Value::String(Text::from_string(text)))
             }
         }
     }
 }
 
-fn string(alloc: Global, moment: &DateTimeValue, arguments: &[Held<'_>]) -> Result<Value>
-    ensures { Is result (alone arguments.now (Value.String (moment_string moment.now))) }
+fn string(alloc: Global, moment: &DateTimeValue, arguments: &[CowValue<'_>]) -> Result<Value>
+    ensures { ReturnsExactly result
+        (without_arguments arguments.now (Value.String (moment_string moment.now))) }
 {
     let text = stamp_of(alloc, moment)?;
-    without(alloc, arguments, Value::String(Text::from_string(text)))
+    without_arguments(alloc, arguments, Value::String(Text::from_string(text)))
 }
 
 fn stamp_of(alloc: Global, moment: &DateTimeValue) -> Result<String>
@@ -172,28 +177,37 @@ impl<'a> fmt::Display for Stamp<'a> {
     }
 }
 
-fn located(alloc: Global, moment: &DateTimeValue, arguments: &[Held<'_>]) -> Result<Value>
-    ensures { Is result (located arguments.now (location_of moment.now)) }
+fn location_answer(
+    alloc: Global,
+    moment: &DateTimeValue,
+    arguments: &[CowValue<'_>],
+) -> Result<Value>
+    ensures { ReturnsExactly result (location_answer arguments.now (location_of moment.now)) }
 {
     let Some(zone) = location(alloc, moment)? else {
         return Err(refusal(alloc, "this moment is in no zone"));
     };
     let zone = Value::timezone(alloc, zone)?;
-    without(alloc, arguments, zone)
+    without_arguments(alloc, arguments, zone)
 }
 
-pub(crate) fn in_utc(alloc: Global, moment: &DateTimeValue, arguments: &[Held<'_>]) -> Result<Value>
-    ensures { Is result (alone arguments.now (Value.DateTime (placed moment.now (Zone utc)))) }
+pub(crate) fn in_utc(
+    alloc: Global,
+    moment: &DateTimeValue,
+    arguments: &[CowValue<'_>],
+) -> Result<Value>
+    ensures { ReturnsExactly result
+        (without_arguments arguments.now (Value.DateTime (moment_in moment.now (Named utc)))) }
 {
     let zone = utc(alloc)?;
     let moment = in_zone(moment, &zone)?;
     let answer = Value::datetime(alloc, moment)?;
-    without(alloc, arguments, answer)
+    without_arguments(alloc, arguments, answer)
 }
 
-fn moved_into(alloc: Global, moment: &DateTimeValue, arguments: &[Held<'_>]) -> Result<Value>
-    ensures { Is result (answer_for (one_zone arguments.now)
-        (λ zone. Ok (Value.DateTime (placed moment.now (Zone zone))))) }
+fn moved_into(alloc: Global, moment: &DateTimeValue, arguments: &[CowValue<'_>]) -> Result<Value>
+    ensures { ReturnsExactly result (answer_for (one_zone arguments.now)
+        (λ zone. Ok (Value.DateTime (moment_in moment.now (Named zone))))) }
 {
     let Some(zone) = one_zone(arguments) else {
         return Err(refusal(alloc, "In takes a timezone"));
@@ -202,18 +216,19 @@ fn moved_into(alloc: Global, moment: &DateTimeValue, arguments: &[Held<'_>]) -> 
     Value::datetime(alloc, moment)
 }
 
-fn add(alloc: Global, moment: &DateTimeValue, arguments: &[Held<'_>]) -> Result<Value>
-    ensures { Is result (answer_for (one_duration arguments.now) (λ n. given (moved moment.now n))) }
+fn add(alloc: Global, moment: &DateTimeValue, arguments: &[CowValue<'_>]) -> Result<Value>
+    ensures { ReturnsExactly result
+        (answer_for (one_duration arguments.now) (λ n. moment_or_refusal (moment_later moment.now n))) }
 {
     let Some(nanoseconds) = one_duration(arguments) else {
         return Err(refusal(alloc, "Add takes a duration"));
     };
     let moment = moment.clone()?;
-    given(alloc, moment.checked_add_signed(nanoseconds))
+    moment_or_refusal(alloc, moment.checked_add_signed(nanoseconds))
 }
 
-fn subtract(alloc: Global, moment: &DateTimeValue, arguments: &[Held<'_>]) -> Result<Value>
-    ensures { Is result (answer_for (one_moment arguments.now) (between moment.now)) }
+fn subtract(alloc: Global, moment: &DateTimeValue, arguments: &[CowValue<'_>]) -> Result<Value>
+    ensures { ReturnsExactly result (answer_for (one_moment arguments.now) (between moment.now)) }
 {
     let Some(other) = one_moment(arguments) else {
         return Err(refusal(alloc, "Sub takes a moment"));
@@ -224,8 +239,8 @@ fn subtract(alloc: Global, moment: &DateTimeValue, arguments: &[Held<'_>]) -> Re
     }
 }
 
-fn add_date(alloc: Global, moment: &DateTimeValue, arguments: &[Held<'_>]) -> Result<Value>
-    ensures { Gives result (AddsDates moment.now (three_integers arguments.now)) }
+fn add_date(alloc: Global, moment: &DateTimeValue, arguments: &[CowValue<'_>]) -> Result<Value>
+    ensures { Returns result (AddsDates moment.now (three_integers arguments.now)) }
 {
     let Some((years, months, days)) = three_integers(arguments) else {
         return Err(refusal(alloc, "AddDate takes years, months and days"));
@@ -240,19 +255,20 @@ fn later_date(
     months: i64,
     days: i64,
 ) -> Result<Value>
-    ensures { Gives result (AddsDate moment.now years months days) }
+    ensures { Returns result (AddsDate moment.now years months days) }
 {
     let Some(date) = date_after(date_shown(moment), years, months, days) else {
         return Err(refusal(alloc, "no such date, or out of range"));
     };
     let civil = DateTime::from_parts(date, time_shown(moment));
     let found = civil_beside(moment, civil)?;
-    given(alloc, found)
+    moment_or_refusal(alloc, found)
 }
 
-fn round(alloc: Global, moment: &DateTimeValue, arguments: &[Held<'_>]) -> Result<Value>
-    ensures { Is result (answer_for (one_duration arguments.now)
-        (λ step. given (at_instant (instant_rounded (instant moment.now) step) (place_of moment.now)))) }
+fn round(alloc: Global, moment: &DateTimeValue, arguments: &[CowValue<'_>]) -> Result<Value>
+    ensures { ReturnsExactly result (answer_for (one_duration arguments.now)
+        (λ step. moment_or_refusal
+        (at_instant (instant_rounded (instant moment.now) step) (moment_zone moment.now)))) }
 {
     let Some(step) = one_duration(arguments) else {
         return Err(refusal(alloc, "Round takes a duration"));
@@ -261,12 +277,13 @@ fn round(alloc: Global, moment: &DateTimeValue, arguments: &[Held<'_>]) -> Resul
         moment,
         instant_rounded(moment.timestamp().as_nanosecond(), step),
     )?;
-    given(alloc, found)
+    moment_or_refusal(alloc, found)
 }
 
-fn truncate(alloc: Global, moment: &DateTimeValue, arguments: &[Held<'_>]) -> Result<Value>
-    ensures { Is result (answer_for (one_duration arguments.now)
-        (λ step. given (at_instant (instant_truncated (instant moment.now) step) (place_of moment.now)))) }
+fn truncate(alloc: Global, moment: &DateTimeValue, arguments: &[CowValue<'_>]) -> Result<Value>
+    ensures { ReturnsExactly result (answer_for (one_duration arguments.now)
+        (λ step. moment_or_refusal
+        (at_instant (instant_truncated (instant moment.now) step) (moment_zone moment.now)))) }
 {
     let Some(step) = one_duration(arguments) else {
         return Err(refusal(alloc, "Truncate takes a duration"));
@@ -275,11 +292,11 @@ fn truncate(alloc: Global, moment: &DateTimeValue, arguments: &[Held<'_>]) -> Re
         moment,
         instant_truncated(moment.timestamp().as_nanosecond(), step),
     )?;
-    given(alloc, found)
+    moment_or_refusal(alloc, found)
 }
 
-fn after(alloc: Global, moment: &DateTimeValue, arguments: &[Held<'_>]) -> Result<Value>
-    ensures { Is result (answer_for (one_moment arguments.now)
+fn after(alloc: Global, moment: &DateTimeValue, arguments: &[CowValue<'_>]) -> Result<Value>
+    ensures { ReturnsExactly result (answer_for (one_moment arguments.now)
         (λ u. Ok (Value.Bool (int_lt (instant u) (instant moment.now))))) }
 {
     let Some(other) = one_moment(arguments) else {
@@ -289,8 +306,8 @@ fn after(alloc: Global, moment: &DateTimeValue, arguments: &[Held<'_>]) -> Resul
     Ok(Value::Bool(is_after))
 }
 
-fn before(alloc: Global, moment: &DateTimeValue, arguments: &[Held<'_>]) -> Result<Value>
-    ensures { Is result (answer_for (one_moment arguments.now)
+fn before(alloc: Global, moment: &DateTimeValue, arguments: &[CowValue<'_>]) -> Result<Value>
+    ensures { ReturnsExactly result (answer_for (one_moment arguments.now)
         (λ u. Ok (Value.Bool (int_lt (instant moment.now) (instant u))))) }
 {
     let Some(other) = one_moment(arguments) else {
@@ -300,8 +317,8 @@ fn before(alloc: Global, moment: &DateTimeValue, arguments: &[Held<'_>]) -> Resu
     Ok(Value::Bool(is_before))
 }
 
-fn equal(alloc: Global, moment: &DateTimeValue, arguments: &[Held<'_>]) -> Result<Value>
-    ensures { Is result (answer_for (one_moment arguments.now)
+fn equal(alloc: Global, moment: &DateTimeValue, arguments: &[CowValue<'_>]) -> Result<Value>
+    ensures { ReturnsExactly result (answer_for (one_moment arguments.now)
         (λ u. Ok (Value.Bool (int_eq (instant moment.now) (instant u))))) }
 {
     let Some(other) = one_moment(arguments) else {
@@ -311,19 +328,19 @@ fn equal(alloc: Global, moment: &DateTimeValue, arguments: &[Held<'_>]) -> Resul
     Ok(Value::Bool(is_equal))
 }
 
-fn compare(alloc: Global, moment: &DateTimeValue, arguments: &[Held<'_>]) -> Result<Value>
-    ensures { Is result (answer_for (one_moment arguments.now)
-        (λ u. Ok (Value.Integer (compared moment.now u)))) }
+fn compare(alloc: Global, moment: &DateTimeValue, arguments: &[CowValue<'_>]) -> Result<Value>
+    ensures { ReturnsExactly result (answer_for (one_moment arguments.now)
+        (λ u. Ok (Value.Integer (comparison moment.now u)))) }
 {
     let Some(other) = one_moment(arguments) else {
         return Err(refusal(alloc, "Compare takes a moment"));
     };
-    Ok(Value::Integer(compared(moment, other)))
+    Ok(Value::Integer(comparison(moment, other)))
 }
 
 // -1, 0 or 1.
-fn compared(moment: &DateTimeValue, other: &DateTimeValue) -> i64
-    ensures { result ≡ compared moment.now other.now }
+fn comparison(moment: &DateTimeValue, other: &DateTimeValue) -> i64
+    ensures { result ≡ comparison moment.now other.now }
 {
     let (one, two) = (
         moment.timestamp().as_nanosecond(),
@@ -360,7 +377,7 @@ fn instant_truncated(nanoseconds: i128, step: i64) -> i128
     nanoseconds - (nanoseconds - ZERO_INSTANT).rem_euclid(step as i128)
 }
 
-fn one_moment<'a>(arguments: &'a [Held<'_>]) -> Option<&'a DateTimeValue>
+fn one_moment<'a>(arguments: &'a [CowValue<'_>]) -> Option<&'a DateTimeValue>
     ensures { option_copied result ≡ one_moment arguments.now }
 {
     match arguments {
@@ -369,7 +386,7 @@ fn one_moment<'a>(arguments: &'a [Held<'_>]) -> Option<&'a DateTimeValue>
     }
 }
 
-fn one_zone<'a>(arguments: &'a [Held<'_>]) -> Option<&'a TimezoneValue>
+fn one_zone<'a>(arguments: &'a [CowValue<'_>]) -> Option<&'a TimezoneValue>
     ensures { option_copied result ≡ one_zone arguments.now }
 {
     match arguments {
@@ -388,7 +405,7 @@ pub(crate) fn timezone_in(value: &Value) -> Option<&TimezoneValue>
     }
 }
 
-fn three_integers(arguments: &[Held<'_>]) -> Option<(i64, i64, i64)>
+fn three_integers(arguments: &[CowValue<'_>]) -> Option<(i64, i64, i64)>
     ensures { result ≡ three_integers arguments.now }
 {
     match arguments {

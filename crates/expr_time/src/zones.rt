@@ -1,21 +1,21 @@
 //! Zones by name, and the built-ins that answer a zone or the present moment.
 ghost use Rattle.std.specs.Prelude.{◌≡◌, IfOk};
 ghost use Rattle.std.specs.Option.{option_copied};
-ghost use Rattle.expr_value.specs.Answers.{Is};
+ghost use Rattle.expr_value.specs.Answers.{ReturnsExactly};
 ghost use Rattle.expr_time.specs.Zones.{now_answer, timezone_answer, zone_named};
-ghost use Rattle.expr_value.specs.Fault.{OnlyMemory};
+ghost use Rattle.expr_error.specs.ErrorKind.{OnlyMemory};
 
 use crate::moments::in_utc;
 use expr_arguments::one_text;
-use expr_held::Held;
-use expr_moment::utc;
+use expr_cow::CowValue;
+use expr_datetime::utc;
 use expr_value::{DateTimeValue, Result, TimezoneValue, Value, refusal};
 use std::alloc::Global;
 
 /// The zones that a host has added, by their names.
 pub trait Zones {
     ghost use Rattle.std.specs.Prelude.{ℕ, List, Option};
-    ghost use Rattle.expr_value.specs.declared.zone.TimezoneValue.{TimezoneValue as Zone};
+    ghost use Rattle.expr_datetime.specs.declared.zone.TimezoneValue.{TimezoneValue as Zone};
 
     /// Which zones there are.
     ghost zones: { Self → List ℕ → Option Zone };
@@ -58,8 +58,12 @@ pub(crate) fn zone_named<Z: Zones>(
 }
 
 /// The built-in `timezone`: UTC, or the zone that was added under a name.
-pub(crate) fn timezone<Z: Zones>(alloc: Global, zones: &Z, arguments: &[Held<'_>]) -> Result<Value>
-    ensures { Is result (timezone_answer (Z.zones zones.now) arguments.now) }
+pub(crate) fn timezone<Z: Zones>(
+    alloc: Global,
+    zones: &Z,
+    arguments: &[CowValue<'_>],
+) -> Result<Value>
+    ensures { ReturnsExactly result (timezone_answer (Z.zones zones.now) arguments.now) }
 {
     let Some(name) = one_text(arguments) else {
         return Err(refusal(alloc, "timezone takes the name of a zone"));
@@ -75,9 +79,9 @@ pub(crate) fn timezone<Z: Zones>(alloc: Global, zones: &Z, arguments: &[Held<'_>
 pub(crate) fn now(
     alloc: Global,
     moment: Option<&DateTimeValue>,
-    arguments: &[Held<'_>],
+    arguments: &[CowValue<'_>],
 ) -> Result<Value>
-    ensures { Is result (now_answer (option_copied moment.entry) arguments.now) }
+    ensures { ReturnsExactly result (now_answer (option_copied moment.entry) arguments.now) }
 {
     let Some(moment) = moment else {
         return Err(refusal(alloc, "the present moment is not known"));

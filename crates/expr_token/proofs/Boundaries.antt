@@ -9,7 +9,7 @@ use Rattle.std.proofs.lemmas.List.{drop_at}
 use Rattle.std.proofs.lemmas.List.Elements.{All-from_recursion}
 use Rattle.std.proofs.lemmas.Str.{IsCharBoundary-after_ascii, IsCharBoundary-at_seam, IsCharBoundary-before_ascii, IsUtf8-drop, IsUtf8-nil}
 use Rattle.expr_token.specs.Kinds.{is_blank, is_word_byte, first_is}
-use Rattle.expr_token.specs.Reading.{Begins, is_line_byte, Piece, Blank, Line, Block, Written, piece_text, pieces_text, IsPieceBefore, ArePieces, starts_from}
+use Rattle.expr_token.specs.Reading.{Begins, is_line_byte, Piece, Blank, Line, Block, TokenPiece, piece_text, pieces_text, IsPieceBefore, ArePieces, starts_from}
 use Rattle.expr_token.specs.Spellings.{sign_text, reserved_text}
 use Rattle.expr_token.specs.Tokens.{IsSpelling, is_digits, is_hash_name, is_word, continues, text_part, byte_part}
 use Rattle.expr_token.proofs.Cuts.{quote_ascii, word_byte_ascii}
@@ -120,13 +120,13 @@ after_piece : (p : Piece) (rest : List ℕ) → IsPieceBefore p rest → IsUtf8 
 after_piece (Blank b) rest h utf8 = after_ascii (b ∷ []) rest (blank_ascii b h) utf8
 after_piece (Line comment) rest h utf8 = after_line (codes "//" ++ comment) rest h.1 utf8
 after_piece (Block comment) rest h utf8 = after_ascii (codes "/*" ++ (comment ++ codes "*/")) rest (ends_after (47 ∷ 42 ∷ comment) 42 (47 ∷ []) (lit< tt)) utf8
-after_piece (Written token s) rest h utf8 = after_ascii s rest (token_ends token s h.spells) utf8
+after_piece (TokenPiece token s) rest h utf8 = after_ascii s rest (token_ends token s h.spells) utf8
 
 starts_with : (P : ℕ → Type 0) (k next : ℕ) (p : Piece) (ps : List Piece) → next ≡ k + length (piece_text p) → P k → AllByRecursion P (starts_from next ps) → AllByRecursion P (starts_from k (p ∷ ps))
 starts_with P k next (Blank b) ps e here more = subst (λ n. AllByRecursion P (starts_from n ps)) e more
 starts_with P k next (Line comment) ps e here more = subst (λ n. AllByRecursion P (starts_from n ps)) e more
 starts_with P k next (Block comment) ps e here more = subst (λ n. AllByRecursion P (starts_from n ps)) e more
-starts_with P k next (Written token s) ps e here more = (here, subst (λ n. AllByRecursion P (starts_from n ps)) e more)
+starts_with P k next (TokenPiece token s) ps e here more = (here, subst (λ n. AllByRecursion P (starts_from n ps)) e more)
 
 -- what follows pieces in a text is a text, and the tokens in them begin with characters of it
 along : (text front : List ℕ) (ps : List Piece) (rest : List ℕ) → text ≡ front ++ (pieces_text ps ++ rest) → ArePieces ps rest → IsUtf8 (pieces_text ps ++ rest) → AllByRecursion (IsCharBoundary text) (starts_from (length front) ps) × IsUtf8 rest

@@ -10,12 +10,10 @@ pub mod Hashes
 pub mod Integers
 pub mod Lexing
 pub mod Pieces
-pub mod Printed
 pub mod Quotes
 pub mod Readings
 pub mod Returns
 pub mod Signs
-pub mod Such
 pub mod Tokens
 pub mod Unescaping
 pub mod Words

@@ -4,8 +4,8 @@ use Rattle.std.specs.Option.{option_map, option_or}
 use Rattle.std.proofs.lemmas.Bool.{cond-true, cond-false, cond_both, cases_Bool, and_parts, and_from, and_right, or_cases, or_parts, or_from, or_left, or_right, eqb-true, false≢true}
 use Rattle.std.proofs.lemmas.List.{drop_at, take_at}
 use Rattle.expr_token.specs.Kinds.{is_blank, first_is}
-use Rattle.expr_token.specs.Lexer.{token_at, gap_at, comment_at, block_len, double_sign, single_sign, written, piece_at}
-use Rattle.expr_token.specs.Reading.{begins_comment, closes, holds_close, is_line_byte, Piece, Blank, Line, Block, Written, piece_text, pieces_text, IsPieceBefore, ArePieces, tokens_of, starts_from}
+use Rattle.expr_token.specs.Lexer.{token_at, gap_at, comment_at, block_len, double_sign, single_sign, token_piece, piece_at}
+use Rattle.expr_token.specs.Reading.{begins_comment, closes, holds_close, is_line_byte, Piece, Blank, Line, Block, TokenPiece, piece_text, pieces_text, IsPieceBefore, ArePieces, tokens_of, starts_from}
 use Rattle.std.specs.List.{prefix_len}
 use Rattle.expr_token.specs.Spellings.{sign_text}
 use Rattle.expr_token.proofs.Words.{run_all, run_stops, run_ends}
@@ -19,7 +19,7 @@ pub record Front (text : List ℕ) (p : Piece) : Type 0 where
   pub fits : IsPieceBefore p rest
   pub some : 0 < length (piece_text p)
 
-token_front : (text : List ℕ) (o : Option (ℕ × Token)) → token_at text ≡ o → IfSome (option_map (written text) o) (Front text)
+token_front : (text : List ℕ) (o : Option (ℕ × Token)) → token_at text ≡ o → IfSome (option_map (token_piece text) o) (Front text)
 token_front text None e = tt
 token_front text (Some f) e =
     let h = token_stands text f.0 f.1 e in
@@ -111,7 +111,7 @@ piece_front text None h u k = k
 piece_front text (Some p) h u k = h.front
 
 pub piece_sound : (text : List ℕ) → IfSome (piece_at text) (Front text)
-piece_sound text = piece_front text (gap_at text) (gap_sound text) (option_map (written text) (token_at text)) (token_front text (token_at text) refl)
+piece_sound text = piece_front text (gap_at text) (gap_sound text) (option_map (token_piece text) (token_at text)) (token_front text (token_at text) refl)
 
 -- a blank begins no token
 after_32 : (s : List ℕ) → token_at (32 ∷ s) ≡ None
@@ -185,7 +185,7 @@ block_complete (a ∷ s) rest h =
     cond-false _ _ _ (closes_more a s (47 ∷ rest) parts.0) ∙ ap (option_map (λ n. suc n)) (block_complete s rest parts.1)
 
 pub piece_complete : (p : Piece) (rest : List ℕ) → IsPieceBefore p rest → piece_at (piece_text p ++ rest) ≡ Some p
-piece_complete (Blank b) rest h = ap (λ o. option_or o (option_map (written (b ∷ rest)) (token_at (b ∷ rest)))) (cond-true _ _ _ h)
+piece_complete (Blank b) rest h = ap (λ o. option_or o (option_map (token_piece (b ∷ rest)) (token_at (b ∷ rest)))) (cond-true _ _ _ h)
 piece_complete (Line comment) rest h =
     let n = run_ends is_line_byte comment rest h.0 h.1 in
     ap (λ k. Some (Line (take k (comment ++ rest)))) n ∙ ap (λ l. Some (Line l)) (take_at comment rest (length comment) refl)
@@ -194,13 +194,13 @@ piece_complete (Block comment) rest h =
     let same : inner ++ rest ≡ comment ++ (42 ∷ 47 ∷ rest) = append_assoc comment (codes "*/") rest in
     let n : block_len (inner ++ rest) ≡ Some (length comment) = ap block_len same ∙ block_complete comment rest h in
     let text = 47 ∷ 42 ∷ (inner ++ rest) in
-    ap (λ o. option_or (option_map (λ n. Block (take n (inner ++ rest))) o) (option_map (written text) (token_at text))) n
+    ap (λ o. option_or (option_map (λ n. Block (take n (inner ++ rest))) o) (option_map (token_piece text) (token_at text))) n
     ∙ ap (λ l. Some (Block l)) (ap (take (length comment)) same ∙ take_at comment (42 ∷ 47 ∷ rest) (length comment) refl)
-piece_complete (Written token s) rest h =
+piece_complete (TokenPiece token s) rest h =
     let found = token_complete token s rest h in
     let text = s ++ rest in
-    ap (λ o. option_or o (option_map (written text) (token_at text))) (token_no_gap text _ found)
-    ∙ ap (option_map (written text)) found ∙ ap (λ l. Some (Written token l)) (take_at s rest (length s) refl)
+    ap (λ o. option_or o (option_map (token_piece text) (token_at text))) (token_no_gap text _ found)
+    ∙ ap (option_map (token_piece text)) found ∙ ap (λ l. Some (TokenPiece token l)) (take_at s rest (length s) refl)
 
 -- a piece that fits is not empty
 pub piece_some : (p : Piece) (rest : List ℕ) → IsPieceBefore p rest → 0 < length (piece_text p)

@@ -6,8 +6,8 @@ use Rattle.std.specs.Option.{option_map}
 use Rattle.std.proofs.lemmas.Bool.{cond-true, cond-false, cond_both, and_parts, and_from, or_parts, or_cases, or_from, eqb-true, not-true, not_from_false, false_from_ne_true, false≢true}
 use Rattle.std.proofs.lemmas.List.{take_at}
 use Rattle.expr_token.specs.Kinds.{first_is}
-use Rattle.expr_token.specs.Lexer.{body, text_step, byte_step, escape_step, escaped_by, digits_step, unescaped, quoted_at, bytes_at}
-use Rattle.expr_token.specs.Tokens.{IsQuoted, IsBytes, is_quote, is_line_end, pair_value, TextPart, Plain, Pair, text_part, text_value, text_fits, BytePart, Itself, Escape, Hex, Octal, byte_part, byte_value, byte_fits, escape_value, hex_value, octal_value}
+use Rattle.expr_token.specs.Lexer.{body, text_step, byte_step, escape_step, escaped_by, digits_step, unescaped_bytes, quoted_at, bytes_at}
+use Rattle.expr_token.specs.Tokens.{IsQuoted, IsBytes, is_quote, is_line_end, pair_value, TextPart, PlainByte, Pair, text_part, text_value, text_fits, BytePart, Itself, Escape, Hex, Octal, byte_part, byte_value, byte_fits, escape_value, hex_value, octal_value}
 use Rattle.expr_token.proofs.Bodies.{PartAt, InParts, body_sound, body_complete}
 use Rattle.expr_token.proofs.Found.{Finds}
 use Rattle.expr_token.proofs.Words.{no_comment}
@@ -40,20 +40,20 @@ TextAt = PartAt text_part text_value text_fits text_step
 text_sound : (quote b : ℕ) (s : List ℕ) → (b == quote) ≡ false → IfSome (text_step (b ∷ s)) (λ f. TextAt quote (b ∷ s) f.0 f.1)
 text_sound quote b [] q =
     cond_both (b == 92 || is_line_end b) None (Some (1, b ∷ [])) (λ o. IfSome o (λ f. TextAt quote (b ∷ []) f.0 f.1)) (λ _. tt)
-    (λ e. let parts = or_parts (b == 92) (is_line_end b) e in record { part = Plain b; split = refl; long = refl; is = refl; fit = plain quote b q parts.0 parts.1; some = lit< tt })
+    (λ e. let parts = or_parts (b == 92) (is_line_end b) e in record { part = PlainByte b; split = refl; long = refl; is = refl; fit = plain quote b q parts.0 parts.1; some = lit< tt })
 text_sound quote b (c ∷ s) q =
     cond_both (b == 92) _ _ (λ o. IfSome o (λ f. TextAt quote (b ∷ c ∷ s) f.0 f.1))
     (λ slash. cond_both (is_line_end c) None (Some (2, pair_value c)) (λ o. IfSome o (λ f. TextAt quote (b ∷ c ∷ s) f.0 f.1)) (λ _. tt)
     (λ e. record { part = Pair c; split = (λ i. eqb-true b 92 slash i ∷ c ∷ s); long = refl; is = refl; fit = not_from_false _ e; some = lit< tt }))
     (λ slash. cond_both (is_line_end b) None (Some (1, b ∷ [])) (λ o. IfSome o (λ f. TextAt quote (b ∷ c ∷ s) f.0 f.1)) (λ _. tt)
-    (λ e. record { part = Plain b; split = refl; long = refl; is = refl; fit = plain quote b q slash e; some = lit< tt }))
+    (λ e. record { part = PlainByte b; split = refl; long = refl; is = refl; fit = plain quote b q slash e; some = lit< tt }))
 
 plain_step : (b : ℕ) (rest : List ℕ) → (b == 92) ≡ false → is_line_end b ≡ false → text_step (b ∷ rest) ≡ Some (1, b ∷ [])
 plain_step b [] slash end = cond-false _ _ _ (or_from _ _ slash end)
 plain_step b (c ∷ rest) slash end = cond-false _ _ _ slash ∙ cond-false _ _ _ end
 
 text_complete : (quote : ℕ) → is_quote quote ≡ true → (p : TextPart) (rest : List ℕ) → text_fits quote p ≡ true → (text_step (text_part p ++ rest) ≡ Some (length (text_part p), text_value p)) × (first_is (λ b. b == quote) (text_part p ++ rest) ≡ false) × (0 < length (text_part p))
-text_complete quote quoted (Plain b) rest fit = let h = plain_parts quote b fit in (plain_step b rest h.slash h.end, h.other, lit< tt)
+text_complete quote quoted (PlainByte b) rest fit = let h = plain_parts quote b fit in (plain_step b rest h.slash h.end, h.other, lit< tt)
 text_complete quote quoted (Pair b) rest fit = (cond-false _ _ _ (not-true _ fit), slash_no_quote quote quoted, lit< tt)
 
 -- the parts of bytes
@@ -184,22 +184,22 @@ bytes_complete content s rest q =
     ∙ ap (λ n. Some (n, Token.Bytes content)) (let long : suc (suc (suc (length inner))) ≡ length s = omega (arith, ap length q.written, length-append inner (q.quote ∷ [])) in long)
 
 -- what the parts of a text give is what their bytes give, read one escape after another
-unescaped_plain : (b : ℕ) (s : List ℕ) → (b == 92) ≡ false → unescaped (b ∷ s) ≡ b ∷ unescaped s
+unescaped_plain : (b : ℕ) (s : List ℕ) → (b == 92) ≡ false → unescaped_bytes (b ∷ s) ≡ b ∷ unescaped_bytes s
 unescaped_plain b [] e = refl
 unescaped_plain b (c ∷ s) e = cond-false _ _ _ e
 
-unescaped_parts : (quote : ℕ) (parts : List TextPart) → list_all (text_fits quote) parts ≡ true → flat_map text_value parts ≡ unescaped (flat_map text_part parts)
+unescaped_parts : (quote : ℕ) (parts : List TextPart) → list_all (text_fits quote) parts ≡ true → flat_map text_value parts ≡ unescaped_bytes (flat_map text_part parts)
 unescaped_parts quote [] fit = refl
-unescaped_parts quote (Plain b ∷ parts) fit =
-    let h = and_parts (text_fits quote (Plain b)) (list_all (text_fits quote) parts) fit in
+unescaped_parts quote (PlainByte b ∷ parts) fit =
+    let h = and_parts (text_fits quote (PlainByte b)) (list_all (text_fits quote) parts) fit in
     ap (λ l. b ∷ l) (unescaped_parts quote parts h.1) ∙ sym (unescaped_plain b (flat_map text_part parts) (plain_parts quote b h.0).slash)
 unescaped_parts quote (Pair b ∷ parts) fit =
     let h = and_parts (text_fits quote (Pair b)) (list_all (text_fits quote) parts) fit in
     ap (λ l. pair_value b ++ l) (unescaped_parts quote parts h.1)
 
-pub body_unescaped : (quote : ℕ) (s : List ℕ) (r : ℕ × List ℕ) → body text_step quote 0 s ≡ Some r → r.1 ≡ unescaped (take r.0 s)
+pub body_unescaped : (quote : ℕ) (s : List ℕ) (r : ℕ × List ℕ) → body text_step quote 0 s ≡ Some r → r.1 ≡ unescaped_bytes (take r.0 s)
 body_unescaped quote s r e =
     let h : InParts text_part text_value text_fits text_step quote s r.0 r.1 = subst (λ o. IfSome o (λ f. InParts text_part text_value text_fits text_step quote s f.0 f.1)) e (body_sound text_part text_value text_fits text_step quote (text_sound quote) (length s) s (omega arith)) in
     let inner = flat_map text_part h.parts in
     let front : take r.0 s ≡ inner = ap (take r.0) h.split ∙ take_at inner (quote ∷ drop (suc r.0) s) r.0 h.long in
-    h.is ∙ unescaped_parts quote h.parts h.fit ∙ ap unescaped (sym front)
+    h.is ∙ unescaped_parts quote h.parts h.fit ∙ ap unescaped_bytes (sym front)

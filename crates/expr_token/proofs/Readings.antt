@@ -4,8 +4,8 @@ use Rattle.std.specs.Option.{option_map, option_map_or, option_or}
 use Rattle.std.proofs.lemmas.List.{drop_at, drop-drop, drop_all}
 use Rattle.std.proofs.lemmas.List.Elements.{All-from_recursion}
 use Rattle.std.specs.List.{All, AllByRecursion}
-use Rattle.expr_token.specs.Lexer.{token_at, gap_at, gap_len, written, piece_at}
-use Rattle.expr_token.specs.Reading.{Piece, Blank, Line, Block, Written, piece_text, pieces_text, IsPieceBefore, ArePieces, tokens_of, starts_from, Begins, NoPiece, ReadsAt, Reads}
+use Rattle.expr_token.specs.Lexer.{token_at, gap_at, gap_len, token_piece, piece_at}
+use Rattle.expr_token.specs.Reading.{Piece, Blank, Line, Block, TokenPiece, piece_text, pieces_text, IsPieceBefore, ArePieces, tokens_of, starts_from, Begins, NoPiece, ReadsAt, Reads}
 use Rattle.expr_token.proofs.Pieces.{Front, GapFront, gap_sound, Continues, piece_sound, piece_complete, piece_some, same_front}
 use Rattle.expr_token.proofs.Tokens.{token_stands}
 use Rattle.expr_token.specs.declared.token.Token.{Token}
@@ -22,7 +22,7 @@ tokens_of-append [] qs = refl
 tokens_of-append (Blank b ∷ ps) qs = tokens_of-append ps qs
 tokens_of-append (Line c ∷ ps) qs = tokens_of-append ps qs
 tokens_of-append (Block c ∷ ps) qs = tokens_of-append ps qs
-tokens_of-append (Written t s ∷ ps) qs = ap (λ l. t ∷ l) (tokens_of-append ps qs)
+tokens_of-append (TokenPiece t s ∷ ps) qs = ap (λ l. t ∷ l) (tokens_of-append ps qs)
 
 starts_on : (k : ℕ) (p : Piece) (ps qs : List Piece) → {starts : List ℕ} → starts ≡ starts_from (k + length (piece_text p)) ps ++ starts_from (k + length (piece_text p) + length (pieces_text ps)) qs → starts ≡ starts_from (k + length (piece_text p)) ps ++ starts_from (k + length (piece_text p ++ pieces_text ps)) qs
 starts_on k p ps qs e = e ∙ ap (λ n. starts_from (k + length (piece_text p)) ps ++ starts_from n qs) (omega (arith, length-append (piece_text p) (pieces_text ps)))
@@ -32,7 +32,7 @@ starts_from-append k [] qs = ap (λ n. starts_from n qs) (omega arith)
 starts_from-append k (Blank b ∷ ps) qs = starts_on k (Blank b) ps qs (starts_from-append (k + length (piece_text (Blank b))) ps qs)
 starts_from-append k (Line c ∷ ps) qs = starts_on k (Line c) ps qs (starts_from-append (k + length (piece_text (Line c))) ps qs)
 starts_from-append k (Block c ∷ ps) qs = starts_on k (Block c) ps qs (starts_from-append (k + length (piece_text (Block c))) ps qs)
-starts_from-append k (Written t s ∷ ps) qs =
+starts_from-append k (TokenPiece t s ∷ ps) qs =
     ap (λ l. k ∷ l) (starts_from-append (k + length s) ps qs ∙ ap (λ n. starts_from (k + length s) ps ++ starts_from n qs) (omega (arith, length-append s (pieces_text ps))))
 
 ArePieces-push : (ps : List Piece) (p : Piece) (rest : List ℕ) → ArePieces ps (piece_text p ++ rest) → IsPieceBefore p rest → ArePieces (ps ++ p ∷ []) rest
@@ -94,7 +94,7 @@ begun_refused text at tokens starts begun below none other r =
     stuck (q ∷ qs) e fit = none q (pieces_text qs ++ []) (ap (λ l. piece_text q ++ l) (append-nil (pieces_text qs)) ∙ e) fit.0
 
 gap_piece : (text : List ℕ) (p : Piece) → gap_at text ≡ Some p → piece_at text ≡ Some p
-gap_piece text p e = ap (λ o. option_or o (option_map (written text) (token_at text))) e
+gap_piece text p e = ap (λ o. option_or o (option_map (token_piece text) (token_at text))) e
 
 -- a part of a gap
 pub begun_gap : (text : List ℕ) (at n : ℕ) (tokens : List Token) (starts : List ℕ) → n ≡ gap_len (drop at text) → 0 < n → Begins text at tokens starts → Begins text (at + n) tokens starts
@@ -124,8 +124,8 @@ no_gap text n e none = by (gap_at text) refl
 pub begun_token : (text : List ℕ) (at n : ℕ) (tokens : List Token) (starts : List ℕ) (token : Token) → Begins text at tokens starts → gap_at (drop at text) ≡ None → token_at (drop at text) ≡ Some (n, token)
     → Begins text (at + n) (tokens ++ token ∷ []) (starts ++ at ∷ [])
 begun_token text at n tokens starts token begun gap found =
-    begun_piece text at n tokens starts (Written token (take n (drop at text))) begun
-    (ap (λ o. option_or o (option_map (written (drop at text)) (token_at (drop at text)))) gap ∙ ap (option_map (written (drop at text))) found)
+    begun_piece text at n tokens starts (TokenPiece token (take n (drop at text))) begun
+    (ap (λ o. option_or o (option_map (token_piece (drop at text)) (token_at (drop at text)))) gap ∙ ap (option_map (token_piece (drop at text))) found)
     (length-take-le n (drop at text) (token_stands (drop at text) n token found).2)
 
 pub token_within : (text : List ℕ) (at n : ℕ) (token : Token) → at ≤ length text → token_at (drop at text) ≡ Some (n, token) → (at + n ≤ length text) × (0 < n)
@@ -133,7 +133,7 @@ token_within text at n token within found =
     let stands = token_stands (drop at text) n token found in (omega (arith, length-drop at text, stands.2), stands.1)
 
 pub no_piece : (text : List ℕ) → gap_at text ≡ None → token_at text ≡ None → piece_at text ≡ None
-no_piece text gap none = ap (λ o. option_or o (option_map (written text) (token_at text))) gap ∙ ap (option_map (written text)) none
+no_piece text gap none = ap (λ o. option_or o (option_map (token_piece text) (token_at text))) gap ∙ ap (option_map (token_piece text)) none
 
 -- where no piece is found, none is right
 pub none_right : (text : List ℕ) → piece_at text ≡ None → NoPiece text
@@ -146,7 +146,7 @@ starts_length k [] = refl
 starts_length k (Blank b ∷ ps) = starts_length (k + length (piece_text (Blank b))) ps
 starts_length k (Line c ∷ ps) = starts_length (k + length (piece_text (Line c))) ps
 starts_length k (Block c ∷ ps) = starts_length (k + length (piece_text (Block c))) ps
-starts_length k (Written t s ∷ ps) = ap suc (starts_length (k + length s) ps)
+starts_length k (TokenPiece t s ∷ ps) = ap suc (starts_length (k + length s) ps)
 
 pub begun_paired : (text : List ℕ) (at : ℕ) (tokens : List Token) (starts : List ℕ) → Begins text at tokens starts → length starts ≡ length tokens
 begun_paired text at tokens starts begun = ap length (sym begun.placed) ∙ starts_length 0 begun.pieces ∙ ap length begun.in_order
@@ -162,9 +162,9 @@ starts_below k n [] rest fit within = tt
 starts_below k n (Blank b ∷ ps) rest fit within = starts_below (k + length (piece_text (Blank b))) n ps rest fit.1 (more_below k (Blank b) ps n within)
 starts_below k n (Line c ∷ ps) rest fit within = starts_below (k + length (piece_text (Line c))) n ps rest fit.1 (more_below k (Line c) ps n within)
 starts_below k n (Block c ∷ ps) rest fit within = starts_below (k + length (piece_text (Block c))) n ps rest fit.1 (more_below k (Block c) ps n within)
-starts_below k n (Written t s ∷ ps) rest fit within =
-    let some = piece_some (Written t s) (pieces_text ps ++ rest) fit.0 in
-    (omega (arith, length-append s (pieces_text ps)), starts_below (k + length s) n ps rest fit.1 (more_below k (Written t s) ps n within))
+starts_below k n (TokenPiece t s ∷ ps) rest fit within =
+    let some = piece_some (TokenPiece t s) (pieces_text ps ++ rest) fit.0 in
+    (omega (arith, length-append s (pieces_text ps)), starts_below (k + length s) n ps rest fit.1 (more_below k (TokenPiece t s) ps n within))
 
 pub begun_below : (text : List ℕ) (at : ℕ) (tokens : List Token) (starts : List ℕ) → Begins text at tokens starts → at ≤ length text → All (λ start. start < length text) starts
 begun_below text at tokens starts begun within =

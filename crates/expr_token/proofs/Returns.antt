@@ -5,7 +5,7 @@ use Rattle.std.specs.List.{prefix_len}
 use Rattle.std.proofs.lemmas.Bool.{cond-true, cond-false, lt-ltb, le-ltb, false≢true}
 use Rattle.std.specs.Option.{option_map}
 use Rattle.expr_token.specs.Kinds.{is_word_byte, first_is}
-use Rattle.expr_token.specs.Lexer.{hash_at, raw_at, quoted_at, body, text_step, unescaped}
+use Rattle.expr_token.specs.Lexer.{hash_at, raw_at, quoted_at, body, text_step, unescaped_bytes}
 use Rattle.expr_token.proofs.Quotes.{body_unescaped}
 use Rattle.expr_token.specs.Tokens.{is_raw_byte, is_quote}
 use Rattle.expr_token.specs.declared.token.Token.{Token}
@@ -34,7 +34,7 @@ quoted_by n content (Some r) e is =
     let two : 2 + n ≡ suc (suc r.0) = omega arith in
     (λ i. Some (two i, Token.Quoted (is r refl same i)))
 
-pub quoted_some : (s content : List ℕ) (n : ℕ) → first_is is_quote s ≡ true → Some n ≡ option_map (λ r. r.0) (body text_step (get_or s 0 0) 0 (drop 1 s)) → content ≡ unescaped (take n (drop 1 s)) → Some (2 + n, Token.Quoted content) ≡ quoted_at s
+pub quoted_some : (s content : List ℕ) (n : ℕ) → first_is is_quote s ≡ true → Some n ≡ option_map (λ r. r.0) (body text_step (get_or s 0 0) 0 (drop 1 s)) → content ≡ unescaped_bytes (take n (drop 1 s)) → Some (2 + n, Token.Quoted content) ≡ quoted_at s
 quoted_some [] content n quoted run is = absurd (false≢true quoted)
 quoted_some (quote ∷ s) content n quoted run is =
-    quoted_by n content (body text_step quote 0 s) run (λ r e same. is ∙ ap (λ k. unescaped (take k s)) (sym same) ∙ sym (body_unescaped quote s r e))
+    quoted_by n content (body text_step quote 0 s) run (λ r e same. is ∙ ap (λ k. unescaped_bytes (take k s)) (sym same) ∙ sym (body_unescaped quote s r e))

@@ -8,7 +8,7 @@ use Rattle.std.proofs.lemmas.List.{take_at}
 use Rattle.std.proofs.lemmas.List.Prefix.{front_fits}
 use Rattle.expr_token.specs.Kinds.{is_word_byte, first_is}
 use Rattle.expr_token.specs.Lexer.{token_at, hash_at, raw_at, quoted_at, bytes_at, begins_bytes, word_at, word_token, integer_at, sign_at}
-use Rattle.expr_token.specs.Reading.{Stands, IsLongest, IsApart, begins_comment}
+use Rattle.expr_token.specs.Reading.{IsTokenBefore, IsLongest, IsApart, begins_comment}
 use Rattle.expr_token.specs.Spellings.{sign_text, reserved_text}
 use Rattle.expr_token.specs.Tokens.{IsSpelling, IsQuoted, is_word, is_quote}
 use Rattle.expr_token.proofs.Found.{Found, Finds, Reaches}
@@ -227,7 +227,7 @@ complete_by (Token.Sign x) s rest h longest apart plain =
     subst (λ l. IsLongest l rest → begins_comment (l ++ rest) ≡ false → token_at (l ++ rest) ≡ Some (length l, Token.Sign x)) (sym h) (sign_stands x rest) longest plain
 
 -- what stands there is found
-pub token_complete : (token : Token) (s rest : List ℕ) → Stands token s rest → token_at (s ++ rest) ≡ Some (length s, token)
+pub token_complete : (token : Token) (s rest : List ℕ) → IsTokenBefore token s rest → token_at (s ++ rest) ≡ Some (length s, token)
 token_complete token s rest h = complete_by token s rest h.spells h.longest h.apart h.no_comment
 
 -- what is found stands there
@@ -237,7 +237,7 @@ found_longest text n token e within other longer after spelled same =
     let far : length longer ≤ n = subst (λ o. IfSome o (λ f. length longer ≤ f.0)) (ap token_at whole ∙ e) (token_reaches other longer after spelled) in
     omega (arith, length-take-le n text within)
 
-pub token_stands : (text : List ℕ) (n : ℕ) (token : Token) → token_at text ≡ Some (n, token) → Stands token (take n text) (drop n text) × (0 < n) × (n ≤ length text)
+pub token_stands : (text : List ℕ) (n : ℕ) (token : Token) → token_at text ≡ Some (n, token) → IsTokenBefore token (take n text) (drop n text) × (0 < n) × (n ≤ length text)
 token_stands text n token e =
     let f : Found text n token = subst (Finds text) e (token_sound text) in (
       record {

@@ -4,7 +4,7 @@ use Rattle.std.specs.Char.{is_digit, is_ascii_digit}
 use Rattle.std.specs.List.{prefix_len, find}
 use Rattle.std.specs.Option.{option_map, option_map_or, option_or}
 use Rattle.expr_token.specs.Kinds.{is_blank, is_word_byte, first_is}
-use Rattle.expr_token.specs.Reading.{begins_comment, is_line_byte, closes, Piece, Blank, Line, Block, Written, piece_text, tokens_of}
+use Rattle.expr_token.specs.Reading.{begins_comment, is_line_byte, closes, Piece, Blank, Line, Block, TokenPiece, piece_text, tokens_of}
 use Rattle.expr_token.specs.Spellings.{sign_text, reserved_text, all_reserved}
 use Rattle.expr_token.specs.Tokens.{is_raw_byte, is_quote, is_line_end, pair_value, escape_value, hex_value, octal_value, number, integer, continues, radix_named}
 use Rattle.expr_token.specs.declared.reserved.Reserved.{Reserved}
@@ -129,10 +129,10 @@ quoted_at [] = None
 quoted_at (quote ∷ s) = option_map (λ r. (suc (suc r.0), Token.Quoted r.1)) (body text_step quote 0 s)
 
 -- the bytes of a text in quotes, its escapes read one after another
-abbrev pub unescaped : List ℕ → List ℕ
-unescaped [] = []
-unescaped (b ∷ []) = b ∷ []
-unescaped (b ∷ c ∷ s) = if b == 92 then pair_value c ++ unescaped s else b ∷ unescaped (c ∷ s)
+abbrev pub unescaped_bytes : List ℕ → List ℕ
+unescaped_bytes [] = []
+unescaped_bytes (b ∷ []) = b ∷ []
+unescaped_bytes (b ∷ c ∷ s) = if b == 92 then pair_value c ++ unescaped_bytes s else b ∷ unescaped_bytes (c ∷ s)
 
 -- the digits of an escape that begins with a character
 abbrev pub digits_step : ℕ → List ℕ → Option (ℕ × List ℕ)
@@ -203,11 +203,11 @@ abbrev pub gap_len : List ℕ → ℕ
 gap_len text = option_map_or (λ p. length (piece_text p)) (gap_at text) 0
 
 -- the piece that begins the text
-abbrev pub written : List ℕ → ℕ × Token → Piece
-written text found = Written found.1 (take found.0 text)
+abbrev pub token_piece : List ℕ → ℕ × Token → Piece
+token_piece text found = TokenPiece found.1 (take found.0 text)
 
 abbrev pub piece_at : List ℕ → Option Piece
-piece_at text = option_or (gap_at text) (option_map (written text) (token_at text))
+piece_at text = option_or (gap_at text) (option_map (token_piece text) (token_at text))
 
 -- the pieces of a text, one after another; as many at most as a number says
 unfoldable pub lex_at_most : ℕ → List ℕ → Option (List Piece)

@@ -1,6 +1,5 @@
 pub mod Kinds
 pub mod Lexer
-pub mod Printed
 pub mod Reading
 pub mod Spellings
 pub mod Steps

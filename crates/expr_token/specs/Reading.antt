@@ -27,7 +27,7 @@ abbrev pub IsLongest : List ℕ → List ℕ → Type 0
 IsLongest s rest = (other : Token) (longer after : List ℕ) → IsSpelling other longer → longer ++ after ≡ s ++ rest → length longer ≤ length s
 
 -- the token, written so, stands before the rest of the text
-pub record Stands (token : Token) (s rest : List ℕ) : Type 0 where
+pub record IsTokenBefore (token : Token) (s rest : List ℕ) : Type 0 where
   pub spells : IsSpelling token s
   pub longest : IsLongest s rest
   pub apart : IsApart token rest
@@ -52,13 +52,13 @@ pub data Piece : Type 0 where
   Blank : ℕ → Piece
   Line : List ℕ → Piece
   Block : List ℕ → Piece
-  Written : Token → List ℕ → Piece
+  TokenPiece : Token → List ℕ → Piece
 
 abbrev pub piece_text : Piece → List ℕ
 piece_text (Blank b) = b ∷ []
 piece_text (Line comment) = codes "//" ++ comment
 piece_text (Block comment) = codes "/*" ++ (comment ++ codes "*/")
-piece_text (Written token s) = s
+piece_text (TokenPiece token s) = s
 
 abbrev pub pieces_text : List Piece → List ℕ
 pieces_text [] = []
@@ -69,7 +69,7 @@ abbrev pub IsPieceBefore : Piece → List ℕ → Type 0
 IsPieceBefore (Blank b) rest = IsTrue (is_blank b)
 IsPieceBefore (Line comment) rest = IsTrue (list_all is_line_byte comment) × IsFalse (first_is is_line_byte rest)
 IsPieceBefore (Block comment) rest = IsFalse (holds_close comment)
-IsPieceBefore (Written token s) rest = Stands token s rest
+IsPieceBefore (TokenPiece token s) rest = IsTokenBefore token s rest
 
 -- each piece is right before those after it and the rest
 abbrev pub ArePieces : List Piece → List ℕ → Type 0
@@ -82,14 +82,14 @@ tokens_of [] = []
 tokens_of (Blank b ∷ ps) = tokens_of ps
 tokens_of (Line comment ∷ ps) = tokens_of ps
 tokens_of (Block comment ∷ ps) = tokens_of ps
-tokens_of (Written token s ∷ ps) = token ∷ tokens_of ps
+tokens_of (TokenPiece token s ∷ ps) = token ∷ tokens_of ps
 
 abbrev pub starts_from : ℕ → List Piece → List ℕ
 starts_from place [] = []
 starts_from place (Blank b ∷ ps) = starts_from (place + length (piece_text (Blank b))) ps
 starts_from place (Line comment ∷ ps) = starts_from (place + length (piece_text (Line comment))) ps
 starts_from place (Block comment ∷ ps) = starts_from (place + length (piece_text (Block comment))) ps
-starts_from place (Written token s ∷ ps) = place ∷ starts_from (place + length s) ps
+starts_from place (TokenPiece token s ∷ ps) = place ∷ starts_from (place + length s) ps
 
 -- the text up to a place is in pieces, which are right before the rest and hold the tokens
 pub record Begins (text : List ℕ) (place : ℕ) (tokens : List Token) (starts : List ℕ) : Type 0 where

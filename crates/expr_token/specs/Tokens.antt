@@ -78,11 +78,11 @@ is_line_end b = b == 10 || b == 13
 -- a part of a text in quotes: a byte for itself, or a backslash with the character after it. (Of a character of several bytes
 -- the first is meant. The others stand for themselves.)
 pub data TextPart : Type 0 where
-  Plain : ℕ → TextPart
+  PlainByte : ℕ → TextPart
   Pair : ℕ → TextPart
 
 abbrev pub text_part : TextPart → List ℕ
-text_part (Plain b) = b ∷ []
+text_part (PlainByte b) = b ∷ []
 text_part (Pair b) = 92 ∷ b ∷ []
 
 -- what a backslash and a character give: one character for \\ \n \r \t \", and both for any other
@@ -96,11 +96,11 @@ pair_value b =
     else 92 ∷ b ∷ []))))
 
 abbrev pub text_value : TextPart → List ℕ
-text_value (Plain b) = b ∷ []
+text_value (PlainByte b) = b ∷ []
 text_value (Pair b) = pair_value b
 
 abbrev pub text_fits : ℕ → TextPart → Bool
-text_fits quote (Plain b) = not (b == quote) && (not (b == 92) && not (is_line_end b))
+text_fits quote (PlainByte b) = not (b == quote) && (not (b == 92) && not (is_line_end b))
 text_fits quote (Pair b) = not (is_line_end b)
 
 -- s is a text in quotes with this content

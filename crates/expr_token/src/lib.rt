@@ -12,8 +12,8 @@ mod sign;
 mod token;
 mod word;
 
-pub use laws::{lexer_gives_the_reading, one_reading, printed_text_reads};
-pub use reading::{Next, Reading, next_token, read};
+pub use laws::{lexer_gives_the_reading, one_reading};
+pub use reading::{NextToken, Reading, next_token, read};
 pub use reserved::Reserved;
 pub use sign::Sign;
 pub use token::Token;

@@ -1,7 +1,7 @@
 //! Texts in quotes.
 ghost use Rattle.std.specs.Prelude.{◌≡◌, ◌+◌, ◌<◌, ◌≤◌, ◌∷◌, [], ◌++◌, IfOk, IfSome, IsSome, MatchOption, take, drop, length, slice_index};
 ghost use Rattle.std.specs.Option.{option_map};
-ghost use Rattle.expr_token.specs.Lexer.{body, text_step, unescaped};
+ghost use Rattle.expr_token.specs.Lexer.{body, text_step, unescaped_bytes};
 ghost use Rattle.expr_token.specs.Tokens.{is_line_end, is_quote, pair_value};
 
 use expr_value::Text;
@@ -67,9 +67,9 @@ fn pair_text(byte: u8) -> Option<&'static str>
 
 /// The place of the first escape that gives one character, and that character.
 fn next_escape(bytes: &[u8]) -> Option<(usize, &'static str)>
-    ensures value { MatchOption result (unescaped bytes.now ≡ bytes.now)
-        (λ found. unescaped bytes.now ≡ take found.0 bytes.now
-        ++ (found.1.now ++ unescaped (drop (found.0 + 2) bytes.now))) }
+    ensures value { MatchOption result (unescaped_bytes bytes.now ≡ bytes.now)
+        (λ found. unescaped_bytes bytes.now ≡ take found.0 bytes.now
+        ++ (found.1.now ++ unescaped_bytes (drop (found.0 + 2) bytes.now))) }
     ensures within { IfSome result (λ found. found.0 + 1 < length bytes.now) }
     ensures ascii { IfSome result (λ found. (slice_index bytes.now found.0 < 128)
         × (slice_index bytes.now (found.0 + 1) < 128)) }
@@ -89,8 +89,8 @@ fn next_escape(bytes: &[u8]) -> Option<(usize, &'static str)>
 }
 
 /// A text with its escapes read, each once, from left to right.
-pub(crate) fn unescaped(alloc: Global, text: &str) -> Result<Text, AllocError>
-    ensures { IfOk result (λ t. t ≡ unescaped text.now) }
+pub(crate) fn unescape(alloc: Global, text: &str) -> Result<Text, AllocError>
+    ensures { IfOk result (λ t. t ≡ unescaped_bytes text.now) }
 {
     let bytes = text.as_bytes();
     let mut content = String::new(alloc);

@@ -5,13 +5,13 @@ ghost use Rattle.expr_token.specs.Kinds.{first_is, is_word_byte};
 ghost use Rattle.expr_token.specs.Lexer.{begins_bytes, bytes_at, hash_at, quoted_at, raw_at, sign_at, token_at, word_at, word_token};
 ghost use Rattle.expr_token.specs.Tokens.{is_quote};
 ghost use Rattle.expr_token.specs.Reading.{Begins, NoPiece, Reads, ReadsAt};
-ghost use Rattle.expr_token.specs.Steps.{GoesOn, StandsWithin};
+ghost use Rattle.expr_token.specs.Steps.{GoesOn, IsTokenWithin};
 ghost use Rattle.expr_token.specs.declared.token.Token.{Token};
 
 use crate::gap::gap_len;
 use crate::integer::integer_at;
 use crate::literal::literal_body;
-use crate::quoted::{is_quote, text_len, unescaped};
+use crate::quoted::{is_quote, text_len, unescape};
 use crate::reserved::reserved_of;
 use crate::sign::{Sign, double_sign, single_sign};
 use crate::token::Token;
@@ -24,7 +24,7 @@ const ROOM: usize = 32;
 
 /// What stands at a place of a text, after blanks and comments.
 #[derive(Drop)]
-pub enum Next {
+pub enum NextToken {
     /// A token, the place of its first byte, and the place after its last one.
     Token(Token, usize, usize),
     /// Nothing more.
@@ -117,7 +117,7 @@ fn quoted_at(alloc: Global, text: &str, at: usize) -> Result<Option<(usize, Toke
     let Some(len) = text_len(bytes[at], &bytes[start..]) else {
         return Ok(None);
     };
-    let content = unescaped(alloc, &text[start..start + len])?;
+    let content = unescape(alloc, &text[start..start + len])?;
     Ok(Some((2 + len, Token::Quoted(content))))
 }
 
@@ -177,10 +177,10 @@ fn first_room(len: usize) -> usize {
 }
 
 /// What stands at a place up to which a text was read, after blanks and comments.
-pub fn next_token(alloc: Global, text: &str, from: usize) -> Result<Next, AllocError>
+pub fn next_token(alloc: Global, text: &str, from: usize) -> Result<NextToken, AllocError>
     ensures goes_on { IfOk result (λ next. (tokens : List Token) (starts : List ℕ)
         → Begins text.now from tokens starts → GoesOn text.now tokens starts next) }
-    ensures within { IfOk result (StandsWithin text.now from) }
+    ensures within { IfOk result (IsTokenWithin text.now from) }
 {
     let bytes = text.as_bytes();
     let mut at = from;
@@ -188,13 +188,13 @@ pub fn next_token(alloc: Global, text: &str, from: usize) -> Result<Next, AllocE
         let gap = gap_len(&bytes[at..]);
         if gap == 0 {
             return Ok(match token_at(alloc, text, at)? {
-                Some((len, token)) => Next::Token(token, at, at + len),
-                None => Next::Stuck(at),
+                Some((len, token)) => NextToken::Token(token, at, at + len),
+                None => NextToken::Stuck(at),
             });
         }
         at += gap;
     }
-    Ok(Next::End)
+    Ok(NextToken::End)
 }
 
 /// Reads a text: its tokens, or those before the first place where nothing can be read.
@@ -216,19 +216,19 @@ pub fn read(alloc: Global, text: &str) -> Result<Reading, AllocError>
     let mut at = 0;
     loop {
         match next_token(alloc, text, at)? {
-            Next::Token(token, start, end) => {
+            NextToken::Token(token, start, end) => {
                 tokens.push(token)?;
                 starts.push(start)?;
                 at = end;
             }
-            Next::End => {
+            NextToken::End => {
                 return Ok(Reading {
                     tokens,
                     starts,
                     fault: None,
                 });
             }
-            Next::Stuck(place) => {
+            NextToken::Stuck(place) => {
                 return Ok(Reading {
                     tokens,
                     starts,

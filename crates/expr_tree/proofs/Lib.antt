@@ -1,7 +1,7 @@
 pub mod Agreement
-pub mod Beside
-pub mod Children
 pub mod Gathered
+pub mod KeptPatterns
+pub mod NodeChildren
 pub mod Programs
 pub mod Rising
 pub mod Shapes

@@ -10,12 +10,12 @@ use Rattle.std.proofs.lemmas.List.{append-nil, map-append}
 use Rattle.std.proofs.lemmas.List.Folds.{list_any-append}
 use Rattle.std.proofs.lemmas.Slice.Eq.{bytes_eq-Decides}
 use Rattle.expr_tree.specs.Children.{children, block_children, own_name}
-use Rattle.expr_tree.specs.Inside.{lent_terms}
+use Rattle.expr_tree.specs.LentChildren.{lent_terms}
 use Rattle.expr_tree.specs.Names.{env, operands, block_operands, with_names, AreNamesOf}
 use Rattle.expr_tree.specs.Term.{Term, Block}
-use Rattle.expr_tree.specs.Written.{written}
+use Rattle.expr_tree.specs.TermOf.{term_of}
 use Rattle.expr_tree.specs.declared.node.Node.{Node}
-use Rattle.expr_tree.proofs.Children.{operands_of, weight_of, operands_of-append, weight_of-append, operands-block, operands-inside, weight-inside}
+use Rattle.expr_tree.proofs.NodeChildren.{operands_of, weight_of, operands_of-append, weight_of-append, operands-block, operands-inside, weight-inside}
 use Rattle.expr_tree.proofs.Rising.{all-other, all-env, or_false, Contains-from_has, has-from_Contains}
 
 abbrev Bytes : Type 0
@@ -86,8 +86,8 @@ gathered_names names ws b sorted g none = record { ascending = sorted; exact = �
         let other : bytes_eq n env ≡ false = false_from_ne_true (bytes_eq n env) (λ e. h.1 ((bytes_eq-Decides n env).0 e)) in
         Contains-from_has n names (same n other ∙ has-from_Contains n (block_operands b) h.0)
 
-pub lent-push : (ns : List (Bor Node)) (n : Bor Node) → lent_terms (ns ++ n ∷ []) ≡ lent_terms ns ++ written n.now ∷ []
-lent-push ns n = map-append (λ (x : Bor Node). written x.now) ns (n ∷ [])
+pub lent-push : (ns : List (Bor Node)) (n : Bor Node) → lent_terms (ns ++ n ∷ []) ≡ lent_terms ns ++ term_of n.now ∷ []
+lent-push ns n = map-append (λ (x : Bor Node). term_of x.now) ns (n ∷ [])
 
 -- some trees wait, and then some more
 pub then_more : {E : Type 0} (r : Result (Unit {0}) E) (old mid new xs ys all : List Term) → all ≡ xs ++ ys → mid ≡ old ++ xs → OnOk r (new ≡ mid ++ ys) → OnOk r (new ≡ old ++ all)

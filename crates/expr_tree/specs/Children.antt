@@ -1,12 +1,12 @@
 -- The trees right below a tree, from the left.
 use Rattle.std.specs.Prelude.{ℕ, List, [], ◌∷◌, ◌++◌}
-use Rattle.expr_tree.specs.Term.{Term, name, literal, list, mapping, range, call, unary, operation, postfix, choice, Postfix, index, slice, coalesce, pipe, ternary, method, Bound, unbounded, bound, Terms, no_terms, term, Pairs, pairs_end, pair, Predicate, no_predicate, predicate, Block, answers, line}
+use Rattle.expr_tree.specs.Term.{Term, name, literal, list, mapping, range, call, unary, operation, postfix, choice, Postfix, index, slice, coalesce, pipe, ternary, method, Bound, unbounded, bound, Terms, no_terms, term, TermPairs, pairs_end, pair, Predicate, no_predicate, predicate, Block, answers, line}
 
-abbrev pub listed : Terms → List Term
-listed no_terms = []
-listed (term t ts) = t ∷ listed ts
+abbrev pub term_list : Terms → List Term
+term_list no_terms = []
+term_list (term t ts) = t ∷ term_list ts
 
-abbrev pub pairs_children : Pairs → List Term
+abbrev pub pairs_children : TermPairs → List Term
 pairs_children pairs_end = []
 pairs_children (pair key t ps) = t ∷ pairs_children ps
 
@@ -28,15 +28,15 @@ postfix_children (slice start stop) = bound_children start ++ bound_children sto
 postfix_children (coalesce t) = t ∷ []
 postfix_children (pipe t) = t ∷ []
 postfix_children (ternary first second) = first ∷ second ∷ []
-postfix_children (method key ts) = listed ts
+postfix_children (method key ts) = term_list ts
 
 abbrev pub children : Term → List Term
 children (name key) = []
 children (literal v) = []
-children (list ts) = listed ts
+children (list ts) = term_list ts
 children (mapping ps) = pairs_children ps
 children (range first last) = first ∷ last ∷ []
-children (call key ts p) = listed ts ++ predicate_children p
+children (call key ts p) = term_list ts ++ predicate_children p
 children (unary o t) = t ∷ []
 children (operation o l r) = l ∷ r ∷ []
 children (postfix p t) = t ∷ postfix_children p

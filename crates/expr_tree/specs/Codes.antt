@@ -8,7 +8,7 @@ use Rattle.expr_tree.specs.declared.operator.Operator.{Operator}
 use Rattle.expr_tree.specs.declared.operator.UnaryOperator.{UnaryOperator}
 use Rattle.expr_tree.specs.contracts.operator.Operator.{the_row as operator_row}
 use Rattle.expr_tree.specs.contracts.operator.UnaryOperator.{the_row as unary_row}
-use Rattle.expr_tree.specs.Term.{Term, name, literal, list, mapping, range, call, unary, operation, postfix, choice, Postfix, index, slice, coalesce, pipe, ternary, method, Bound, unbounded, bound, Terms, no_terms, term, Pairs, pairs_end, pair, Predicate, no_predicate, predicate, Block, answers, line}
+use Rattle.expr_tree.specs.Term.{Term, name, literal, list, mapping, range, call, unary, operation, postfix, choice, Postfix, index, slice, coalesce, pipe, ternary, method, Bound, unbounded, bound, Terms, no_terms, term, TermPairs, pairs_end, pair, Predicate, no_predicate, predicate, Block, answers, line}
 
 -- a form by its number and its name, or a form with its payload
 abbrev pub Symbol : Type 0
@@ -51,7 +51,7 @@ abbrev mutual
   terms_symbols no_terms rest = form 15 ∷ rest
   terms_symbols (term t ts) rest = term_symbols t (terms_symbols ts (form 16 ∷ rest))
 
-  pub pairs_symbols : Pairs → Symbols → Symbols
+  pub pairs_symbols : TermPairs → Symbols → Symbols
   pairs_symbols pairs_end rest = form 22 ∷ rest
   pairs_symbols (pair key t ps) rest = term_symbols t (pairs_symbols ps (inl (23, key) ∷ rest))
 
@@ -67,140 +67,140 @@ abbrev mutual
 pub record Stacks : Type 0 where
   pub terms : List Term
   pub lists : List Terms
-  pub maps : List Pairs
+  pub maps : List TermPairs
   pub blocks : List Block
   pub predicates : List Predicate
   pub bounds : List Bound
   pub postfixes : List Postfix
 
-abbrev pub nothing : Stacks
-nothing = record { terms = []; lists = []; maps = []; blocks = []; predicates = []; bounds = []; postfixes = [] }
+abbrev pub empty_stacks : Stacks
+empty_stacks = record { terms = []; lists = []; maps = []; blocks = []; predicates = []; bounds = []; postfixes = [] }
 
 abbrev pub top : {X : Type 0} → X → List X → X
 top d [] = d
 top d (x ∷ xs) = x
 
-abbrev pub below : {X : Type 0} → List X → List X
-below [] = []
-below (x ∷ xs) = xs
+abbrev pub without_top : {X : Type 0} → List X → List X
+without_top [] = []
+without_top (x ∷ xs) = xs
 
 abbrev pub last_term : Stacks → Term
 last_term s = top (list no_terms) s.terms
 
 abbrev pub earlier_term : Stacks → Term
-earlier_term s = top (list no_terms) (below s.terms)
+earlier_term s = top (list no_terms) (without_top s.terms)
 
 abbrev pub last_block : Stacks → Block
 last_block s = top (answers (list no_terms)) s.blocks
 
 -- a symbol puts what it makes in the place of its parts
-abbrev pub formed : ℕ → List ℕ → Stacks → Stacks
-formed n key s =
+abbrev pub with_symbol : ℕ → List ℕ → Stacks → Stacks
+with_symbol n key s =
     if n == 0 then record s { terms = name key ∷ s.terms }
-    else (if n == 1 then record s { lists = below s.lists; terms = list (top no_terms s.lists) ∷ s.terms }
-    else (if n == 2 then record s { terms = range (earlier_term s) (last_term s) ∷ below (below s.terms) }
-    else (if n == 3 then record s { lists = below s.lists; predicates = below s.predicates; terms = call key (top no_terms s.lists) (top no_predicate s.predicates) ∷ s.terms }
-    else (if n == 4 then record s { postfixes = below s.postfixes; terms = postfix (top (slice unbounded unbounded) s.postfixes) (last_term s) ∷ below s.terms }
-    else (if n == 5 then record s { blocks = below (below s.blocks); terms = choice (last_term s) (top (answers (list no_terms)) (below s.blocks)) (last_block s) ∷ below s.terms }
-    else (if n == 6 then record s { terms = below s.terms; postfixes = index (last_term s) false ∷ s.postfixes }
-    else (if n == 7 then record s { terms = below s.terms; postfixes = index (last_term s) true ∷ s.postfixes }
-    else (if n == 8 then record s { bounds = below (below s.bounds); postfixes = slice (top unbounded (below s.bounds)) (top unbounded s.bounds) ∷ s.postfixes }
-    else (if n == 9 then record s { terms = below s.terms; postfixes = coalesce (last_term s) ∷ s.postfixes }
-    else (if n == 10 then record s { terms = below s.terms; postfixes = pipe (last_term s) ∷ s.postfixes }
-    else (if n == 11 then record s { terms = below (below s.terms); postfixes = ternary (earlier_term s) (last_term s) ∷ s.postfixes }
-    else (if n == 12 then record s { lists = below s.lists; postfixes = method key (top no_terms s.lists) ∷ s.postfixes }
+    else (if n == 1 then record s { lists = without_top s.lists; terms = list (top no_terms s.lists) ∷ s.terms }
+    else (if n == 2 then record s { terms = range (earlier_term s) (last_term s) ∷ without_top (without_top s.terms) }
+    else (if n == 3 then record s { lists = without_top s.lists; predicates = without_top s.predicates; terms = call key (top no_terms s.lists) (top no_predicate s.predicates) ∷ s.terms }
+    else (if n == 4 then record s { postfixes = without_top s.postfixes; terms = postfix (top (slice unbounded unbounded) s.postfixes) (last_term s) ∷ without_top s.terms }
+    else (if n == 5 then record s { blocks = without_top (without_top s.blocks); terms = choice (last_term s) (top (answers (list no_terms)) (without_top s.blocks)) (last_block s) ∷ without_top s.terms }
+    else (if n == 6 then record s { terms = without_top s.terms; postfixes = index (last_term s) false ∷ s.postfixes }
+    else (if n == 7 then record s { terms = without_top s.terms; postfixes = index (last_term s) true ∷ s.postfixes }
+    else (if n == 8 then record s { bounds = without_top (without_top s.bounds); postfixes = slice (top unbounded (without_top s.bounds)) (top unbounded s.bounds) ∷ s.postfixes }
+    else (if n == 9 then record s { terms = without_top s.terms; postfixes = coalesce (last_term s) ∷ s.postfixes }
+    else (if n == 10 then record s { terms = without_top s.terms; postfixes = pipe (last_term s) ∷ s.postfixes }
+    else (if n == 11 then record s { terms = without_top (without_top s.terms); postfixes = ternary (earlier_term s) (last_term s) ∷ s.postfixes }
+    else (if n == 12 then record s { lists = without_top s.lists; postfixes = method key (top no_terms s.lists) ∷ s.postfixes }
     else (if n == 13 then record s { bounds = unbounded ∷ s.bounds }
-    else (if n == 14 then record s { terms = below s.terms; bounds = bound (last_term s) ∷ s.bounds }
+    else (if n == 14 then record s { terms = without_top s.terms; bounds = bound (last_term s) ∷ s.bounds }
     else (if n == 15 then record s { lists = no_terms ∷ s.lists }
-    else (if n == 16 then record s { terms = below s.terms; lists = term (last_term s) (top no_terms s.lists) ∷ below s.lists }
+    else (if n == 16 then record s { terms = without_top s.terms; lists = term (last_term s) (top no_terms s.lists) ∷ without_top s.lists }
     else (if n == 17 then record s { predicates = no_predicate ∷ s.predicates }
-    else (if n == 18 then record s { blocks = below s.blocks; predicates = predicate (last_block s) ∷ s.predicates }
-    else (if n == 19 then record s { terms = below s.terms; blocks = answers (last_term s) ∷ s.blocks }
-    else (if n == 20 then record s { terms = below s.terms; blocks = line key (last_term s) (last_block s) ∷ below s.blocks }
-    else (if n == 21 then record s { maps = below s.maps; terms = mapping (top pairs_end s.maps) ∷ s.terms }
+    else (if n == 18 then record s { blocks = without_top s.blocks; predicates = predicate (last_block s) ∷ s.predicates }
+    else (if n == 19 then record s { terms = without_top s.terms; blocks = answers (last_term s) ∷ s.blocks }
+    else (if n == 20 then record s { terms = without_top s.terms; blocks = line key (last_term s) (last_block s) ∷ without_top s.blocks }
+    else (if n == 21 then record s { maps = without_top s.maps; terms = mapping (top pairs_end s.maps) ∷ s.terms }
     else (if n == 22 then record s { maps = pairs_end ∷ s.maps }
-    else record s { terms = below s.terms; maps = pair key (last_term s) (top pairs_end s.maps) ∷ below s.maps }))))))))))))))))))))))
+    else record s { terms = without_top s.terms; maps = pair key (last_term s) (top pairs_end s.maps) ∷ without_top s.maps }))))))))))))))))))))))
 
 abbrev pub read_symbol : Symbol → Stacks → Stacks
-read_symbol (inl f) s = formed f.0 f.1 s
+read_symbol (inl f) s = with_symbol f.0 f.1 s
 read_symbol (inr (inl v)) s = record s { terms = literal v ∷ s.terms }
-read_symbol (inr (inr (inl o))) s = record s { terms = unary o (last_term s) ∷ below s.terms }
-read_symbol (inr (inr (inr o))) s = record s { terms = operation o (earlier_term s) (last_term s) ∷ below (below s.terms) }
+read_symbol (inr (inr (inl o))) s = record s { terms = unary o (last_term s) ∷ without_top s.terms }
+read_symbol (inr (inr (inr o))) s = record s { terms = operation o (earlier_term s) (last_term s) ∷ without_top (without_top s.terms) }
 
-abbrev pub read : Symbols → Stacks → Stacks
-read [] s = s
-read (x ∷ xs) s = read xs (read_symbol x s)
+abbrev pub read_symbols : Symbols → Stacks → Stacks
+read_symbols [] s = s
+read_symbols (x ∷ xs) s = read_symbols xs (read_symbol x s)
 
 mutual
-  pub read-term : (t : Term) (rest : Symbols) (s : Stacks) → read (term_symbols t rest) s ≡ read rest (record s { terms = t ∷ s.terms })
-  read-term (name key) rest s = refl
-  read-term (literal v) rest s = refl
-  read-term (list ts) rest s = read-terms ts (form 1 ∷ rest) s
-  read-term (mapping ps) rest s = read-pairs ps (form 21 ∷ rest) s
-  read-term (range a b) rest s = read-term a (term_symbols b (form 2 ∷ rest)) s ∙ read-term b (form 2 ∷ rest) (record s { terms = a ∷ s.terms })
-  read-term (call key ts p) rest s =
-      read-terms ts (predicate_symbols p (inl (3, key) ∷ rest)) s ∙ read-predicate p (inl (3, key) ∷ rest) (record s { lists = ts ∷ s.lists })
-  read-term (unary o t) rest s = read-term t (inr (inr (inl o)) ∷ rest) s
-  read-term (operation o l r) rest s =
-      read-term l (term_symbols r (inr (inr (inr o)) ∷ rest)) s ∙ read-term r (inr (inr (inr o)) ∷ rest) (record s { terms = l ∷ s.terms })
-  read-term (postfix p t) rest s =
-      read-term t (postfix_symbols p (form 4 ∷ rest)) s ∙ read-postfix p (form 4 ∷ rest) (record s { terms = t ∷ s.terms })
-  read-term (choice c a b) rest s =
-      read-term c (block_symbols a (block_symbols b (form 5 ∷ rest))) s ∙ read-block a (block_symbols b (form 5 ∷ rest)) (record s { terms = c ∷ s.terms })
-      ∙ read-block b (form 5 ∷ rest) (record s { terms = c ∷ s.terms; blocks = a ∷ s.blocks })
+  pub read_symbols-term : (t : Term) (rest : Symbols) (s : Stacks) → read_symbols (term_symbols t rest) s ≡ read_symbols rest (record s { terms = t ∷ s.terms })
+  read_symbols-term (name key) rest s = refl
+  read_symbols-term (literal v) rest s = refl
+  read_symbols-term (list ts) rest s = read_symbols-terms ts (form 1 ∷ rest) s
+  read_symbols-term (mapping ps) rest s = read_symbols-pairs ps (form 21 ∷ rest) s
+  read_symbols-term (range a b) rest s = read_symbols-term a (term_symbols b (form 2 ∷ rest)) s ∙ read_symbols-term b (form 2 ∷ rest) (record s { terms = a ∷ s.terms })
+  read_symbols-term (call key ts p) rest s =
+      read_symbols-terms ts (predicate_symbols p (inl (3, key) ∷ rest)) s ∙ read_symbols-predicate p (inl (3, key) ∷ rest) (record s { lists = ts ∷ s.lists })
+  read_symbols-term (unary o t) rest s = read_symbols-term t (inr (inr (inl o)) ∷ rest) s
+  read_symbols-term (operation o l r) rest s =
+      read_symbols-term l (term_symbols r (inr (inr (inr o)) ∷ rest)) s ∙ read_symbols-term r (inr (inr (inr o)) ∷ rest) (record s { terms = l ∷ s.terms })
+  read_symbols-term (postfix p t) rest s =
+      read_symbols-term t (postfix_symbols p (form 4 ∷ rest)) s ∙ read_symbols-postfix p (form 4 ∷ rest) (record s { terms = t ∷ s.terms })
+  read_symbols-term (choice c a b) rest s =
+      read_symbols-term c (block_symbols a (block_symbols b (form 5 ∷ rest))) s ∙ read_symbols-block a (block_symbols b (form 5 ∷ rest)) (record s { terms = c ∷ s.terms })
+      ∙ read_symbols-block b (form 5 ∷ rest) (record s { terms = c ∷ s.terms; blocks = a ∷ s.blocks })
 
-  pub read-postfix : (p : Postfix) (rest : Symbols) (s : Stacks) → read (postfix_symbols p rest) s ≡ read rest (record s { postfixes = p ∷ s.postfixes })
-  read-postfix (index key false) rest s = read-term key (form 6 ∷ rest) s
-  read-postfix (index key true) rest s = read-term key (form 7 ∷ rest) s
-  read-postfix (slice a b) rest s = read-bound a (bound_symbols b (form 8 ∷ rest)) s ∙ read-bound b (form 8 ∷ rest) (record s { bounds = a ∷ s.bounds })
-  read-postfix (coalesce t) rest s = read-term t (form 9 ∷ rest) s
-  read-postfix (pipe t) rest s = read-term t (form 10 ∷ rest) s
-  read-postfix (ternary a b) rest s = read-term a (term_symbols b (form 11 ∷ rest)) s ∙ read-term b (form 11 ∷ rest) (record s { terms = a ∷ s.terms })
-  read-postfix (method key ts) rest s = read-terms ts (inl (12, key) ∷ rest) s
+  pub read_symbols-postfix : (p : Postfix) (rest : Symbols) (s : Stacks) → read_symbols (postfix_symbols p rest) s ≡ read_symbols rest (record s { postfixes = p ∷ s.postfixes })
+  read_symbols-postfix (index key false) rest s = read_symbols-term key (form 6 ∷ rest) s
+  read_symbols-postfix (index key true) rest s = read_symbols-term key (form 7 ∷ rest) s
+  read_symbols-postfix (slice a b) rest s = read_symbols-bound a (bound_symbols b (form 8 ∷ rest)) s ∙ read_symbols-bound b (form 8 ∷ rest) (record s { bounds = a ∷ s.bounds })
+  read_symbols-postfix (coalesce t) rest s = read_symbols-term t (form 9 ∷ rest) s
+  read_symbols-postfix (pipe t) rest s = read_symbols-term t (form 10 ∷ rest) s
+  read_symbols-postfix (ternary a b) rest s = read_symbols-term a (term_symbols b (form 11 ∷ rest)) s ∙ read_symbols-term b (form 11 ∷ rest) (record s { terms = a ∷ s.terms })
+  read_symbols-postfix (method key ts) rest s = read_symbols-terms ts (inl (12, key) ∷ rest) s
 
-  pub read-bound : (b : Bound) (rest : Symbols) (s : Stacks) → read (bound_symbols b rest) s ≡ read rest (record s { bounds = b ∷ s.bounds })
-  read-bound unbounded rest s = refl
-  read-bound (bound t) rest s = read-term t (form 14 ∷ rest) s
+  pub read_symbols-bound : (b : Bound) (rest : Symbols) (s : Stacks) → read_symbols (bound_symbols b rest) s ≡ read_symbols rest (record s { bounds = b ∷ s.bounds })
+  read_symbols-bound unbounded rest s = refl
+  read_symbols-bound (bound t) rest s = read_symbols-term t (form 14 ∷ rest) s
 
-  pub read-terms : (ts : Terms) (rest : Symbols) (s : Stacks) → read (terms_symbols ts rest) s ≡ read rest (record s { lists = ts ∷ s.lists })
-  read-terms no_terms rest s = refl
-  read-terms (term t ts) rest s = read-term t (terms_symbols ts (form 16 ∷ rest)) s ∙ read-terms ts (form 16 ∷ rest) (record s { terms = t ∷ s.terms })
+  pub read_symbols-terms : (ts : Terms) (rest : Symbols) (s : Stacks) → read_symbols (terms_symbols ts rest) s ≡ read_symbols rest (record s { lists = ts ∷ s.lists })
+  read_symbols-terms no_terms rest s = refl
+  read_symbols-terms (term t ts) rest s = read_symbols-term t (terms_symbols ts (form 16 ∷ rest)) s ∙ read_symbols-terms ts (form 16 ∷ rest) (record s { terms = t ∷ s.terms })
 
-  pub read-pairs : (ps : Pairs) (rest : Symbols) (s : Stacks) → read (pairs_symbols ps rest) s ≡ read rest (record s { maps = ps ∷ s.maps })
-  read-pairs pairs_end rest s = refl
-  read-pairs (pair key t ps) rest s = read-term t (pairs_symbols ps (inl (23, key) ∷ rest)) s ∙ read-pairs ps (inl (23, key) ∷ rest) (record s { terms = t ∷ s.terms })
+  pub read_symbols-pairs : (ps : TermPairs) (rest : Symbols) (s : Stacks) → read_symbols (pairs_symbols ps rest) s ≡ read_symbols rest (record s { maps = ps ∷ s.maps })
+  read_symbols-pairs pairs_end rest s = refl
+  read_symbols-pairs (pair key t ps) rest s = read_symbols-term t (pairs_symbols ps (inl (23, key) ∷ rest)) s ∙ read_symbols-pairs ps (inl (23, key) ∷ rest) (record s { terms = t ∷ s.terms })
 
-  pub read-predicate : (p : Predicate) (rest : Symbols) (s : Stacks) → read (predicate_symbols p rest) s ≡ read rest (record s { predicates = p ∷ s.predicates })
-  read-predicate no_predicate rest s = refl
-  read-predicate (predicate b) rest s = read-block b (form 18 ∷ rest) s
+  pub read_symbols-predicate : (p : Predicate) (rest : Symbols) (s : Stacks) → read_symbols (predicate_symbols p rest) s ≡ read_symbols rest (record s { predicates = p ∷ s.predicates })
+  read_symbols-predicate no_predicate rest s = refl
+  read_symbols-predicate (predicate b) rest s = read_symbols-block b (form 18 ∷ rest) s
 
-  pub read-block : (b : Block) (rest : Symbols) (s : Stacks) → read (block_symbols b rest) s ≡ read rest (record s { blocks = b ∷ s.blocks })
-  read-block (answers t) rest s = read-term t (form 19 ∷ rest) s
-  read-block (line key t b) rest s = read-term t (block_symbols b (inl (20, key) ∷ rest)) s ∙ read-block b (inl (20, key) ∷ rest) (record s { terms = t ∷ s.terms })
+  pub read_symbols-block : (b : Block) (rest : Symbols) (s : Stacks) → read_symbols (block_symbols b rest) s ≡ read_symbols rest (record s { blocks = b ∷ s.blocks })
+  read_symbols-block (answers t) rest s = read_symbols-term t (form 19 ∷ rest) s
+  read_symbols-block (line key t b) rest s = read_symbols-term t (block_symbols b (inl (20, key) ∷ rest)) s ∙ read_symbols-block b (inl (20, key) ∷ rest) (record s { terms = t ∷ s.terms })
 
 abbrev pub symbols_code : Coded Symbols
 symbols_code = coded_list (coded⊎ (coded× coded_ℕ (coded_list coded_ℕ)) (coded⊎ value_row.coded (coded⊎ unary_row.coded operator_row.coded)))
 
-pub term-back : (t : Term) → last_term (read (term_symbols t []) nothing) ≡ t
-term-back t = ap last_term (read-term t [] nothing)
+pub term-back : (t : Term) → last_term (read_symbols (term_symbols t []) empty_stacks) ≡ t
+term-back t = ap last_term (read_symbols-term t [] empty_stacks)
 
-pub block-back : (b : Block) → last_block (read (block_symbols b []) nothing) ≡ b
-block-back b = ap last_block (read-block b [] nothing)
+pub block-back : (b : Block) → last_block (read_symbols (block_symbols b []) empty_stacks) ≡ b
+block-back b = ap last_block (read_symbols-block b [] empty_stacks)
 
-pub predicate-back : (p : Predicate) → top no_predicate (read (predicate_symbols p []) nothing).predicates ≡ p
-predicate-back p = ap (λ (s : Stacks). top no_predicate s.predicates) (read-predicate p [] nothing)
+pub predicate-back : (p : Predicate) → top no_predicate (read_symbols (predicate_symbols p []) empty_stacks).predicates ≡ p
+predicate-back p = ap (λ (s : Stacks). top no_predicate s.predicates) (read_symbols-predicate p [] empty_stacks)
 
 abbrev pub term_code : Coded Term
-term_code = code_by Symbols symbols_code (λ t. term_symbols t []) (λ xs. last_term (read xs nothing)) term-back
+term_code = code_by Symbols symbols_code (λ t. term_symbols t []) (λ xs. last_term (read_symbols xs empty_stacks)) term-back
 
 abbrev pub block_code : Coded Block
-block_code = code_by Symbols symbols_code (λ b. block_symbols b []) (λ xs. last_block (read xs nothing)) block-back
+block_code = code_by Symbols symbols_code (λ b. block_symbols b []) (λ xs. last_block (read_symbols xs empty_stacks)) block-back
 
 abbrev pub predicate_code : Coded Predicate
-predicate_code = code_by Symbols symbols_code (λ p. predicate_symbols p []) (λ xs. top no_predicate (read xs nothing).predicates) predicate-back
+predicate_code = code_by Symbols symbols_code (λ p. predicate_symbols p []) (λ xs. top no_predicate (read_symbols xs empty_stacks).predicates) predicate-back
 
-pub bound-back : (b : Bound) → top unbounded (read (bound_symbols b []) nothing).bounds ≡ b
-bound-back b = ap (λ (s : Stacks). top unbounded s.bounds) (read-bound b [] nothing)
+pub bound-back : (b : Bound) → top unbounded (read_symbols (bound_symbols b []) empty_stacks).bounds ≡ b
+bound-back b = ap (λ (s : Stacks). top unbounded s.bounds) (read_symbols-bound b [] empty_stacks)
 
 abbrev pub bound_code : Coded Bound
-bound_code = code_by Symbols symbols_code (λ b. bound_symbols b []) (λ xs. top unbounded (read xs nothing).bounds) bound-back
+bound_code = code_by Symbols symbols_code (λ b. bound_symbols b []) (λ xs. top unbounded (read_symbols xs empty_stacks).bounds) bound-back

@@ -1,10 +1,10 @@
-pub mod Beside
 pub mod Children
 pub mod Codes
 pub mod Context
-pub mod Inside
+pub mod KeptPatterns
+pub mod LentChildren
 pub mod Names
 pub mod Shown
 pub mod Term
+pub mod TermOf
 pub mod Weight
-pub mod Written

@@ -5,7 +5,7 @@ use Rattle.std.specs.List.Sorted.{IsStrictlySortedBy}
 use Rattle.std.specs.Cmp.Lexicographic.{slice_cmp}
 use Rattle.std.specs.Ordering.{nat_cmp}
 use Rattle.std.specs.BTreeSet.{insert_key}
-use Rattle.expr_tree.specs.Term.{Term, name, literal, list, mapping, range, call, unary, operation, postfix, choice, Postfix, index, slice, coalesce, pipe, ternary, method, Bound, unbounded, bound, Terms, no_terms, term, Pairs, pairs_end, pair, Predicate, no_predicate, predicate, Block, answers, line, LineTerms}
+use Rattle.expr_tree.specs.Term.{Term, name, literal, list, mapping, range, call, unary, operation, postfix, choice, Postfix, index, slice, coalesce, pipe, ternary, method, Bound, unbounded, bound, Terms, no_terms, term, TermPairs, pairs_end, pair, Predicate, no_predicate, predicate, Block, answers, line, LineTerms}
 
 -- the names and hash names that stand as operands, in order
 abbrev mutual
@@ -37,7 +37,7 @@ abbrev mutual
   all_operands no_terms = []
   all_operands (term t ts) = operands t ++ all_operands ts
 
-  pub pairs_operands : Pairs → List (List ℕ)
+  pub pairs_operands : TermPairs → List (List ℕ)
   pairs_operands pairs_end = []
   pairs_operands (pair key t ps) = operands t ++ pairs_operands ps
 

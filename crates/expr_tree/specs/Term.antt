@@ -9,7 +9,7 @@ mutual
     name : (key : List ℕ) → Term
     literal : (v : Value) → Term
     list : (ts : Terms) → Term
-    mapping : (ps : Pairs) → Term
+    mapping : (ps : TermPairs) → Term
     range : (first last : Term) → Term
     call : (key : List ℕ) (ts : Terms) (p : Predicate) → Term
     unary : (o : UnaryOperator) (t : Term) → Term
@@ -36,9 +36,9 @@ mutual
     term : (t : Term) (ts : Terms) → Terms
 
   -- the keys of a map literal, each with its value
-  pub data Pairs : Type 0 where
-    pairs_end : Pairs
-    pair : (key : List ℕ) (t : Term) (ps : Pairs) → Pairs
+  pub data TermPairs : Type 0 where
+    pairs_end : TermPairs
+    pair : (key : List ℕ) (t : Term) (ps : TermPairs) → TermPairs
 
   -- the program that a call is given, if it is given one
   pub data Predicate : Type 0 where
@@ -60,6 +60,6 @@ block_with [] last = answers last
 block_with (l ∷ ls) last = line l.0 l.1 (block_with ls last)
 
 -- the pairs of a map literal
-abbrev pub pairs_of : LineTerms → Pairs
+abbrev pub pairs_of : LineTerms → TermPairs
 pairs_of [] = pairs_end
 pairs_of (p ∷ ps) = pair p.0 p.1 (pairs_of ps)

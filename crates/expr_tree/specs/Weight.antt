@@ -1,6 +1,6 @@
 -- How many nodes a tree has.
 use Rattle.std.specs.Prelude.{ℕ, ◌+◌, [], ◌∷◌}
-use Rattle.expr_tree.specs.Term.{Term, name, literal, list, mapping, range, call, unary, operation, postfix, choice, Postfix, index, slice, coalesce, pipe, ternary, method, Bound, unbounded, bound, Terms, no_terms, term, Pairs, pairs_end, pair, Predicate, no_predicate, predicate, Block, answers, line, LineTerms}
+use Rattle.expr_tree.specs.Term.{Term, name, literal, list, mapping, range, call, unary, operation, postfix, choice, Postfix, index, slice, coalesce, pipe, ternary, method, Bound, unbounded, bound, Terms, no_terms, term, TermPairs, pairs_end, pair, Predicate, no_predicate, predicate, Block, answers, line, LineTerms}
 
 abbrev mutual
   pub weight : Term → ℕ
@@ -31,7 +31,7 @@ abbrev mutual
   terms_weight no_terms = 0
   terms_weight (term t ts) = weight t + terms_weight ts
 
-  pub pairs_weight : Pairs → ℕ
+  pub pairs_weight : TermPairs → ℕ
   pairs_weight pairs_end = 0
   pairs_weight (pair key t ps) = weight t + pairs_weight ps
 

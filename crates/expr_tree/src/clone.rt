@@ -1,17 +1,17 @@
 //! Copies of trees. No copy keeps a pattern.
 ghost use Rattle.std.specs.Prelude.{◌≡◌, IfOk, map};
 ghost use Rattle.std.specs.List.{All};
-ghost use Rattle.expr_tree.specs.Beside.{KeepNone, NodeKeepsNone, bound_operations, postfix_operations, predicate_operations, program_operations};
-ghost use Rattle.expr_tree.specs.Written.{bound_written, line_written, postfix_written, predicate_written, program_written, written};
+ghost use Rattle.expr_tree.specs.KeptPatterns.{KeepNone, NodeKeepsNone, bound_operations, postfix_operations, predicate_operations, program_operations};
+ghost use Rattle.expr_tree.specs.TermOf.{bound_term, line_term, postfix_term, predicate_term, program_term, term_of};
 
 use crate::node::{CompiledRegex, Node, PostfixOperator, Program};
 use std::alloc::AllocError;
 
 impl Clone for Node {
-    ghost use Rattle.expr_tree.specs.Beside.{NodeKeepsNone};
-    ghost use Rattle.expr_tree.specs.Written.{written};
+    ghost use Rattle.expr_tree.specs.KeptPatterns.{NodeKeepsNone};
+    ghost use Rattle.expr_tree.specs.TermOf.{term_of};
 
-    ghost is_clone = { λ n m. (written m ≡ written n) × NodeKeepsNone m };
+    ghost is_clone = { λ n m. (term_of m ≡ term_of n) × NodeKeepsNone m };
 
     fn clone(&self) -> Result<Node, AllocError> {
         copy(self)
@@ -19,10 +19,10 @@ impl Clone for Node {
 }
 
 impl Clone for PostfixOperator {
-    ghost use Rattle.expr_tree.specs.Beside.{KeepNone, postfix_operations};
-    ghost use Rattle.expr_tree.specs.Written.{postfix_written};
+    ghost use Rattle.expr_tree.specs.KeptPatterns.{KeepNone, postfix_operations};
+    ghost use Rattle.expr_tree.specs.TermOf.{postfix_term};
 
-    ghost is_clone = { λ p q. (postfix_written q ≡ postfix_written p) × KeepNone (postfix_operations q) };
+    ghost is_clone = { λ p q. (postfix_term q ≡ postfix_term p) × KeepNone (postfix_operations q) };
 
     fn clone(&self) -> Result<PostfixOperator, AllocError> {
         copy_postfix(self)
@@ -30,10 +30,10 @@ impl Clone for PostfixOperator {
 }
 
 impl Clone for Program {
-    ghost use Rattle.expr_tree.specs.Beside.{KeepNone, program_operations};
-    ghost use Rattle.expr_tree.specs.Written.{program_written};
+    ghost use Rattle.expr_tree.specs.KeptPatterns.{KeepNone, program_operations};
+    ghost use Rattle.expr_tree.specs.TermOf.{program_term};
 
-    ghost is_clone = { λ p q. (program_written q ≡ program_written p) × KeepNone (program_operations q) };
+    ghost is_clone = { λ p q. (program_term q ≡ program_term p) × KeepNone (program_operations q) };
 
     fn clone(&self) -> Result<Program, AllocError> {
         copy_program(self)
@@ -42,7 +42,7 @@ impl Clone for Program {
 
 #[cycle(copy)]
 fn copy(node: &Node) -> Result<Node, AllocError>
-    ensures tree { IfOk result (λ n. written n ≡ written node.now) }
+    ensures tree { IfOk result (λ n. term_of n ≡ term_of node.now) }
     ensures patterns { IfOk result NodeKeepsNone }
 {
     match node {
@@ -115,7 +115,7 @@ fn copy(node: &Node) -> Result<Node, AllocError>
 
 #[cycle(copy)]
 fn copy_postfix(operator: &PostfixOperator) -> Result<PostfixOperator, AllocError>
-    ensures tree { IfOk result (λ p. postfix_written p ≡ postfix_written operator.now) }
+    ensures tree { IfOk result (λ p. postfix_term p ≡ postfix_term operator.now) }
     ensures patterns { IfOk result (λ p. KeepNone (postfix_operations p)) }
 {
     match operator {
@@ -148,7 +148,7 @@ fn copy_postfix(operator: &PostfixOperator) -> Result<PostfixOperator, AllocErro
 
 #[cycle(copy)]
 fn copy_boxed(node: &Box<Node>) -> Result<Box<Node>, AllocError>
-    ensures tree { IfOk result (λ b. written b.value ≡ written node.now.value) }
+    ensures tree { IfOk result (λ b. term_of b.value ≡ term_of node.now.value) }
     ensures patterns { IfOk result (λ b. NodeKeepsNone b.value) }
 {
     let alloc = *Box::allocator(node);
@@ -158,7 +158,7 @@ fn copy_boxed(node: &Box<Node>) -> Result<Box<Node>, AllocError>
 
 #[cycle(copy)]
 fn copy_bound(bound: &Option<Box<Node>>) -> Result<Option<Box<Node>>, AllocError>
-    ensures tree { IfOk result (λ b. bound_written b ≡ bound_written bound.now) }
+    ensures tree { IfOk result (λ b. bound_term b ≡ bound_term bound.now) }
     ensures patterns { IfOk result (λ b. KeepNone (bound_operations b)) }
 {
     match bound {
@@ -173,7 +173,7 @@ fn copy_bound(bound: &Option<Box<Node>>) -> Result<Option<Box<Node>>, AllocError
 
 #[cycle(copy)]
 fn copy_block(program: &Box<Program>) -> Result<Box<Program>, AllocError>
-    ensures tree { IfOk result (λ b. program_written b.value ≡ program_written program.now.value) }
+    ensures tree { IfOk result (λ b. program_term b.value ≡ program_term program.now.value) }
     ensures patterns { IfOk result (λ b. KeepNone (program_operations b.value)) }
 {
     let alloc = *Box::allocator(program);
@@ -183,7 +183,7 @@ fn copy_block(program: &Box<Program>) -> Result<Box<Program>, AllocError>
 
 #[cycle(copy)]
 fn copy_predicate(predicate: &Option<Box<Program>>) -> Result<Option<Box<Program>>, AllocError>
-    ensures tree { IfOk result (λ p. predicate_written p ≡ predicate_written predicate.now) }
+    ensures tree { IfOk result (λ p. predicate_term p ≡ predicate_term predicate.now) }
     ensures patterns { IfOk result (λ p. KeepNone (predicate_operations p)) }
 {
     match predicate {
@@ -198,7 +198,7 @@ fn copy_predicate(predicate: &Option<Box<Program>>) -> Result<Option<Box<Program
 
 #[cycle(copy)]
 fn copy_nodes(nodes: &Vec<Node>) -> Result<Vec<Node>, AllocError>
-    ensures tree { IfOk result (λ v. map written v.items ≡ map written nodes.now.items) }
+    ensures tree { IfOk result (λ v. map term_of v.items ≡ map term_of nodes.now.items) }
     ensures patterns { IfOk result (λ v. All NodeKeepsNone v.items) }
 {
     let mut copies = Vec::with_capacity(*nodes.allocator(), nodes.len())?;
@@ -210,7 +210,7 @@ fn copy_nodes(nodes: &Vec<Node>) -> Result<Vec<Node>, AllocError>
 
 #[cycle(copy)]
 fn copy_program(program: &Program) -> Result<Program, AllocError>
-    ensures tree { IfOk result (λ p. program_written p ≡ program_written program.now) }
+    ensures tree { IfOk result (λ p. program_term p ≡ program_term program.now) }
     ensures patterns { IfOk result (λ p. KeepNone (program_operations p)) }
 {
     let lines = copy_lines(&program.lines)?;
@@ -220,7 +220,7 @@ fn copy_program(program: &Program) -> Result<Program, AllocError>
 
 #[cycle(copy)]
 fn copy_lines(lines: &Vec<(String, Node)>) -> Result<Vec<(String, Node)>, AllocError>
-    ensures tree { IfOk result (λ v. map line_written v.items ≡ map line_written lines.now.items) }
+    ensures tree { IfOk result (λ v. map line_term v.items ≡ map line_term lines.now.items) }
     ensures patterns { IfOk result (λ v. All (λ l. NodeKeepsNone l.1) v.items) }
 {
     let mut copies = Vec::with_capacity(*lines.allocator(), lines.len())?;

@@ -2,8 +2,8 @@
 #![tactic(auto)]
 
 mod chain;
+mod children;
 mod clone;
-mod inside;
 mod names;
 pub mod node;
 pub mod operator;

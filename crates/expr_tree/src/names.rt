@@ -5,14 +5,14 @@ ghost use Rattle.std.specs.List.Sorted.{IsStrictlySortedBy};
 ghost use Rattle.std.specs.Cmp.Lexicographic.{slice_cmp};
 ghost use Rattle.std.specs.Ordering.{nat_cmp};
 ghost use Rattle.expr_tree.specs.Children.{children, own_name};
-ghost use Rattle.expr_tree.specs.Inside.{lent_terms, maybe_child, program_children};
+ghost use Rattle.expr_tree.specs.LentChildren.{lent_terms, maybe_child, program_children};
 ghost use Rattle.expr_tree.specs.Names.{operands, postfix_operands, bound_operands, all_operands, predicate_operands, block_operands, lines_operands, env, has_env, AreNamesOf, with_name, with_names};
-ghost use Rattle.expr_tree.specs.Written.{written, postfix_written, bound_written, predicate_written, program_written, line_written, terms_of};
-ghost use Rattle.expr_value.specs.Fault.{OnlyMemory};
+ghost use Rattle.expr_tree.specs.TermOf.{term_of, postfix_term, bound_term, predicate_term, program_term, line_term, terms_of};
+ghost use Rattle.expr_error.specs.ErrorKind.{OnlyMemory};
 
-use crate::inside::{Inside, look_inside};
+use crate::children::{Children, children_of};
 use crate::node::{Node, PostfixOperator, Program};
-use expr_value::{Result};
+use expr_value::Result;
 use std::alloc::{AllocError, Global};
 use std::collections::BTreeSet;
 use std::marker::Model;
@@ -24,7 +24,7 @@ impl Program {
     ///
     /// `MemoryError`, if a growth is refused.
     pub fn names(&self, alloc: Global) -> Result<Vec<String>>
-        ensures ok { IfOk result (λ ns. AreNamesOf (map string_bytes ns.items) (program_written self.now)) }
+        ensures ok { IfOk result (λ ns. AreNamesOf (map string_bytes ns.items) (program_term self.now)) }
         ensures err { OnlyMemory result }
     {
         names_within(self, alloc, Vec::new(alloc))
@@ -32,7 +32,7 @@ impl Program {
 
     /// Whether `$env` stands as an operand anywhere in the program.
     pub fn uses_env(&self) -> bool
-        ensures { IsTrue result ↔ Contains (block_operands (program_written self.now)) env }
+        ensures { IsTrue result ↔ Contains (block_operands (program_term self.now)) env }
     {
         program_uses_env(self)
     }
@@ -46,7 +46,7 @@ fn names_within<'a>(
     mut waiting: Vec<&'a Node>,
 ) -> Result<Vec<String>>
     requires { waiting.items ≡ [] }
-    ensures ok { IfOk result (λ ns. AreNamesOf (map string_bytes ns.items) (program_written program.now)) }
+    ensures ok { IfOk result (λ ns. AreNamesOf (map string_bytes ns.items) (program_term program.now)) }
     ensures err { OnlyMemory result }
 {
     let mut names = Names::new(alloc);
@@ -113,18 +113,18 @@ fn gather<'a>(
     names: &mut Names,
     waiting: &mut Vec<&'a Node>,
 ) -> std::result::Result<(), AllocError>
-    ensures names { OnOk result (names.new ≡ with_names names.old (own_name (written node.now))) }
+    ensures names { OnOk result (names.new ≡ with_names names.old (own_name (term_of node.now))) }
     ensures waiting { OnOk result (lent_terms waiting.new.items
-        ≡ lent_terms waiting.old.items ++ children (written node.now)) }
+        ≡ lent_terms waiting.old.items ++ children (term_of node.now)) }
 {
-    match look_inside(node) {
-        Inside::Name(name) => names.add(name),
-        Inside::Nodes(first, second, third) => {
+    match children_of(node) {
+        Children::Name(name) => names.add(name),
+        Children::Nodes(first, second, third) => {
             wait_for(first, waiting)?;
             wait_for(second, waiting)?;
             wait_for(third, waiting)
         }
-        Inside::Items(first, items, program) => {
+        Children::Items(first, items, program) => {
             wait_for(first, waiting)?;
             wait_for_all(items, waiting)?;
             match program {
@@ -132,8 +132,8 @@ fn gather<'a>(
                 Some(program) => wait_for_program(program, waiting),
             }
         }
-        Inside::Pairs(pairs) => wait_for_values(pairs, waiting),
-        Inside::Choice(condition, consequent, alternative) => {
+        Children::Pairs(pairs) => wait_for_values(pairs, waiting),
+        Children::Choice(condition, consequent, alternative) => {
             waiting.push(condition)?;
             wait_for_program(consequent, waiting)?;
             wait_for_program(alternative, waiting)
@@ -162,7 +162,7 @@ fn wait_for_all<'a>(
     waiting: &mut Vec<&'a Node>,
 ) -> std::result::Result<(), AllocError>
     ensures { OnOk result (lent_terms waiting.new.items
-        ≡ lent_terms waiting.old.items ++ map written nodes.now) }
+        ≡ lent_terms waiting.old.items ++ map term_of nodes.now) }
 {
     for node in nodes {
         waiting.push(node)?;
@@ -187,7 +187,7 @@ fn wait_for_values<'a>(
     waiting: &mut Vec<&'a Node>,
 ) -> std::result::Result<(), AllocError>
     ensures { OnOk result (lent_terms waiting.new.items ≡ lent_terms waiting.old.items ++ map
-        (λ l. written l.1) named.now) }
+        (λ l. term_of l.1) named.now) }
 {
     for (_name, value) in named {
         waiting.push(value)?;
@@ -197,14 +197,14 @@ fn wait_for_values<'a>(
 
 #[cycle(uses)]
 fn node_uses_env(node: &Node) -> bool
-    ensures { result ≡ has_env (operands (written node.now)) }
+    ensures { result ≡ has_env (operands (term_of node.now)) }
 {
-    match look_inside(node) {
-        Inside::Name(name) => name == "$env",
-        Inside::Nodes(first, second, third) => {
+    match children_of(node) {
+        Children::Name(name) => name == "$env",
+        Children::Nodes(first, second, third) => {
             child_uses_env(first) || child_uses_env(second) || child_uses_env(third)
         }
-        Inside::Items(first, items, program) => {
+        Children::Items(first, items, program) => {
             child_uses_env(first)
                 || any_uses_env(items)
                 || match program {
@@ -212,8 +212,8 @@ fn node_uses_env(node: &Node) -> bool
                     Some(program) => program_uses_env(program),
                 }
         }
-        Inside::Pairs(pairs) => values_use_env(pairs),
-        Inside::Choice(condition, consequent, alternative) => {
+        Children::Pairs(pairs) => values_use_env(pairs),
+        Children::Choice(condition, consequent, alternative) => {
             node_uses_env(condition)
                 || program_uses_env(consequent)
                 || program_uses_env(alternative)
@@ -233,7 +233,7 @@ fn child_uses_env(child: Option<&Node>) -> bool
 
 #[cycle(uses)]
 fn any_uses_env(nodes: &[Node]) -> bool
-    ensures { result ≡ has_env (all_operands (terms_of (map written nodes.now))) }
+    ensures { result ≡ has_env (all_operands (terms_of (map term_of nodes.now))) }
 {
     for node in nodes {
         if node_uses_env(node) {
@@ -245,14 +245,14 @@ fn any_uses_env(nodes: &[Node]) -> bool
 
 #[cycle(uses)]
 fn program_uses_env(program: &Program) -> bool
-    ensures { result ≡ has_env (block_operands (program_written program.now)) }
+    ensures { result ≡ has_env (block_operands (program_term program.now)) }
 {
     values_use_env(&program.lines) || node_uses_env(&program.expr)
 }
 
 #[cycle(uses)]
 fn values_use_env(lines: &[(String, Node)]) -> bool
-    ensures { result ≡ has_env (lines_operands (map line_written lines.now)) }
+    ensures { result ≡ has_env (lines_operands (map line_term lines.now)) }
 {
     for (_name, value) in lines {
         if node_uses_env(value) {

@@ -1,9 +1,9 @@
 //! The nodes of a program.
 ghost use Rattle.std.specs.Prelude.{◌+◌, ◌<◌, ◌≤◌, ◌≡◌, IfOk, IfErr, IfSome};
 ghost use Rattle.std.specs.Option.{option_copied};
-ghost use Rattle.expr_tree.specs.Beside.{built_text};
+ghost use Rattle.expr_tree.specs.KeptPatterns.{built_text};
 ghost use Rattle.expr_tree.specs.Weight.{weight};
-ghost use Rattle.expr_tree.specs.Written.{written};
+ghost use Rattle.expr_tree.specs.TermOf.{term_of};
 
 use crate::chain::{
     hung_items, hung_lines, hung_postfix, hung_program, linked_items, linked_pairs,
@@ -62,7 +62,7 @@ pub enum Node {
 impl Drop for Node {
     fn drop(self) {
         let mut chain = self;
-        while let Some(rest) = chain.shortened() {
+        while let Some(rest) = chain.shorten() {
             chain = rest;
         }
     }
@@ -70,14 +70,14 @@ impl Drop for Node {
 
 impl Node {
     // The chain without its head, whose parts stay; none, if the head has no parts.
-    pub(crate) fn shortened(self) -> Option<Node>
-        ensures { IfSome result (λ n. weight (written n) < weight (written self)) }
+    pub(crate) fn shorten(self) -> Option<Node>
+        ensures { IfSome result (λ n. weight (term_of n) < weight (term_of self)) }
     {
         match self {
             Node::Ident(_) | Node::Value(_) => None,
             Node::Array(items) => shortened_items(items),
             Node::Map(pairs) => shortened_pairs(pairs),
-            Node::Range(first, last) => Some(Box::into_inner(last).hung(Box::into_inner(first))),
+            Node::Range(first, last) => Some(Box::into_inner(last).hang(Box::into_inner(first))),
             Node::Func {
                 ident: _,
                 args,
@@ -95,7 +95,7 @@ impl Node {
                 left,
                 right,
                 compiled_regex: _,
-            } => Some(Box::into_inner(right).hung(Box::into_inner(left))),
+            } => Some(Box::into_inner(right).hang(Box::into_inner(left))),
             Node::Postfix { operator, node } => Some(hung_postfix(operator, Box::into_inner(node))),
             Node::Conditional {
                 condition,
@@ -109,13 +109,13 @@ impl Node {
     }
 
     // The tree in front of a chain. It is gone down by first parts to one that has none, and each on the way then leads on to the one above it.
-    pub(crate) fn hung(self, chain: Node) -> Node
-        ensures { weight (written result) < weight (written self) + weight (written chain) }
+    pub(crate) fn hang(self, chain: Node) -> Node
+        ensures { weight (term_of result) < weight (term_of self) + weight (term_of chain) }
     {
         let mut node = self;
         let mut chain = chain;
         loop {
-            match node.linked(chain) {
+            match node.link(chain) {
                 Ok((first, linked)) => {
                     node = first;
                     chain = linked;
@@ -126,10 +126,10 @@ impl Node {
     }
 
     // The first part, and the node with a chain in its place. A node without parts is let go, and the chain comes back.
-    fn linked(self, chain: Node) -> Result<(Node, Node), Node>
-        ensures parts { IfOk result (λ r. weight (written r.0) + weight (written r.1)
-            ≤ weight (written self) + weight (written chain)) }
-        ensures first { IfOk result (λ r. weight (written r.0) < weight (written self)) }
+    fn link(self, chain: Node) -> Result<(Node, Node), Node>
+        ensures parts { IfOk result (λ r. weight (term_of r.0) + weight (term_of r.1)
+            ≤ weight (term_of self) + weight (term_of chain)) }
+        ensures first { IfOk result (λ r. weight (term_of r.0) < weight (term_of self)) }
         ensures chain { IfErr result (λ n. n ≡ chain) }
     {
         match self {
@@ -205,7 +205,7 @@ pub enum CompiledRegex {
 
 impl CompiledRegex {
     /// The pattern, if it was built.
-    pub fn built(&self) -> Option<&Pattern>
+    pub fn pattern(&self) -> Option<&Pattern>
         ensures { option_copied result ≡ built_text self.now }
     {
         match self {

@@ -1,13 +1,13 @@
 //! Single instructions of flat code within limits.
 #![tactic(auto)]
 
-mod carried;
 mod charges;
-mod counted;
+mod counted_turn;
 mod fast;
-mod left;
+mod made_value;
+mod resources;
 mod values;
 
-pub use carried::{Carried, keep_reply};
-pub use counted::{last_span, push_name, turn};
-pub use left::keep_flat;
+pub use counted_turn::{last_span, push_name, turn};
+pub use made_value::keep_flat;
+pub use resources::{RunResources, keep_reply};

@@ -9,7 +9,7 @@ use Rattle.std.specs.declared.cmp.Ordering.{Ordering}
 use Rattle.std.specs.declared.cmp.Ordering.TheVariants.{Less, Equal, Greater}
 use Rattle.std.proofs.lemmas.Bool.{false≢true}
 use Rattle.std.proofs.lemmas.List.Sorted.{IsPermutation-refl, IsPermutation-sym, IsPermutation-trans, IsPermutation-cons, IsPermutation-middle, IsPermutation-append_right}
-use Rattle.expr_value.specs.Sorted.{by_key, put_in_order, sorted}
+use Rattle.expr_value.specs.Sorted.{by_key, put_in_order, sorted_items}
 use Rattle.expr_value.proofs.SortedLemmas.{put_keeps}
 
 module _ {X : Type 0} (c : X → X → Ordering) where
@@ -30,8 +30,8 @@ module _ {X : Type 0} (c : X → X → Ordering) where
       IsPermutation-trans (x ∷ (xs ++ done)) (xs ++ x ∷ done) _ (IsPermutation-sym (xs ++ x ∷ done) (x ∷ (xs ++ done)) (IsPermutation-middle xs x done))
       (IsPermutation-trans (xs ++ x ∷ done) (xs ++ put_in_order c x done) _ (IsPermutation-append_right xs (x ∷ done) (put_in_order c x done) (put_same x done)) (all_same (put_in_order c x done) xs))
 
-  pub sorted-same : (xs : List X) → IsPermutation xs (sorted c xs)
-  sorted-same xs = subst (λ (l : List X). IsPermutation l (sorted c xs)) (append-nil xs) (all_same [] xs)
+  pub sorted_items-same : (xs : List X) → IsPermutation xs (sorted_items c xs)
+  sorted_items-same xs = subst (λ (l : List X). IsPermutation l (sorted_items c xs)) (append-nil xs) (all_same [] xs)
 
 less : (r : Ordering) → is_lt r ≡ true → r ≡ Less
 less Less h = refl
@@ -80,6 +80,6 @@ module _ {K : Type 0} (cmp : K → K → Ordering) (o : IsTotalOrder cmp) where
     step (p ∷ q ∷ ps) h zero d w = h.0.0
     step (p ∷ q ∷ ps) h (suc k) d w = step (q ∷ ps) h.1 k d (omega arith)
 
-    pub sorted-rises : (ps : List (K × X)) → IsSortedByKey (λ p. p.0) cmp (sorted (by_key cmp) ps)
-    sorted-rises ps k d from within =
-        rw (add-one k) (step (sorted (by_key cmp) ps) (all_rise [] ps tt) k d (omega arith))
+    pub sorted_items-rises : (ps : List (K × X)) → IsSortedByKey (λ p. p.0) cmp (sorted_items (by_key cmp) ps)
+    sorted_items-rises ps k d from within =
+        rw (add-one k) (step (sorted_items (by_key cmp) ps) (all_rise [] ps tt) k d (omega arith))

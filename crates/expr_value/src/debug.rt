@@ -1,19 +1,12 @@
 //! Debug texts, which are the printed texts.
-use crate::context::Context;
-use crate::display::{show_bytes, show_items, show_keyed, show_map, show_quoted};
+use crate::display::{show_bytes, show_items, show_keyed, show_map};
 use crate::items::Items;
 use crate::key::Key;
 use crate::ordered::OrderedMap;
-use crate::text::Text;
 use crate::value::Value;
+use expr_error::Text;
 use std::fmt;
 use std::fmt::{Formatter, Write};
-
-impl fmt::Debug for Text {
-    fn fmt<W: Write>(&self, f: &mut Formatter<W>) -> fmt::Result {
-        show_quoted(self.as_str(), f)
-    }
-}
 
 impl fmt::Debug for Key {
     fn fmt<W: Write>(&self, f: &mut Formatter<W>) -> fmt::Result {
@@ -48,11 +41,5 @@ impl fmt::Debug for OrderedMap<Text, Value> {
 impl fmt::Debug for OrderedMap<Key, Value> {
     fn fmt<W: Write>(&self, f: &mut Formatter<W>) -> fmt::Result {
         show_keyed(self, f)
-    }
-}
-
-impl fmt::Debug for Context {
-    fn fmt<W: Write>(&self, f: &mut Formatter<W>) -> fmt::Result {
-        write!(f, "{:?}", &self.pairs)
     }
 }

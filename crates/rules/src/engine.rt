@@ -1,6 +1,6 @@
 //! Rules that are compiled once and run over many records.
 use crate::order::Order;
-use crate::refused::{shown, told};
+use crate::refused::{refusal_text, text_or_memory};
 use crate::shop::percent;
 use expr::{
     Context, Environment, ExprCall, Program, Result, Value, compile, compile_within, value,
@@ -28,7 +28,7 @@ struct Rule<'t> {
 pub fn report(alloc: Global, text: &str) -> Result<String> {
     let (rules, records) = text.split_once("\n---\n").unwrap_or((text, ""));
     let mut said = String::new(alloc);
-    let rules = compiled(alloc, rules, &mut said)?;
+    let rules = compile_rules(alloc, rules, &mut said)?;
     let mut shop = Environment::new(alloc);
     shop.add_function(
         "percent",
@@ -44,7 +44,7 @@ fn is_comment(line: &str) -> bool {
 }
 
 /// The rules of a text that are not refused; says which names each asks for, or why it is refused.
-fn compiled<'t>(alloc: Global, text: &'t str, said: &mut String) -> Result<Vec<Rule<'t>>> {
+fn compile_rules<'t>(alloc: Global, text: &'t str, said: &mut String) -> Result<Vec<Rule<'t>>> {
     let mut rules = Vec::new(alloc);
     for line in text.lines().filter(|line| !is_comment(line)) {
         if let Some(rule) = rule_of(alloc, line, said)? {
@@ -64,7 +64,7 @@ fn rule_of<'t>(alloc: Global, line: &'t str, said: &mut String) -> Result<Option
             Ok(Some(Rule { name, program }))
         }
         Err(error) => {
-            let why = shown(alloc, code, &error)?;
+            let why = refusal_text(alloc, code, &error)?;
             writeln!(said, "{name} is refused: {why}")?;
             Ok(None)
         }
@@ -93,7 +93,7 @@ fn judge_all(
                 judge(alloc, shop, rules, &order, said)?;
             }
             Err(error) => {
-                let why = told(alloc, error)?;
+                let why = text_or_memory(alloc, error)?;
                 writeln!(said, "  refused: {why}")?;
             }
         }
@@ -120,7 +120,7 @@ fn judge(
     for rule in rules {
         let answer = match shop.run(alloc, &rule.program, order) {
             Ok(value) => value.to_string(alloc)?,
-            Err(error) => told(alloc, error)?,
+            Err(error) => text_or_memory(alloc, error)?,
         };
         writeln!(said, "  {}: {answer}", rule.name)?;
     }

@@ -11,7 +11,7 @@ pub struct Order {
 
 impl ContextProvider for Order {
     ghost use Rattle.std.specs.Prelude.{Some, codes, bytes_eq, if◌then◌else◌};
-    ghost use Rattle.expr_value.specs.Names.{find};
+    ghost use Rattle.expr.specs.NamedPairs.{find};
 
     ghost context = { λ order. record {
       value_of = λ name. if bytes_eq name (codes "line") then Some order.line else find name order.record;

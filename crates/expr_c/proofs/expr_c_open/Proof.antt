@@ -1,4 +1,4 @@
--- `expr_c_open` writes what `fresh` gives into the room at the pointer, and hands on what that says. A walk of the code by hand.
+-- `expr_c_open` writes what `new_engine` gives into the room at the pointer, and hands on what that says. A walk of the code by hand.
 use Rattle.std.proofs.Common.{List, [], ◌∷◌, ◌++◌, refl}
 use Rattle.std.proofs.raw_atomic.Walks.{proved}
 use base.Fraction.{full_share}
@@ -31,8 +31,8 @@ use Rattle.expr_engine.proofs.engine.Engine.TheLaws.{the_row_laws as LE}
 use Rattle.expr_c.specs.contracts.expr_c_open as f
 use Rattle.expr_c.proofs.expr_c_open.Statement.{statement}
 use Rattle.expr_c.proofs.expr_c_open.Code as code
-use Rattle.expr_c.specs.contracts.fresh as g
-use Rattle.expr_c.proofs.fresh.Met.{met}
+use Rattle.expr_c.specs.contracts.new_engine as g
+use Rattle.expr_c.proofs.new_engine.Met.{met}
 
 abbrev stayed : Stays f.ended.signature.params f.ended.kept
 stayed = (stay_dropped (plain (λ _. Z)) yes, (stay_dropped (plain (λ _. RawPtr)) yes, tt))

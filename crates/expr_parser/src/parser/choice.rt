@@ -1,33 +1,37 @@
 //! The branches of a choice, and what a program between braces ends.
 
 ghost use Rattle.expr_frames.specs.Nodes as machine;
-ghost use Rattle.expr_parser.specs.Reading.{stack, Stands};
+ghost use Rattle.expr_parser.specs.Reading.{stack, ReachesState};
 
 use crate::parser::{Parser, whole};
-use expr_frames::build::{branched, nested};
-use expr_frames::frame::{Branches, Fault, Frame, Place, Section};
-use expr_parts::{Lines, Part, ProgramPart};
+use expr_frames::build::{nest, with_branch};
+use expr_frames::frame::{Branches, Frame, ParseState, ReadError, Section};
+use expr_parts::{AnnotatedNode, AnnotatedProgram, Lines};
 use expr_token::{Reserved, Sign, Token};
 use expr_value::Boxed;
 
 impl Parser {
     // A program between braces is whole.
-    pub(super) fn end_section(&self, section: Section, body: ProgramPart) -> Result<Place, Fault>
-        ensures { Stands (machine.after_section section body
+    pub(super) fn end_section(
+        &self,
+        section: Section,
+        body: AnnotatedProgram,
+    ) -> Result<ParseState, ReadError>
+        ensures { ReachesState (machine.after_section section body
             (stack self.now.frames.items)) self.now.frames.items result }
     {
         match section {
-            Section::Top => Err(Fault::Syntax),
+            Section::Top => Err(ReadError::Syntax),
             Section::Then(branches, condition) => {
                 let then = Boxed::new(self.alloc, body)?;
-                Ok(Place::Chosen(branches, condition, then))
+                Ok(ParseState::Chosen(branches, condition, then))
             }
             Section::Last(branches, condition, then) => {
                 let (condition, then) = (condition.into_inner(), then.into_inner());
-                let choice = nested(self.alloc, branches, condition, then, body)?;
+                let choice = nest(self.alloc, branches, condition, then, body)?;
                 Ok(whole(choice))
             }
-            Section::Predicate => Ok(Place::Argued(body)),
+            Section::Predicate => Ok(ParseState::Argued(body)),
         }
     }
 
@@ -35,16 +39,16 @@ impl Parser {
     pub(super) fn else_word(
         &self,
         branches: Branches,
-        condition: Boxed<Part>,
-        then: Boxed<ProgramPart>,
+        condition: Boxed<AnnotatedNode>,
+        then: Boxed<AnnotatedProgram>,
         token: &Token,
-    ) -> Result<Place, Fault>
-        ensures { Stands (machine.else_after
+    ) -> Result<ParseState, ReadError>
+        ensures { ReachesState (machine.else_after
             (stack self.now.frames.items) branches condition then token.now) self.now.frames.items result }
     {
         match token {
-            Token::Reserved(Reserved::Else) => Ok(Place::Alternate(branches, condition, then)),
-            _ => Err(Fault::Syntax),
+            Token::Reserved(Reserved::Else) => Ok(ParseState::Alternate(branches, condition, then)),
+            _ => Err(ReadError::Syntax),
         }
     }
 
@@ -52,11 +56,11 @@ impl Parser {
     pub(super) fn alternative(
         &mut self,
         branches: Branches,
-        condition: Boxed<Part>,
-        then: Boxed<ProgramPart>,
+        condition: Boxed<AnnotatedNode>,
+        then: Boxed<AnnotatedProgram>,
         token: &Token,
-    ) -> Result<Place, Fault>
-        ensures { Stands (machine.alternative
+    ) -> Result<ParseState, ReadError>
+        ensures { ReachesState (machine.alternative
             (stack self.old.frames.items) branches condition then token.now) self.new.frames.items result }
     {
         match token {
@@ -65,10 +69,10 @@ impl Parser {
                 self.enter(Frame::Body(Section::Last(branches, condition, then), lines))
             }
             Token::Reserved(Reserved::If) => {
-                let branches = branched(branches, condition.into_inner(), then.into_inner())?;
+                let branches = with_branch(branches, condition.into_inner(), then.into_inner())?;
                 self.enter(Frame::Condition(branches))
             }
-            _ => Err(Fault::Syntax),
+            _ => Err(ReadError::Syntax),
         }
     }
 }

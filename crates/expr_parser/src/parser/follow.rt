@@ -3,110 +3,136 @@
 ghost use Rattle.std.specs.Prelude.{◌∷◌};
 ghost use Rattle.expr_grammar.specs.Machine.{role_of, role_level};
 ghost use Rattle.expr_frames.specs.Nodes as machine;
-ghost use Rattle.expr_parser.specs.Reading.{stack, Stands};
+ghost use Rattle.expr_parser.specs.Reading.{stack, ReachesState};
 
 use crate::parser::{Parser, whole};
-use expr_frames::frame::{Caller, Fault, Frame, Holder, Operand, Place, Reaching, Section};
+use expr_frames::frame::{
+    Caller, Frame, Holder, OpenOperand, ParseState, Reaching, ReadError, Section,
+};
 use expr_grammar::role::Role;
 use expr_grammar::sign::InfixSign;
-use expr_parts::{Arguments, Lines, Part};
+use expr_parts::{AnnotatedNode, Arguments, Lines};
 use expr_token::{Reserved, Sign, Token};
 use expr_value::Boxed;
 
 impl Parser {
     // A token after an operand.
-    pub(super) fn follow(&mut self, left: Operand, token: &Token) -> Result<Place, Fault>
-        ensures { Stands (machine.follow (role_of token.now) token.now
+    pub(super) fn follow(
+        &mut self,
+        left: OpenOperand,
+        token: &Token,
+    ) -> Result<ParseState, ReadError>
+        ensures { ReachesState (machine.follow (role_of token.now) token.now
             (stack self.old.frames.items) left) self.new.frames.items result }
     {
-        match Role::of(token) {
+        match Role::from_token(token) {
             Role::Applying => self.apply(left),
             role => self.go_on(role, left, token),
         }
     }
 
     // A token after an operand that doesn't begin its arguments.
-    fn go_on(&mut self, role: Role, left: Operand, token: &Token) -> Result<Place, Fault>
-        ensures { Stands (machine.after_settled role token.now
+    fn go_on(
+        &mut self,
+        role: Role,
+        left: OpenOperand,
+        token: &Token,
+    ) -> Result<ParseState, ReadError>
+        ensures { ReachesState (machine.after_settled role token.now
             (machine.settle (role_level role) (stack self.old.frames.items)
             (machine.make left))) self.new.frames.items result }
     {
-        let left = self.settled(role.level(), left)?;
+        let left = self.settle_operand(role.level(), left)?;
         self.after_operand(role, left, token)
     }
 
     // A token after a part that it does not go inside.
-    fn after_operand(&mut self, role: Role, left: Part, token: &Token) -> Result<Place, Fault>
-        ensures { Stands (machine.after_operand role token.now
+    fn after_operand(
+        &mut self,
+        role: Role,
+        left: AnnotatedNode,
+        token: &Token,
+    ) -> Result<ParseState, ReadError>
+        ensures { ReachesState (machine.after_operand role token.now
             (stack self.old.frames.items) left) self.new.frames.items result }
     {
         match role {
-            Role::Applying => Err(Fault::Syntax),
+            Role::Applying => Err(ReadError::Syntax),
             Role::Binary(sign) => self.enter(Frame::Reaching(Reaching::After(left, sign))),
-            Role::Negating => Ok(Place::Negated(left)),
-            Role::Asking => self.enter(Frame::Middle(left)),
-            Role::Piping => Ok(Place::Barred(left)),
-            Role::Dotting => Ok(Place::Dotted(left)),
-            Role::Questioning => Ok(Place::Questioned(left)),
+            Role::Negating => Ok(ParseState::Negated(left)),
+            Role::Branching => self.enter(Frame::Middle(left)),
+            Role::Piping => Ok(ParseState::Barred(left)),
+            Role::Dotting => Ok(ParseState::Dotted(left)),
+            Role::Questioning => Ok(ParseState::Questioned(left)),
             Role::Picking => self.enter(Frame::Index(left, false)),
-            Role::Plain => self.close(left, token),
+            Role::NoOperator => self.close(left, token),
         }
     }
 
     // Arguments after an operand.
-    fn apply(&mut self, left: Operand) -> Result<Place, Fault>
-        ensures { Stands (machine.apply (stack self.old.frames.items) left) self.new.frames.items result }
+    fn apply(&mut self, left: OpenOperand) -> Result<ParseState, ReadError>
+        ensures { ReachesState (machine.apply (stack self.old.frames.items) left)
+            self.new.frames.items result }
     {
         let arguments = Arguments::new(self.alloc);
         match left {
-            Operand::Name(name) => self.enter(Frame::Call(Caller::Function(name), arguments)),
-            Operand::Member(left, name) => {
+            OpenOperand::Name(name) => self.enter(Frame::Call(Caller::Function(name), arguments)),
+            OpenOperand::Member(left, name) => {
                 let left = Boxed::new(self.alloc, left)?;
                 self.enter(Frame::List(Holder::Method(left, name), arguments))
             }
-            Operand::Whole(_) => Err(Fault::Syntax),
+            OpenOperand::Whole(_) => Err(ReadError::Syntax),
         }
     }
 
     // The second word of `not in`.
-    pub(super) fn not_in(&mut self, left: Part, token: &Token) -> Result<Place, Fault>
-        ensures { Stands (machine.in_after_not
+    pub(super) fn not_in(
+        &mut self,
+        left: AnnotatedNode,
+        token: &Token,
+    ) -> Result<ParseState, ReadError>
+        ensures { ReachesState (machine.in_after_not
             (stack self.old.frames.items) left token.now) self.new.frames.items result }
     {
         match token {
             Token::Reserved(Reserved::In) => {
                 self.enter(Frame::Reaching(Reaching::After(left, InfixSign::NotIn)))
             }
-            _ => Err(Fault::Syntax),
+            _ => Err(ReadError::Syntax),
         }
     }
 
     // A token that is no operator, after an operand.
-    fn close(&mut self, last: Part, token: &Token) -> Result<Place, Fault>
-        ensures { Stands (machine.close token.now
+    fn close(&mut self, last: AnnotatedNode, token: &Token) -> Result<ParseState, ReadError>
+        ensures { ReachesState (machine.close token.now
             (stack self.old.frames.items) last) self.new.frames.items result }
     {
         match self.pop() {
             Some(frame) => self.close_frame(frame, last, token),
-            None => Err(Fault::Syntax),
+            None => Err(ReadError::Syntax),
         }
     }
 
-    fn close_frame(&mut self, frame: Frame, last: Part, token: &Token) -> Result<Place, Fault>
-        ensures { Stands (machine.close token.now
+    fn close_frame(
+        &mut self,
+        frame: Frame,
+        last: AnnotatedNode,
+        token: &Token,
+    ) -> Result<ParseState, ReadError>
+        ensures { ReachesState (machine.close token.now
             (frame ∷ stack self.old.frames.items) last) self.new.frames.items result }
     {
         match frame {
             Frame::Inside(_) => {
                 let Token::Sign(Sign::ParenClose) = token else {
-                    return Err(Fault::Syntax);
+                    return Err(ReadError::Syntax);
                 };
-                let group = last.bracketed()?;
+                let group = last.in_brackets()?;
                 Ok(whole(group))
             }
             Frame::Middle(condition) => {
                 let Token::Sign(Sign::Colon) = token else {
-                    return Err(Fault::Syntax);
+                    return Err(ReadError::Syntax);
                 };
                 let condition = Boxed::new(self.alloc, condition)?;
                 self.enter(Frame::Reaching(Reaching::Otherwise(condition, last)))
@@ -117,25 +143,25 @@ impl Parser {
             Frame::Cut(left, from) => self.end_slice(left.into_inner(), from, Some(last), token),
             Frame::Condition(branches) => {
                 let Token::Sign(Sign::BraceOpen) = token else {
-                    return Err(Fault::Syntax);
+                    return Err(ReadError::Syntax);
                 };
                 let condition = Boxed::new(self.alloc, last)?;
                 self.enter(Frame::Body(Section::Then(branches, condition), Lines::new(self.alloc)))
             }
             Frame::Body(section, lines) => {
                 let Token::Sign(Sign::BraceClose) = token else {
-                    return Err(Fault::Syntax);
+                    return Err(ReadError::Syntax);
                 };
-                self.end_section(section, lines.answering(last))
+                self.end_section(section, lines.finish(last))
             }
             Frame::Value(name) => {
                 let Token::Sign(Sign::Semicolon) = token else {
-                    return Err(Fault::Syntax);
+                    return Err(ReadError::Syntax);
                 };
                 self.bind(name, last)
             }
             Frame::Entry(entries, key) => self.entry(entries, key, last, token),
-            Frame::Reaching(_) => Err(Fault::Syntax),
+            Frame::Reaching(_) => Err(ReadError::Syntax),
         }
     }
 }

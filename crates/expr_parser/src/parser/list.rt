@@ -1,13 +1,13 @@
 //! Lists, and the arguments of calls.
 
 ghost use Rattle.std.specs.Prelude.{◌≡◌, ◌∷◌, IfOk};
-ghost use Rattle.expr_parts.specs.Parts.{given_more, given_program};
+ghost use Rattle.expr_parts.specs.Parts.{argument_more, argument_program};
 ghost use Rattle.expr_frames.specs.Nodes as machine;
-ghost use Rattle.expr_parser.specs.Reading.{stack, Stands};
+ghost use Rattle.expr_parser.specs.Reading.{stack, ReachesState};
 
 use crate::parser::{Parser, whole};
-use expr_frames::frame::{Caller, Fault, Frame, Holder, Place};
-use expr_parts::{Arguments, Part, ProgramPart};
+use expr_frames::frame::{Caller, Frame, Holder, ParseState, ReadError};
+use expr_parts::{AnnotatedNode, AnnotatedProgram, Arguments};
 use expr_token::{Sign, Token};
 use std::alloc::AllocError;
 
@@ -17,10 +17,10 @@ impl Parser {
         &mut self,
         holder: Holder,
         mut items: Arguments,
-        last: Part,
+        last: AnnotatedNode,
         token: &Token,
-    ) -> Result<Place, Fault>
-        ensures { Stands (machine.listed token.now holder (given_more items last)
+    ) -> Result<ParseState, ReadError>
+        ensures { ReachesState (machine.after_element token.now holder (argument_more items last)
             (stack self.old.frames.items)) self.new.frames.items result }
     {
         items.push(last)?;
@@ -36,24 +36,24 @@ impl Parser {
         holder: Holder,
         items: Arguments,
         token: &Token,
-    ) -> Result<Place, Fault>
-        ensures { Stands (machine.list_end holder token.now items
+    ) -> Result<ParseState, ReadError>
+        ensures { ReachesState (machine.list_end holder token.now items
             (stack self.now.frames.items)) self.now.frames.items result }
     {
         match holder {
             Holder::Array => {
                 let Token::Sign(Sign::SquareClose) = token else {
-                    return Err(Fault::Syntax);
+                    return Err(ReadError::Syntax);
                 };
                 let array = items.array()?;
                 Ok(whole(array))
             }
             Holder::Method(left, name) => {
                 let Token::Sign(Sign::ParenClose) = token else {
-                    return Err(Fault::Syntax);
+                    return Err(ReadError::Syntax);
                 };
                 let left = left.into_inner();
-                let method = Part::method(self.alloc, left, name.into_string(), items)?;
+                let method = AnnotatedNode::method(self.alloc, left, name.into_string(), items)?;
                 Ok(whole(method))
             }
         }
@@ -64,24 +64,24 @@ impl Parser {
         &mut self,
         caller: Caller,
         mut arguments: Arguments,
-        last: Part,
+        last: AnnotatedNode,
         token: &Token,
-    ) -> Result<Place, Fault>
-        ensures { Stands (machine.argument_end token.now caller (given_more arguments last)
+    ) -> Result<ParseState, ReadError>
+        ensures { ReachesState (machine.argument_end token.now caller (argument_more arguments last)
             (stack self.old.frames.items)) self.new.frames.items result }
     {
         arguments.push(last)?;
-        self.called(caller, arguments, token)
+        self.argument_end(caller, arguments, token)
     }
 
     // Arguments after one of them.
-    fn called(
+    fn argument_end(
         &mut self,
         caller: Caller,
         arguments: Arguments,
         token: &Token,
-    ) -> Result<Place, Fault>
-        ensures { Stands (machine.argument_end token.now caller arguments
+    ) -> Result<ParseState, ReadError>
+        ensures { ReachesState (machine.argument_end token.now caller arguments
             (stack self.old.frames.items)) self.new.frames.items result }
     {
         match token {
@@ -96,31 +96,38 @@ impl Parser {
         caller: Caller,
         arguments: Arguments,
         token: &Token,
-    ) -> Result<Place, Fault>
-        ensures { Stands (machine.call_end caller token.now arguments
+    ) -> Result<ParseState, ReadError>
+        ensures { ReachesState (machine.call_end caller token.now arguments
             (stack self.now.frames.items)) self.now.frames.items result }
     {
         let Token::Sign(Sign::ParenClose) = token else {
-            return Err(Fault::Syntax);
+            return Err(ReadError::Syntax);
         };
         let call = caller.call(self.alloc, arguments)?;
         Ok(whole(call))
     }
 
     // Arguments after a predicate.
-    pub(super) fn argued(&mut self, program: ProgramPart, token: &Token) -> Result<Place, Fault>
-        ensures { Stands (machine.argued token.now
+    pub(super) fn after_argument(
+        &mut self,
+        program: AnnotatedProgram,
+        token: &Token,
+    ) -> Result<ParseState, ReadError>
+        ensures { ReachesState (machine.after_argument token.now
             (stack self.old.frames.items) program) self.new.frames.items result }
     {
         let Some((caller, arguments)) = self.pop_call() else {
-            return Err(Fault::Syntax);
+            return Err(ReadError::Syntax);
         };
-        self.called(caller, with_program(arguments, program)?, token)
+        self.argument_end(caller, with_program(arguments, program)?, token)
     }
 }
 
-fn with_program(mut arguments: Arguments, program: ProgramPart) -> Result<Arguments, AllocError>
-    ensures { IfOk result (λ a. a ≡ given_program arguments program) }
+fn with_program(
+    mut arguments: Arguments,
+    program: AnnotatedProgram,
+) -> Result<Arguments, AllocError>
+    ensures { IfOk result (λ a. a ≡ argument_program arguments program) }
 {
     arguments.give(program)?;
     Ok(arguments)

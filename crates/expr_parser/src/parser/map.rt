@@ -2,21 +2,21 @@
 
 ghost use Rattle.std.specs.Prelude.{◌∷◌};
 ghost use Rattle.expr_frames.specs.declared.frame.Frame.TheVariants as frame;
-ghost use Rattle.expr_frames.specs.declared.frame.Place.TheVariants as place;
+ghost use Rattle.expr_frames.specs.declared.frame.ParseState.TheVariants as parse_state;
 ghost use Rattle.expr_frames.specs.Nodes as machine;
-ghost use Rattle.expr_parser.specs.Reading.{stack, Stands};
+ghost use Rattle.expr_parser.specs.Reading.{stack, ReachesState};
 
 use crate::parser::{Parser, whole};
-use expr_frames::frame::{Fault, Frame, Place};
+use expr_frames::frame::{Frame, ParseState, ReadError};
 use expr_frames::read;
-use expr_parts::{Entries, Part};
+use expr_parts::{AnnotatedNode, Entries};
 use expr_token::{Sign, Token};
 use expr_value::Text;
 
 impl Parser {
     // A key of a map literal, or its end.
-    pub(super) fn map_key(&self, entries: Entries, token: Token) -> Result<Place, Fault>
-        ensures { Stands (machine.key_in (stack self.now.frames.items) entries
+    pub(super) fn map_key(&self, entries: Entries, token: Token) -> Result<ParseState, ReadError>
+        ensures { ReachesState (machine.key_in (stack self.now.frames.items) entries
             (machine.key_text_at token) token) self.now.frames.items result }
     {
         if let Token::Sign(Sign::BraceClose) = token {
@@ -24,7 +24,7 @@ impl Parser {
             return Ok(whole(map));
         }
         let key = read::key(self.alloc, token)?;
-        Ok(Place::Colons(entries, key))
+        Ok(ParseState::Colons(entries, key))
     }
 
     // The colon after a key.
@@ -33,13 +33,13 @@ impl Parser {
         entries: Entries,
         key: Text,
         token: &Token,
-    ) -> Result<Place, Fault>
-        ensures { Stands (machine.step_on (stack self.old.frames.items)
-            (place.Colons entries key) token.now) self.new.frames.items result }
+    ) -> Result<ParseState, ReadError>
+        ensures { ReachesState (machine.step_on (stack self.old.frames.items)
+            (parse_state.Colons entries key) token.now) self.new.frames.items result }
     {
         match token {
             Token::Sign(Sign::Colon) => self.enter(Frame::Entry(entries, key)),
-            _ => Err(Fault::Syntax),
+            _ => Err(ReadError::Syntax),
         }
     }
 
@@ -48,20 +48,20 @@ impl Parser {
         &self,
         mut entries: Entries,
         key: Text,
-        value: Part,
+        value: AnnotatedNode,
         token: &Token,
-    ) -> Result<Place, Fault>
-        ensures { Stands (machine.close token.now
+    ) -> Result<ParseState, ReadError>
+        ensures { ReachesState (machine.close token.now
             (frame.Entry entries key ∷ stack self.now.frames.items) value) self.now.frames.items result }
     {
         entries.push(key, value)?;
         match token {
-            Token::Sign(Sign::Comma) => Ok(Place::Keys(entries)),
+            Token::Sign(Sign::Comma) => Ok(ParseState::Keys(entries)),
             Token::Sign(Sign::BraceClose) => {
                 let map = entries.map()?;
                 Ok(whole(map))
             }
-            _ => Err(Fault::Syntax),
+            _ => Err(ReadError::Syntax),
         }
     }
 }

@@ -2,54 +2,63 @@
 
 ghost use Rattle.std.specs.Prelude.{◌∷◌};
 ghost use Rattle.expr_frames.specs.Nodes as machine;
-ghost use Rattle.expr_parser.specs.Reading.{stack, Stands};
+ghost use Rattle.expr_parser.specs.Reading.{stack, ReachesState};
 
 use crate::parser::{Parser, whole};
-use expr_frames::frame::{Fault, Frame, Holder, Operand, Place, Reaching, Start};
+use expr_frames::frame::{
+    Frame, Holder, OpenOperand, OperandStart, ParseState, Reaching, ReadError,
+};
 use expr_frames::read;
-use expr_parts::{Arguments, Part};
+use expr_parts::{AnnotatedNode, Arguments};
 use expr_token::{Sign, Token};
 use expr_value::{Boxed, Items};
 
 impl Parser {
     // A token where an operand is wanted.
-    pub(super) fn want(&mut self, token: Token) -> Result<Place, Fault>
-        ensures { Stands (machine.want token (stack self.old.frames.items)) self.new.frames.items result }
+    pub(super) fn want(&mut self, token: Token) -> Result<ParseState, ReadError>
+        ensures { ReachesState (machine.want token (stack self.old.frames.items))
+            self.new.frames.items result }
     {
-        self.begin(read::start(token))
+        self.begin(read::operand_start(token))
     }
 
-    fn begin(&mut self, start: Start) -> Result<Place, Fault>
-        ensures { Stands (machine.begin start (stack self.old.frames.items)) self.new.frames.items result }
+    fn begin(&mut self, start: OperandStart) -> Result<ParseState, ReadError>
+        ensures { ReachesState (machine.begin start (stack self.old.frames.items))
+            self.new.frames.items result }
     {
         match start {
-            Start::Literal(value) => Ok(whole(Part::literal(value))),
-            Start::Name(name) => Ok(Place::Have(Operand::Name(name))),
-            Start::HashName(name) => Ok(whole(Part::name(name.into_string()))),
-            Start::Sign(sign) => self.enter(Frame::Reaching(Reaching::Under(sign))),
-            Start::Group => self.group(),
-            Start::List => self.enter(Frame::List(Holder::Array, Arguments::new(self.alloc))),
-            Start::Brace => self.brace(),
-            Start::Field => Ok(Place::NamesField),
-            Start::Choice => self.enter(Frame::Condition(Items::from_vec(Vec::new(self.alloc)))),
-            Start::Line => self.line(),
-            Start::Other(token) => self.without_operand(&token),
+            OperandStart::Literal(value) => Ok(whole(AnnotatedNode::literal(value))),
+            OperandStart::Name(name) => Ok(ParseState::Have(OpenOperand::Name(name))),
+            OperandStart::HashName(name) => Ok(whole(AnnotatedNode::name(name.into_string()))),
+            OperandStart::Sign(sign) => self.enter(Frame::Reaching(Reaching::Under(sign))),
+            OperandStart::Group => self.group(),
+            OperandStart::List => self.enter(Frame::List(
+                Holder::Array,
+                Arguments::new(self.alloc),
+            )),
+            OperandStart::Brace => self.brace(),
+            OperandStart::Field => Ok(ParseState::NamesField),
+            OperandStart::Choice => self.enter(Frame::Condition(Items::from_vec(Vec::new(
+                self.alloc,
+            )))),
+            OperandStart::Line => self.line(),
+            OperandStart::Other(token) => self.without_operand(&token),
         }
     }
 
     // A token that begins no operand, where one is wanted.
-    fn without_operand(&mut self, token: &Token) -> Result<Place, Fault>
-        ensures { Stands (machine.without_operand token.now
+    fn without_operand(&mut self, token: &Token) -> Result<ParseState, ReadError>
+        ensures { ReachesState (machine.without_operand token.now
             (stack self.old.frames.items)) self.new.frames.items result }
     {
         match self.pop() {
             Some(frame) => self.without_operand_in(frame, token),
-            None => Err(Fault::Syntax),
+            None => Err(ReadError::Syntax),
         }
     }
 
-    fn without_operand_in(&mut self, frame: Frame, token: &Token) -> Result<Place, Fault>
-        ensures { Stands (machine.without_operand token.now
+    fn without_operand_in(&mut self, frame: Frame, token: &Token) -> Result<ParseState, ReadError>
+        ensures { ReachesState (machine.without_operand token.now
             (frame ∷ stack self.old.frames.items)) self.new.frames.items result }
     {
         match frame {
@@ -57,22 +66,22 @@ impl Parser {
             Frame::Call(caller, arguments) => self.end_call(caller, arguments, token),
             Frame::Index(left, false) => {
                 let Token::Sign(Sign::Colon) = token else {
-                    return Err(Fault::Syntax);
+                    return Err(ReadError::Syntax);
                 };
                 self.enter(Frame::Cut(Boxed::new(self.alloc, left)?, None))
             }
             Frame::Cut(left, from) => self.end_slice(left.into_inner(), from, None, token),
-            _ => Err(Fault::Syntax),
+            _ => Err(ReadError::Syntax),
         }
     }
 
     // The word of a field, after its dot.
-    pub(super) fn field(&self, token: Token) -> Result<Place, Fault>
-        ensures { Stands (machine.word_of_field (stack self.now.frames.items)
+    pub(super) fn field(&self, token: Token) -> Result<ParseState, ReadError>
+        ensures { ReachesState (machine.word_of_field (stack self.now.frames.items)
             (machine.text_at token)) self.now.frames.items result }
     {
         let name = read::word(self.alloc, token)?;
-        let field = Part::field(self.alloc, name)?;
+        let field = AnnotatedNode::field(self.alloc, name)?;
         Ok(whole(field))
     }
 }

@@ -1,103 +1,111 @@
 //! Members, indices, slices and pipes.
 
 ghost use Rattle.std.specs.Prelude.{◌∷◌};
-ghost use Rattle.expr_parts.specs.Parts.{sliced};
+ghost use Rattle.expr_parts.specs.Parts.{slice_of};
 ghost use Rattle.expr_frames.specs.declared.frame.Frame.TheVariants as frame;
-ghost use Rattle.expr_frames.specs.declared.frame.Place.TheVariants as place;
+ghost use Rattle.expr_frames.specs.declared.frame.ParseState.TheVariants as parse_state;
 ghost use Rattle.expr_frames.specs.Nodes as machine;
-ghost use Rattle.expr_parser.specs.Reading.{stack, Stands};
+ghost use Rattle.expr_parser.specs.Reading.{stack, ReachesState};
 
 use crate::parser::{Parser, whole};
-use expr_frames::frame::{Caller, Fault, Frame, Operand, Place};
+use expr_frames::frame::{Caller, Frame, OpenOperand, ParseState, ReadError};
 use expr_frames::read;
-use expr_parts::{Arguments, Part};
+use expr_parts::{AnnotatedNode, Arguments};
 use expr_token::{Sign, Token};
 use expr_value::{Boxed, Text};
 
 impl Parser {
     // The word after a dot.
-    pub(super) fn member(&self, left: Part, token: Token) -> Result<Place, Fault>
-        ensures { Stands (machine.word_after_dot (stack self.now.frames.items) left
+    pub(super) fn member(&self, left: AnnotatedNode, token: Token) -> Result<ParseState, ReadError>
+        ensures { ReachesState (machine.word_after_dot (stack self.now.frames.items) left
             (machine.text_at token)) self.now.frames.items result }
     {
         let name = read::word(self.alloc, token)?;
-        Ok(Place::Have(Operand::Member(left, name)))
+        Ok(ParseState::Have(OpenOperand::Member(left, name)))
     }
 
     // What follows `?.`: a word, or the bracket of an index.
-    pub(super) fn optional(&mut self, left: Part, token: Token) -> Result<Place, Fault>
-        ensures { Stands (machine.step_on (stack self.old.frames.items)
-            (place.Questioned left) token) self.new.frames.items result }
+    pub(super) fn optional(
+        &mut self,
+        left: AnnotatedNode,
+        token: Token,
+    ) -> Result<ParseState, ReadError>
+        ensures { ReachesState (machine.step_on (stack self.old.frames.items)
+            (parse_state.Questioned left) token) self.new.frames.items result }
     {
         if let Token::Sign(Sign::SquareOpen) = token {
             return self.enter(Frame::Index(left, true));
         }
         let name = read::word(self.alloc, token)?;
-        let part = Part::member(self.alloc, left, name, true)?;
+        let part = AnnotatedNode::member(self.alloc, left, name, true)?;
         Ok(whole(part))
     }
 
     // The end of an index, or the colon that makes it the first bound of a slice.
     pub(super) fn end_index(
         &mut self,
-        left: Part,
+        left: AnnotatedNode,
         optional: bool,
-        index: Part,
+        index: AnnotatedNode,
         token: &Token,
-    ) -> Result<Place, Fault>
-        ensures { Stands (machine.close token.now
+    ) -> Result<ParseState, ReadError>
+        ensures { ReachesState (machine.close token.now
             (frame.Index left optional ∷ stack self.old.frames.items) index) self.new.frames.items result }
     {
         match token {
             Token::Sign(Sign::SquareClose) => {
-                let part = Part::index(self.alloc, left, index, optional)?;
+                let part = AnnotatedNode::index(self.alloc, left, index, optional)?;
                 Ok(whole(part))
             }
             Token::Sign(Sign::Colon) if !optional => {
                 let left = Boxed::new(self.alloc, left)?;
                 self.enter(Frame::Cut(left, Some(index)))
             }
-            _ => Err(Fault::Syntax),
+            _ => Err(ReadError::Syntax),
         }
     }
 
     // The end of a slice.
     pub(super) fn end_slice(
         &self,
-        left: Part,
-        from: Option<Part>,
-        to: Option<Part>,
+        left: AnnotatedNode,
+        from: Option<AnnotatedNode>,
+        to: Option<AnnotatedNode>,
         token: &Token,
-    ) -> Result<Place, Fault>
-        ensures { Stands (machine.at_square token.now (machine.whole (stack self.now.frames.items)
-            (sliced left from to)) machine.Fail) self.now.frames.items result }
+    ) -> Result<ParseState, ReadError>
+        ensures { ReachesState (machine.at_square token.now (machine.whole (stack self.now.frames.items)
+            (slice_of left from to)) machine.Fail) self.now.frames.items result }
     {
         let Token::Sign(Sign::SquareClose) = token else {
-            return Err(Fault::Syntax);
+            return Err(ReadError::Syntax);
         };
-        let part = Part::slice(self.alloc, left, from, to)?;
+        let part = AnnotatedNode::slice(self.alloc, left, from, to)?;
         Ok(whole(part))
     }
 
     // The function after a bar.
-    pub(super) fn function(&self, left: Part, token: Token) -> Result<Place, Fault>
-        ensures { Stands (machine.word_after_bar
+    pub(super) fn function(
+        &self,
+        left: AnnotatedNode,
+        token: Token,
+    ) -> Result<ParseState, ReadError>
+        ensures { ReachesState (machine.word_after_bar
             (stack self.now.frames.items) left token) self.now.frames.items result }
     {
         match token {
-            Token::Word(name) => Ok(Place::Piped(left, name)),
-            _ => Err(Fault::Syntax),
+            Token::Word(name) => Ok(ParseState::Piped(left, name)),
+            _ => Err(ReadError::Syntax),
         }
     }
 
     // The parenthesis after a function that follows a bar.
     pub(super) fn arguments(
         &mut self,
-        left: Part,
+        left: AnnotatedNode,
         name: Text,
         token: &Token,
-    ) -> Result<Place, Fault>
-        ensures { Stands (machine.open_after_word
+    ) -> Result<ParseState, ReadError>
+        ensures { ReachesState (machine.open_after_word
             (stack self.old.frames.items) left name token.now) self.new.frames.items result }
     {
         match token {
@@ -106,7 +114,7 @@ impl Parser {
                 let left = Boxed::new(self.alloc, left)?;
                 self.enter(Frame::Call(Caller::Pipe(left, name), arguments))
             }
-            _ => Err(Fault::Syntax),
+            _ => Err(ReadError::Syntax),
         }
     }
 }

@@ -1,18 +1,22 @@
 //! The open frames, the innermost on top.
 
 ghost use Rattle.std.specs.Prelude.{◌≡◌, ◌∷◌, [], IfOk, MatchOption};
-ghost use Rattle.expr_frames.specs.declared.frame.Start.TheVariants as start;
+ghost use Rattle.expr_frames.specs.declared.frame.OperandStart.TheVariants as operand_start;
 ghost use Rattle.expr_frames.specs.Nodes as machine;
-ghost use Rattle.expr_parser.specs.Reading.{stack, onto, IsBodyOnTop, IsCallOnTop, Stands, PopsAbove};
+ghost use Rattle.expr_parser.specs.Reading.{stack, with_frame, IsBodyOnTop, IsCallOnTop, ReachesState, PopsAbove};
 
 use crate::parser::Parser;
-use expr_frames::frame::{Caller, Fault, Frame, Operand, Place, Reaching, Section};
-use expr_parts::{Arguments, Lines, Part};
+use expr_frames::frame::{Caller, Frame, OpenOperand, ParseState, Reaching, ReadError, Section};
+use expr_parts::{AnnotatedNode, Arguments, Lines};
 use std::alloc::AllocError;
 
 impl Parser {
     // The left part of an operator of this level.
-    pub(super) fn settled(&mut self, level: u8, left: Operand) -> Result<Part, AllocError>
+    pub(super) fn settle_operand(
+        &mut self,
+        level: u8,
+        left: OpenOperand,
+    ) -> Result<AnnotatedNode, AllocError>
         ensures { IfOk result (λ p. machine.settle level (stack self.old.frames.items) (machine.make left)
             ≡ record { stack = stack self.new.frames.items; left = p }) }
     {
@@ -21,7 +25,7 @@ impl Parser {
     }
 
     // Closes the frames that an operator of this level does not go inside.
-    fn settle(&mut self, level: u8, left: Part) -> Result<Part, AllocError>
+    fn settle(&mut self, level: u8, left: AnnotatedNode) -> Result<AnnotatedNode, AllocError>
         ensures { IfOk result (λ p. machine.settle level (stack self.old.frames.items) left
             ≡ record { stack = stack self.new.frames.items; left = p }) }
     {
@@ -56,17 +60,17 @@ impl Parser {
     }
 
     // An operand comes next, inside the frame.
-    pub(super) fn enter(&mut self, frame: Frame) -> Result<Place, Fault>
-        ensures { Stands (machine.wanting
-            (onto frame (stack self.old.frames.items))) self.new.frames.items result }
+    pub(super) fn enter(&mut self, frame: Frame) -> Result<ParseState, ReadError>
+        ensures { ReachesState (machine.want_operand
+            (with_frame frame (stack self.old.frames.items))) self.new.frames.items result }
     {
         self.push(frame)?;
-        Ok(Place::Want)
+        Ok(ParseState::Want)
     }
 
     // A bracket opens: one more where the innermost frame is of brackets, so that a run of them takes one frame.
-    pub(super) fn group(&mut self) -> Result<Place, Fault>
-        ensures { Stands (machine.begin start.Group
+    pub(super) fn group(&mut self) -> Result<ParseState, ReadError>
+        ensures { ReachesState (machine.begin operand_start.Group
             (stack self.old.frames.items)) self.new.frames.items result }
     {
         match self.frames.last() {
@@ -74,14 +78,15 @@ impl Parser {
                 let more = *more + 1;
                 let at = self.frames.len() - 1;
                 self.frames[at] = Frame::Inside(more);
-                Ok(Place::Want)
+                Ok(ParseState::Want)
             }
             _ => self.enter(Frame::Inside(0)),
         }
     }
 
     pub(super) fn push(&mut self, frame: Frame) -> Result<(), AllocError>
-        ensures { IfOk result (λ _. stack self.new.frames.items ≡ onto frame (stack self.old.frames.items)) }
+        ensures { IfOk result (λ _. stack self.new.frames.items
+            ≡ with_frame frame (stack self.old.frames.items)) }
     {
         self.frames.push(frame)?;
         Ok(())

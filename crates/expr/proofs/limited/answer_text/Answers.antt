@@ -2,7 +2,7 @@ use Rattle.std.proofs.Common.{Ok, subst}
 use Rattle.expr_meter.specs.declared.outcome.Outcome.{Outcome}
 use Rattle.expr_meaning.specs.World.{World}
 use Rattle.expr_machine.specs.Here.{here}
-use Rattle.expr_tree.specs.Written.{program_written}
+use Rattle.expr_tree.specs.TermOf.{program_term}
 use Rattle.expr_tree.specs.declared.node.Program.{Program}
 use Rattle.expr_value.specs.declared.value.Value.{Value}
 use Rattle.expr.specs.Limited.{IsCompiledLimited}
@@ -40,19 +40,19 @@ pub returns-in_ok-code-in-Answered-clause-outcome : goal.returns-in_ok-code-in-A
 returns-in_ok-code-in-Answered-clause-outcome g c =
     let world : World = here g.H.Functions.host g.P.ContextProvider.context c.args.machine.now in
     let read = subst (λ o. IsCompiledLimited c.args.code.now c.args.limits.now (Ok o)) c.in-Answered.is c.in_ok-compiled.ensures.answer in
-    text_ends world c.args.code.now c.args.limits.now (program_written c.in-Answered.program) _ read.0 read.1 c.in_ok-code-in-Answered.ensures.code c.execute_limited.result c.execute_limited.ensures.outcome
+    text_ends world c.args.code.now c.args.limits.now (program_term c.in-Answered.program) _ read.0 read.1 c.in_ok-code-in-Answered.ensures.code c.execute_limited.result c.execute_limited.ensures.outcome
 
 pub returns-in_ok-code-in-Answered-clause-place : goal.returns-in_ok-code-in-Answered-clause-place
 returns-in_ok-code-in-Answered-clause-place g c =
     let world : World = here g.H.Functions.host g.P.ContextProvider.context c.args.machine.now in
     let read = subst (λ o. IsCompiledLimited c.args.code.now c.args.limits.now (Ok o)) c.in-Answered.is c.in_ok-compiled.ensures.answer in
-    run_place world c.args.code.now c.args.limits.now (program_written c.in-Answered.program) _ read.0 read.1 c.in_ok-code-in-Answered.ensures.code c.execute_limited.result c.execute_limited.ensures.outcome
+    run_place world c.args.code.now c.args.limits.now (program_term c.in-Answered.program) _ read.0 read.1 c.in_ok-code-in-Answered.ensures.code c.execute_limited.result c.execute_limited.ensures.outcome
 
 pub returns-in_ok-code-in-Answered-clause-boundary : goal.returns-in_ok-code-in-Answered-clause-boundary
 returns-in_ok-code-in-Answered-clause-boundary g c =
     let world : World = here g.H.Functions.host g.P.ContextProvider.context c.args.machine.now in
     let read = subst (λ o. IsCompiledLimited c.args.code.now c.args.limits.now (Ok o)) c.in-Answered.is c.in_ok-compiled.ensures.answer in
-    run_boundary world c.args.code.now c.args.limits.now (program_written c.in-Answered.program) _ read.0 read.1 c.in_ok-code-in-Answered.ensures.code c.execute_limited.result c.execute_limited.ensures.outcome
+    run_boundary world c.args.code.now c.args.limits.now (program_term c.in-Answered.program) _ read.0 read.1 c.in_ok-code-in-Answered.ensures.code c.execute_limited.result c.execute_limited.ensures.outcome
 
 pub returns-in-Stopped-clause-outcome : goal.returns-in-Stopped-clause-outcome
 returns-in-Stopped-clause-outcome g c =

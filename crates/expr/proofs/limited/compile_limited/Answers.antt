@@ -1,5 +1,5 @@
 use Rattle.expr_meter.specs.declared.outcome.Outcome.{Outcome}
-use Rattle.expr_syntax.specs.declared.bounded.Bounded.{Bounded}
+use Rattle.expr_syntax.specs.declared.bounded.BoundedProgram.{BoundedProgram}
 use Rattle.expr_tree.specs.declared.node.Program.{Program}
 use Rattle.expr.proofs.Ending.{passed_bounded}
 use Rattle.expr.proofs.Faults.{boundary_kept, place_kept}
@@ -11,8 +11,8 @@ returns-in_err-compiled-clause-answer c =
 
 pub returns-in_err-compiled-clause-place : goal.returns-in_err-compiled-clause-place
 returns-in_err-compiled-clause-place c =
-    place_kept Bounded (Outcome Program) c.args.code.now c.in_err-compiled.field-0.0 c.in_err-compiled.ensures.place c.from_residual.result c.from_residual.ensures.1
+    place_kept BoundedProgram (Outcome Program) c.args.code.now c.in_err-compiled.field-0.0 c.in_err-compiled.ensures.place c.from_residual.result c.from_residual.ensures.1
 
 pub returns-in_err-compiled-clause-boundary : goal.returns-in_err-compiled-clause-boundary
 returns-in_err-compiled-clause-boundary c =
-    boundary_kept Bounded (Outcome Program) c.args.code.now c.in_err-compiled.field-0.0 c.in_err-compiled.ensures.boundary c.from_residual.result c.from_residual.ensures.1
+    boundary_kept BoundedProgram (Outcome Program) c.args.code.now c.in_err-compiled.field-0.0 c.in_err-compiled.ensures.boundary c.from_residual.result c.from_residual.ensures.1

@@ -2,7 +2,7 @@ use Rattle.std.proofs.Common.{sym, ap, ◌∙◌, arith, ◌<◌, ◌++◌, leng
 use Rattle.std.proofs.Math.Path.{subst}
 use Rattle.std.proofs.lemmas.List.{length-append}
 use Rattle.expr_duration.specs.Reading.{IsFresh, greatest_size}
-use Rattle.expr_duration.specs.Durations.{fraction_digits_of, sized, scale_size}
+use Rattle.expr_duration.specs.Durations.{fraction_digits_of, part_nanos, scale_size}
 use Rattle.expr_duration.proofs.Steps.{found_same, has_digits, one_name, part_found, refused, is_none, is_some}
 use Rattle.expr_duration.proofs.spelling.part.Goals as goal
 use Rattle.expr_duration.proofs.spelling.part.Goals.{else-is_empty-via-then-is_empty+else-is_empty-2, else-is_empty-via-else-is_empty}
@@ -35,7 +35,7 @@ returns-in_err-size c =
     (λ q t b.
     let same = found_same _ _ _ _ t f.0 q c.digits.ensures.digits c.digits.ensures.rest c.digits.ensures.whole f.2 b in
     let one = one_name _ _ t u.0 q.scale u.2 b.1 same.2 in
-    subst (λ n. greatest_size < n) (λ i. sized (same.0 i) ((f.1 ∙ ap fraction_digits_of same.1) i) ((u.1 ∙ ap scale_size one.0) i)) c.in_err-size.ensures)
+    subst (λ n. greatest_size < n) (λ i. part_nanos (same.0 i) ((f.1 ∙ ap fraction_digits_of same.1) i) ((u.1 ∙ ap scale_size one.0) i)) c.in_err-size.ensures)
 
 pub returns : goal.returns
 returns c =
@@ -47,4 +47,4 @@ returns c =
       | else-is_empty-via-else-is_empty w ↦ omega (arith, long, is_some _ w.if-is_empty.ensures)
     ] in
     let p = part_found _ _ _ _ _ f.0 u.0 c.digits.ensures.digits c.digits.ensures.whole f.2 u.2.0 c.if-not-is_fresh.ensures some in
-    (record { whole = c.digits.result.0.now; fraction = f.0; scale = u.0 }, p, c.in_ok-size.ensures.0 ∙ (λ i. sized c.digits.result.0.now (f.1 i) (u.1 i)), c.in_ok-size.ensures.1)
+    (record { whole = c.digits.result.0.now; fraction = f.0; scale = u.0 }, p, c.in_ok-size.ensures.0 ∙ (λ i. part_nanos c.digits.result.0.now (f.1 i) (u.1 i)), c.in_ok-size.ensures.1)

@@ -8,20 +8,20 @@ use Rattle.expr_duration.proofs.spelling.read.Goals as goal
 pub returns-in_err-parts : goal.returns-in_err-parts
 returns-in_err-parts c = refused _ c.from_residual.result c.from_residual.ensures (unspelled minus c.args.text.now c.in-Some.rest.now c.in-Some.ensures tt c.in_err-parts.ensures)
 
-pub returns-in_err-parts-in-Some-after : goal.returns-in_err-parts-in-Some-after
-returns-in_err-parts-in-Some-after c =
-    refused _ c.from_residual-in_err-parts-in-Some-after.result c.from_residual-in_err-parts-in-Some-after.ensures
-    (unspelled plus c.args.text.now c.in-Some-after.rest.now c.in-Some-after.ensures tt c.in_err-parts-in-Some-after.ensures)
+pub returns-in_err-parts-in-Some-behind_name : goal.returns-in_err-parts-in-Some-behind_name
+returns-in_err-parts-in-Some-behind_name c =
+    refused _ c.from_residual-in_err-parts-in-Some-behind_name.result c.from_residual-in_err-parts-in-Some-behind_name.ensures
+    (unspelled plus c.args.text.now c.in-Some-behind_name.rest.now c.in-Some-behind_name.ensures tt c.in_err-parts-in-Some-behind_name.ensures)
 
 pub returns-in_err-parts-in-None : goal.returns-in_err-parts-in-None
 returns-in_err-parts-in-None c =
     refused _ c.from_residual-in_err-parts-in-None.result c.from_residual-in_err-parts-in-None.ensures
     (unspelled none c.args.text.now c.args.text.now refl (c.in-None.ensures, c.in_default.ensures, λ e. other_text c.args.text.now c.as_slice.result.now c.if-eq.ensures (e ∙ sym c.as_slice.ensures)) c.in_err-parts-in-None.ensures)
 
-pub returns-in_ok-parts-in-Some-after : goal.returns-in_ok-parts-in-Some-after
-returns-in_ok-parts-in-Some-after c =
-    let f = c.in_ok-parts-in-Some-after.ensures in
-    spelled_is c.args.text.now c.in_ok-parts-in-Some-after.field-0 c.from_zero.result (meant plus _ _ _ c.in-Some-after.ensures f.0 f.1) c.from_zero.ensures
+pub returns-in_ok-parts-in-Some-behind_name : goal.returns-in_ok-parts-in-Some-behind_name
+returns-in_ok-parts-in-Some-behind_name c =
+    let f = c.in_ok-parts-in-Some-behind_name.ensures in
+    spelled_is c.args.text.now c.in_ok-parts-in-Some-behind_name.field-0 c.from_zero.result (meant plus _ _ _ c.in-Some-behind_name.ensures f.0 f.1) c.from_zero.ensures
 
 pub returns-in_ok-parts-in-None : goal.returns-in_ok-parts-in-None
 returns-in_ok-parts-in-None c =

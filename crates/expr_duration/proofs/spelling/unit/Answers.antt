@@ -6,23 +6,23 @@ use Rattle.expr_duration.proofs.spelling.unit.Goals as goal
 pub returns-in-Some : goal.returns-in-Some
 returns-in-Some c = (nanosecond, refl, (c.in-Some.ensures, tt))
 
-pub returns-in-Some-after : goal.returns-in-Some-after
-returns-in-Some-after c = (ascii_microsecond, refl, (c.in-Some-after.ensures, tt))
+pub returns-in-Some-behind_name : goal.returns-in-Some-behind_name
+returns-in-Some-behind_name c = (ascii_microsecond, refl, (c.in-Some-behind_name.ensures, tt))
 
-pub returns-in-Some-after-2 : goal.returns-in-Some-after-2
-returns-in-Some-after-2 c = (microsecond, refl, (c.in-Some-after-2.ensures, tt))
+pub returns-in-Some-behind_name-2 : goal.returns-in-Some-behind_name-2
+returns-in-Some-behind_name-2 c = (microsecond, refl, (c.in-Some-behind_name-2.ensures, tt))
 
-pub returns-in-Some-after-3 : goal.returns-in-Some-after-3
-returns-in-Some-after-3 c = (greek_microsecond, refl, (c.in-Some-after-3.ensures, tt))
+pub returns-in-Some-behind_name-3 : goal.returns-in-Some-behind_name-3
+returns-in-Some-behind_name-3 c = (greek_microsecond, refl, (c.in-Some-behind_name-3.ensures, tt))
 
-pub returns-in-Some-after-4 : goal.returns-in-Some-after-4
-returns-in-Some-after-4 c = (millisecond, refl, (c.in-Some-after-4.ensures, tt))
+pub returns-in-Some-behind_name-4 : goal.returns-in-Some-behind_name-4
+returns-in-Some-behind_name-4 c = (millisecond, refl, (c.in-Some-behind_name-4.ensures, tt))
 
-pub returns-in-Some-after-5 : goal.returns-in-Some-after-5
-returns-in-Some-after-5 c = (second, refl, (c.in-Some-after-5.ensures, tt))
+pub returns-in-Some-behind_name-5 : goal.returns-in-Some-behind_name-5
+returns-in-Some-behind_name-5 c = (second, refl, (c.in-Some-behind_name-5.ensures, tt))
 
-pub returns-in-Some-after-6 : goal.returns-in-Some-after-6
-returns-in-Some-after-6 c = (minute, refl, (c.in-Some-after-6.ensures, no_second c.args.text.now c.in-Some-after-6.rest.now c.in-Some-after-6.ensures c.in_default-after-4.ensures))
+pub returns-in-Some-behind_name-6 : goal.returns-in-Some-behind_name-6
+returns-in-Some-behind_name-6 c = (minute, refl, (c.in-Some-behind_name-6.ensures, no_second c.args.text.now c.in-Some-behind_name-6.rest.now c.in-Some-behind_name-6.ensures c.in_default-behind_name-4.ensures))
 
 pub returns : goal.returns
 returns c = (hour, refl, (c.in_ok-rest.ensures, tt))

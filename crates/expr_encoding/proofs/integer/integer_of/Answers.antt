@@ -23,4 +23,4 @@ returns-in_ok-from_zero c =
     let unsigned : (get_or s 0 0 == 45) ≡ false = sym c.if-has_minus.ensures.value in
     let read : number_of s ≡ number_from false (scan s) = rw unsigned in
     let is = ap number_of (sym c.as_bytes-bytes.ensures.value) ∙ read ∙ ap (number_from false) (sym c.scan-else-has_minus.ensures.parts) ∙ c.in_ok-from_zero.ensures in
-    if_it_is c.within.result _ (ap (option_and_then as_i64) is ∙ sym c.within.ensures)
+    if_it_is c.signed_of.result _ (ap (option_and_then as_i64) is ∙ sym c.signed_of.ensures)

@@ -11,8 +11,8 @@ use Rattle.serde_json.specs.Data.{no_members, put}
 use Rattle.serde_json.specs.Read.{of_json, of_items, of_members, converted}
 use Rattle.expr_value.specs.declared.value.Value as language
 use Rattle.expr_encoding.specs.Reading.{pairs_of, value_of, values_of}
-use Rattle.expr_encoding.specs.Tokens.{named}
-use Rattle.expr_encoding.proofs.Turns.{converted-array, converted-object, converted_some, item_read, items_over, member_read, members_over, array_value, object_value, number_value, item_value, one_more, pairs_of-put, pairs_over, named-insert_entry}
+use Rattle.expr_encoding.specs.Tokens.{lent_pairs}
+use Rattle.expr_encoding.proofs.Turns.{converted-array, converted-object, converted_some, item_read, items_over, member_read, members_over, array_value, object_value, number_value, item_value, one_more, pairs_of-put, pairs_over, lent_pairs-insert_entry}
 use Rattle.expr_encoding.proofs.tokens.+tokens.Goals as goal
 
 pub read_value-returns-in-String-clause-value : goal.read_value-returns-in-String-clause-value
@@ -53,14 +53,14 @@ read_value-returns-in_ok-read_items-in-BeginArray-clause-value t c =
     opened ∙ ap (converted value_of) (converted-array (items below (length rest) rest)) ∙ array_value (converted of_items (items below (length rest) rest))
     ∙ ap (parse_map language.Array) c.in_ok-read_items-in-BeginArray.ensures.values
 
-pub read_value-returns-in_ok-owned-in-BeginObject-clause-value : goal.read_value-returns-in_ok-owned-in-BeginObject-clause-value
-read_value-returns-in_ok-owned-in-BeginObject-clause-value t c =
+pub read_value-returns-in_ok-map_of-in-BeginObject-clause-value : goal.read_value-returns-in_ok-map_of-in-BeginObject-clause-value
+read_value-returns-in_ok-map_of-in-BeginObject-clause-value t c =
     let rest = c.next.new.self in
     let below = value (c.args.levels - 1) in
     let first : c.args.reader.now ≡ token_of c.in_ok-token.token ∷ rest = grind arith in
     let opened = ap (λ o. converted value_of (converted of_json o)) (ap (value c.args.levels) (first ∙ ap (λ k. token_of k ∷ rest) c.in-BeginObject.is) ∙ value-begin_object c.args.levels rest (omega arith)) in
     opened ∙ ap (converted value_of) (converted-object (members below (length rest) rest)) ∙ object_value (converted (λ ms. of_members ms no_members) (members below (length rest) rest))
-    ∙ ap (parse_map language.Map) c.in_ok-members-in-BeginObject.ensures.pairs ∙ ap (λ ps. Some (language.Map ps, c.read_members.new.reader)) (sym c.in_ok-owned-in-BeginObject.ensures)
+    ∙ ap (parse_map language.Map) c.in_ok-members-in-BeginObject.ensures.pairs ∙ ap (λ ps. Some (language.Map ps, c.read_members.new.reader)) (sym c.in_ok-map_of-in-BeginObject.ensures)
 
 pub read_items-items-preserved : goal.read_items-items-preserved
 read_items-items-preserved t c =
@@ -94,7 +94,7 @@ read_items-returns-clause-values t c =
 pub read_members-members-init : goal.read_members-members-init
 read_members-members-init t c =
     let all = members (value c.args.levels) (length c.args.reader.now) c.args.reader.now in
-    (length c.args.reader.now, omega arith, no_members, ap (λ es. Some (named es)) (sym c.new-found.ensures.empty), refl, omega arith)
+    (length c.args.reader.now, omega arith, no_members, ap (λ es. Some (lent_pairs es)) (sym c.new-found.ensures.empty), refl, omega arith)
 
 pub read_members-members-preserved : goal.read_members-members-preserved
 read_members-members-preserved t c =
@@ -115,7 +115,7 @@ read_members-members-preserved t c =
       n - 1,
       omega (arith, l.invariant.1),
       put k first.0 old,
-      pairs_of-put k first.0 v first.2 old (named l.found.entries) l.invariant.3 ∙ ap Some (sym (named-insert_entry l.found.entries c.in-Some.name v) ∙ ap named (sym c.in-Ok-insert.ensures.entries)),
+      pairs_of-put k first.0 v first.2 old (lent_pairs l.found.entries) l.invariant.3 ∙ ap Some (sym (lent_pairs-insert_entry l.found.entries c.in-Some.name v) ∙ ap lent_pairs (sym c.in-Ok-insert.ensures.entries)),
       l.invariant.4 ∙ turn,
       omega (arith, l.invariant.5),
     )
@@ -128,4 +128,4 @@ read_members-returns-in_default-key-clause-pairs t c =
     let old = l.invariant.2 in
     let r = c.next_key.new.self in
     let over = members_over p old n l.reader r l.invariant.1 (grind arith) in
-    ap (converted pairs_of) (l.invariant.4 ∙ over) ∙ pairs_over old (named l.found.entries) r l.invariant.3
+    ap (converted pairs_of) (l.invariant.4 ∙ over) ∙ pairs_over old (lent_pairs l.found.entries) r l.invariant.3

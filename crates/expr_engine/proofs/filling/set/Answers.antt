@@ -1,5 +1,5 @@
 use Rattle.std.proofs.Common.{◌≡◌, ◌∙◌, subst}
-use Rattle.expr_engine.specs.Doings.{Changes}
+use Rattle.expr_engine.specs.Effects.{Changes}
 use Rattle.expr_exchange.specs.Kinds.{kind_numbered}
 use Rattle.expr_value.specs.Names.{put}
 use Rattle.expr_engine.proofs.Handed.{handed_on}

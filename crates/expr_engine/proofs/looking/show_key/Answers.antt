@@ -1,7 +1,7 @@
 use Rattle.std.proofs.Common.{◌≡◌, Some, refl, rules, subst, w64}
 use Rattle.std.proofs.lemmas.Int.{to_z-of_z}
 use mir.Val.{SFits}
-use Rattle.expr_exchange.specs.Looked.{at_number, key_at}
+use Rattle.expr_exchange.specs.Cursor.{at_number, key_at}
 use Rattle.expr_engine.proofs.looking.show_key.Goals as goal
 
 pub returns-clause-done : goal.returns-clause-done

@@ -1,18 +1,18 @@
 use Rattle.std.proofs.Common.{◌≡◌, Ok, Err, inr, refl, subst}
-use Rattle.expr_engine.specs.Doings.{Tells, reply_of}
-use Rattle.expr_engine.specs.Engines.{asked_again}
+use Rattle.expr_engine.specs.Effects.{Tells, call_result}
+use Rattle.expr_engine.specs.Engines.{waiting_inputs}
 use Rattle.expr_engine.specs.Turns.{IsAnswer}
 use Rattle.expr_engine.proofs.Turned.{built_last, ended_so, left_waiting, passed_on, replies_so}
-use Rattle.expr_exchange.specs.Built.{values_of}
-use Rattle.expr_exchange.specs.Looked.{part_of}
-use Rattle.expr_stops.specs.declared.given.Reply.{Reply}
-use Rattle.expr_stops.specs.declared.given.Reply.TheVariants as reply
+use Rattle.expr_exchange.specs.Builder.{values_of}
+use Rattle.expr_exchange.specs.Cursor.{part_of}
+use Rattle.expr_stops.specs.declared.replies.Reply.{Reply}
+use Rattle.expr_stops.specs.declared.replies.Reply.TheVariants as reply
 use Rattle.expr_engine.proofs.replying.answer_call.Goals as goal
 
 pub returns-in_err-knows_waiting-clause-turns : goal.returns-in_err-knows_waiting-clause-turns
 returns-in_err-knows_waiting-clause-turns c =
     let Is = IsAnswer (values_of c.args.engine.now.built) in
-    let o = asked_again c.args.engine.now in
+    let o = waiting_inputs c.args.engine.now in
     let waits = c.args.engine.now.waits in
     let value = part_of c.args.engine.now.answer in
     let e = c.in_err-knows_waiting.field-0.0 in
@@ -21,7 +21,7 @@ returns-in_err-knows_waiting-clause-turns c =
 pub returns-in_err-value-clause-turns : goal.returns-in_err-value-clause-turns
 returns-in_err-value-clause-turns c =
     let Is = IsAnswer (values_of c.args.engine.now.built) in
-    let o = asked_again c.args.engine.now in
+    let o = waiting_inputs c.args.engine.now in
     let waits = c.args.engine.now.waits in
     let value = part_of c.args.engine.now.answer in
     let e = c.in_err-value.field-0.0 in
@@ -32,7 +32,7 @@ returns-in_err-reply-clause-turns c =
     let Is = λ (r : Reply). r ≡ reply.Value c.in_ok-value.value in
     let old = c.args.engine.now in
     let Js = IsAnswer (values_of old.built) in
-    let o = asked_again old in
+    let o = waiting_inputs old in
     let waits = c.reply.new.self.waits in
     let value = part_of c.reply.new.self.answer in
     let e = c.in_err-reply.field-0.0 in
@@ -45,7 +45,7 @@ returns-clause-turns c =
     let Is = λ (r : Reply). r ≡ reply.Value c.in_ok-value.value in
     let old = c.args.engine.now in
     let new = c.reply.new.self in
-    replies_so Is (IsAnswer (values_of old.built)) (built_last (values_of old.built) (values_of c.pop.new.self) c.in_ok-value.value c.in_ok-value.ensures.ok) (asked_again old) old.waits new.waits (Ok tt) (part_of new.answer)
+    replies_so Is (IsAnswer (values_of old.built)) (built_last (values_of old.built) (values_of c.pop.new.self) c.in_ok-value.value c.in_ok-value.ensures.ok) (waiting_inputs old) old.waits new.waits (Ok tt) (part_of new.answer)
     (c.in_ok-reply.ensures.replied c.in_ok-knows_waiting.ensures.waits c.in_ok-knows_waiting.ensures.found)
 
 pub returns-clause-done : goal.returns-clause-done
@@ -56,8 +56,8 @@ returns-clause-done c =
     record {
       keeps = record { rules = c.reply.ensures.rules; contexts = c.reply.ensures.contexts; environments = c.reply.ensures.environments };
       answer =
-          ended_so Is (asked_again old) old.waits new.waits (part_of new.answer)
+          ended_so Is (waiting_inputs old) old.waits new.waits (part_of new.answer)
           (c.in_ok-reply.ensures.replied c.in_ok-knows_waiting.ensures.waits c.in_ok-knows_waiting.ensures.found);
       way = c.in_ok-reply.ensures.way;
-      told = subst (λ v. Tells v (reply_of c.describe.new.call)) c.part.ensures c.describe.ensures;
+      told = subst (λ v. Tells v (call_result c.describe.new.call)) c.part.ensures c.describe.ensures;
     }

@@ -1,15 +1,15 @@
 use Rattle.std.proofs.Common.{ℕ, List, Ok, Err, inr, refl, subst}
-use Rattle.expr_engine.specs.Doings.{Tells, reply_of}
-use Rattle.expr_engine.specs.Engines.{asked_again}
-use Rattle.expr_engine.specs.Turns.{IsRefusal, Replies}
+use Rattle.expr_engine.specs.Effects.{Tells, call_result}
+use Rattle.expr_engine.specs.Engines.{waiting_inputs}
+use Rattle.expr_engine.specs.Turns.{IsRefusal, RunGoesOn}
 use Rattle.expr_engine.proofs.Turned.{ended_so, left_waiting, passed_on}
-use Rattle.expr_exchange.specs.Looked.{part_of}
+use Rattle.expr_exchange.specs.Cursor.{part_of}
 use Rattle.expr_engine.proofs.replying.refuse_call.Goals as goal
 
 pub returns-in_err-knows_waiting-clause-turns : goal.returns-in_err-knows_waiting-clause-turns
 returns-in_err-knows_waiting-clause-turns c =
     let Is = IsRefusal c.args.call.now.text.now in
-    let o = asked_again c.args.engine.now in
+    let o = waiting_inputs c.args.engine.now in
     let waits = c.args.engine.now.waits in
     let value = part_of c.args.engine.now.answer in
     let e = c.in_err-knows_waiting.field-0.0 in
@@ -18,7 +18,7 @@ returns-in_err-knows_waiting-clause-turns c =
 pub returns-in_err-text-clause-turns : goal.returns-in_err-text-clause-turns
 returns-in_err-text-clause-turns c =
     let Is = IsRefusal c.args.call.now.text.now in
-    let o = asked_again c.args.engine.now in
+    let o = waiting_inputs c.args.engine.now in
     let waits = c.args.engine.now.waits in
     let value = part_of c.args.engine.now.answer in
     let e = c.in_err-text.field-0.0 in
@@ -27,19 +27,19 @@ returns-in_err-text-clause-turns c =
 pub returns-in_err-refuse-clause-turns : goal.returns-in_err-refuse-clause-turns
 returns-in_err-refuse-clause-turns c =
     let old = c.args.engine.now in
-    let o = asked_again old in
+    let o = waiting_inputs old in
     let waits = c.refuse.new.self.waits in
     let value = part_of c.refuse.new.self.answer in
     let e = c.in_err-refuse.field-0.0 in
     passed_on (IsRefusal c.args.call.now.text.now) o old.waits waits c.from_residual-in_err-refuse.result e value c.from_residual-in_err-refuse.ensures.1
-    (subst (λ (text : List ℕ). Replies (IsRefusal text) o old.waits waits (Err e) value) c.in_ok-text.ensures.ok
+    (subst (λ (text : List ℕ). RunGoesOn (IsRefusal text) o old.waits waits (Err e) value) c.in_ok-text.ensures.ok
     (c.in_err-refuse.ensures.replied c.in_ok-knows_waiting.ensures.waits c.in_ok-knows_waiting.ensures.found))
 
 pub returns-clause-turns : goal.returns-clause-turns
 returns-clause-turns c =
     let old = c.args.engine.now in
     let new = c.refuse.new.self in
-    subst (λ (text : List ℕ). Replies (IsRefusal text) (asked_again old) old.waits new.waits (Ok tt) (part_of new.answer)) c.in_ok-text.ensures.ok
+    subst (λ (text : List ℕ). RunGoesOn (IsRefusal text) (waiting_inputs old) old.waits new.waits (Ok tt) (part_of new.answer)) c.in_ok-text.ensures.ok
     (c.in_ok-refuse.ensures.replied c.in_ok-knows_waiting.ensures.waits c.in_ok-knows_waiting.ensures.found)
 
 pub returns-clause-done : goal.returns-clause-done
@@ -49,8 +49,8 @@ returns-clause-done c =
     record {
       keeps = record { rules = c.refuse.ensures.rules; contexts = c.refuse.ensures.contexts; environments = c.refuse.ensures.environments };
       answer =
-          ended_so (IsRefusal c.in_ok-text.text.now) (asked_again old) old.waits new.waits (part_of new.answer)
+          ended_so (IsRefusal c.in_ok-text.text.now) (waiting_inputs old) old.waits new.waits (part_of new.answer)
           (c.in_ok-refuse.ensures.replied c.in_ok-knows_waiting.ensures.waits c.in_ok-knows_waiting.ensures.found);
       way = c.in_ok-refuse.ensures.way;
-      told = subst (λ v. Tells v (reply_of c.describe.new.call)) c.part.ensures c.describe.ensures;
+      told = subst (λ v. Tells v (call_result c.describe.new.call)) c.part.ensures c.describe.ensures;
     }

@@ -1,10 +1,10 @@
 use Rattle.std.proofs.Common.{◌≡◌, Ok, Err, subst, sym}
-use Rattle.expr_engine.specs.Doings.{IsMissing}
+use Rattle.expr_engine.specs.Effects.{IsMissing}
 use Rattle.expr_engine.specs.Engines.{Leaves}
 use Rattle.expr_engine.specs.Limiting.{LimitsBy}
 use Rattle.expr_engine.specs.Turns.{Turns}
-use Rattle.expr_exchange.specs.Looked.{part_of}
-use Rattle.expr_exchange.specs.declared.refused.Refused.TheVariants.{Misuse}
+use Rattle.expr_exchange.specs.Cursor.{part_of}
+use Rattle.expr_exchange.specs.declared.host_error.HostError.TheVariants.{Misuse}
 use Rattle.expr_engine.proofs.Ended.{always_ok, compile_never_unknown, never_unknown, ok_never_unknown}
 use Rattle.expr_engine.proofs.Unchanged.{left_answer, left_contexts, left_environments, left_look, left_rules, left_same, numbers_by_contexts, numbers_by_environments, numbers_by_rules, numbers_kept}
 use Rattle.expr_engine.proofs.serving.act.Goals as goal
@@ -282,14 +282,14 @@ returns-in-Refuse-clause-unknown c = λ m. c.refuse_call.ensures.unknown (subst 
 pub returns-in-Refuse-clause-numbers : goal.returns-in-Refuse-clause-numbers
 returns-in-Refuse-clause-numbers c = numbers_kept c.refuse_call.ensures.rules c.refuse_call.ensures.contexts c.refuse_call.ensures.environments
 
-pub returns-in-Asked-clause-refused : goal.returns-in-Asked-clause-refused
-returns-in-Asked-clause-refused c = left_answer c.args.engine.now c.look_asked.new.engine c.look_asked.result c.look_asked.ensures.rules c.look_asked.ensures.contexts c.look_asked.ensures.environments c.look_asked.ensures.answer
+pub returns-in-WaitingCall-clause-refused : goal.returns-in-WaitingCall-clause-refused
+returns-in-WaitingCall-clause-refused c = left_answer c.args.engine.now c.look_at_waiting_call.new.engine c.look_at_waiting_call.result c.look_at_waiting_call.ensures.rules c.look_at_waiting_call.ensures.contexts c.look_at_waiting_call.ensures.environments c.look_at_waiting_call.ensures.answer
 
-pub returns-in-Asked-clause-known : goal.returns-in-Asked-clause-known
-returns-in-Asked-clause-known c = λ e. absurd (never_unknown c.look_asked.result c.look_asked.ensures.found e)
+pub returns-in-WaitingCall-clause-known : goal.returns-in-WaitingCall-clause-known
+returns-in-WaitingCall-clause-known c = λ e. absurd (never_unknown c.look_at_waiting_call.result c.look_at_waiting_call.ensures.found e)
 
-pub returns-in-Asked-clause-numbers : goal.returns-in-Asked-clause-numbers
-returns-in-Asked-clause-numbers c = numbers_kept c.look_asked.ensures.rules c.look_asked.ensures.contexts c.look_asked.ensures.environments
+pub returns-in-WaitingCall-clause-numbers : goal.returns-in-WaitingCall-clause-numbers
+returns-in-WaitingCall-clause-numbers c = numbers_kept c.look_at_waiting_call.ensures.rules c.look_at_waiting_call.ensures.contexts c.look_at_waiting_call.ensures.environments
 
 pub returns-in-Compile-clause-turns : goal.returns-in-Compile-clause-turns
 returns-in-Compile-clause-turns c = subst (λ a. Turns a c.args.engine.now c.args.call.now c.compile.result c.compile.new.engine.waits (part_of c.compile.new.engine.answer)) (sym c.in-Compile.is) c.compile.ensures.waits
@@ -375,8 +375,8 @@ returns-in-Answer-clause-turns c = subst (λ a. Turns a c.args.engine.now c.args
 pub returns-in-Refuse-clause-turns : goal.returns-in-Refuse-clause-turns
 returns-in-Refuse-clause-turns c = subst (λ a. Turns a c.args.engine.now c.args.call.now c.refuse_call.result c.refuse_call.new.engine.waits (part_of c.refuse_call.new.engine.answer)) (sym c.in-Refuse.is) c.refuse_call.ensures.turns
 
-pub returns-in-Asked-clause-turns : goal.returns-in-Asked-clause-turns
-returns-in-Asked-clause-turns c = subst (λ a. Turns a c.args.engine.now c.args.call.now c.look_asked.result c.look_asked.new.engine.waits (part_of c.look_asked.new.engine.answer)) (sym c.in-Asked.is) c.look_asked.ensures.waits
+pub returns-in-WaitingCall-clause-turns : goal.returns-in-WaitingCall-clause-turns
+returns-in-WaitingCall-clause-turns c = subst (λ a. Turns a c.args.engine.now c.args.call.now c.look_at_waiting_call.result c.look_at_waiting_call.new.engine.waits (part_of c.look_at_waiting_call.new.engine.answer)) (sym c.in-WaitingCall.is) c.look_at_waiting_call.ensures.waits
 
 pub returns-in-Compile-clause-limits : goal.returns-in-Compile-clause-limits
 returns-in-Compile-clause-limits c = subst (λ a. LimitsBy a c.args.engine.now.limits c.args.call.now (c.compile.result ≡ Ok tt) (c.compile.result ≡ Err Misuse) c.compile.new.engine.limits) (sym c.in-Compile.is) c.compile.ensures.limits
@@ -462,8 +462,8 @@ returns-in-Answer-clause-limits c = subst (λ a. LimitsBy a c.args.engine.now.li
 pub returns-in-Refuse-clause-limits : goal.returns-in-Refuse-clause-limits
 returns-in-Refuse-clause-limits c = subst (λ a. LimitsBy a c.args.engine.now.limits c.args.call.now (c.refuse_call.result ≡ Ok tt) (c.refuse_call.result ≡ Err Misuse) c.refuse_call.new.engine.limits) (sym c.in-Refuse.is) c.refuse_call.ensures.limits
 
-pub returns-in-Asked-clause-limits : goal.returns-in-Asked-clause-limits
-returns-in-Asked-clause-limits c = subst (λ a. LimitsBy a c.args.engine.now.limits c.args.call.now (c.look_asked.result ≡ Ok tt) (c.look_asked.result ≡ Err Misuse) c.look_asked.new.engine.limits) (sym c.in-Asked.is) c.look_asked.ensures.limits
+pub returns-in-WaitingCall-clause-limits : goal.returns-in-WaitingCall-clause-limits
+returns-in-WaitingCall-clause-limits c = subst (λ a. LimitsBy a c.args.engine.now.limits c.args.call.now (c.look_at_waiting_call.result ≡ Ok tt) (c.look_at_waiting_call.result ≡ Err Misuse) c.look_at_waiting_call.new.engine.limits) (sym c.in-WaitingCall.is) c.look_at_waiting_call.ensures.limits
 
 pub returns-in-Limit-clause-limits : goal.returns-in-Limit-clause-limits
 returns-in-Limit-clause-limits c = subst (λ a. LimitsBy a c.args.engine.now.limits c.args.call.now (c.set_limit.result ≡ Ok tt) (c.set_limit.result ≡ Err Misuse) c.set_limit.new.engine.limits) (sym c.in-Limit.is) c.set_limit.ensures.set

@@ -1,28 +1,28 @@
 use Rattle.std.proofs.Common.{◌≡◌, [], MatchOption, length, subst, sym}
 use Rattle.expr_engine.specs.Asks.{ask_of, shows_of}
-use Rattle.expr_engine.specs.Doings.{Does, IsMissing, reply_of}
-use Rattle.expr_engine.specs.Engines.{asked}
+use Rattle.expr_engine.specs.Effects.{Does, IsMissing, call_result}
+use Rattle.expr_engine.specs.Engines.{run_inputs}
 use Rattle.expr_engine.specs.Limiting.{LimitsBy}
-use Rattle.expr_engine.specs.Served.{Answers, text_shown}
+use Rattle.expr_engine.specs.Served.{AnswersNumber, text_shown}
 use Rattle.expr_engine.specs.Turns.{TurnsBy}
 use Rattle.expr_engine.specs.declared.call.Ask.TheVariants.{Run}
-use Rattle.expr_exchange.specs.Looked.{part_of}
+use Rattle.expr_exchange.specs.Cursor.{part_of}
 use Rattle.expr_engine.proofs.Ended.{asked_for, does_by, done_by, limits_by, refused_by, served_by, turns_on}
 use Rattle.expr_engine.proofs.Unchanged.{leaves_after, rise_after}
 use Rattle.expr_engine.proofs.serving.serve.Goals as goal
 
 pub returns-in-Some-clause-done : goal.returns-in-Some-clause-done
 returns-in-Some-clause-done c = λ z.
-    asked_for ⊥ (ask_of c.args.call.now.ask) c.in-Some.ask (λ ask. Does ask c.args.engine.now c.finish.new.engine c.args.call.now (reply_of c.finish.new.call)) (sym c.in-Some.ensures)
-    (does_by c.in-Some.ask c.args.engine.now c.act-done.new.engine c.finish.new.engine c.args.call.now (reply_of c.act-done.new.call) (reply_of c.finish.new.call)
+    asked_for ⊥ (ask_of c.args.call.now.ask) c.in-Some.ask (λ ask. Does ask c.args.engine.now c.finish.new.engine c.args.call.now (call_result c.finish.new.call)) (sym c.in-Some.ensures)
+    (does_by c.in-Some.ask c.args.engine.now c.act-done.new.engine c.finish.new.engine c.args.call.now (call_result c.act-done.new.call) (call_result c.finish.new.call)
     (done_by c.act-done.result c.finish.new.call.status c.act-done.ensures.done c.finish.ensures.ended z) (done_by c.act-done.result c.finish.new.call.status c.finish.ensures.same c.finish.ensures.ended z) c.finish.ensures.reply)
 
 pub returns-in-Some-clause-run : goal.returns-in-Some-clause-run
 returns-in-Some-clause-run c = λ is_run.
     let is : c.in-Some.ask ≡ Run = cc (is_run, c.in-Some.ensures) in
-    let found = asked c.args.engine.now c.args.call.now.program c.args.call.now.environment c.args.call.now.context in
+    let found = run_inputs c.args.engine.now c.args.call.now.program c.args.call.now.environment c.args.call.now.context in
     let status = c.finish.new.call.status in
-    subst (λ a. MatchOption found (status ≡ 6) (λ q. Answers q [] status (part_of a))) (sym c.finish.ensures.answer)
+    subst (λ a. MatchOption found (status ≡ 6) (λ q. AnswersNumber q [] status (part_of a))) (sym c.finish.ensures.answer)
     (served_by found [] c.act-done.result (part_of c.act-done.new.engine.answer) status (c.act-done.ensures.run is) c.finish.ensures.unknown c.finish.ensures.ended)
 
 pub returns-in-Some-clause-turns : goal.returns-in-Some-clause-turns

@@ -1,23 +1,23 @@
 use Rattle.std.proofs.Common.{◌≡◌, Err, IsTrue, None, Ok, ap, refl, sym, ◌∙◌, subst}
-use Rattle.expr_evaluation.proofs.Plainly.{after_plainly, answers_plain, none_first, none_left, none_next, written-Operation}
-use Rattle.expr_evaluation.specs.Plain.{IsPlainly, IsPlainlyAfter, is_plain, operation_answer, plain_answer}
-use Rattle.expr_operators.specs.Operators.{applied, prefixed}
-use Rattle.expr_operators.specs.Sides.{sides_of}
-use Rattle.expr_operators.specs.declared.sides.Sides.TheVariants.{Both}
-use Rattle.expr_tree.proofs.Shapes.{written-Unary}
+use Rattle.expr_evaluation.proofs.AllocFree.{after_plainly, answers_plain, none_first, none_left, none_next, term_of-Operation}
+use Rattle.expr_evaluation.specs.AllocFree.{IsPlainly, IsPlainlyAfter, is_alloc_free_node, operation_answer, plain_answer}
+use Rattle.expr_operators.specs.Operators.{operator_answer, unary_answer}
+use Rattle.expr_operators.specs.Strictness.{operator_strictness}
+use Rattle.expr_operators.specs.declared.strictness.Strictness.TheVariants.{Both}
+use Rattle.expr_tree.proofs.Shapes.{term_of-Unary}
 use Rattle.expr_tree.specs.Term.{operation, unary}
-use Rattle.expr_tree.specs.Written.{written}
+use Rattle.expr_tree.specs.TermOf.{term_of}
 use Rattle.expr_evaluation.proofs.plain.+plain.Goals as goal
 
 pub plain_after-returns-in-Both-default : goal.plain_after-returns-in-Both-default
 plain_after-returns-in-Both-default t c = λ o p q v e.
     let op = c.args.operator in
     let x = c.args.first.now in
-    let right = written c.args.right.now in
+    let right = term_of c.args.right.now in
     let y = c.in_ok-second-in-Both-default.second in
-    let asked : sides_of op ≡ Both = sym c.sides_asked.ensures ∙ c.in-Both-default.is-0 in
+    let asked : operator_strictness op ≡ Both = sym c.strictness_of.ensures ∙ c.in-Both-default.is-0 in
     let is : plain_answer right ≡ Ok y = c.in_ok-second-in-Both-default.ensures in
-    none_next (plain_answer right) (applied op x) y (Err c.in-Err.field-0) c.in-Err.field-0 is (c.in-Err.ensures.plain o p (answers_plain right y q is)) refl v (
+    none_next (plain_answer right) (operator_answer op x) y (Err c.in-Err.field-0) c.in-Err.field-0 is (c.in-Err.ensures.alloc_free o p (answers_plain right y q is)) refl v (
     subst (λ k. operation_answer k op x (plain_answer right) ≡ Ok v) asked e
     )
 
@@ -25,10 +25,10 @@ pub plain_value-returns-in_err-value-in-Unary : goal.plain_value-returns-in_err-
 plain_value-returns-in_err-value-in-Unary t c =
     let op = c.in-Unary.operator in
     let m = c.in-Unary.node.value in
-    let is : written c.args.node.now ≡ unary op (written m) = ap written c.in-Unary.is ∙ written-Unary op c.in-Unary.node in
-    let none : IsPlainly None (written m) = subst (λ n. IsPlainly None (written n)) c.deref.ensures c.in_err-value-in-Unary.ensures in
-    subst (λ r. IsPlainly r (written c.args.node.now)) (sym c.from_residual.ensures) (
-    subst (λ n. IsPlainly None n) (sym is) (λ p v e. none_first (plain_answer (written m)) (prefixed op) (none p) v e)
+    let is : term_of c.args.node.now ≡ unary op (term_of m) = ap term_of c.in-Unary.is ∙ term_of-Unary op c.in-Unary.node in
+    let none : IsPlainly None (term_of m) = subst (λ n. IsPlainly None (term_of n)) c.deref.ensures c.in_err-value-in-Unary.ensures in
+    subst (λ r. IsPlainly r (term_of c.args.node.now)) (sym c.from_residual.ensures) (
+    subst (λ n. IsPlainly None n) (sym is) (λ p v e. none_first (plain_answer (term_of m)) (unary_answer op) (none p) v e)
     )
 
 pub plain_value-returns-in_err-first-in-Operation : goal.plain_value-returns-in_err-first-in-Operation
@@ -36,10 +36,10 @@ plain_value-returns-in_err-first-in-Operation t c =
     let op = c.in-Operation.operator in
     let l = c.in-Operation.left.value in
     let r = c.in-Operation.right.value in
-    let is : written c.args.node.now ≡ operation op (written l) (written r) = ap written c.in-Operation.is ∙ written-Operation op c.in-Operation.left c.in-Operation.right c.in-Operation.compiled_regex in
-    let none : IsPlainly None (written l) = subst (λ n. IsPlainly None (written n)) c.deref-in-Operation.ensures c.in_err-first-in-Operation.ensures in
-    subst (λ r. IsPlainly r (written c.args.node.now)) (sym c.from_residual-in_err-first-in-Operation.ensures) (
-    subst (λ n. IsPlainly None n) (sym is) (none_left op (written l) (written r) none)
+    let is : term_of c.args.node.now ≡ operation op (term_of l) (term_of r) = ap term_of c.in-Operation.is ∙ term_of-Operation op c.in-Operation.left c.in-Operation.right c.in-Operation.compiled_regex in
+    let none : IsPlainly None (term_of l) = subst (λ n. IsPlainly None (term_of n)) c.deref-in-Operation.ensures c.in_err-first-in-Operation.ensures in
+    subst (λ r. IsPlainly r (term_of c.args.node.now)) (sym c.from_residual-in_err-first-in-Operation.ensures) (
+    subst (λ n. IsPlainly None n) (sym is) (none_left op (term_of l) (term_of r) none)
     )
 
 pub plain_value-returns-in-Operation : goal.plain_value-returns-in-Operation
@@ -48,10 +48,10 @@ plain_value-returns-in-Operation t c =
     let l = c.in-Operation.left.value in
     let r = c.in-Operation.right.value in
     let x = c.in_ok-first-in-Operation.first in
-    let is : written c.args.node.now ≡ operation op (written l) (written r) = ap written c.in-Operation.is ∙ written-Operation op c.in-Operation.left c.in-Operation.right c.in-Operation.compiled_regex in
-    let first : plain_answer (written l) ≡ Ok x = subst (λ n. plain_answer (written n) ≡ Ok x) c.deref-in-Operation.ensures c.in_ok-first-in-Operation.ensures in
+    let is : term_of c.args.node.now ≡ operation op (term_of l) (term_of r) = ap term_of c.in-Operation.is ∙ term_of-Operation op c.in-Operation.left c.in-Operation.right c.in-Operation.compiled_regex in
+    let first : plain_answer (term_of l) ≡ Ok x = subst (λ n. plain_answer (term_of n) ≡ Ok x) c.deref-in-Operation.ensures c.in_ok-first-in-Operation.ensures in
     subst (λ n. IsPlainly c.plain_after.result n) (sym is) (
-    after_plainly c.plain_after.result op x (written l) (written r) first (
-    subst (λ n. IsPlainlyAfter c.plain_after.result op x (written n)) c.deref-in-Operation-2.ensures c.plain_after.ensures
+    after_plainly c.plain_after.result op x (term_of l) (term_of r) first (
+    subst (λ n. IsPlainlyAfter c.plain_after.result op x (term_of n)) c.deref-in-Operation-2.ensures c.plain_after.ensures
     )
     )

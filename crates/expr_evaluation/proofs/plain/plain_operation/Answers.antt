@@ -1,16 +1,16 @@
 use Rattle.std.proofs.Common.{sym, subst}
-use Rattle.expr_evaluation.proofs.Plainly.{after_plainly, none_left}
-use Rattle.expr_evaluation.specs.Plain.{IsPlainly}
+use Rattle.expr_evaluation.proofs.AllocFree.{after_plainly, none_left}
+use Rattle.expr_evaluation.specs.AllocFree.{IsPlainly}
 use Rattle.expr_tree.specs.Term.{operation}
-use Rattle.expr_tree.specs.Written.{written}
+use Rattle.expr_tree.specs.TermOf.{term_of}
 use Rattle.expr_evaluation.proofs.plain.plain_operation.Goals as goal
 
 pub returns-in_err-first : goal.returns-in_err-first
 returns-in_err-first c =
-    let l = written c.args.left.now in
-    let r = written c.args.right.now in
+    let l = term_of c.args.left.now in
+    let r = term_of c.args.right.now in
     subst (λ o. IsPlainly o (operation c.args.operator l r)) (sym c.from_residual.ensures) (none_left c.args.operator l r c.in_err-first.ensures)
 
 pub returns : goal.returns
 returns c =
-    after_plainly c.plain_after.result c.args.operator c.in_ok-first.first (written c.args.left.now) (written c.args.right.now) c.in_ok-first.ensures c.plain_after.ensures
+    after_plainly c.plain_after.result c.args.operator c.in_ok-first.first (term_of c.args.left.now) (term_of c.args.right.now) c.in_ok-first.ensures c.plain_after.ensures

@@ -1,7 +1,7 @@
 use Rattle.std.proofs.Common.{List, ◌++◌, length}
 use denote.Shadow.{shadow}
 use denote.Text.{Utf8}
-use Rattle.expr_layout.specs.declared.token.Token.{Token}
+use Rattle.expr_layout.specs.declared.token.LayoutToken.{LayoutToken}
 use Rattle.std.specs.Prelude.{false}
 use Rattle.expr_layout.specs.Layouts.{IsLayout}
 use Rattle.expr_layout.proofs.layout.tokens_of.Given as goal
@@ -10,7 +10,7 @@ use Rattle.expr_layout.proofs.layout.tokens_of.Given as goal
 abbrev pub invariant-loop-token : goal.invariant-loop-token
 invariant-loop-token l =
     record {
-      leads : (ts : List Token) → IsLayout l.second l.rest ts → IsLayout false l.layout (l.tokens.items ++ ts);
+      leads : (ts : List LayoutToken) → IsLayout l.second l.rest ts → IsLayout false l.layout (l.tokens.items ++ ts);
       text : shadow (Utf8 l.rest);
     }
 

@@ -1,5 +1,5 @@
 use Rattle.std.proofs.Common.{ap, sym, ◌∙◌, arith, List, ℕ, Some, None}
-use Rattle.expr_layout.specs.Found.{after_any_case}
+use Rattle.expr_layout.specs.KnownFields.{after_any_case}
 use Rattle.expr_layout.proofs.Findings.{name_more, name_none}
 use Rattle.expr_layout.proofs.read.+name_at.Goals as goal
 

@@ -1,5 +1,5 @@
 use Rattle.std.proofs.Common.{◌≡◌, ◌+◌, ◌*◌, ◌≤◌, length}
-use Rattle.expr_layout.specs.Found.{parts_at}
+use Rattle.expr_layout.specs.KnownFields.{parts_at}
 use Rattle.expr_layout.proofs.read.parts_at.Given as goal
 
 -- what is left gives with what was read the same parts, which fit

@@ -6,13 +6,13 @@ pub returns-in_default : goal.returns-in_default
 returns-in_default c =
     sym (read_stuck c.args.tokens.now c.loop-i.i _ c.loop-i.known c.loop-i.rest.now (omega arith) (sym c.in_default.ensures)) ∙ c.loop-i.invariant
 
-pub returns-in_default-noted : goal.returns-in_default-noted
-returns-in_default-noted c =
-    sym (read_differs c.args.tokens.now c.loop-i.i _ c.loop-i.known c.loop-i.rest.now c.in-Some.behind.now c.in-Some.finding (omega arith) (sym c.in-Some.ensures) (sym c.in_default-noted.ensures)) ∙ c.loop-i.invariant
+pub returns-in_default-with_finding : goal.returns-in_default-with_finding
+returns-in_default-with_finding c =
+    sym (read_differs c.args.tokens.now c.loop-i.i _ c.loop-i.known c.loop-i.rest.now c.in-Some.behind.now c.in-Some.finding (omega arith) (sym c.in-Some.ensures) (sym c.in_default-with_finding.ensures)) ∙ c.loop-i.invariant
 
 pub loop-i-preserved : goal.loop-i-preserved
 loop-i-preserved c =
-    sym (read_more c.args.tokens.now c.loop-i.i _ c.loop-i.known c.in-Some-noted.more c.loop-i.rest.now c.in-Some.behind.now c.in-Some.finding (omega arith) (sym c.in-Some.ensures) (sym c.in-Some-noted.ensures)) ∙ c.loop-i.invariant
+    sym (read_more c.args.tokens.now c.loop-i.i _ c.loop-i.known c.in-Some-with_finding.more c.loop-i.rest.now c.in-Some.behind.now c.in-Some.finding (omega arith) (sym c.in-Some.ensures) (sym c.in-Some-with_finding.ensures)) ∙ c.loop-i.invariant
 
 pub returns-then-is_empty : goal.returns-then-is_empty
 returns-then-is_empty c =

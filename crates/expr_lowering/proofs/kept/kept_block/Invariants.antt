@@ -5,4 +5,4 @@ use Rattle.expr_lowering.proofs.kept.kept_block.Given as goal
 
 abbrev pub invariant-loop-instruction : goal.invariant-loop-instruction
 invariant-loop-instruction g l =
-    map (op_of own_value own_text) l.kept.items ≡ map (op_of g.L.Holder.held (λ n. string_bytes (g.N.Holder.held n))) (take l.instruction-index l.instruction-items)
+    map (op_of own_value own_text) l.kept.items ≡ map (op_of g.L.Pointer.held (λ n. string_bytes (g.N.Pointer.held n))) (take l.instruction-index l.instruction-items)

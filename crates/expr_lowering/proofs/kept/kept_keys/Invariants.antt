@@ -3,4 +3,4 @@ use Rattle.expr_lowering.specs.Owned.{own_text}
 use Rattle.expr_lowering.proofs.kept.kept_keys.Given as goal
 
 abbrev pub invariant-loop-key : goal.invariant-loop-key
-invariant-loop-key g l = map own_text l.kept.items ≡ map (λ n. string_bytes (g.N.Holder.held n)) (take l.key-index l.key-items)
+invariant-loop-key g l = map own_text l.kept.items ≡ map (λ n. string_bytes (g.N.Pointer.held n)) (take l.key-index l.key-items)

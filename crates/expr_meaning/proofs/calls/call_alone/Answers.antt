@@ -1,11 +1,11 @@
 use Rattle.std.proofs.Common.{Ok, Err, false, sym, subst}
 use Rattle.expr_meaning.specs.Allows.{AllowsCall}
-use Rattle.expr_meaning.specs.Begun.{Begins}
+use Rattle.expr_meaning.specs.Dispatch.{DispatchesTo}
 use Rattle.expr_meaning.specs.Host.{Host}
-use Rattle.expr_predicates.specs.Runs.{AsksItself}
-use Rattle.expr_value.specs.Fault.{fault_of}
-use Rattle.expr_value.proofs.Answered.{Gives-passed}
-use Rattle.expr_meaning.proofs.Beginning.{AllowsCall-answered, AllowsCall-refused, AllowsCall-run}
+use Rattle.expr_predicates.specs.Runs.{AnswersItself}
+use Rattle.expr_error.specs.ErrorKind.{error_kind}
+use Rattle.expr_value.proofs.Answered.{Returns-passed}
+use Rattle.expr_meaning.proofs.Dispatching.{AllowsCall-answered, AllowsCall-refused, AllowsCall-run}
 use Rattle.expr_meaning.proofs.calls.call_alone.Goals as goal
 
 pub returns-in_err-answer : goal.returns-in_err-answer
@@ -14,8 +14,8 @@ returns-in_err-answer g c =
     let key = c.args.ident.now in
     let vs = c.args.args in
     let e = c.in_err-answer.field-0.0 in
-    Gives-passed c.from_residual.result e (AllowsCall host key vs false AsksItself) c.from_residual.ensures.1 (
-    λ m. AllowsCall-refused host key vs false AsksItself (fault_of e) (c.in_err-answer.ensures.refused m)
+    Returns-passed c.from_residual.result e (AllowsCall host key vs false AnswersItself) c.from_residual.ensures.1 (
+    λ m. AllowsCall-refused host key vs false AnswersItself (error_kind e) (c.in_err-answer.ensures.refused m)
     )
 
 pub returns-in_err-complete-in-Asks : goal.returns-in_err-complete-in-Asks
@@ -24,9 +24,9 @@ returns-in_err-complete-in-Asks g c =
     let key = c.args.ident.now in
     let vs = c.args.args in
     let e = c.in_err-complete-in-Asks.field-0.0 in
-    let begins = subst (λ b. Begins host key vs false b) c.in-Asks.is c.in_ok-answer.ensures.begun in
-    Gives-passed c.from_residual-in_err-complete-in-Asks.result e (AllowsCall host key vs false AsksItself) c.from_residual-in_err-complete-in-Asks.ensures.1 (
-    λ m. AllowsCall-run host key vs false AsksItself c.in-Asks.run' begins (Err (fault_of e)) (λ t s. c.in_err-complete-in-Asks.ensures t s m)
+    let begins = subst (λ b. DispatchesTo host key vs false b) c.in-Asks.is c.in_ok-answer.ensures.begun in
+    Returns-passed c.from_residual-in_err-complete-in-Asks.result e (AllowsCall host key vs false AnswersItself) c.from_residual-in_err-complete-in-Asks.ensures.1 (
+    λ m. AllowsCall-run host key vs false AnswersItself c.in-Asks.run' begins (Err (error_kind e)) (λ t s. c.in_err-complete-in-Asks.ensures t s m)
     )
 
 pub returns-in_ok-complete-in-Asks : goal.returns-in_ok-complete-in-Asks
@@ -35,9 +35,9 @@ returns-in_ok-complete-in-Asks g c =
     let key = c.args.ident.now in
     let vs = c.args.args in
     let v = c.in_ok-complete-in-Asks.field-0 in
-    let begins = subst (λ b. Begins host key vs false b) c.in-Asks.is c.in_ok-answer.ensures.begun in
-    subst (λ w. AllowsCall host key vs false AsksItself (Ok w)) (sym c.own-in-Asks.ensures) (
-    AllowsCall-run host key vs false AsksItself c.in-Asks.run' begins (Ok v) c.in_ok-complete-in-Asks.ensures
+    let begins = subst (λ b. DispatchesTo host key vs false b) c.in-Asks.is c.in_ok-answer.ensures.begun in
+    subst (λ w. AllowsCall host key vs false AnswersItself (Ok w)) (sym c.from_owned-in-Asks.ensures) (
+    AllowsCall-run host key vs false AnswersItself c.in-Asks.run' begins (Ok v) c.in_ok-complete-in-Asks.ensures
     )
 
 pub returns-in-Answered : goal.returns-in-Answered
@@ -45,5 +45,5 @@ returns-in-Answered g c =
     let host : Host = g.H.Functions.host c.args.host.now in
     let key = c.args.ident.now in
     let vs = c.args.args in
-    let begins = subst (λ b. Begins host key vs false b) c.in-Answered.is c.in_ok-answer.ensures.begun in
-    subst (λ w. AllowsCall host key vs false AsksItself (Ok w)) (sym c.own.ensures) (AllowsCall-answered host key vs false AsksItself c.in-Answered.answer begins)
+    let begins = subst (λ b. DispatchesTo host key vs false b) c.in-Answered.is c.in_ok-answer.ensures.begun in
+    subst (λ w. AllowsCall host key vs false AnswersItself (Ok w)) (sym c.from_owned.ensures) (AllowsCall-answered host key vs false AnswersItself c.in-Answered.answer begins)

@@ -2,17 +2,17 @@ use Rattle.std.proofs.Common.{◌≡◌, true, false, Ok, Err, rules, refl, sym,
 use Rattle.expr_value.specs.declared.value.Value as value
 use Rattle.expr_value.specs.declared.value.Value.{Value, the_lemmas}
 use Rattle.expr_meaning.specs.Allows.{Allows, AndThen, OrElse}
-use Rattle.expr_value.specs.Answers.{Answer, After}
+use Rattle.expr_value.specs.Answers.{Answer, Then}
 use Rattle.expr_meaning.proofs.laws.left_side_decides.Goals as goal
 use Rattle.expr_meaning.specs.World.{world_of}
 
 -- after a literal the next step goes on with its value
 module _ (v : Value) (next : Value → Answer → Type 0) (a : Answer) where
-  from_literal : After (λ b. b ≡ Ok v) next a → next v a
+  from_literal : Then (λ b. b ≡ Ok v) next a → next v a
   from_literal (Ok w, e, h) = let same : w ≡ v = cc e in subst (λ u. next u a) same h
   from_literal (Err k, e, h) = absurd (cc e)
 
-  after_literal : next v a → After (λ b. b ≡ Ok v) next a
+  after_literal : next v a → Then (λ b. b ≡ Ok v) next a
   after_literal h = (Ok v, refl, h)
 
 false-and : (right : Answer → Type 0) (a : Answer) → AndThen (value.Bool false) right a ≡ (a ≡ Ok (value.Bool false))

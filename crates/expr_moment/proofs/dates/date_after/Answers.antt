@@ -4,7 +4,7 @@ use mir.Val.{SFits}
 use Rattle.std.proofs.Common.{rules, ℤ, to_z, of_z, ◌≡◌, ap, ◌∙◌, sym, pos, ◌-◌, ◌+ℤ◌, MatchOption, Some, None}
 use Rattle.std.specs.Prelude.{Option}
 use Rattle.std.proofs.Math.Path.{subst}
-use Rattle.expr_clock.specs.Calendar.{plain_day}
+use Rattle.expr_datetime.specs.Calendar.{plain_day}
 use Rattle.jiff.specs.Words.{epoch_day, IsEpochDay, IsYear}
 use Rattle.expr_moment.specs.Dates.{day_reached, first_day, months_on, year_at}
 use Rattle.expr_moment.proofs.dates.date_after.Goals as goal

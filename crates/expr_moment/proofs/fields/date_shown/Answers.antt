@@ -1,5 +1,5 @@
 use Rattle.std.proofs.Common.{ap, ◌∙◌}
-use Rattle.expr_clock.specs.Calendar.{Day, date_shown, plain_day}
+use Rattle.expr_datetime.specs.Calendar.{Day, date_shown, plain_day}
 use Rattle.expr_moment.proofs.Shown.{date_is_shown}
 use Rattle.expr_moment.proofs.fields.date_shown.Goals as goal
 

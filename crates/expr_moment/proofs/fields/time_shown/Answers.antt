@@ -1,5 +1,5 @@
 use Rattle.std.proofs.Common.{ap, ◌∙◌}
-use Rattle.expr_clock.specs.Calendar.{Clock, plain_clock, time_shown}
+use Rattle.expr_datetime.specs.Calendar.{Clock, plain_clock, time_shown}
 use Rattle.expr_moment.proofs.Shown.{time_is_shown}
 use Rattle.expr_moment.proofs.fields.time_shown.Goals as goal
 

@@ -1,6 +1,6 @@
 use Rattle.std.proofs.Common.{ap, ◌∙◌, ℤ, ◌+◌, ◌%◌}
 use Rattle.std.specs.Int.{int_div_euclid}
-use Rattle.expr_clock.specs.Calendar.{day_length}
+use Rattle.expr_datetime.specs.Calendar.{day_length}
 use Rattle.jiff.specs.Types.{Date}
 use Rattle.jiff.specs.Words.{weekday_of}
 unfoldable use Rattle.jiff_core.specs.Calendar.{weekday_number}

@@ -1,7 +1,7 @@
 use Rattle.std.proofs.Common.{Err, IsTrue, arith, rules, le_refl, subst}
 use Rattle.expr_frames.specs.Nodes.{step_in, finish_in}
-use Rattle.expr_frames.specs.Faults.{Gives}
-use Rattle.expr_parser.specs.Reading.{stack, Stands}
+use Rattle.expr_frames.specs.ReadErrors.{ReturnsOption}
+use Rattle.expr_parser.specs.Reading.{stack, ReachesState}
 use Rattle.expr_parser.proofs.Reach.{read_none, read_more, stops_tree, stops_at, unread_tree, unread_at, ends_parsed, ends_only, ends_large, ends_unfit, ends_tree, ends_at}
 use Rattle.expr_parser.proofs.parser.parse.Goals as goal
 
@@ -48,7 +48,7 @@ returns-in-Err-Syntax-clause-answer c =
     let read = l.invariant in
     let more = rw c.in-Ok-Token.field-0-is at (c.in-Ok-Token.ensures.goes_on read.tokens read.starts read.begins) in
     stops_tree c.args.text.now l.at l.fit (stack l.parser.frames.items) l.place read c.in-Ok-Token.token c.in-Ok-Token.start c.in-Ok-Token.end more
-    (subst (λ f. Stands (step_in (stack l.parser.frames.items) l.place c.in-Ok-Token.token) c.step.new.self.frames.items (Err f)) c.in-Err-Syntax.field-0-is c.in-Err-Syntax.ensures)
+    (subst (λ f. ReachesState (step_in (stack l.parser.frames.items) l.place c.in-Ok-Token.token) c.step.new.self.frames.items (Err f)) c.in-Err-Syntax.field-0-is c.in-Err-Syntax.ensures)
 
 pub returns-in-Err-Syntax-clause-only : goal.returns-in-Err-Syntax-clause-only
 returns-in-Err-Syntax-clause-only c =
@@ -56,7 +56,7 @@ returns-in-Err-Syntax-clause-only c =
     let read = l.invariant in
     let more = rw c.in-Ok-Token.field-0-is at (c.in-Ok-Token.ensures.goes_on read.tokens read.starts read.begins) in
     stops_tree c.args.text.now l.at l.fit (stack l.parser.frames.items) l.place read c.in-Ok-Token.token c.in-Ok-Token.start c.in-Ok-Token.end more
-    (subst (λ f. Stands (step_in (stack l.parser.frames.items) l.place c.in-Ok-Token.token) c.step.new.self.frames.items (Err f)) c.in-Err-Syntax.field-0-is c.in-Err-Syntax.ensures)
+    (subst (λ f. ReachesState (step_in (stack l.parser.frames.items) l.place c.in-Ok-Token.token) c.step.new.self.frames.items (Err f)) c.in-Err-Syntax.field-0-is c.in-Err-Syntax.ensures)
 
 pub returns-in-Err-Syntax-clause-place : goal.returns-in-Err-Syntax-clause-place
 returns-in-Err-Syntax-clause-place c =
@@ -66,7 +66,7 @@ returns-in-Err-Syntax-clause-place c =
     let more = rw c.in-Ok-Token.field-0-is at (c.in-Ok-Token.ensures.goes_on read.tokens read.starts read.begins) in (
       omega (arith, inside.1, inside.2),
       stops_at c.args.text.now l.at l.fit (stack l.parser.frames.items) l.place read c.in-Ok-Token.token c.in-Ok-Token.start c.in-Ok-Token.end more
-          (subst (λ f. Stands (step_in (stack l.parser.frames.items) l.place c.in-Ok-Token.token) c.step.new.self.frames.items (Err f)) c.in-Err-Syntax.field-0-is c.in-Err-Syntax.ensures),
+          (subst (λ f. ReachesState (step_in (stack l.parser.frames.items) l.place c.in-Ok-Token.token) c.step.new.self.frames.items (Err f)) c.in-Err-Syntax.field-0-is c.in-Err-Syntax.ensures),
     )
 
 pub returns-in-Ok-finish-clause-answer : goal.returns-in-Ok-finish-clause-answer
@@ -105,7 +105,7 @@ returns-in-Err-Syntax-finish-clause-answer c =
     let read = l.invariant in
     let whole = rw c.in-Ok-End.field-0-is at (c.in-Ok-End.ensures.goes_on read.tokens read.starts read.begins) in
     ends_tree c.args.text.now l.at l.fit (stack l.parser.frames.items) l.place read whole
-    (subst (λ f. Gives (finish_in (stack l.parser.frames.items) l.place) (Err f)) c.in-Err-Syntax-finish.field-0-is c.in-Err-Syntax-finish.ensures)
+    (subst (λ f. ReturnsOption (finish_in (stack l.parser.frames.items) l.place) (Err f)) c.in-Err-Syntax-finish.field-0-is c.in-Err-Syntax-finish.ensures)
 
 pub returns-in-Err-Syntax-finish-clause-only : goal.returns-in-Err-Syntax-finish-clause-only
 returns-in-Err-Syntax-finish-clause-only c =
@@ -113,7 +113,7 @@ returns-in-Err-Syntax-finish-clause-only c =
     let read = l.invariant in
     let whole = rw c.in-Ok-End.field-0-is at (c.in-Ok-End.ensures.goes_on read.tokens read.starts read.begins) in
     ends_tree c.args.text.now l.at l.fit (stack l.parser.frames.items) l.place read whole
-    (subst (λ f. Gives (finish_in (stack l.parser.frames.items) l.place) (Err f)) c.in-Err-Syntax-finish.field-0-is c.in-Err-Syntax-finish.ensures)
+    (subst (λ f. ReturnsOption (finish_in (stack l.parser.frames.items) l.place) (Err f)) c.in-Err-Syntax-finish.field-0-is c.in-Err-Syntax-finish.ensures)
 
 pub returns-in-Err-Syntax-finish-clause-place : goal.returns-in-Err-Syntax-finish-clause-place
 returns-in-Err-Syntax-finish-clause-place c =

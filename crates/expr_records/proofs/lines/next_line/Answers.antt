@@ -1,7 +1,7 @@
 use Rattle.std.proofs.Common.{subst, sym, ◌∙◌}
 use Rattle.expr_records.proofs.LineLemmas.{Reading, reads_end, reads_feed, reads_none, reads_part}
 use Rattle.expr_records.proofs.lines.next_line.Goals.{in-Part, in-Interrupted}
-use Rattle.expr_records.specs.Taken.{Takes}
+use Rattle.expr_records.specs.LineSteps.{Takes}
 use Rattle.expr_records.proofs.lines.next_line.Goals as goal
 
 pub returns-in-LineFeed-clause-next : goal.returns-in-LineFeed-clause-next

@@ -4,7 +4,7 @@ use Rattle.std.specs.Io.KnownBytes.{Consumes}
 use Rattle.std.specs.Io.BufRead.{FillKeeps}
 use Rattle.memchr.specs.Find.{NoneBefore, Nowhere, Passes, is_byte}
 use Rattle.expr_records.proofs.LineLemmas.{no_feed_before, through_feed}
-use Rattle.expr_records.specs.Taken.{HasNoFeed}
+use Rattle.expr_records.specs.LineSteps.{HasNoFeed}
 use Rattle.expr_records.proofs.lines.take_ready.Goals as goal
 
 pub returns-in-Some-clause-taken : goal.returns-in-Some-clause-taken

@@ -1,4 +1,4 @@
-use Rattle.expr_records.specs.Asked.{may_name}
+use Rattle.expr_records.specs.RecordCode.{may_name}
 use Rattle.expr_records.proofs.Given.{refused_passed}
 use Rattle.expr_records.proofs.names.bind.Goals as goal
 

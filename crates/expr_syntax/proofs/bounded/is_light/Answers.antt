@@ -17,15 +17,15 @@ loop-token-preserved c =
     let read = l.invariant in
     let more = rw c.in-Token.is at (c.in_ok-token.ensures.goes_on read.tokens read.starts read.begins) in
     weighed_more c.args.code.now c.args.patterns l.at l.left l.is_behind read c.in-Token.token c.in-Token.field-1 c.in-Token.end more
-    c.in-Some.rest c.stands_behind-is_next_behind.result c.in-Some.ensures c.stands_behind-is_next_behind.ensures
+    c.in-Some.rest c.is_behind_matches-is_next_behind.result c.in-Some.ensures c.is_behind_matches-is_next_behind.ensures
 
-pub returns-in_default-left_after-clause-answer : goal.returns-in_default-left_after-clause-answer
-returns-in_default-left_after-clause-answer c =
+pub returns-in_default-remaining_weight-clause-answer : goal.returns-in_default-remaining_weight-clause-answer
+returns-in_default-remaining_weight-clause-answer c =
     let l = c.loop-token in
     let read = l.invariant in
     let more = rw c.in-Token.is at (c.in_ok-token.ensures.goes_on read.tokens read.starts read.begins) in
     weighed_heavier c.args.code.now c.args.patterns l.at l.left l.is_behind read c.in-Token.token c.in-Token.field-1 c.in-Token.end more
-    c.in_default-left_after.ensures
+    c.in_default-remaining_weight.ensures
 
 pub returns : goal.returns
 returns c =

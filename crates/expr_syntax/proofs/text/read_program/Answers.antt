@@ -1,5 +1,5 @@
 use Rattle.std.proofs.Common.{Err}
-use Rattle.expr_value.specs.declared.error.Error.TheVariants.{PestError}
+use Rattle.expr_error.specs.declared.error.Error.TheVariants.{PestError}
 use Rattle.expr_syntax.proofs.Compiled.{placed_boundary, refusal_boundary, IsReadFor-literal}
 use Rattle.expr_syntax.proofs.text.read_program.Goals as goal
 

@@ -3,7 +3,7 @@ use Rattle.std.specs.Prelude.{Option}
 use Rattle.std.specs.Int.{w32}
 use mir.Val.{SFits, of_z, to_z}
 use Rattle.std.proofs.lemmas.Int.{to_z-of_z}
-use Rattle.expr_value.specs.declared.moment.Place.TheVariants.{Zone}
+use Rattle.expr_datetime.specs.declared.moment.MomentZone.TheVariants.{Named}
 use Rattle.expr_time.specs.Civil.{answer_in, place_at, place_read}
 use Rattle.expr_time.proofs.Given.{gives_more}
 use Rattle.expr_time.proofs.date.moment.Goals as goal
@@ -26,5 +26,5 @@ returns-in-None c =
     let zone = c.args.zone.now in
     let civil = c.in-Some.civil in
     let offset : None ≡ f.offset = cc in
-    let same : answer_in (Some (Zone zone)) civil ≡ answer_in (place_read f.offset zone) civil = ap (λ (o : Option ℤ). answer_in (place_read o zone) civil) offset in
+    let same : answer_in (Some (Named zone)) civil ≡ answer_in (place_read f.offset zone) civil = ap (λ (o : Option ℤ). answer_in (place_read o zone) civil) offset in
     gives_more c.in_zone.result (λ a e. inl (civil, c.in-Some.ensures, sym same ∙ e)) c.in_zone.ensures

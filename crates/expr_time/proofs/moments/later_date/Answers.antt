@@ -4,11 +4,11 @@ use Rattle.std.specs.Int.{w64}
 use mir.Val.{SFits, of_z, to_z}
 use Rattle.std.proofs.lemmas.Int.{to_z-of_z}
 use Rattle.std.proofs.Math.Path.{subst}
-use Rattle.expr_clock.specs.Calendar.{Day, plain_clock}
+use Rattle.expr_datetime.specs.Calendar.{Day, plain_clock}
 use Rattle.jiff.specs.Words.{epoch_day}
 use Rattle.expr_moment.specs.Dates.{IsReached, day_reached}
 use Rattle.expr_moment.specs.Fields.{date_at}
-use Rattle.expr_moment.specs.Places.{given}
+use Rattle.expr_moment.specs.Zones.{moment_or_refusal}
 use Rattle.expr_time.proofs.Given.{gives_more}
 use Rattle.expr_time.proofs.moments.later_date.Goals as goal
 
@@ -41,6 +41,6 @@ returns c =
     reached_from _ _ _ _ _ _ _ _ day (handed _ years) (handed _ months) (handed _ days) c.in-Some.ensures.1 in
     let number : epoch_day dt.date ≡ day_reached (date_at c.args.moment.now) c.args.years c.args.months c.args.days =
     ap epoch_day c.from_parts-civil.ensures.date ∙ c.in-Some.ensures.0 ∙ (λ i. day_reached (day i) (handed _ years i) (handed _ months i) (handed _ days i)) in
-    gives_more c.given.result
-    (λ a e. inl (dt, reached, number, ap plain_clock c.from_parts-civil.ensures.time ∙ c.time_shown.ensures.time, sym (ap given c.in_ok-found.ensures.ok) ∙ e))
-    c.given.ensures
+    gives_more c.moment_or_refusal.result
+    (λ a e. inl (dt, reached, number, ap plain_clock c.from_parts-civil.ensures.time ∙ c.time_shown.ensures.time, sym (ap moment_or_refusal c.in_ok-found.ensures.ok) ∙ e))
+    c.moment_or_refusal.ensures

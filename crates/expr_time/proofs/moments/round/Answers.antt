@@ -4,11 +4,11 @@ use Rattle.std.specs.Int.{w64, w128}
 use mir.Val.{SFits}
 use Rattle.std.proofs.lemmas.Int.{to_z-of_z}
 use Rattle.std.proofs.Math.Path.{subst}
-use Rattle.expr_value.specs.Answers.{Answer, Is}
-use Rattle.expr_value.specs.Moved.{at_instant}
-use Rattle.expr_value.specs.Times.{instant, place_of}
+use Rattle.expr_value.specs.Answers.{Answer, ReturnsExactly}
+use Rattle.expr_datetime.specs.ShiftedMoments.{at_instant}
+use Rattle.expr_datetime.specs.Times.{instant, moment_zone}
 use Rattle.expr_time.specs.Moments.{answer_for, instant_rounded}
-use Rattle.expr_moment.specs.Places.{given}
+use Rattle.expr_moment.specs.Zones.{moment_or_refusal}
 use Rattle.expr_time.proofs.moments.round.Goals as goal
 
 pub returns : goal.returns
@@ -22,5 +22,5 @@ returns c =
     let step_fits : SFits w64 step = search rules in
     let read : n ≡ instant m = c.as_nanosecond.ensures ∙ c.timestamp.ensures in
     let same : r ≡ instant_rounded (instant m) step = c.instant_rounded.ensures ∙ (λ i. instant_rounded ((to_z-of_z w128 n n_fits ∙ read) i) (to_z-of_z w64 step step_fits i)) in
-    let found : c.in_ok-found.found ≡ at_instant (instant_rounded (instant m) step) (place_of m) = c.in_ok-found.ensures.ok ∙ ap (λ (k : ℤ). at_instant k (place_of m)) (to_z-of_z w128 r r_fits ∙ same) in
-    subst (λ (a : Answer). Is c.given.result a) (ap given found ∙ ap (λ (o : Option ℤ). answer_for o (λ k. given (at_instant (instant_rounded (instant m) k) (place_of m)))) c.in-Some.ensures) c.given.ensures
+    let found : c.in_ok-found.found ≡ at_instant (instant_rounded (instant m) step) (moment_zone m) = c.in_ok-found.ensures.ok ∙ ap (λ (k : ℤ). at_instant k (moment_zone m)) (to_z-of_z w128 r r_fits ∙ same) in
+    subst (λ (a : Answer). ReturnsExactly c.moment_or_refusal.result a) (ap moment_or_refusal found ∙ ap (λ (o : Option ℤ). answer_for o (λ k. moment_or_refusal (at_instant (instant_rounded (instant m) k) (moment_zone m)))) c.in-Some.ensures) c.moment_or_refusal.ensures

@@ -1,5 +1,5 @@
 use Rattle.std.proofs.Common.{◌+◌, ◌++◌, drop, take, sym, ap, ◌∙◌, arith}
-use Rattle.expr_token.specs.Lexer.{unescaped}
+use Rattle.expr_token.specs.Lexer.{unescaped_bytes}
 use Rattle.expr_token.proofs.Unescaping.{plain_more, pair_at, pair_more, none_more}
 use Rattle.expr_token.proofs.quoted.next_escape.Goals as goal
 
@@ -12,7 +12,7 @@ returns-in-Some-clause-value c =
     let s = c.args.bytes.now in
     let i = c.loop-place.place in
     sym c.loop-place.invariant.1
-    ∙ ap (λ l. take i s ++ l) (pair_at s i c.loop-place-test.true c.if-bytes-place-ne92.false ∙ ap (λ l. l ++ unescaped (drop (i + 2) s)) (sym c.in-Some.ensures.value))
+    ∙ ap (λ l. take i s ++ l) (pair_at s i c.loop-place-test.true c.if-bytes-place-ne92.false ∙ ap (λ l. l ++ unescaped_bytes (drop (i + 2) s)) (sym c.in-Some.ensures.value))
 
 pub loop-place-preserved : goal.loop-place-preserved
 loop-place-preserved c =

@@ -3,4 +3,4 @@ use Rattle.expr_tree.proofs.Weights.{program-parts}
 use Rattle.expr_tree.proofs.chain.hung_program.Goals as goal
 
 pub returns : goal.returns
-returns c = omega (arith, program-parts c.args.program, c.hung.ensures, c.hung_lines.ensures)
+returns c = omega (arith, program-parts c.args.program, c.hang.ensures, c.hung_lines.ensures)

@@ -1,11 +1,11 @@
-use Rattle.expr_tree.specs.Inside.{lent_terms}
-use Rattle.expr_tree.specs.Written.{program_written}
-use Rattle.expr_tree.proofs.Children.{weight_of}
+use Rattle.expr_tree.specs.LentChildren.{lent_terms}
+use Rattle.expr_tree.specs.TermOf.{program_term}
+use Rattle.expr_tree.proofs.NodeChildren.{weight_of}
 use Rattle.expr_tree.proofs.Waiting.{Gathers}
 use Rattle.expr_tree.proofs.names.names_within.Given as goal
 
 abbrev pub invariant-loop-node : goal.invariant-loop-node
-invariant-loop-node l = Gathers l.names (lent_terms l.waiting.items) (program_written l.program)
+invariant-loop-node l = Gathers l.names (lent_terms l.waiting.items) (program_term l.program)
 
 abbrev pub decreases-loop-node : goal.decreases-loop-node
 decreases-loop-node l = weight_of (lent_terms l.waiting.items)

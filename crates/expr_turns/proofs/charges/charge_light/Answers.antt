@@ -1,18 +1,18 @@
 use Rattle.std.proofs.Common.{◌+◌, ◌/◌, length, string_bytes, refl, ap, ◌∙◌, subst}
 use Rattle.expr_code.specs.Machine.{Op, act, look_with, operate, operate_with, pick}
-use Rattle.expr_costs.specs.Measures.{entries_of, seeking}
+use Rattle.expr_costs.specs.Measures.{entries_of, lookup_work}
 use Rattle.expr_costs.specs.Operators.{operator_room, operator_work}
 use Rattle.expr_instructions.specs.InMemory.{op_of}
 use Rattle.expr_machine.specs.Texts.{text_of}
 use Rattle.expr_machine.proofs.Leading.{slot_as, values_as}
 use Rattle.expr_meaning.specs.Host.{no_host}
-use Rattle.expr_meter.specs.Counts.{looked_at}
-use Rattle.expr_meter.specs.Metered.{Charges, Metered}
-use Rattle.expr_meter.specs.Rooms.{Begins}
+use Rattle.expr_meter.specs.Counts.{observed_values}
+use Rattle.expr_meter.specs.MeterView.{Charges, MeterView}
+use Rattle.expr_meter.specs.Rooms.{TakesWork}
 use Rattle.expr_meter.specs.contracts.budget.BudgetMeter.TheImpl.{ghosts}
-use Rattle.expr_sizes.specs.Sizes.{load}
-use Rattle.expr_stack.specs.Cells.{shown_all}
-use Rattle.expr_stack.specs.Made.{OnOne, OnTwo}
+use Rattle.expr_sizes.specs.Sizes.{byte_units}
+use Rattle.expr_stack.specs.Cells.{cell_values}
+use Rattle.expr_stack.specs.Pushes.{OnOne, OnTwo}
 use Rattle.expr_stack.specs.Memories.{slot_values}
 use Rattle.expr_tree.specs.declared.operator.Operator.TheVariants.{Matches}
 use Rattle.expr_turns.proofs.Light.{is_free, paid_as, paid_look, paid_none, paid_one, paid_two, slot_item}
@@ -20,8 +20,8 @@ use Rattle.expr_turns.proofs.charges.charge_light.Goals as goal
 
 pub charge_two-requires : goal.charge_two-requires
 charge_two-requires g c =
-    let V = g.L.Holder.held in
-    let T = text_of g.N.Holder.held in
+    let V = g.L.Pointer.held in
+    let T = text_of g.N.Pointer.held in
     let f = op_of V T in
     let there : Op = act (operate c.in-Operate.operator) in
     let old = c.args.stack.now in
@@ -31,26 +31,26 @@ charge_two-requires g c =
 
 pub returns-in-Operate : goal.returns-in-Operate
 returns-in-Operate g c =
-    let V = g.L.Holder.held in
-    let T = text_of g.N.Holder.held in
+    let V = g.L.Pointer.held in
+    let T = text_of g.N.Pointer.held in
     let f = op_of V T in
     let there : Op = act (operate c.in-Operate.operator) in
     let old = c.args.stack.now in
     let now = c.args.memory.now in
     let is-here = ap f c.in-Operate.is in
-    let was : Metered = ghosts.metered c.args.budget.now in
-    let is : Metered = ghosts.metered c.charge_two.new.budget in
+    let was : MeterView = ghosts.metered c.args.budget.now in
+    let is : MeterView = ghosts.metered c.charge_two.new.budget in
     let r = c.charge_two.result in
     paid_as no_host now old r was is (f c.args.instruction.now) there is-here (
     paid_two no_host now old r was is (operate c.in-Operate.operator) (λ x y. operator_work c.in-Operate.operator x y) (λ x y. operator_room c.in-Operate.operator x y) refl (λ x y. refl) (λ x y. refl) (values_as (f c.args.instruction.now) there is-here (length old) c.requires.values) (
-    subst (λ k. OnTwo k old (λ x y rest. Charges r (Begins (operator_work c.in-Operate.operator x y) (operator_room c.in-Operate.operator x y)) was is)) c.kept.ensures.places c.charge_two.ensures
+    subst (λ k. OnTwo k old (λ x y rest. Charges r (TakesWork (operator_work c.in-Operate.operator x y) (operator_room c.in-Operate.operator x y)) was is)) c.kept_values.ensures.places c.charge_two.ensures
     )
     )
 
 pub charge_two-requires-in-Match : goal.charge_two-requires-in-Match
 charge_two-requires-in-Match g c =
-    let V = g.L.Holder.held in
-    let T = text_of g.N.Holder.held in
+    let V = g.L.Pointer.held in
+    let T = text_of g.N.Pointer.held in
     let f = op_of V T in
     let there : Op = act (operate Matches) in
     let old = c.args.stack.now in
@@ -60,26 +60,26 @@ charge_two-requires-in-Match g c =
 
 pub returns-in-Match : goal.returns-in-Match
 returns-in-Match g c =
-    let V = g.L.Holder.held in
-    let T = text_of g.N.Holder.held in
+    let V = g.L.Pointer.held in
+    let T = text_of g.N.Pointer.held in
     let f = op_of V T in
     let there : Op = act (operate Matches) in
     let old = c.args.stack.now in
     let now = c.args.memory.now in
     let is-here = ap f c.in-Match.is in
-    let was : Metered = ghosts.metered c.args.budget.now in
-    let is : Metered = ghosts.metered c.charge_two-in-Match.new.budget in
+    let was : MeterView = ghosts.metered c.args.budget.now in
+    let is : MeterView = ghosts.metered c.charge_two-in-Match.new.budget in
     let r = c.charge_two-in-Match.result in
     paid_as no_host now old r was is (f c.args.instruction.now) there is-here (
     paid_two no_host now old r was is (operate Matches) (λ x y. operator_work Matches x y) (λ x y. operator_room Matches x y) refl (λ x y. refl) (λ x y. refl) (values_as (f c.args.instruction.now) there is-here (length old) c.requires.values) (
-    subst (λ k. OnTwo k old (λ x y rest. Charges r (Begins (operator_work Matches x y) (operator_room Matches x y)) was is)) c.kept-in-Match.ensures.places c.charge_two-in-Match.ensures
+    subst (λ k. OnTwo k old (λ x y rest. Charges r (TakesWork (operator_work Matches x y) (operator_room Matches x y)) was is)) c.kept_values-in-Match.ensures.places c.charge_two-in-Match.ensures
     )
     )
 
 pub charge_one-requires : goal.charge_one-requires
 charge_one-requires g c =
-    let V = g.L.Holder.held in
-    let T = text_of g.N.Holder.held in
+    let V = g.L.Pointer.held in
+    let T = text_of g.N.Pointer.held in
     let f = op_of V T in
     let there : Op = act (operate_with c.in-OperateWith.operator (V c.in-OperateWith.right)) in
     let old = c.args.stack.now in
@@ -89,29 +89,29 @@ charge_one-requires g c =
 
 pub returns-in-OperateWith : goal.returns-in-OperateWith
 returns-in-OperateWith g c =
-    let V = g.L.Holder.held in
-    let T = text_of g.N.Holder.held in
+    let V = g.L.Pointer.held in
+    let T = text_of g.N.Pointer.held in
     let f = op_of V T in
     let there : Op = act (operate_with c.in-OperateWith.operator (V c.in-OperateWith.right)) in
     let old = c.args.stack.now in
     let now = c.args.memory.now in
     let is-here = ap f c.in-OperateWith.is in
-    let was : Metered = ghosts.metered c.args.budget.now in
-    let is : Metered = ghosts.metered c.charge_one.new.budget in
+    let was : MeterView = ghosts.metered c.args.budget.now in
+    let is : MeterView = ghosts.metered c.charge_one.new.budget in
     let r = c.charge_one.result in
     let right = V c.in-OperateWith.right in
     paid_as no_host now old r was is (f c.args.instruction.now) there is-here (
     paid_one no_host now old r was is (operate_with c.in-OperateWith.operator (V c.in-OperateWith.right)) (λ x. operator_work c.in-OperateWith.operator x right) (λ x. operator_room c.in-OperateWith.operator x right) refl (λ x. refl) (λ x. refl) (values_as (f c.args.instruction.now) there is-here (length old) c.requires.values) (
-    subst (λ w. OnOne now.kept old (λ x rest. Charges r (Begins (operator_work c.in-OperateWith.operator x w) (operator_room c.in-OperateWith.operator x w)) was is)) c.get.ensures (
-    subst (λ k. OnOne k old (λ x rest. Charges r (Begins (operator_work c.in-OperateWith.operator x c.get.result.now) (operator_room c.in-OperateWith.operator x c.get.result.now)) was is)) c.kept-in-OperateWith.ensures.places c.charge_one.ensures
+    subst (λ w. OnOne now.kept old (λ x rest. Charges r (TakesWork (operator_work c.in-OperateWith.operator x w) (operator_room c.in-OperateWith.operator x w)) was is)) c.get.ensures (
+    subst (λ k. OnOne k old (λ x rest. Charges r (TakesWork (operator_work c.in-OperateWith.operator x c.get.result.now) (operator_room c.in-OperateWith.operator x c.get.result.now)) was is)) c.kept_values-in-OperateWith.ensures.places c.charge_one.ensures
     )
     )
     )
 
 pub charge_one-requires-in-OperateWithMade : goal.charge_one-requires-in-OperateWithMade
 charge_one-requires-in-OperateWithMade g c =
-    let V = g.L.Holder.held in
-    let T = text_of g.N.Holder.held in
+    let V = g.L.Pointer.held in
+    let T = text_of g.N.Pointer.held in
     let f = op_of V T in
     let there : Op = act (operate_with c.in-OperateWithMade.operator c.in-OperateWithMade.right.value.value) in
     let old = c.args.stack.now in
@@ -121,29 +121,29 @@ charge_one-requires-in-OperateWithMade g c =
 
 pub returns-in-OperateWithMade : goal.returns-in-OperateWithMade
 returns-in-OperateWithMade g c =
-    let V = g.L.Holder.held in
-    let T = text_of g.N.Holder.held in
+    let V = g.L.Pointer.held in
+    let T = text_of g.N.Pointer.held in
     let f = op_of V T in
     let there : Op = act (operate_with c.in-OperateWithMade.operator c.in-OperateWithMade.right.value.value) in
     let old = c.args.stack.now in
     let now = c.args.memory.now in
     let is-here = ap f c.in-OperateWithMade.is in
-    let was : Metered = ghosts.metered c.args.budget.now in
-    let is : Metered = ghosts.metered c.charge_one-in-OperateWithMade.new.budget in
+    let was : MeterView = ghosts.metered c.args.budget.now in
+    let is : MeterView = ghosts.metered c.charge_one-in-OperateWithMade.new.budget in
     let r = c.charge_one-in-OperateWithMade.result in
     let right = c.in-OperateWithMade.right.value.value in
     paid_as no_host now old r was is (f c.args.instruction.now) there is-here (
     paid_one no_host now old r was is (operate_with c.in-OperateWithMade.operator c.in-OperateWithMade.right.value.value) (λ x. operator_work c.in-OperateWithMade.operator x right) (λ x. operator_room c.in-OperateWithMade.operator x right) refl (λ x. refl) (λ x. refl) (values_as (f c.args.instruction.now) there is-here (length old) c.requires.values) (
-    subst (λ w. OnOne now.kept old (λ x rest. Charges r (Begins (operator_work c.in-OperateWithMade.operator x w) (operator_room c.in-OperateWithMade.operator x w)) was is)) c.get-in-OperateWithMade.ensures (
-    subst (λ k. OnOne k old (λ x rest. Charges r (Begins (operator_work c.in-OperateWithMade.operator x c.get-in-OperateWithMade.result.now) (operator_room c.in-OperateWithMade.operator x c.get-in-OperateWithMade.result.now)) was is)) c.kept-in-OperateWithMade.ensures.places c.charge_one-in-OperateWithMade.ensures
+    subst (λ w. OnOne now.kept old (λ x rest. Charges r (TakesWork (operator_work c.in-OperateWithMade.operator x w) (operator_room c.in-OperateWithMade.operator x w)) was is)) c.get-in-OperateWithMade.ensures (
+    subst (λ k. OnOne k old (λ x rest. Charges r (TakesWork (operator_work c.in-OperateWithMade.operator x c.get-in-OperateWithMade.result.now) (operator_room c.in-OperateWithMade.operator x c.get-in-OperateWithMade.result.now)) was is)) c.kept_values-in-OperateWithMade.ensures.places c.charge_one-in-OperateWithMade.ensures
     )
     )
     )
 
 pub charge_one-requires-in-MatchWith : goal.charge_one-requires-in-MatchWith
 charge_one-requires-in-MatchWith g c =
-    let V = g.L.Holder.held in
-    let T = text_of g.N.Holder.held in
+    let V = g.L.Pointer.held in
+    let T = text_of g.N.Pointer.held in
     let f = op_of V T in
     let there : Op = act (operate_with Matches (V c.in-MatchWith.right)) in
     let old = c.args.stack.now in
@@ -153,29 +153,29 @@ charge_one-requires-in-MatchWith g c =
 
 pub returns-in-MatchWith : goal.returns-in-MatchWith
 returns-in-MatchWith g c =
-    let V = g.L.Holder.held in
-    let T = text_of g.N.Holder.held in
+    let V = g.L.Pointer.held in
+    let T = text_of g.N.Pointer.held in
     let f = op_of V T in
     let there : Op = act (operate_with Matches (V c.in-MatchWith.right)) in
     let old = c.args.stack.now in
     let now = c.args.memory.now in
     let is-here = ap f c.in-MatchWith.is in
-    let was : Metered = ghosts.metered c.args.budget.now in
-    let is : Metered = ghosts.metered c.charge_one-in-MatchWith.new.budget in
+    let was : MeterView = ghosts.metered c.args.budget.now in
+    let is : MeterView = ghosts.metered c.charge_one-in-MatchWith.new.budget in
     let r = c.charge_one-in-MatchWith.result in
     let right = V c.in-MatchWith.right in
     paid_as no_host now old r was is (f c.args.instruction.now) there is-here (
     paid_one no_host now old r was is (operate_with Matches (V c.in-MatchWith.right)) (λ x. operator_work Matches x right) (λ x. operator_room Matches x right) refl (λ x. refl) (λ x. refl) (values_as (f c.args.instruction.now) there is-here (length old) c.requires.values) (
-    subst (λ w. OnOne now.kept old (λ x rest. Charges r (Begins (operator_work Matches x w) (operator_room Matches x w)) was is)) c.get-in-MatchWith.ensures (
-    subst (λ k. OnOne k old (λ x rest. Charges r (Begins (operator_work Matches x c.get-in-MatchWith.result.now) (operator_room Matches x c.get-in-MatchWith.result.now)) was is)) c.kept-in-MatchWith.ensures.places c.charge_one-in-MatchWith.ensures
+    subst (λ w. OnOne now.kept old (λ x rest. Charges r (TakesWork (operator_work Matches x w) (operator_room Matches x w)) was is)) c.get-in-MatchWith.ensures (
+    subst (λ k. OnOne k old (λ x rest. Charges r (TakesWork (operator_work Matches x c.get-in-MatchWith.result.now) (operator_room Matches x c.get-in-MatchWith.result.now)) was is)) c.kept_values-in-MatchWith.ensures.places c.charge_one-in-MatchWith.ensures
     )
     )
     )
 
 pub charge_pick-requires : goal.charge_pick-requires
 charge_pick-requires g c =
-    let V = g.L.Holder.held in
-    let T = text_of g.N.Holder.held in
+    let V = g.L.Pointer.held in
+    let T = text_of g.N.Pointer.held in
     let f = op_of V T in
     let there : Op = act (pick c.in-Index.field-0) in
     let old = c.args.stack.now in
@@ -185,26 +185,26 @@ charge_pick-requires g c =
 
 pub returns-in-Index : goal.returns-in-Index
 returns-in-Index g c =
-    let V = g.L.Holder.held in
-    let T = text_of g.N.Holder.held in
+    let V = g.L.Pointer.held in
+    let T = text_of g.N.Pointer.held in
     let f = op_of V T in
     let there : Op = act (pick c.in-Index.field-0) in
     let old = c.args.stack.now in
     let now = c.args.memory.now in
     let is-here = ap f c.in-Index.is in
-    let was : Metered = ghosts.metered c.args.budget.now in
-    let is : Metered = ghosts.metered c.charge_pick.new.budget in
+    let was : MeterView = ghosts.metered c.args.budget.now in
+    let is : MeterView = ghosts.metered c.charge_pick.new.budget in
     let r = c.charge_pick.result in
     paid_as no_host now old r was is (f c.args.instruction.now) there is-here (
-    paid_two no_host now old r was is (pick c.in-Index.field-0) (λ x y. seeking x y) (λ x y. 0) refl (λ x y. refl) (λ x y. refl) (values_as (f c.args.instruction.now) there is-here (length old) c.requires.values) (
-    subst (λ k. OnTwo k old (λ x y rest. Charges r (Begins (seeking x y) (0)) was is)) c.kept-in-Index.ensures.places c.charge_pick.ensures
+    paid_two no_host now old r was is (pick c.in-Index.field-0) (λ x y. lookup_work x y) (λ x y. 0) refl (λ x y. refl) (λ x y. refl) (values_as (f c.args.instruction.now) there is-here (length old) c.requires.values) (
+    subst (λ k. OnTwo k old (λ x y rest. Charges r (TakesWork (lookup_work x y) (0)) was is)) c.kept_values-in-Index.ensures.places c.charge_pick.ensures
     )
     )
 
 pub charge_look-requires : goal.charge_look-requires
 charge_look-requires g c =
-    let V = g.L.Holder.held in
-    let T = text_of g.N.Holder.held in
+    let V = g.L.Pointer.held in
+    let T = text_of g.N.Pointer.held in
     let f = op_of V T in
     let there : Op = look_with (T c.in-NameAt.name) c.in-NameAt.slot in
     let old = c.args.stack.now in
@@ -214,33 +214,33 @@ charge_look-requires g c =
 
 pub returns-in-NameAt : goal.returns-in-NameAt
 returns-in-NameAt g c =
-    let V = g.L.Holder.held in
-    let T = text_of g.N.Holder.held in
+    let V = g.L.Pointer.held in
+    let T = text_of g.N.Pointer.held in
     let f = op_of V T in
     let there : Op = look_with (T c.in-NameAt.name) c.in-NameAt.slot in
     let old = c.args.stack.now in
     let now = c.args.memory.now in
     let is-here = ap f c.in-NameAt.is in
-    let was : Metered = ghosts.metered c.args.budget.now in
-    let is : Metered = ghosts.metered c.charge_look.new.budget in
+    let was : MeterView = ghosts.metered c.args.budget.now in
+    let is : MeterView = ghosts.metered c.charge_look.new.budget in
     let r = c.charge_look.result in
     let key = c.deref.ensures ∙ ap string_bytes c.get-in-NameAt.ensures in
     let s = slot_item now c.in-NameAt.slot (slot_as (f c.args.instruction.now) there is-here (length now.slots) c.requires.slot) in
     paid_as no_host now old r was is (f c.args.instruction.now) there is-here (
     paid_look no_host now old r was is (T c.in-NameAt.name) c.in-NameAt.slot s.0 s.1 (
-    subst (λ k. Charges r (Begins (load (length k) + entries_of s.0 / 32) 0) was is) key (c.charge_look.ensures s.0 s.1)
+    subst (λ k. Charges r (TakesWork (byte_units (length k) + entries_of s.0 / 32) 0) was is) key (c.charge_look.ensures s.0 s.1)
     )
     )
 
 pub returns-in_default : goal.returns-in_default
 returns-in_default g c =
-    let V = g.L.Holder.held in
-    let T = text_of g.N.Holder.held in
+    let V = g.L.Pointer.held in
+    let T = text_of g.N.Pointer.held in
     let op = op_of V T c.args.instruction.now in
     let old = c.args.stack.now in
     let now = c.args.memory.now in
     paid_none {A = Unit {0}} (Unit {0}) no_host now old (tt {0}) op (ghosts.metered c.args.budget.now) (
-    is_free V T no_host (looked_at op (shown_all now.kept old) (slot_values now)) c.args.instruction.now c.requires.light (
+    is_free V T no_host (observed_values op (cell_values now.kept old) (slot_values now)) c.args.instruction.now c.requires.light (
     record {
       operate = c.in_default.not-Operate;
       match = c.in_default.not-Match;

@@ -2,7 +2,7 @@ use Rattle.std.proofs.Common.{List, string_bytes}
 use Rattle.expr_code.specs.Machine.{Op}
 use Rattle.expr_lowering.specs.Blocks.{blocks_of}
 use Rattle.expr_meaning.specs.Host.{Host}
-use Rattle.expr_steps.specs.Context.{Context}
+use Rattle.expr_steps.specs.Context.{ContextView}
 use Rattle.expr_meaning.specs.World.{world_of}
 use Rattle.expr.specs.Hosted.{host_of}
 use Rattle.expr.proofs.Ending.{code_answers}
@@ -11,7 +11,7 @@ use Rattle.expr.proofs.environment.Environment.execute_limited.Goals as goal
 pub returns-clause-answer : goal.returns-clause-answer
 returns-clause-answer g c =
     let asked = goal.ContextProvider-dyn g c.args.ctx.now in
-    let base : Context = asked.context c.args.ctx.now.1 in
+    let base : ContextView = asked.context c.args.ctx.now.1 in
     let host : Host = host_of c.args.self.now in
-    let blocks : List (List Op) = blocks_of g.L.Holder.held (λ n. string_bytes (g.N.Holder.held n)) c.args.code.now in
+    let blocks : List (List Op) = blocks_of g.L.Pointer.held (λ n. string_bytes (g.N.Pointer.held n)) c.args.code.now in
     code_answers (world_of host base) blocks c.args.limits.now c.execute_limited.result c.execute_limited.ensures.outcome

@@ -2,8 +2,8 @@ use Rattle.std.proofs.Common.{◌≡◌, Option, None, Some, IfSome, ap, arith, 
 use Rattle.std.proofs.lemmas.Int.{to_z-of_z}
 use Rattle.std.proofs.lemmas.Grind.{common_steps}
 use Rattle.expr_engine.specs.Adding.{BecomesByRule, BecomesFixed}
-use Rattle.expr_engine.specs.Doings.{Changes}
-use Rattle.expr_kept.specs.Kept.{found}
+use Rattle.expr_engine.specs.Effects.{Changes}
+use Rattle.expr_handles.specs.HandleMap.{thing_at}
 use Rattle.expr_stops.specs.Stops.{is_named}
 use Rattle.expr_engine.proofs.Unchanged.{additions_by_exchange, changes_by_exchange, on_err}
 use Rattle.expr_engine.proofs.engine.Engine.add_zone.Goals as goal
@@ -14,7 +14,7 @@ returns-in_err-done-clause-err c = on_err c.from_residual.result
 
 pub returns-clause-fixed : goal.returns-clause-fixed
 returns-clause-fixed c = λ none.
-    let known : is_some (found c.args.self.now.environments c.args.environment) ≡ true = grind (arith, common_steps) in
+    let known : is_some (thing_at c.args.self.now.environments c.args.environment) ≡ true = grind (arith, common_steps) in
     changes_by_exchange (BecomesFixed c.args.name.now c.args.seconds) c.args.self.now.environments c.swap.new.self c.swap-kept.new.self c.args.environment c.new-host.result c.swap.new.thing c.add_zone-done.new.self
     c.swap.ensures.found c.swap-kept.ensures.found known c.swap.ensures.given
     (subst (λ n. BecomesFixed c.args.name.now n c.swap.new.thing c.add_zone-done.new.self) (to_z-of_z w64 c.args.seconds c.ranges.seconds) (c.in_ok-done.ensures.fixed none))
@@ -26,7 +26,7 @@ if_some (Some x) P Q f p = f x p
 
 pub returns-clause-by_rule : goal.returns-clause-by_rule
 returns-clause-by_rule c =
-    let known : is_some (found c.args.self.now.environments c.args.environment) ≡ true = grind (arith, common_steps) in
+    let known : is_some (thing_at c.args.self.now.environments c.args.environment) ≡ true = grind (arith, common_steps) in
     if_some c.args.rule (λ rule. BecomesByRule c.args.name.now rule.now c.swap.new.thing c.add_zone-done.new.self)
     (λ rule. Changes (BecomesByRule c.args.name.now rule.now) c.args.self.now.environments c.swap-kept.new.self c.args.environment)
     (λ rule becomes. changes_by_exchange (BecomesByRule c.args.name.now rule.now) c.args.self.now.environments c.swap.new.self c.swap-kept.new.self c.args.environment c.new-host.result c.swap.new.thing c.add_zone-done.new.self

@@ -1,12 +1,12 @@
 use Rattle.std.proofs.Common.{◌≡◌, true, arith, is_some}
 use Rattle.std.proofs.lemmas.Grind.{common_steps}
-use Rattle.expr_kept.specs.Kept.{found}
+use Rattle.expr_handles.specs.HandleMap.{thing_at}
 use Rattle.expr_value.specs.Names.{put}
 use Rattle.expr_engine.proofs.Unchanged.{changes_by_exchange}
 use Rattle.expr_engine.proofs.engine.Engine.set.Goals as goal
 
 pub returns-clause-set : goal.returns-clause-set
 returns-clause-set c =
-    let known : is_some (found c.args.self.now.contexts c.args.context) ≡ true = grind (arith, common_steps) in
+    let known : is_some (thing_at c.args.self.now.contexts c.args.context) ≡ true = grind (arith, common_steps) in
     let becomes : c.insert-done.new.self ≡ put c.args.name.now c.args.value c.swap.new.thing = grind (arith, common_steps) in
     changes_by_exchange (λ was is. is ≡ put c.args.name.now c.args.value was) c.args.self.now.contexts c.swap.new.self c.swap-kept.new.self c.args.context c.new-names.result c.swap.new.thing c.insert-done.new.self c.swap.ensures.found c.swap-kept.ensures.found known c.swap.ensures.given becomes

@@ -5,11 +5,11 @@ use Rattle.expr_engine.specs.Codes.{code_of}
 use Rattle.expr_engine.specs.Runs.{context_of, pairs_of}
 use Rattle.expr_engine.proofs.Given.{given_within}
 use Rattle.expr_meaning.specs.World.{World, world_of}
-use Rattle.expr_tree.specs.Written.{program_written}
+use Rattle.expr_tree.specs.TermOf.{program_term}
 use Rattle.expr_engine.proofs.rule.Rule.run.Goals as goal
 
 pub returns-clause-answer : goal.returns-clause-answer
 returns-clause-answer g c =
     let world : World = world_of (g.H.Functions.host c.args.host.now) (context_of (pairs_of (option_copied c.args.names.names))) in
     let code : List (List Op) = code_of c.args.self.now.code in
-    given_within c.args.limits world (program_written c.args.self.now.program) code c.execute_in.result c.args.self.now.lowered c.execute_in.ensures.ends
+    given_within c.args.limits world (program_term c.args.self.now.program) code c.execute_in.result c.args.self.now.lowered c.execute_in.ensures.ends

@@ -3,41 +3,41 @@ use Rattle.std.proofs.lemmas.List.{drop_all}
 use denote.Param.Weighed.{most, at_most}
 use Rattle.expr_tree.specs.declared.node.Node.TheShapes.{weighed-Node-Map-0-at-2}
 use Rattle.expr_tree.proofs.node.Node.TheLaws.{the_size}
-use Rattle.expr_tree.proofs.Shapes.{written-Func, written-Slice}
+use Rattle.expr_tree.proofs.Shapes.{term_of-Func, term_of-Slice}
 use Rattle.expr_predicates.proofs.Turns.{Answers, turn_on, turn_refused, turn_misanswered, turn_done}
-use Rattle.expr_predicates.specs.Gathered.{left}
-use Rattle.expr_predicates.specs.Questions.{asked_of}
-use Rattle.expr_predicates.specs.Runs.{Asks}
-use Rattle.expr_predicates.specs.Tasks.{Question}
+use Rattle.expr_predicates.specs.Accumulators.{remaining_items}
+use Rattle.expr_predicates.specs.PredicateArgs.{args_view}
+use Rattle.expr_predicates.specs.Runs.{FoldMayReturn}
+use Rattle.expr_predicates.specs.Folds.{PredicateArgsView}
 use Rattle.expr_tree.specs.Term.{call, mapping, operation, predicate, slice}
-use Rattle.expr_meaning.specs.Begun.{Begins}
-use Rattle.expr_meaning.proofs.Beginning.{AllowsCall-answered, AllowsCall-refused, AllowsCall-run}
-use Rattle.expr_tree.specs.Written.{written, bound_written, postfix_written, predicate_written, program_written, block_of}
+use Rattle.expr_meaning.specs.Dispatch.{DispatchesTo}
+use Rattle.expr_meaning.proofs.Dispatching.{AllowsCall-answered, AllowsCall-refused, AllowsCall-run}
+use Rattle.expr_tree.specs.TermOf.{term_of, bound_term, postfix_term, predicate_term, program_term, block_of}
 use Rattle.expr_tree.specs.declared.node.Node.{Node}
-use Rattle.expr_value.specs.Fault.{fault_of, pattern}
+use Rattle.expr_error.specs.ErrorKind.{error_kind, pattern}
 use Rattle.expr_value.specs.Names.{put_all}
 use Rattle.expr_value.specs.declared.value.Value as value
 use Rattle.expr_value.specs.declared.value.Value.{Value}
-use Rattle.expr_meaning.specs.Allows.{Allows, AllowsAll, AllowsAsked, AllowsBlock, AllowsBound, AllowsCall, AllowsMore, AllowsPairs, AllowsPiped, AllowsPostfix, Continued, ContinuedAs, is_given}
-use Rattle.expr_steps.specs.Given.{listed}
-use Rattle.expr_value.specs.Answers.{After, Answer, Gives}
-use Rattle.expr_steps.specs.Context.{Context}
+use Rattle.expr_meaning.specs.Allows.{Allows, AllowsAll, AllowsPredicate, AllowsBlock, AllowsBound, AllowsCall, AllowsMore, AllowsPairs, AllowsPiped, AllowsPostfix, OperationMayReturn, OperationMayReturnBy, is_given}
+use Rattle.expr_steps.specs.Options.{option_list}
+use Rattle.expr_value.specs.Answers.{Then, Answer, Returns}
+use Rattle.expr_steps.specs.Context.{ContextView}
 use Rattle.expr_meaning.specs.Host.{Host}
 use Rattle.expr_meaning.specs.World.{World, world_of, with_context}
 use Rattle.expr_evaluation.specs.Here.{here, outermost}
-use Rattle.expr_operators.specs.Sides.{sides_of}
-use Rattle.expr_operators.specs.Operators.{applied}
-use Rattle.expr_operators.specs.declared.sides.Sides.TheVariants.{Both}
-use Rattle.expr_operators.specs.Positions.{sliced}
-use Rattle.expr_steps.specs.Scope.{inside}
-use Rattle.expr_evaluation.specs.Several.{pairs_written, terms_written}
+use Rattle.expr_operators.specs.Strictness.{operator_strictness}
+use Rattle.expr_operators.specs.Operators.{operator_answer}
+use Rattle.expr_operators.specs.declared.strictness.Strictness.TheVariants.{Both}
+use Rattle.expr_operators.specs.Positions.{slice_answer}
+use Rattle.expr_steps.specs.Scope.{context_in}
+use Rattle.expr_evaluation.specs.Several.{field_terms, node_terms}
 use Rattle.expr_steps.specs.declared.scope.Binding.{Binding}
 use Rattle.expr_steps.specs.declared.scope.Scope.{Scope, Scope-F, out-Scope, roll-Scope, out-roll-Scope}
 use Rattle.expr_meaning.proofs.Literal.{OnLiteral, OnLiteral-continued, OnLiteral-only}
 use Rattle.expr_evaluation.proofs.Allowed.{prepended, drop-at, loop-step, loop-failed, loop-done, AllowsAll-first, AllowsPairs-first, AllowsBlock-line, AllowsMore-all, AllowsMore-rest}
-use Rattle.expr_value.proofs.Answered.{Gives-of-Is, Gives-passed, Gives-under, first_of-After}
+use Rattle.expr_value.proofs.Answered.{Returns-of-ReturnsExactly, Returns-passed, Returns-under, first_of-Then}
 use Rattle.expr_evaluation.proofs.Handed.{handed-not-Both, handed-not-EndsAtFalse, handed-not-EndsAtTrue, handed-refused, handed-value, refusal-passed}
-use Rattle.expr_evaluation.proofs.Plainly.{written-Operation, written-pairs}
+use Rattle.expr_evaluation.proofs.AllocFree.{term_of-Operation, term_of-pairs}
 use Rattle.expr_evaluation.proofs.evaluation.Evaluation.+evaluation.Goals as goal
 
 pub evaluate_form-returns-in-Operation : goal.evaluate_form-returns-in-Operation
@@ -46,14 +46,14 @@ evaluate_form-returns-in-Operation g t c =
     let l = c.in-Operation.left.value in
     let r = c.in-Operation.right.value in
     let op = c.in-Operation.operator in
-    let is : written c.args.node.now ≡ operation op (written l) (written r) = ap written c.in-Operation.is ∙ written-Operation op c.in-Operation.left c.in-Operation.right c.in-Operation.compiled_regex in
+    let is : term_of c.args.node.now ≡ operation op (term_of l) (term_of r) = ap term_of c.in-Operation.is ∙ term_of-Operation op c.in-Operation.left c.in-Operation.right c.in-Operation.compiled_regex in
     let first = c.in_ok-first-in-Operation.first in
-    let first_is = subst (λ m. Allows world (written m) (Ok first)) c.deref-in-Operation.ensures c.in_ok-first-in-Operation.ensures.answer in
-    let next = Continued op first (Allows world (written r)) in
+    let first_is = subst (λ m. Allows world (term_of m) (Ok first)) c.deref-in-Operation.ensures c.in_ok-first-in-Operation.ensures.answer in
+    let next = OperationMayReturn op first (Allows world (term_of r)) in
     record {
-      answer = subst (λ n. Gives c.operate.result (Allows world n)) (sym is) (
-          Gives-under c.operate.result next (Allows world (operation op (written l) (written r))) (λ a p. (Ok first, first_is, p)) (
-          subst (λ m. Gives c.operate.result (Continued op first (Allows world (written m)))) c.deref-in-Operation-2.ensures c.operate.ensures.answer
+      answer = subst (λ n. Returns c.operate.result (Allows world n)) (sym is) (
+          Returns-under c.operate.result next (Allows world (operation op (term_of l) (term_of r))) (λ a p. (Ok first, first_is, p)) (
+          subst (λ m. Returns c.operate.result (OperationMayReturn op first (Allows world (term_of m)))) c.deref-in-Operation-2.ensures c.operate.ensures.answer
           )
           );
     }
@@ -65,17 +65,17 @@ evaluate_operation-returns-in-Some g t c =
     let r = c.in-Operation.right.value in
     let op = c.in-Operation.operator in
     let v = c.in-Some.value in
-    let is : written c.args.node.now ≡ operation op (written l) (written r) = ap written c.in-Operation.is ∙ written-Operation op c.in-Operation.left c.in-Operation.right c.in-Operation.compiled_regex in
+    let is : term_of c.args.node.now ≡ operation op (term_of l) (term_of r) = ap term_of c.in-Operation.is ∙ term_of-Operation op c.in-Operation.left c.in-Operation.right c.in-Operation.compiled_regex in
     let first = c.in_ok-first-in-Operation.first in
-    let first_is = subst (λ m. Allows world (written m) (Ok first)) c.deref.ensures c.in_ok-first-in-Operation.ensures.answer in
-    let read = subst (λ x. OnLiteral op x (written c.deref-in-Operation.result.now) v) c.get.ensures c.in-Some.ensures in
-    let found = subst (λ m. OnLiteral op first (written m) v) c.deref-in-Operation.ensures read in
+    let first_is = subst (λ m. Allows world (term_of m) (Ok first)) c.deref.ensures c.in_ok-first-in-Operation.ensures.answer in
+    let read = subst (λ x. OnLiteral op x (term_of c.deref-in-Operation.result.now) v) c.get.ensures c.in-Some.ensures in
+    let found = subst (λ m. OnLiteral op first (term_of m) v) c.deref-in-Operation.ensures read in
     record {
-      answer = subst (λ n. Allows world n (Ok c.own.result)) (sym is) (
-          subst (λ w. Allows world (operation op (written l) (written r)) (Ok w)) (sym c.own.ensures) (
+      answer = subst (λ n. Allows world n (Ok c.from_owned.result)) (sym is) (
+          subst (λ w. Allows world (operation op (term_of l) (term_of r)) (Ok w)) (sym c.from_owned.ensures) (
             Ok first,
             first_is,
-            OnLiteral-continued world op first (written r) v found,
+            OnLiteral-continued world op first (term_of r) v found,
           )
           );
     }
@@ -86,14 +86,14 @@ evaluate_operation-returns-in_default-of_literal g t c =
     let l = c.in-Operation.left.value in
     let r = c.in-Operation.right.value in
     let op = c.in-Operation.operator in
-    let is : written c.args.node.now ≡ operation op (written l) (written r) = ap written c.in-Operation.is ∙ written-Operation op c.in-Operation.left c.in-Operation.right c.in-Operation.compiled_regex in
+    let is : term_of c.args.node.now ≡ operation op (term_of l) (term_of r) = ap term_of c.in-Operation.is ∙ term_of-Operation op c.in-Operation.left c.in-Operation.right c.in-Operation.compiled_regex in
     let first = c.in_ok-first-in-Operation.first in
-    let first_is = subst (λ m. Allows world (written m) (Ok first)) c.deref.ensures c.in_ok-first-in-Operation.ensures.answer in
-    let next = Continued op first (Allows world (written r)) in
+    let first_is = subst (λ m. Allows world (term_of m) (Ok first)) c.deref.ensures c.in_ok-first-in-Operation.ensures.answer in
+    let next = OperationMayReturn op first (Allows world (term_of r)) in
     record {
-      answer = subst (λ n. Gives c.operate.result (Allows world n)) (sym is) (
-          Gives-under c.operate.result next (Allows world (operation op (written l) (written r))) (λ a p. (Ok first, first_is, p)) (
-          subst (λ m. Gives c.operate.result (Continued op first (Allows world (written m)))) c.deref-in-Operation-2.ensures c.operate.ensures.answer
+      answer = subst (λ n. Returns c.operate.result (Allows world n)) (sym is) (
+          Returns-under c.operate.result next (Allows world (operation op (term_of l) (term_of r))) (λ a p. (Ok first, first_is, p)) (
+          subst (λ m. Returns c.operate.result (OperationMayReturn op first (Allows world (term_of m)))) c.deref-in-Operation-2.ensures c.operate.ensures.answer
           )
           );
     }
@@ -104,61 +104,61 @@ operate-returns-in-Both g t c =
     let op = c.args.operator in
     let first = c.args.first in
     let second = c.in_ok-second-in-Both.second in
-    let right = Allows world (written c.args.right.now) in
-    let asked : sides_of op ≡ Both = sym c.sides_asked.ensures ∙ c.in-Both.is in
+    let right = Allows world (term_of c.args.right.now) in
+    let asked : operator_strictness op ≡ Both = sym c.strictness_of.ensures ∙ c.in-Both.is in
     record {
-      answer = Gives-of-Is c.apply_held.result (applied op first second) (Continued op first right) c.apply_held.ensures.answer (
-          subst (λ k. ContinuedAs k op first right (applied op first second)) (sym asked) (Ok second, c.in_ok-second-in-Both.ensures.answer, refl)
+      answer = Returns-of-ReturnsExactly c.apply_cow.result (operator_answer op first second) (OperationMayReturn op first right) c.apply_cow.ensures.answer (
+          subst (λ k. OperationMayReturnBy k op first right (operator_answer op first second)) (sym asked) (Ok second, c.in_ok-second-in-Both.ensures.answer, refl)
           );
       handed = λ h. absurd (handed-not-Both _ _ _ h asked);
     }
 
 pub operate-returns-in-EndsAtFalse-clause-handed : goal.operate-returns-in-EndsAtFalse-clause-handed
-operate-returns-in-EndsAtFalse-clause-handed g t c = λ h. absurd (handed-not-EndsAtFalse _ _ _ h (sym c.sides_asked.ensures ∙ c.in-EndsAtFalse.is))
+operate-returns-in-EndsAtFalse-clause-handed g t c = λ h. absurd (handed-not-EndsAtFalse _ _ _ h (sym c.strictness_of.ensures ∙ c.in-EndsAtFalse.is))
 
 pub operate-returns-in-EndsAtTrue-clause-handed : goal.operate-returns-in-EndsAtTrue-clause-handed
-operate-returns-in-EndsAtTrue-clause-handed g t c = λ h. absurd (handed-not-EndsAtTrue _ _ _ h (sym c.sides_asked.ensures ∙ c.in-EndsAtTrue.is))
+operate-returns-in-EndsAtTrue-clause-handed g t c = λ h. absurd (handed-not-EndsAtTrue _ _ _ h (sym c.strictness_of.ensures ∙ c.in-EndsAtTrue.is))
 
 pub operate-returns-in_err-second-in-Both-clause-handed : goal.operate-returns-in_err-second-in-Both-clause-handed
-operate-returns-in_err-second-in-Both-clause-handed g t c = λ h. absurd (handed-not-Both _ _ _ h (sym c.sides_asked.ensures ∙ c.in-Both.is))
+operate-returns-in_err-second-in-Both-clause-handed g t c = λ h. absurd (handed-not-Both _ _ _ h (sym c.strictness_of.ensures ∙ c.in-Both.is))
 
 pub operate-returns-in_err-source-in-Pattern-clause-handed : goal.operate-returns-in_err-source-in-Pattern-clause-handed
 operate-returns-in_err-source-in-Pattern-clause-handed g t c = λ h.
     let world : World = here g.H.Functions.host g.P.ContextProvider.context c.args.self.now c.args.scope.now in
     let e = c.in_err-source-in-Pattern.field-0.0 in
-    refusal-passed _ e (λ x. fault_of x ≢ pattern) c.from_residual-in_err-source-in-Pattern.ensures.1 (handed-refused _ _ _ h world e c.in_err-source-in-Pattern.ensures.answer)
+    refusal-passed _ e (λ x. error_kind x ≢ pattern) c.from_residual-in_err-source-in-Pattern.ensures.1 (handed-refused _ _ _ h world e c.in_err-source-in-Pattern.ensures.answer)
 
 pub operate-returns-clause-handed : goal.operate-returns-clause-handed
 operate-returns-clause-handed g t c = λ h.
     let world : World = here g.H.Functions.host g.P.ContextProvider.context c.args.self.now c.args.scope.now in
     let source = c.in_ok-source-in-Pattern.source in
-    c.match_held.ensures.kept h.text (handed-value _ _ _ h world source c.in_ok-source-in-Pattern.ensures.answer) h.of_text
+    c.match_cow.ensures.kept h.text (handed-value _ _ _ h world source c.in_ok-source-in-Pattern.ensures.answer) h.of_text
 
 pub follow-returns-in_err-start-in-Range : goal.follow-returns-in_err-start-in-Range
 follow-returns-in_err-start-in-Range g t c =
     let world : World = here g.H.Functions.host g.P.ContextProvider.context c.args.self.now c.args.scope.now in
-    let a = bound_written c.in-Range.start in
-    let b = bound_written c.in-Range.end in
+    let a = bound_term c.in-Range.start in
+    let b = bound_term c.in-Range.end in
     let v = c.args.value in
-    let is : postfix_written c.args.operator.now ≡ slice a b = ap postfix_written c.in-Range.is ∙ written-Slice c.in-Range.start c.in-Range.end in
+    let is : postfix_term c.args.operator.now ≡ slice a b = ap postfix_term c.in-Range.is ∙ term_of-Slice c.in-Range.start c.in-Range.end in
     let r = c.from_residual.result in
     let e = c.in_err-start-in-Range.field-0.0 in
-    subst (λ p. Gives r (AllowsPostfix world p v)) (sym is) (
-    Gives-passed r e (AllowsPostfix world (slice a b) v) c.from_residual.ensures.1 (
-    λ m. (Err (fault_of e), c.in_err-start-in-Range.ensures m, refl)
+    subst (λ p. Returns r (AllowsPostfix world p v)) (sym is) (
+    Returns-passed r e (AllowsPostfix world (slice a b) v) c.from_residual.ensures.1 (
+    λ m. (Err (error_kind e), c.in_err-start-in-Range.ensures m, refl)
     )
     )
 
 pub follow-returns-in-Range : goal.follow-returns-in-Range
 follow-returns-in-Range g t c =
     let world : World = here g.H.Functions.host g.P.ContextProvider.context c.args.self.now c.args.scope.now in
-    let a = bound_written c.in-Range.start in
-    let b = bound_written c.in-Range.end in
+    let a = bound_term c.in-Range.start in
+    let b = bound_term c.in-Range.end in
     let v = c.args.value in
-    let is : postfix_written c.args.operator.now ≡ slice a b = ap postfix_written c.in-Range.is ∙ written-Slice c.in-Range.start c.in-Range.end in
+    let is : postfix_term c.args.operator.now ≡ slice a b = ap postfix_term c.in-Range.is ∙ term_of-Slice c.in-Range.start c.in-Range.end in
     let from = c.in_ok-start-in-Range.start in
-    subst (λ p. Gives c.slice_to.result (AllowsPostfix world p v)) (sym is) (
-    Gives-under c.slice_to.result (After (AllowsBound world b) (λ to a. a ≡ sliced v from to)) (AllowsPostfix world (slice a b) v) (
+    subst (λ p. Returns c.slice_to.result (AllowsPostfix world p v)) (sym is) (
+    Returns-under c.slice_to.result (Then (AllowsBound world b) (λ to a. a ≡ slice_answer v from to)) (AllowsPostfix world (slice a b) v) (
     λ x p. (Ok from, c.in_ok-start-in-Range.ensures, p)
     ) c.slice_to.ensures
     )
@@ -168,18 +168,18 @@ items-loop-node-preserved g t c =
     let world : World = here g.H.Functions.host g.P.ContextProvider.context c.args.self.now c.args.scope.now in
     let v = c.in_ok-keep.field-0 in
     let node = c.node-item.result in
-    let all = AllowsAll world (terms_written c.args.nodes.now) in
+    let all = AllowsAll world (node_terms c.args.nodes.now) in
     λ rest p. subst (λ vs. all (prepended vs rest)) (sym c.in_ok-push.ensures.items) (
-    loop-step (λ ns. AllowsAll world (terms_written ns)) all c.args.nodes.now c.loop-node.node-index c.loop-node.values.items c.loop-node.invariant node v c.node-item.is c.loop-node-test.true (AllowsAll-first world (written node) (terms_written (drop (c.loop-node.node-index + 1) c.args.nodes.now)) v c.in_ok-keep.ensures) rest p
+    loop-step (λ ns. AllowsAll world (node_terms ns)) all c.args.nodes.now c.loop-node.node-index c.loop-node.values.items c.loop-node.invariant node v c.node-item.is c.loop-node-test.true (AllowsAll-first world (term_of node) (node_terms (drop (c.loop-node.node-index + 1) c.args.nodes.now)) v c.in_ok-keep.ensures) rest p
     )
 
 pub items-returns-in_err-keep : goal.items-returns-in_err-keep
 items-returns-in_err-keep g t c =
     let world : World = here g.H.Functions.host g.P.ContextProvider.context c.args.self.now c.args.scope.now in
-    let k = fault_of c.in_err-keep.field-0.0 in
-    let all = AllowsAll world (terms_written c.args.nodes.now) in
-    Gives-passed _ c.in_err-keep.field-0.0 all c.from_residual-in_err-keep.ensures.1 (
-    λ m. loop-failed (λ ns. AllowsAll world (terms_written ns)) all c.args.nodes.now c.loop-node.node-index c.loop-node.values.items c.loop-node.invariant c.node-item.result k c.node-item.is c.loop-node-test.true (
+    let k = error_kind c.in_err-keep.field-0.0 in
+    let all = AllowsAll world (node_terms c.args.nodes.now) in
+    Returns-passed _ c.in_err-keep.field-0.0 all c.from_residual-in_err-keep.ensures.1 (
+    λ m. loop-failed (λ ns. AllowsAll world (node_terms ns)) all c.args.nodes.now c.loop-node.node-index c.loop-node.values.items c.loop-node.invariant c.node-item.result k c.node-item.is c.loop-node-test.true (
       Err k,
       c.in_err-keep.ensures m,
       refl,
@@ -189,9 +189,9 @@ items-returns-in_err-keep g t c =
 pub items-returns : goal.items-returns
 items-returns g t c =
     let world : World = here g.H.Functions.host g.P.ContextProvider.context c.args.self.now c.args.scope.now in
-    let all = AllowsAll world (terms_written c.args.nodes.now) in
+    let all = AllowsAll world (node_terms c.args.nodes.now) in
     subst (λ vs. all (Ok vs)) (sym c.from_vec.ensures) (
-    loop-done (λ ns. AllowsAll world (terms_written ns)) all c.args.nodes.now c.loop-node.node-index c.loop-node.values.items c.loop-node.invariant c.loop-node-test.false refl
+    loop-done (λ ns. AllowsAll world (node_terms ns)) all c.args.nodes.now c.loop-node.node-index c.loop-node.values.items c.loop-node.invariant c.loop-node-test.false refl
     )
 
 pub entries-keep-requires : goal.entries-keep-requires
@@ -209,19 +209,19 @@ entries-loop-key-preserved g t c =
     let v = c.in_ok-value.value in
     let p = c.loop-key-item.result in
     let i = c.loop-key.key-index in
-    let all = AllowsPairs world (pairs_written c.args.entries.now) in
+    let all = AllowsPairs world (field_terms c.args.entries.now) in
     let pushed : c.push.new.self.items ≡ c.loop-key.pairs.items ++ (string_bytes p.0, v) ∷ [] = search rules in
     λ rest q. subst (λ ms. all (prepended ms rest)) (sym pushed) (
-    loop-step (λ ps. AllowsPairs world (pairs_written ps)) all c.args.entries.now i c.loop-key.pairs.items c.loop-key.invariant p (string_bytes p.0, v) c.loop-key-item.is c.loop-key-test.true (AllowsPairs-first world (string_bytes p.0) (written p.1) (pairs_written (drop (i + 1) c.args.entries.now)) v c.in_ok-value.ensures) rest q
+    loop-step (λ ps. AllowsPairs world (field_terms ps)) all c.args.entries.now i c.loop-key.pairs.items c.loop-key.invariant p (string_bytes p.0, v) c.loop-key-item.is c.loop-key-test.true (AllowsPairs-first world (string_bytes p.0) (term_of p.1) (field_terms (drop (i + 1) c.args.entries.now)) v c.in_ok-value.ensures) rest q
     )
 
 pub entries-returns-in_err-value : goal.entries-returns-in_err-value
 entries-returns-in_err-value g t c =
     let world : World = here g.H.Functions.host g.P.ContextProvider.context c.args.self.now c.args.scope.now in
-    let k = fault_of c.in_err-value.field-0.0 in
-    let all = AllowsPairs world (pairs_written c.args.entries.now) in
-    Gives-passed _ c.in_err-value.field-0.0 all c.from_residual-in_err-value.ensures.1 (
-    λ m. loop-failed (λ ps. AllowsPairs world (pairs_written ps)) all c.args.entries.now c.loop-key.key-index c.loop-key.pairs.items c.loop-key.invariant c.loop-key-item.result k c.loop-key-item.is c.loop-key-test.true (
+    let k = error_kind c.in_err-value.field-0.0 in
+    let all = AllowsPairs world (field_terms c.args.entries.now) in
+    Returns-passed _ c.in_err-value.field-0.0 all c.from_residual-in_err-value.ensures.1 (
+    λ m. loop-failed (λ ps. AllowsPairs world (field_terms ps)) all c.args.entries.now c.loop-key.key-index c.loop-key.pairs.items c.loop-key.invariant c.loop-key-item.result k c.loop-key-item.is c.loop-key-test.true (
       Err k,
       c.in_err-value.ensures m,
       refl,
@@ -231,34 +231,34 @@ entries-returns-in_err-value g t c =
 pub entries-returns : goal.entries-returns
 entries-returns g t c =
     let world : World = here g.H.Functions.host g.P.ContextProvider.context c.args.self.now c.args.scope.now in
-    let all = AllowsPairs world (pairs_written c.args.entries.now) in
+    let all = AllowsPairs world (field_terms c.args.entries.now) in
     subst (λ ms. all (Ok ms)) (sym c.from_vec.ensures) (
-    loop-done (λ ps. AllowsPairs world (pairs_written ps)) all c.args.entries.now c.loop-key.key-index c.loop-key.pairs.items c.loop-key.invariant c.loop-key-test.false refl
+    loop-done (λ ps. AllowsPairs world (field_terms ps)) all c.args.entries.now c.loop-key.key-index c.loop-key.pairs.items c.loop-key.invariant c.loop-key-test.false refl
     )
 
 pub arguments-loop-node-init : goal.arguments-loop-node-init
 arguments-loop-node-init g t c =
     let world : World = here g.H.Functions.host g.P.ContextProvider.context c.args.self.now c.args.scope.now in
-    let ts = terms_written c.args.nodes.now in
-    λ rest p. subst (λ vs. AllowsMore world (listed c.args.first) ts (prepended vs rest)) (sym c.in_ok-values.ensures.ok) (AllowsMore-all world (listed c.args.first) ts rest p)
+    let ts = node_terms c.args.nodes.now in
+    λ rest p. subst (λ vs. AllowsMore world (option_list c.args.first) ts (prepended vs rest)) (sym c.in_ok-values.ensures.ok) (AllowsMore-all world (option_list c.args.first) ts rest p)
 
 pub arguments-loop-node-preserved : goal.arguments-loop-node-preserved
 arguments-loop-node-preserved g t c =
     let world : World = here g.H.Functions.host g.P.ContextProvider.context c.args.self.now c.args.scope.now in
     let v = c.in_ok-evaluate.field-0 in
     let node = c.node-item.result in
-    let whole = AllowsMore world (listed c.args.first) (terms_written c.args.nodes.now) in
+    let whole = AllowsMore world (option_list c.args.first) (node_terms c.args.nodes.now) in
     λ rest p. subst (λ vs. whole (prepended vs rest)) (sym c.in_ok-push.ensures.items) (
-    loop-step (λ ns. AllowsAll world (terms_written ns)) whole c.args.nodes.now c.loop-node.node-index c.loop-node.values.items c.loop-node.invariant node v c.node-item.is c.loop-node-test.true (AllowsAll-first world (written node) (terms_written (drop (c.loop-node.node-index + 1) c.args.nodes.now)) v c.in_ok-evaluate.ensures.answer) rest p
+    loop-step (λ ns. AllowsAll world (node_terms ns)) whole c.args.nodes.now c.loop-node.node-index c.loop-node.values.items c.loop-node.invariant node v c.node-item.is c.loop-node-test.true (AllowsAll-first world (term_of node) (node_terms (drop (c.loop-node.node-index + 1) c.args.nodes.now)) v c.in_ok-evaluate.ensures.answer) rest p
     )
 
 pub arguments-returns-in_err-evaluate : goal.arguments-returns-in_err-evaluate
 arguments-returns-in_err-evaluate g t c =
     let world : World = here g.H.Functions.host g.P.ContextProvider.context c.args.self.now c.args.scope.now in
-    let k = fault_of c.in_err-evaluate.field-0.0 in
-    let whole = AllowsMore world (listed c.args.first) (terms_written c.args.nodes.now) in
-    Gives-passed _ c.in_err-evaluate.field-0.0 whole c.from_residual-in_err-evaluate.ensures.1 (
-    λ m. loop-failed (λ ns. AllowsAll world (terms_written ns)) whole c.args.nodes.now c.loop-node.node-index c.loop-node.values.items c.loop-node.invariant c.node-item.result k c.node-item.is c.loop-node-test.true (
+    let k = error_kind c.in_err-evaluate.field-0.0 in
+    let whole = AllowsMore world (option_list c.args.first) (node_terms c.args.nodes.now) in
+    Returns-passed _ c.in_err-evaluate.field-0.0 whole c.from_residual-in_err-evaluate.ensures.1 (
+    λ m. loop-failed (λ ns. AllowsAll world (node_terms ns)) whole c.args.nodes.now c.loop-node.node-index c.loop-node.values.items c.loop-node.invariant c.node-item.result k c.node-item.is c.loop-node-test.true (
       Err k,
       c.in_err-evaluate.ensures.answer m,
       refl,
@@ -268,15 +268,15 @@ arguments-returns-in_err-evaluate g t c =
 pub arguments-returns : goal.arguments-returns
 arguments-returns g t c =
     let world : World = here g.H.Functions.host g.P.ContextProvider.context c.args.self.now c.args.scope.now in
-    let whole = AllowsMore world (listed c.args.first) (terms_written c.args.nodes.now) in
+    let whole = AllowsMore world (option_list c.args.first) (node_terms c.args.nodes.now) in
     subst (λ vs. whole (Ok vs)) (sym c.from_vec.ensures) (
-    loop-done (λ ns. AllowsAll world (terms_written ns)) whole c.args.nodes.now c.loop-node.node-index c.loop-node.values.items c.loop-node.invariant c.loop-node-test.false refl
+    loop-done (λ ns. AllowsAll world (node_terms ns)) whole c.args.nodes.now c.loop-node.node-index c.loop-node.values.items c.loop-node.invariant c.loop-node-test.false refl
     )
 
 pub run_lines-loop-name-preserved : goal.run_lines-loop-name-preserved
 run_lines-loop-name-preserved g t c =
     let world : World = outermost g.H.Functions.host g.P.ContextProvider.context c.args.self.now in
-    let lines_of = λ (ls : List (String Global × Node)). block_of (map (λ p. (p.0, written p.1)) ls) (written c.args.program.now.expr) in
+    let lines_of = λ (ls : List (String Global × Node)). block_of (map (λ p. (p.0, term_of p.1)) ls) (term_of c.args.program.now.expr) in
     let lines = c.args.program.now.lines.items in
     let i = c.loop-name.name-index in
     let inner = c.loop-name.inner in
@@ -289,8 +289,8 @@ run_lines-loop-name-preserved g t c =
     let after : Scope-F Scope = record { bindings = c.push.new.self; question = (out-Scope inner).question; outer = (out-Scope inner).outer } in
     let rolled = out-roll-Scope after in
     λ answer p. c.loop-name.invariant answer (
-    subst (λ ls. AllowsBlock (with_context world (inside inner world.context)) (lines_of ls) answer) (sym at) (
-    AllowsBlock-line world inner (roll-Scope after) b l.0 (written l.1) (lines_of (drop (i + 1) lines)) answer
+    subst (λ ls. AllowsBlock (with_context world (context_in inner world.context)) (lines_of ls) answer) (sym at) (
+    AllowsBlock-line world inner (roll-Scope after) b l.0 (term_of l.1) (lines_of (drop (i + 1) lines)) answer
     (ap (λ (r : Scope-F Scope). r.bindings.items) rolled ∙ c.in_ok-push.ensures.items) (ap (λ (r : Scope-F Scope). r.question) rolled)
     (ap (λ (r : Scope-F Scope). r.outer) rolled) named c.in_ok-value.ensures p
     )
@@ -299,8 +299,8 @@ run_lines-loop-name-preserved g t c =
 pub run_lines-returns-in_err-value : goal.run_lines-returns-in_err-value
 run_lines-returns-in_err-value g t c =
     let host : Host = g.H.Functions.host c.args.self.now.host.now in
-    let base : Context = g.P.ContextProvider.context c.args.self.now.provider in
-    let lines_of = λ (ls : List (String Global × Node)). block_of (map (λ p. (p.0, written p.1)) ls) (written c.args.program.now.expr) in
+    let base : ContextView = g.P.ContextProvider.context c.args.self.now.provider in
+    let lines_of = λ (ls : List (String Global × Node)). block_of (map (λ p. (p.0, term_of p.1)) ls) (term_of c.args.program.now.expr) in
     let lines = c.args.program.now.lines.items in
     let i = c.loop-name.name-index in
     let inner = c.loop-name.inner in
@@ -308,53 +308,53 @@ run_lines-returns-in_err-value g t c =
     let l = c.loop-name-item.result in
     let at : drop i lines ≡ l ∷ drop (i + 1) lines =
     subst (λ xs. drop i xs ≡ l ∷ drop (i + 1) xs) same (drop-at c.deref-name-items.result.now i l c.loop-name-item.is c.loop-name-test.true) in
-    let k = fault_of c.in_err-value.field-0.0 in
-    Gives-passed _ c.in_err-value.field-0.0 (AllowsBlock (world_of host (inside c.args.scope.now base)) (program_written c.args.program.now)) c.from_residual.ensures.1 (
+    let k = error_kind c.in_err-value.field-0.0 in
+    Returns-passed _ c.in_err-value.field-0.0 (AllowsBlock (world_of host (context_in c.args.scope.now base)) (program_term c.args.program.now)) c.from_residual.ensures.1 (
     λ m. c.loop-name.invariant (Err k) (
-    subst (λ ls. AllowsBlock (world_of host (inside inner base)) (lines_of ls) (Err k)) (sym at) (Err k, c.in_err-value.ensures m, refl)
+    subst (λ ls. AllowsBlock (world_of host (context_in inner base)) (lines_of ls) (Err k)) (sym at) (Err k, c.in_err-value.ensures m, refl)
     )
     )
 
 pub run_lines-returns : goal.run_lines-returns
 run_lines-returns g t c =
     let host : Host = g.H.Functions.host c.args.self.now.host.now in
-    let base : Context = g.P.ContextProvider.context c.args.self.now.provider in
-    let lines_of = λ (ls : List (String Global × Node)). block_of (map (λ p. (p.0, written p.1)) ls) (written c.args.program.now.expr) in
+    let base : ContextView = g.P.ContextProvider.context c.args.self.now.provider in
+    let lines_of = λ (ls : List (String Global × Node)). block_of (map (λ p. (p.0, term_of p.1)) ls) (term_of c.args.program.now.expr) in
     let lines = c.args.program.now.lines.items in
     let i = c.loop-name.name-index in
     let inner = c.loop-name.inner in
     let same : c.deref-name-items.result.now ≡ lines = c.deref-name-items.ensures.value in
     let over : length lines ≤ i = subst (λ xs. length xs ≤ i) same c.loop-name-test.false in
-    let last = Allows (world_of host (inside inner base)) (written c.args.program.now.expr) in
-    let whole = AllowsBlock (world_of host (inside c.args.scope.now base)) (program_written c.args.program.now) in
+    let last = Allows (world_of host (context_in inner base)) (term_of c.args.program.now.expr) in
+    let whole = AllowsBlock (world_of host (context_in c.args.scope.now base)) (program_term c.args.program.now) in
     let on : (a : Answer) → last a → whole a =
-    λ a p. c.loop-name.invariant a (subst (λ ls. AllowsBlock (world_of host (inside inner base)) (lines_of ls) a) (sym (drop_all i lines over)) p) in
-    Gives-under c.keep-2.result last whole on c.keep-2.ensures
+    λ a p. c.loop-name.invariant a (subst (λ ls. AllowsBlock (world_of host (context_in inner base)) (lines_of ls) a) (sym (drop_all i lines over)) p) in
+    Returns-under c.keep-2.result last whole on c.keep-2.ensures
 
 -- a map literal is the map of its pairs
 pub evaluate_form-returns-in-Map : goal.evaluate_form-returns-in-Map
 evaluate_form-returns-in-Map g t c =
     let world : World = here g.H.Functions.host g.P.ContextProvider.context c.args.self.now c.args.scope.now in
-    let ps = pairs_written c.in-Map.entries.items in
-    let is : written c.args.node.now ≡ mapping ps = ap written c.in-Map.is ∙ written-pairs c.in-Map.entries in
+    let ps = field_terms c.in-Map.entries.items in
+    let is : term_of c.args.node.now ≡ mapping ps = ap term_of c.in-Map.is ∙ term_of-pairs c.in-Map.entries in
     let ms = c.in_ok-pairs-in-Map.pairs in
-    let allowed = subst (λ ns. AllowsPairs world (pairs_written ns) (Ok ms)) c.deref-in-Map.ensures.value c.in_ok-pairs-in-Map.ensures in
+    let allowed = subst (λ ns. AllowsPairs world (field_terms ns) (Ok ms)) c.deref-in-Map.ensures.value c.in_ok-pairs-in-Map.ensures in
     record {
-      answer = subst (λ n. Gives c.map_of.result (Allows world n)) (sym is) (
-          Gives-of-Is c.map_of.result (Ok (value.Map (put_all [] ms))) (Allows world (mapping ps)) c.map_of.ensures (Ok ms, allowed, refl)
+      answer = subst (λ n. Returns c.map_of.result (Allows world n)) (sym is) (
+          Returns-of-ReturnsExactly c.map_of.result (Ok (value.Map (put_all [] ms))) (Allows world (mapping ps)) c.map_of.ensures (Ok ms, allowed, refl)
           );
     }
 
 pub evaluate_form-returns-in_err-pairs-in-Map : goal.evaluate_form-returns-in_err-pairs-in-Map
 evaluate_form-returns-in_err-pairs-in-Map g t c =
     let world : World = here g.H.Functions.host g.P.ContextProvider.context c.args.self.now c.args.scope.now in
-    let ps = pairs_written c.in-Map.entries.items in
-    let is : written c.args.node.now ≡ mapping ps = ap written c.in-Map.is ∙ written-pairs c.in-Map.entries in
+    let ps = field_terms c.in-Map.entries.items in
+    let is : term_of c.args.node.now ≡ mapping ps = ap term_of c.in-Map.is ∙ term_of-pairs c.in-Map.entries in
     let e = c.in_err-pairs-in-Map.field-0.0 in
     record {
-      answer = subst (λ n. Gives c.from_residual-in_err-pairs-in-Map.result (Allows world n)) (sym is) (
-          Gives-passed c.from_residual-in_err-pairs-in-Map.result e (Allows world (mapping ps)) c.from_residual-in_err-pairs-in-Map.ensures.1 (
-          λ m. (Err (fault_of e), subst (λ ns. AllowsPairs world (pairs_written ns) (Err (fault_of e))) c.deref-in-Map.ensures.value (c.in_err-pairs-in-Map.ensures m), refl)
+      answer = subst (λ n. Returns c.from_residual-in_err-pairs-in-Map.result (Allows world n)) (sym is) (
+          Returns-passed c.from_residual-in_err-pairs-in-Map.result e (Allows world (mapping ps)) c.from_residual-in_err-pairs-in-Map.ensures.1 (
+          λ m. (Err (error_kind e), subst (λ ns. AllowsPairs world (field_terms ns) (Err (error_kind e))) c.deref-in-Map.ensures.value (c.in_err-pairs-in-Map.ensures m), refl)
           )
           );
     }
@@ -364,18 +364,18 @@ pub evaluate_form-returns-in-Func : goal.evaluate_form-returns-in-Func
 evaluate_form-returns-in-Func g t c =
     let world : World = here g.H.Functions.host g.P.ContextProvider.context c.args.self.now c.args.scope.now in
     let key = string_bytes c.in-Func.ident in
-    let ts = terms_written c.in-Func.args.items in
-    let p = predicate_written c.in-Func.predicate in
-    let is : written c.args.node.now ≡ call key ts p = ap written c.in-Func.is ∙ written-Func c.in-Func.ident c.in-Func.args c.in-Func.predicate in
+    let ts = node_terms c.in-Func.args.items in
+    let p = predicate_term c.in-Func.predicate in
+    let is : term_of c.args.node.now ≡ call key ts p = ap term_of c.in-Func.is ∙ term_of-Func c.in-Func.ident c.in-Func.args c.in-Func.predicate in
     let vs = c.in_ok-args-in-Func.args in
-    let more = subst (λ ns. AllowsMore world [] (terms_written ns) (Ok vs)) c.deref-in-Func.ensures.value c.in_ok-args-in-Func.ensures in
+    let more = subst (λ ns. AllowsMore world [] (node_terms ns) (Ok vs)) c.deref-in-Func.ensures.value c.in_ok-args-in-Func.ensures in
     let found = AllowsMore-rest world [] ts vs more in
-    let asks : Question → Answer → Type 0 = AllowsAsked world p in
+    let asks : PredicateArgsView → Answer → Type 0 = AllowsPredicate world p in
     record {
-      answer = subst (λ n. Gives c.call.result (Allows world n)) (sym is) (
-          Gives-under c.call.result (AllowsCall world.host key vs (is_given p) asks) (Allows world (call key ts p)) (
+      answer = subst (λ n. Returns c.call.result (Allows world n)) (sym is) (
+          Returns-under c.call.result (AllowsCall world.host key vs (is_given p) asks) (Allows world (call key ts p)) (
           λ a q. (Ok found.0, found.1, subst (λ xs. AllowsCall world.host key xs (is_given p) asks a) found.2 q)
-          ) (subst (λ k. Gives c.call.result (AllowsCall world.host k vs (is_given p) asks)) c.deref-in-Func-2.ensures c.call.ensures)
+          ) (subst (λ k. Returns c.call.result (AllowsCall world.host k vs (is_given p) asks)) c.deref-in-Func-2.ensures c.call.ensures)
           );
     }
 
@@ -383,117 +383,117 @@ pub pipe-returns : goal.pipe-returns
 pipe-returns g t c =
     let world : World = here g.H.Functions.host g.P.ContextProvider.context c.args.self.now c.args.scope.now in
     let key = string_bytes c.in-Func.ident in
-    let ts = terms_written c.in-Func.args.items in
-    let p = predicate_written c.in-Func.predicate in
+    let ts = node_terms c.in-Func.args.items in
+    let p = predicate_term c.in-Func.predicate in
     let v = c.args.value in
-    let is : written c.args.node.now ≡ call key ts p = ap written c.in-Func.is ∙ written-Func c.in-Func.ident c.in-Func.args c.in-Func.predicate in
+    let is : term_of c.args.node.now ≡ call key ts p = ap term_of c.in-Func.is ∙ term_of-Func c.in-Func.ident c.in-Func.args c.in-Func.predicate in
     let vs = c.in_ok-args.args in
-    let more = subst (λ ns. AllowsMore world (v ∷ []) (terms_written ns) (Ok vs)) c.deref.ensures.value c.in_ok-args.ensures in
+    let more = subst (λ ns. AllowsMore world (v ∷ []) (node_terms ns) (Ok vs)) c.deref.ensures.value c.in_ok-args.ensures in
     let found = AllowsMore-rest world (v ∷ []) ts vs more in
-    let asks : Question → Answer → Type 0 = AllowsAsked world p in
-    subst (λ n. Gives c.call.result (AllowsPiped world n v)) (sym is) (
-    Gives-under c.call.result (AllowsCall world.host key vs (is_given p) asks) (AllowsPiped world (call key ts p) v) (
+    let asks : PredicateArgsView → Answer → Type 0 = AllowsPredicate world p in
+    subst (λ n. Returns c.call.result (AllowsPiped world n v)) (sym is) (
+    Returns-under c.call.result (AllowsCall world.host key vs (is_given p) asks) (AllowsPiped world (call key ts p) v) (
     λ a q. (Ok found.0, found.1, subst (λ xs. AllowsCall world.host key xs (is_given p) asks a) found.2 q)
-    ) (subst (λ k. Gives c.call.result (AllowsCall world.host k vs (is_given p) asks)) c.deref-2.ensures c.call.ensures)
+    ) (subst (λ k. Returns c.call.result (AllowsCall world.host k vs (is_given p) asks)) c.deref-2.ensures c.call.ensures)
     )
 
 pub call-returns-in-None : goal.call-returns-in-None
 call-returns-in-None g t c =
     let world : World = here g.H.Functions.host g.P.ContextProvider.context c.args.self.now c.args.scope.now in
-    subst (λ o. Gives c.call_alone.result (AllowsCall world.host c.args.ident.now c.args.args (is_given (predicate_written o)) (AllowsAsked world (predicate_written o)))) (sym c.in-None.is) c.call_alone.ensures
+    subst (λ o. Returns c.call_alone.result (AllowsCall world.host c.args.ident.now c.args.args (is_given (predicate_term o)) (AllowsPredicate world (predicate_term o)))) (sym c.in-None.is) c.call_alone.ensures
 
 pub call_with-returns-in_err-answer : goal.call_with-returns-in_err-answer
 call_with-returns-in_err-answer g t c =
     let world : World = here g.H.Functions.host g.P.ContextProvider.context c.args.self.now c.args.scope.now in
-    let asks : Question → Answer → Type 0 = AllowsAsked world (predicate (program_written c.args.program.now)) in
+    let asks : PredicateArgsView → Answer → Type 0 = AllowsPredicate world (predicate (program_term c.args.program.now)) in
     let key = c.args.ident.now in
     let vs = c.args.args in
     let e = c.in_err-answer.field-0.0 in
-    Gives-passed _ e (AllowsCall world.host key vs true asks) c.from_residual.ensures.1 (λ m. AllowsCall-refused world.host key vs true asks (fault_of e) (c.in_err-answer.ensures.refused m))
+    Returns-passed _ e (AllowsCall world.host key vs true asks) c.from_residual.ensures.1 (λ m. AllowsCall-refused world.host key vs true asks (error_kind e) (c.in_err-answer.ensures.refused m))
 
 pub call_with-returns-in-Answered : goal.call_with-returns-in-Answered
 call_with-returns-in-Answered g t c =
     let world : World = here g.H.Functions.host g.P.ContextProvider.context c.args.self.now c.args.scope.now in
-    let asks : Question → Answer → Type 0 = AllowsAsked world (predicate (program_written c.args.program.now)) in
+    let asks : PredicateArgsView → Answer → Type 0 = AllowsPredicate world (predicate (program_term c.args.program.now)) in
     let key = c.args.ident.now in
     let vs = c.args.args in
     let v = c.in-Answered.answer in
-    let begins = subst (λ b. Begins world.host key vs true b) c.in-Answered.is c.in_ok-answer.ensures.begun in
-    subst (λ w. AllowsCall world.host key vs true asks (Ok w)) (sym c.own.ensures) (AllowsCall-answered world.host key vs true asks v begins)
+    let begins = subst (λ b. DispatchesTo world.host key vs true b) c.in-Answered.is c.in_ok-answer.ensures.begun in
+    subst (λ w. AllowsCall world.host key vs true asks (Ok w)) (sym c.from_owned.ensures) (AllowsCall-answered world.host key vs true asks v begins)
 
 pub call_with-returns-in_err-ask-in-Asks : goal.call_with-returns-in_err-ask-in-Asks
 call_with-returns-in_err-ask-in-Asks g t c =
     let world : World = here g.H.Functions.host g.P.ContextProvider.context c.args.self.now c.args.scope.now in
-    let asks : Question → Answer → Type 0 = AllowsAsked world (predicate (program_written c.args.program.now)) in
+    let asks : PredicateArgsView → Answer → Type 0 = AllowsPredicate world (predicate (program_term c.args.program.now)) in
     let key = c.args.ident.now in
     let vs = c.args.args in
     let e = c.in_err-ask-in-Asks.field-0.0 in
-    let begins = subst (λ b. Begins world.host key vs true b) c.in-Asks.is c.in_ok-answer.ensures.begun in
-    Gives-passed _ e (AllowsCall world.host key vs true asks) c.from_residual-in_err-ask-in-Asks.ensures.1 (
-    λ m. AllowsCall-run world.host key vs true asks c.in-Asks.run' begins (Err (fault_of e)) (λ u s. c.in_err-ask-in-Asks.ensures u s m)
+    let begins = subst (λ b. DispatchesTo world.host key vs true b) c.in-Asks.is c.in_ok-answer.ensures.begun in
+    Returns-passed _ e (AllowsCall world.host key vs true asks) c.from_residual-in_err-ask-in-Asks.ensures.1 (
+    λ m. AllowsCall-run world.host key vs true asks c.in-Asks.run' begins (Err (error_kind e)) (λ u s. c.in_err-ask-in-Asks.ensures u s m)
     )
 
 pub call_with-returns-in_ok-ask-in-Asks : goal.call_with-returns-in_ok-ask-in-Asks
 call_with-returns-in_ok-ask-in-Asks g t c =
     let world : World = here g.H.Functions.host g.P.ContextProvider.context c.args.self.now c.args.scope.now in
-    let asks : Question → Answer → Type 0 = AllowsAsked world (predicate (program_written c.args.program.now)) in
+    let asks : PredicateArgsView → Answer → Type 0 = AllowsPredicate world (predicate (program_term c.args.program.now)) in
     let key = c.args.ident.now in
     let vs = c.args.args in
     let v = c.in_ok-ask-in-Asks.field-0 in
-    let begins = subst (λ b. Begins world.host key vs true b) c.in-Asks.is c.in_ok-answer.ensures.begun in
-    subst (λ w. AllowsCall world.host key vs true asks (Ok w)) (sym c.own-in-Asks.ensures) (AllowsCall-run world.host key vs true asks c.in-Asks.run' begins (Ok v) c.in_ok-ask-in-Asks.ensures)
+    let begins = subst (λ b. DispatchesTo world.host key vs true b) c.in-Asks.is c.in_ok-answer.ensures.begun in
+    subst (λ w. AllowsCall world.host key vs true asks (Ok w)) (sym c.from_owned-in-Asks.ensures) (AllowsCall-run world.host key vs true asks c.in-Asks.run' begins (Ok v) c.in_ok-ask-in-Asks.ensures)
 
 pub ask-loop-asked-preserved : goal.ask-loop-asked-preserved
 ask-loop-asked-preserved g t c = λ u s.
     let world : World = here g.H.Functions.host g.P.ContextProvider.context c.args.self.now c.args.scope.now in
-    let asks : Question → Answer → Type 0 = AllowsAsked world (predicate (program_written c.args.program.now)) in
+    let asks : PredicateArgsView → Answer → Type 0 = AllowsPredicate world (predicate (program_term c.args.program.now)) in
     let at = c.loop-asked.invariant u s in
-    let whole : Answer → Type 0 = Asks u asks (left c.args.run) [] in
+    let whole : Answer → Type 0 = FoldMayReturn u asks (remaining_items c.args.run) [] in
     let run = c.loop-asked.run in
     let out = c.next.new.self in
-    let q = asked_of c.in-Some.asked in
+    let q = args_view c.in-Some.asked in
     let next = sym (c.in-Some.ensures.question u at.0 at.1) in
     let v = c.in_ok-answer.answer in
-    let said : asks q (Ok v) = subst (λ x. asks x (Ok v)) c.question.ensures c.in_ok-answer.ensures in
+    let said : asks q (Ok v) = subst (λ x. asks x (Ok v)) c.to_ref.ensures c.in_ok-answer.ensures in
     turn_on asks whole u run out q at next c.in-Some.ensures.out v c.answer.new.self said (subst (λ x. Answers out x v c.answer.new.self) c.into_item.ensures c.in_ok-answer-2.ensures.value)
 
 pub ask-returns-in_err-answer : goal.ask-returns-in_err-answer
 ask-returns-in_err-answer g t c = λ u s.
     let world : World = here g.H.Functions.host g.P.ContextProvider.context c.args.self.now c.args.scope.now in
-    let asks : Question → Answer → Type 0 = AllowsAsked world (predicate (program_written c.args.program.now)) in
+    let asks : PredicateArgsView → Answer → Type 0 = AllowsPredicate world (predicate (program_term c.args.program.now)) in
     let at = c.loop-asked.invariant u s in
-    let whole : Answer → Type 0 = Asks u asks (left c.args.run) [] in
+    let whole : Answer → Type 0 = FoldMayReturn u asks (remaining_items c.args.run) [] in
     let run = c.loop-asked.run in
     let out = c.next.new.self in
-    let q = asked_of c.in-Some.asked in
+    let q = args_view c.in-Some.asked in
     let next = sym (c.in-Some.ensures.question u at.0 at.1) in
     let e = c.in_err-answer.field-0.0 in
-    Gives-passed _ e whole c.from_residual.ensures.1 (
-    λ m. turn_refused asks whole u run out q at next c.in-Some.ensures.out (fault_of e) (subst (λ x. asks x (Err (fault_of e))) c.question.ensures (c.in_err-answer.ensures m))
+    Returns-passed _ e whole c.from_residual.ensures.1 (
+    λ m. turn_refused asks whole u run out q at next c.in-Some.ensures.out (error_kind e) (subst (λ x. asks x (Err (error_kind e))) c.to_ref.ensures (c.in_err-answer.ensures m))
     )
 
 pub ask-returns-in_err-answer-2 : goal.ask-returns-in_err-answer-2
 ask-returns-in_err-answer-2 g t c = λ u s.
     let world : World = here g.H.Functions.host g.P.ContextProvider.context c.args.self.now c.args.scope.now in
-    let asks : Question → Answer → Type 0 = AllowsAsked world (predicate (program_written c.args.program.now)) in
+    let asks : PredicateArgsView → Answer → Type 0 = AllowsPredicate world (predicate (program_term c.args.program.now)) in
     let at = c.loop-asked.invariant u s in
-    let whole : Answer → Type 0 = Asks u asks (left c.args.run) [] in
+    let whole : Answer → Type 0 = FoldMayReturn u asks (remaining_items c.args.run) [] in
     let run = c.loop-asked.run in
     let out = c.next.new.self in
-    let q = asked_of c.in-Some.asked in
+    let q = args_view c.in-Some.asked in
     let next = sym (c.in-Some.ensures.question u at.0 at.1) in
     let v = c.in_ok-answer.answer in
     let e = c.in_err-answer-2.field-0.0 in
-    let said : asks q (Ok v) = subst (λ x. asks x (Ok v)) c.question.ensures c.in_ok-answer.ensures in
-    Gives-passed _ e whole c.from_residual-in_err-answer-2.ensures.1 (
+    let said : asks q (Ok v) = subst (λ x. asks x (Ok v)) c.to_ref.ensures c.in_ok-answer.ensures in
+    Returns-passed _ e whole c.from_residual-in_err-answer-2.ensures.1 (
     turn_misanswered asks whole u run out q at next c.in-Some.ensures.out v e said c.in_err-answer-2.ensures.refused
     )
 
 pub ask-returns : goal.ask-returns
 ask-returns g t c = λ u s.
     let world : World = here g.H.Functions.host g.P.ContextProvider.context c.args.self.now c.args.scope.now in
-    let asks : Question → Answer → Type 0 = AllowsAsked world (predicate (program_written c.args.program.now)) in
+    let asks : PredicateArgsView → Answer → Type 0 = AllowsPredicate world (predicate (program_term c.args.program.now)) in
     let at = c.loop-asked.invariant u s in
-    let whole : Answer → Type 0 = Asks u asks (left c.args.run) [] in
+    let whole : Answer → Type 0 = FoldMayReturn u asks (remaining_items c.args.run) [] in
     let run = c.loop-asked.run in
     turn_done asks whole u run at (sym (c.in_default.ensures.question u at.0 at.1)) c.finish.result (c.finish.ensures u at.0 (c.in_default.ensures.done refl u at.0 at.1))

@@ -1,13 +1,13 @@
 use Rattle.std.proofs.Common.{◌≡◌, List, ℕ, Option, None, Result, Ok, Err, false, sym, subst}
 use denote.Ref.{Bor}
 use Rattle.expr_tree.specs.declared.node.Program.{Program}
-use Rattle.expr_predicates.specs.Runs.{AsksItself}
-use Rattle.expr_value.specs.Answers.{Gives}
-use Rattle.expr_value.specs.Fault.{fault_of}
-use Rattle.expr_value.specs.declared.error.Error.{Error}
+use Rattle.expr_predicates.specs.Runs.{AnswersItself}
+use Rattle.expr_value.specs.Answers.{Returns}
+use Rattle.expr_error.specs.ErrorKind.{error_kind}
+use Rattle.expr_error.specs.declared.error.Error.{Error}
 use Rattle.expr_value.specs.declared.value.Value.{Value}
-use Rattle.expr_value.proofs.Answered.{Gives-of-Is, Gives-passed}
-use Rattle.expr_meaning.specs.Allows.{AllowsAsked, AllowsCall, is_given}
+use Rattle.expr_value.proofs.Answered.{Returns-of-ReturnsExactly, Returns-passed}
+use Rattle.expr_meaning.specs.Allows.{AllowsPredicate, AllowsCall, is_given}
 use Rattle.expr_meaning.specs.World.{World}
 use Rattle.expr_evaluation.specs.Here.{outermost}
 use Rattle.expr_evaluation.specs.Several.{predicate_lent}
@@ -15,9 +15,9 @@ use Rattle.expr_evaluation.proofs.evaluation.Evaluation.answer_held.Goals as goa
 
 -- the call on these values, by the predicate that it is lent
 abbrev Whole : World → List ℕ → List Value → Option (Bor Program) → Result Value Error → Type 0
-Whole world key vs o r = Gives r (AllowsCall world.host key vs (is_given (predicate_lent o)) (AllowsAsked world (predicate_lent o)))
+Whole world key vs o r = Returns r (AllowsCall world.host key vs (is_given (predicate_lent o)) (AllowsPredicate world (predicate_lent o)))
 
-lent_none : (world : World) (key : List ℕ) (vs : List Value) (o : Option (Bor Program)) (r : Result Value Error) → o ≡ None → Gives r (AllowsCall world.host key vs false AsksItself) → Whole world key vs o r
+lent_none : (world : World) (key : List ℕ) (vs : List Value) (o : Option (Bor Program)) (r : Result Value Error) → o ≡ None → Returns r (AllowsCall world.host key vs false AnswersItself) → Whole world key vs o r
 lent_none world key vs o r is p = subst (λ k. Whole world key vs k r) (sym is) p
 
 pub returns-in_err-call_alone : goal.returns-in_err-call_alone
@@ -26,8 +26,8 @@ returns-in_err-call_alone g c =
     let key = c.args.ident.now in
     let e = c.in_err-call_alone.field-0.0 in
     lent_none world key c.args.args.items c.args.predicate c.from_residual-in_err-call_alone.result c.in_default.is (
-    Gives-passed c.from_residual-in_err-call_alone.result e (AllowsCall world.host key c.args.args.items false AsksItself) c.from_residual-in_err-call_alone.ensures.1 (
-    λ m. subst (λ vs. AllowsCall world.host key vs false AsksItself (Err (fault_of e))) c.in_ok-args.ensures.ok (c.in_err-call_alone.ensures m)
+    Returns-passed c.from_residual-in_err-call_alone.result e (AllowsCall world.host key c.args.args.items false AnswersItself) c.from_residual-in_err-call_alone.ensures.1 (
+    λ m. subst (λ vs. AllowsCall world.host key vs false AnswersItself (Err (error_kind e))) c.in_ok-args.ensures.ok (c.in_err-call_alone.ensures m)
     )
     )
 
@@ -37,7 +37,7 @@ returns-in_default g c =
     let key = c.args.ident.now in
     let v = c.in_ok-call_alone.field-0 in
     lent_none world key c.args.args.items c.args.predicate c.into_value.result c.in_default.is (
-    Gives-of-Is c.into_value.result (Ok v) (AllowsCall world.host key c.args.args.items false AsksItself) c.into_value.ensures.answer (
-    subst (λ vs. AllowsCall world.host key vs false AsksItself (Ok v)) c.in_ok-args.ensures.ok c.in_ok-call_alone.ensures
+    Returns-of-ReturnsExactly c.into_value.result (Ok v) (AllowsCall world.host key c.args.args.items false AnswersItself) c.into_value.ensures.answer (
+    subst (λ vs. AllowsCall world.host key vs false AnswersItself (Ok v)) c.in_ok-args.ensures.ok c.in_ok-call_alone.ensures
     )
     )

@@ -6,4 +6,4 @@ use Rattle.expr_lowering.proofs.code.Code.keep.Given as goal
 abbrev pub invariant-loop-block : goal.invariant-loop-block
 invariant-loop-block g l =
     map (λ b. ops_of own_value own_text b.items) l.later.items
-    ≡ map (λ b. ops_of g.L.Holder.held (λ n. string_bytes (g.N.Holder.held n)) b.items) (take l.block-index l.block-items)
+    ≡ map (λ b. ops_of g.L.Pointer.held (λ n. string_bytes (g.N.Pointer.held n)) b.items) (take l.block-index l.block-items)

@@ -1,6 +1,6 @@
 use Rattle.std.proofs.Common.{rules}
 use Rattle.expr_tree.specs.declared.node.Node.{the_lemmas}
-use Rattle.expr_tree.proofs.Beside.{all-Array}
+use Rattle.expr_tree.proofs.KeptPatterns.{all-Array}
 use Rattle.expr_parts.specs.Kept.{IsKeptBeside}
 use Rattle.expr_parts.proofs.arguments.Arguments.array.Goals as goal
 

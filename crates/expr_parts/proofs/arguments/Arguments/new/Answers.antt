@@ -1,6 +1,6 @@
 use Rattle.std.proofs.Common.{rules}
 use Rattle.std.proofs.lemmas.List.Elements.{All-nil, All-same}
-use Rattle.expr_tree.specs.Beside.{operations}
+use Rattle.expr_tree.specs.KeptPatterns.{operations}
 use Rattle.expr_tree.specs.declared.node.Node.{Node}
 use Rattle.expr_parts.specs.Kept.{KeepPatterns}
 use Rattle.expr_parts.proofs.Kept.{keeps-none}

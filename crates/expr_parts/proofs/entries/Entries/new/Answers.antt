@@ -1,6 +1,6 @@
 use Rattle.std.proofs.Common.{Global, String, rules}
 use Rattle.std.proofs.lemmas.List.Elements.{All-nil, All-same}
-use Rattle.expr_tree.specs.Beside.{line_operations}
+use Rattle.expr_tree.specs.KeptPatterns.{line_operations}
 use Rattle.expr_tree.specs.declared.node.Node.{Node}
 use Rattle.expr_parts.specs.Kept.{KeepPatterns}
 use Rattle.expr_parts.proofs.entries.Entries.new.Goals as goal

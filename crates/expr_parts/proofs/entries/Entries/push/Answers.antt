@@ -1,7 +1,7 @@
 use Rattle.std.proofs.Common.{Global, String, arith}
 use Rattle.std.proofs.lemmas.Grind.{common_steps}
 use Rattle.std.proofs.lemmas.List.Elements.{All-push, All-same}
-use Rattle.expr_tree.specs.Beside.{line_operations}
+use Rattle.expr_tree.specs.KeptPatterns.{line_operations}
 use Rattle.expr_tree.specs.declared.node.Node.{Node}
 use Rattle.expr_parts.specs.Kept.{KeepPatterns}
 use Rattle.expr_parts.proofs.entries.Entries.push.Goals as goal

@@ -1,8 +1,8 @@
 use Rattle.std.proofs.Common.{refl, sym, ap, ◌∙◌}
-use Rattle.expr_arguments.specs.Arrays.{items_held}
-use Rattle.expr_predicates.specs.Calls.{reduced_from_first}
-use Rattle.expr_predicates.specs.Tasks.{reducing}
-use Rattle.expr_predicates.proofs.Beginning.{same_ok}
+use Rattle.expr_arguments.specs.Arrays.{array_items}
+use Rattle.expr_predicates.specs.Calls.{reduce_from_first}
+use Rattle.expr_predicates.specs.Folds.{reducing}
+use Rattle.expr_predicates.proofs.FoldStarts.{same_ok}
 use Rattle.expr_predicates.proofs.run.PredicateRun.from_first.Goals as goal
 
 pub returns-in-Some-clause-begun : goal.returns-in-Some-clause-begun
@@ -10,4 +10,4 @@ returns-in-Some-clause-begun c =
     let x = c.in-Some.first in
     let whole = sym c.forward-left.ensures ∙ c.in-Some.ensures in
     let acc = c.in_ok-acc-in-Some.acc in
-    (reducing x 1, ap reduced_from_first whole, record { asked = refl; gathered = (x, 1, refl, same_ok acc x (sym c.in_ok-acc-in-Some.ensures.answer)) })
+    (reducing x 1, ap reduce_from_first whole, record { asked = refl; gathered = (x, 1, refl, same_ok acc x (sym c.in_ok-acc-in-Some.ensures.answer)) })

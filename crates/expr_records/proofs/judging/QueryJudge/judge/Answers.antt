@@ -1,6 +1,6 @@
 use Rattle.std.proofs.Common.{◌≡◌, false, ap, subst, sym, ◌∙◌, inl, inr, refl}
 use Rattle.std.specs.List.{list_all}
-use Rattle.expr_records.specs.Asked.{may_answer}
+use Rattle.expr_records.specs.RecordCode.{may_answer}
 use Rattle.expr_records.specs.Judged.{ComesBy}
 use Rattle.expr_records.specs.Lines.{is_blank, is_space, text_of}
 use Rattle.expr_records.specs.Records.{IsRecord, MayRefuseText}

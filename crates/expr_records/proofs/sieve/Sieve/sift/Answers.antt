@@ -1,6 +1,6 @@
 use Rattle.std.proofs.Common.{subst, ◌∙◌, true, false}
 use Rattle.expr_records.proofs.SieveLemmas.{settles_as, sifts_more, sifts_stopped}
-use Rattle.expr_records.specs.Taken.{IsNextLine}
+use Rattle.expr_records.specs.LineSteps.{IsNextLine}
 use Rattle.expr_records.proofs.sieve.Sieve.sift.Goals as goal
 
 pub returns-in-Ok-false-settle-clause-sifted : goal.returns-in-Ok-false-settle-clause-sifted

@@ -1,4 +1,0 @@
-pub mod Calendar
-pub mod Digits
-pub mod Durations
-pub mod Moments

@@ -1,6 +1,0 @@
-use Rattle.std.proofs.Common.{◌≡◌, ◌++◌}
-use Rattle.expr_encoding.specs.Tokens.{named}
-use Rattle.expr_encoding.proofs.tokens.owned.Given as goal
-
-abbrev pub invariant-loop-name : goal.invariant-loop-name
-invariant-loop-name l = l.pairs ++ named l.name-iterator ≡ named l.fn.members.entries

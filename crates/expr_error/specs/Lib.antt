@@ -1,0 +1,3 @@
+pub mod ErrorKind
+pub mod Patterns
+pub mod Quoted

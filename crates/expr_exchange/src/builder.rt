@@ -1,0 +1,142 @@
+//! Values that a host builds, one behind the other.
+ghost use Rattle.std.specs.Prelude.{◌≡◌, ◌≢◌, ◌++◌, ◌∷◌, [], IfErr, IfOk, IsOk, OnErr, OnOk, length, pos};
+ghost use Rattle.expr_exchange.specs.Builder.{EndsInMap, HasLast, TakesNames, TakesPlace, values_of};
+ghost use Rattle.expr_exchange.specs.Refusals.{IsForMemory, NotMeant};
+
+use crate::host_error::HostError;
+use expr_context::Context;
+use expr_value::{KeyedMap, Value};
+use std::alloc::Global;
+
+/// Values that are built: an array takes the place of its items, a map of its pairs.
+#[derive(Drop)]
+pub struct ValueBuilder {
+    alloc: Global,
+    values: Vec<Value>,
+}
+
+impl ValueBuilder {
+    /// Nothing built. It takes no memory.
+    pub fn new(alloc: Global) -> ValueBuilder
+        ensures { values_of result ≡ [] }
+    {
+        ValueBuilder {
+            alloc,
+            values: Vec::new(alloc),
+        }
+    }
+
+    /// Puts a value behind the others.
+    pub fn push(&mut self, value: Value) -> Result<(), HostError>
+        ensures ok { OnOk result (values_of self.new ≡ values_of self.old ++ value ∷ []) }
+        ensures err { OnErr result (values_of self.new ≡ values_of self.old) }
+        ensures refused { IfErr result IsForMemory }
+        ensures found { IfErr result (λ e. e ≢ HostError.Unknown) }
+    {
+        self.values.push(value)?;
+        Ok(())
+    }
+
+    /// Takes the last value.
+    pub fn pop(&mut self) -> Result<Value, HostError>
+        ensures ok { IfOk result (λ value. values_of self.old ≡ values_of self.new ++ value ∷ []) }
+        ensures err { IfErr result (λ e. (e ≡ HostError.Misuse) × (values_of self.old ≡ [])) }
+    {
+        match self.values.pop() {
+            Some(value) => Ok(value),
+            None => Err(HostError::Misuse),
+        }
+    }
+
+    /// Lets go of all values.
+    pub fn clear(&mut self)
+        ensures { values_of self.new ≡ [] }
+    {
+        self.values.clear();
+    }
+
+    /// Takes the last values, as many as that.
+    fn take_last(&mut self, count: i64) -> Result<Vec<Value>, HostError>
+        ensures ok { IfOk result (λ last. values_of self.old ≡ values_of self.new ++ last.items) }
+        ensures count { IfOk result (λ last. pos (length last.items) ≡ count) }
+        ensures refused { IfErr result (NotMeant (HasLast count (values_of self.old))) }
+        ensures found { IfErr result (λ e. e ≢ HostError.Unknown) }
+    {
+        let Ok(count) = usize::try_from(count) else {
+            return Err(HostError::Misuse);
+        };
+        let Some(place) = self.values.len().checked_sub(count) else {
+            return Err(HostError::Misuse);
+        };
+        Ok(self.values.split_off(place)?)
+    }
+
+    /// Makes an array of the last values.
+    pub fn array(&mut self, count: i64) -> Result<(), HostError>
+        ensures ok { OnOk result (TakesPlace count (values_of self.old) Value.Array (values_of self.new)) }
+        ensures refused { IfErr result (NotMeant (HasLast count (values_of self.old))) }
+        ensures found { IfErr result (λ e. e ≢ HostError.Unknown) }
+    {
+        let items = self.take_last(count)?;
+        self.push(Value::from(items))
+    }
+
+    /// Makes a map of the last pairs: one by names where all keys are texts, else one by scalars. A repeated key keeps its
+    /// first place and takes its last value.
+    pub fn map(&mut self, count: i64) -> Result<(), HostError>
+        ensures found { IfErr result (λ e. e ≢ HostError.Unknown) }
+    {
+        let Some(count) = count.checked_mul(2) else {
+            return Err(HostError::Misuse);
+        };
+        let values = self.take_last(count)?;
+        let map = map_of(self.alloc, values)?;
+        self.push(map)
+    }
+
+    /// The context of the last value, a map by names.
+    pub fn context(&mut self) -> Result<Context, HostError>
+        ensures ok { IfOk result (TakesNames (values_of self.old) (values_of self.new)) }
+        ensures given { EndsInMap (values_of self.old) → IsOk result }
+        ensures found { IfErr result (λ e. e ≢ HostError.Unknown) }
+    {
+        let value = self.pop()?;
+        Ok(Context::try_from(self.alloc, value)?)
+    }
+}
+
+/// The map of keys and values that stand one behind the other.
+fn map_of(alloc: Global, values: Vec<Value>) -> expr_value::Result<Value> {
+    let mut names: Vec<(String, Value)> = Vec::with_capacity(alloc, values.len() / 2)?;
+    let mut keyed: Vec<(Value, Value)> = Vec::new(alloc);
+    let mut key = None;
+    for value in values {
+        match key.take() {
+            None => key = Some(value),
+            Some(Value::String(name)) if keyed.is_empty() => names.push((
+                name.into_string(),
+                value,
+            ))?,
+            Some(other) => {
+                if keyed.is_empty() {
+                    keyed = keyed_of(alloc, names)?;
+                    names = Vec::new(alloc);
+                }
+                keyed.push((other, value))?
+            }
+        }
+    }
+    if keyed.is_empty() {
+        return Value::from_pairs(alloc, names);
+    }
+    Ok(Value::KeyedMap(KeyedMap::from_pairs(alloc, keyed)?))
+}
+
+/// The same pairs with values for keys.
+fn keyed_of(alloc: Global, names: Vec<(String, Value)>) -> expr_value::Result<Vec<(Value, Value)>> {
+    let mut keyed = Vec::with_capacity(alloc, names.len())?;
+    for (name, value) in names {
+        keyed.push((Value::from(name), value))?;
+    }
+    Ok(keyed)
+}

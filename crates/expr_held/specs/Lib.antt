@@ -1,4 +1,0 @@
-pub mod Holdings
-pub mod Plain
-pub use Rattle.expr_value.specs.Answers
-pub use Rattle.expr_value.specs.Fault

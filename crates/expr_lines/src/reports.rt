@@ -1,0 +1,29 @@
+//! What the program says on standard error. A failure to say it changes nothing.
+use expr::{Error, line_column_of};
+use std::alloc::Global;
+use std::io::{self, Write};
+
+/// Says that a word isn't `NAME=CODE`.
+pub fn tell_bad_name<E: Write>(err: &mut E, word: &str) {
+    let _ = writeln!(err, "expr_lines: --name takes NAME=CODE, and not {word}");
+}
+
+/// Says why a text was refused; of one that doesn't compile, the place of the fault, with a caret under it.
+pub fn tell_refused_text<E: Write>(alloc: Global, err: &mut E, text: &str, error: &Error) {
+    if let Error::PestError(place) = error {
+        if let Ok(at) = line_column_of(alloc, text, *place) {
+            let _ = writeln!(
+                err,
+                "expr_lines: the expression has a fault in line {}, column {}\n{}",
+                at.line, at.column, at.shown
+            );
+            return;
+        }
+    }
+    let _ = writeln!(err, "expr_lines: the expression {text} is refused: {error}");
+}
+
+/// Says that something can't be read or written.
+pub fn tell_unusable<E: Write>(err: &mut E, name: &str, error: &io::Error) {
+    let _ = writeln!(err, "expr_lines: {name}: {error}");
+}

@@ -1,7 +1,0 @@
-use Rattle.std.proofs.Common.{rules}
-use Rattle.expr_tree.specs.declared.node.Node.{the_lemmas}
-use Rattle.expr_parts.proofs.Kept.{keeps-Value}
-use Rattle.expr_parts.proofs.part.Part.literal.Goals as goal
-
-pub invariant_of-result : goal.invariant_of-result
-invariant_of-result c = (search (rules, the_lemmas), keeps-Value c.args.value)

@@ -1,0 +1,202 @@
+//! What is kept of the answers where neither an item nor an answer is.
+ghost use Rattle.std.specs.Prelude.{◌≡◌, ◌≢◌, ◌+◌, ◌-◌, ◌<◌, ◌^◌, ◌∷◌, ◌++◌, [], List, length, IfOk, Ok, Some, None, true, false, not, unwrap_or, if◌then◌else◌};
+ghost use Rattle.std.specs.Option.{option_map, option_or};
+ghost use Rattle.expr_value.specs.Values.{truth_of};
+ghost use Rattle.expr_error.specs.ErrorKind.{evaluation, RefusesWith, IsOfKind};
+ghost use Rattle.expr_value.specs.declared.value.Value.{Value as value};
+ghost use Rattle.expr_predicates.specs.Folds.{place_or_none};
+
+use expr_value::{Error, Result, Value, refusal};
+use std::alloc::Global;
+
+/// What is kept of the answers so far.
+#[derive(Clone, Copy)]
+pub(crate) enum ScalarAccumulator {
+    /// Whether some answer was false.
+    All(bool),
+    /// Whether some answer was true.
+    Any(bool),
+    NoneOf(bool),
+    /// How many answers were true.
+    One(usize),
+    /// How many were asked about before the first item whose answer was true.
+    FindIndex(Option<usize>),
+    /// The same, from the back of so many items.
+    FindLastIndex(usize, Option<usize>),
+    Count(usize),
+    Sum(i64),
+}
+
+impl ScalarAccumulator {
+    ghost use Rattle.expr_predicates.specs.Folds.{Fold, ItemAnswer, FoldOutcome, first_place, refuses_answer, has_stopped};
+    ghost use Rattle.expr_predicates.specs.Accumulators.{ScalarRepresents};
+
+    /// Whether no more is to be asked.
+    pub(crate) fn has_stopped(&self) -> bool
+        ensures { (t : Fold) (rs : List ItemAnswer) → ScalarRepresents self.now t rs
+            → result ≡ has_stopped t rs }
+    {
+        match self {
+            ScalarAccumulator::All(found)
+            | ScalarAccumulator::Any(found)
+            | ScalarAccumulator::NoneOf(found) => *found,
+            ScalarAccumulator::One(count) => *count > 1,
+            ScalarAccumulator::FindIndex(found) | ScalarAccumulator::FindLastIndex(_, found) =>
+                found.is_some(),
+            ScalarAccumulator::Count(_) | ScalarAccumulator::Sum(_) => false,
+        }
+    }
+
+    /// One more answer, about an item that stands behind so many others, where it is taken.
+    #[inline(always)]
+    fn note(&mut self, asked: usize, answer: &Value) -> bool
+        requires { asked + 1 < 2 ^ 64 }
+        ensures noted { result ≡ true → (t : Fold) (rs : List ItemAnswer) (item : value)
+            → ScalarRepresents self.old t rs
+            → asked ≡ first_place t + length rs
+            → ScalarRepresents self.new t (rs ++ (item, answer.now) ∷ [])
+            × (refuses_answer t answer.now ≡ false) }
+        ensures refused { result ≡ false → (t : Fold) (rs : List ItemAnswer) → ScalarRepresents self.old t rs
+            → refuses_answer t answer.now ≡ true }
+    {
+        match self {
+            ScalarAccumulator::All(found) => {
+                *found = *found || is_false(answer);
+                true
+            }
+            ScalarAccumulator::Any(found) => {
+                *found = *found || is_true(answer);
+                true
+            }
+            ScalarAccumulator::NoneOf(found) => {
+                *found = *found || is_true(answer);
+                true
+            }
+            ScalarAccumulator::One(count) => {
+                *count = count_if(*count, is_true(answer));
+                true
+            }
+            ScalarAccumulator::FindIndex(found) => {
+                *found = found_if(*found, is_true(answer), asked);
+                true
+            }
+            ScalarAccumulator::FindLastIndex(_, found) => {
+                *found = found_if(*found, is_true(answer), asked);
+                true
+            }
+            ScalarAccumulator::Count(count) => match answer.as_bool() {
+                Some(truth) => {
+                    *count = count_if(*count, truth);
+                    true
+                }
+                None => false,
+            },
+            ScalarAccumulator::Sum(total) => match answer.as_integer() {
+                Some(number) => {
+                    *total = total.wrapping_add(number);
+                    true
+                }
+                None => false,
+            },
+        }
+    }
+
+    /// The refusal of an answer that isn't taken.
+    #[inline(never)]
+    fn refusal(&self, alloc: Global) -> Error
+        ensures { IsOfKind result evaluation }
+    {
+        match self {
+            ScalarAccumulator::Sum(_) => refusal(alloc, "sum takes integers"),
+            _ => refusal(alloc, "count takes a predicate that answers a boolean"),
+        }
+    }
+
+    /// One more answer, about an item that stands behind so many others.
+    #[inline(always)]
+    pub(crate) fn take(&mut self, alloc: Global, asked: usize, answer: &Value) -> Result<()>
+        requires { asked + 1 < 2 ^ 64 }
+        ensures noted { IfOk result
+            (λ _. (t : Fold) (rs : List ItemAnswer) (item : value) → ScalarRepresents self.old t rs
+            → asked ≡ first_place t + length rs
+            → ScalarRepresents self.new t (rs ++ (item, answer.now) ∷ [])
+            × (refuses_answer t answer.now ≡ false)) }
+        ensures refused { RefusesWith result
+            (λ k. (t : Fold) (rs : List ItemAnswer) → ScalarRepresents self.old t rs
+            → (refuses_answer t answer.now ≡ true) × (k ≡ evaluation)) }
+    {
+        if self.note(asked, answer) {
+            Ok(())
+        } else {
+            Err(self.refusal(alloc))
+        }
+    }
+
+    /// What the answers come to.
+    pub(crate) fn outcome(self) -> Value
+        ensures { (t : Fold) (rs : List ItemAnswer) → ScalarRepresents self t rs
+            → FoldOutcome t rs (Ok result) }
+    {
+        match self {
+            ScalarAccumulator::All(failed) => Value::Bool(!failed),
+            ScalarAccumulator::Any(found) => Value::Bool(found),
+            ScalarAccumulator::NoneOf(found) => Value::Bool(!found),
+            ScalarAccumulator::One(count) => Value::Bool(count == 1),
+            ScalarAccumulator::FindIndex(found) => place(found),
+            ScalarAccumulator::FindLastIndex(count, found) => place_from_back(count, found),
+            ScalarAccumulator::Count(count) => Value::from(count),
+            ScalarAccumulator::Sum(total) => Value::Integer(total),
+        }
+    }
+}
+
+/// Whether an answer is `true`.
+pub(crate) fn is_true(answer: &Value) -> bool
+    ensures { result ≡ unwrap_or (truth_of answer.now) false }
+{
+    answer.as_bool().unwrap_or(false)
+}
+
+/// Whether an answer is `false`.
+fn is_false(answer: &Value) -> bool
+    ensures { result ≡ not (unwrap_or (truth_of answer.now) true) }
+{
+    !answer.as_bool().unwrap_or(true)
+}
+
+/// One more, if it counts.
+fn count_if(count: usize, more: bool) -> usize
+    ensures { count + 1 < 2 ^ 64 → result ≡ count + (if more then 1 else 0) }
+{
+    if more { count.saturating_add(1) } else { count }
+}
+
+/// What was found, or else this, if it is what is sought.
+pub(crate) fn found_if<T: Drop>(found: Option<T>, is_sought: bool, here: T) -> Option<T>
+    ensures { result ≡ option_or found (if is_sought then Some here else None) }
+{
+    match found {
+        Some(found) => Some(found),
+        None => { if is_sought { Some(here) } else { None } }
+    }
+}
+
+/// A place that was found, or -1.
+fn place(found: Option<usize>) -> Value
+    ensures { result ≡ place_or_none found }
+{
+    match found {
+        Some(place) => Value::from(place),
+        None => Value::Integer(-1),
+    }
+}
+
+/// The same, where items are counted from the back of so many.
+fn place_from_back(count: usize, found: Option<usize>) -> Value
+    ensures { result ≡ place_or_none (option_map (λ n. count - 1 - n) found) }
+{
+    match found {
+        Some(passed) => Value::from(count.saturating_sub(1).saturating_sub(passed)),
+        None => Value::Integer(-1),
+    }
+}

@@ -1,0 +1,197 @@
+//! What is kept of the answers where items or answers are.
+ghost use Rattle.std.specs.Prelude.{◌≡◌, ◌≢◌, ◌∷◌, ◌++◌, [], List, IfOk, OnOk, Some, None, true, false, if◌then◌else◌};
+ghost use Rattle.std.specs.Option.{option_or};
+ghost use Rattle.expr_value.specs.Answers.{Returns};
+ghost use Rattle.expr_value.specs.Values.{key_of};
+ghost use Rattle.expr_error.specs.ErrorKind.{evaluation, OnlyMemory, RefusesWith};
+ghost use Rattle.expr_value.specs.declared.key.Key.{Key as key};
+ghost use Rattle.expr_predicates.specs.Sorting.{sort_key};
+
+use crate::grouping::group_by_key;
+use crate::scalar_accumulator::is_true;
+use crate::sorting::sort_by_keys;
+use expr_cow::{Cow, CowValue};
+use expr_value::{Items, Key, Result, Value, refusal};
+use std::alloc::{AllocError, Global};
+
+/// What is kept of the items and answers so far.
+#[derive(Drop)]
+pub(crate) enum ValueAccumulator {
+    /// The answers.
+    Map(Vec<Value>),
+    /// The items whose answer was true.
+    Filter(Vec<Value>),
+    /// The first item whose answer was true.
+    Find(Option<Value>),
+    /// The last answer, or what they begin with; nil while it is out.
+    Reduce(Value),
+    /// The items beside their keys.
+    GroupBy(Vec<(Key, Value)>),
+    /// The items beside their keys, and whether they are to go downward. An answer that is no key is checked at the end.
+    SortBy(bool, Vec<(Key, Value)>),
+}
+
+impl ValueAccumulator {
+    ghost use Rattle.expr_predicates.specs.Folds.{Fold, ItemAnswer, FoldOutcome, refuses_answer, has_stopped};
+    ghost use Rattle.expr_predicates.specs.Accumulators.{ValuesRepresent, ValuesRepresentRest};
+
+    /// Whether no more is to be asked.
+    pub(crate) fn has_stopped(&self) -> bool
+        ensures { (t : Fold) (rs : List ItemAnswer) → ValuesRepresent self.now t rs
+            → result ≡ has_stopped t rs }
+    {
+        match self {
+            ValueAccumulator::Find(found) => found.is_some(),
+            _ => false,
+        }
+    }
+
+    /// One more answer, about this item. An item that is lent is copied where it is kept.
+    #[inline(always)]
+    pub(crate) fn take(&mut self, alloc: Global, item: CowValue<'_>, answer: Value) -> Result<()>
+        ensures kept { IfOk result (λ _. (t : Fold) (rs : List ItemAnswer) → ValuesRepresentRest self.old t rs
+            → ValuesRepresent self.new t (rs ++ (item.entry, answer) ∷ [])
+            × (refuses_answer t answer ≡ false)) }
+        ensures refused { RefusesWith result (λ k. (t : Fold) (rs : List ItemAnswer)
+            → ValuesRepresentRest self.old t rs → (refuses_answer t answer ≡ true) × (k ≡ evaluation)) }
+    {
+        match self {
+            ValueAccumulator::Map(answers) => {
+                put_last(answers, answer)?;
+                Ok(())
+            }
+            ValueAccumulator::Filter(kept) => {
+                keep_if(kept, is_true(&answer), item)?;
+                Ok(())
+            }
+            ValueAccumulator::Find(found) => {
+                find_if(found, is_true(&answer), item)?;
+                Ok(())
+            }
+            ValueAccumulator::Reduce(acc) => {
+                *acc = answer;
+                Ok(())
+            }
+            ValueAccumulator::GroupBy(pairs) => put_beside(alloc, pairs, answer, item),
+            ValueAccumulator::SortBy(_, pairs) => put_by(pairs, answer, item),
+        }
+    }
+
+    /// What the answers come to.
+    pub(crate) fn outcome(self, alloc: Global) -> Result<Value>
+        ensures { (t : Fold) (rs : List ItemAnswer) → ValuesRepresent self t rs
+            → Returns result (FoldOutcome t rs) }
+    {
+        match self {
+            ValueAccumulator::Map(answers) => Ok(Value::Array(Items::from_vec(answers))),
+            ValueAccumulator::Filter(values) => Ok(Value::Array(Items::from_vec(values))),
+            ValueAccumulator::Find(found) => Ok(found.unwrap_or(Value::Nil)),
+            ValueAccumulator::Reduce(acc) => Ok(acc),
+            ValueAccumulator::GroupBy(pairs) => Ok(Value::KeyedMap(group_by_key(alloc, pairs)?)),
+            ValueAccumulator::SortBy(down, pairs) => sort_by_keys(alloc, down, pairs),
+        }
+    }
+}
+
+// Each of these that is called seldom stands alone, so that a turn pays for the locals of its own built-in.
+
+/// An item kept, if it is to be.
+#[inline(always)]
+fn keep_if(
+    kept: &mut Vec<Value>,
+    is_kept: bool,
+    item: CowValue<'_>,
+) -> std::result::Result<(), AllocError>
+    ensures { OnOk result (kept.new.items ≡ kept.old.items ++ (if is_kept then item.entry ∷ [] else [])) }
+{
+    if is_kept {
+        keep_item(kept, item)
+    } else {
+        Ok(())
+    }
+}
+
+/// An item kept.
+#[inline(always)]
+fn keep_item(kept: &mut Vec<Value>, item: CowValue<'_>) -> std::result::Result<(), AllocError>
+    ensures { OnOk result (kept.new.items ≡ kept.old.items ++ item.entry ∷ []) }
+{
+    match item.into_cow() {
+        Cow::Owned(value) => put_last(kept, value),
+        Cow::Borrowed(value) => keep_copy(kept, value),
+    }
+}
+
+/// A copy of an item kept.
+#[inline(never)]
+fn keep_copy(kept: &mut Vec<Value>, item: &Value) -> std::result::Result<(), AllocError>
+    ensures { OnOk result (kept.new.items ≡ kept.old.items ++ item.now ∷ []) }
+{
+    put_last(kept, item.clone()?)
+}
+
+/// A value kept.
+#[inline(always)]
+fn put_last(kept: &mut Vec<Value>, value: Value) -> std::result::Result<(), AllocError>
+    ensures { OnOk result (kept.new.items ≡ kept.old.items ++ value ∷ []) }
+{
+    if kept.len() == kept.capacity() {
+        kept.reserve(1)?;
+    }
+    kept.push_reserved(value);
+    Ok(())
+}
+
+/// What was found, or else this item, if it is what is sought.
+#[inline(never)]
+fn find_if(
+    found: &mut Option<Value>,
+    is_sought: bool,
+    item: CowValue<'_>,
+) -> std::result::Result<(), AllocError>
+    ensures { OnOk result (found.new ≡ option_or found.old (if is_sought then Some item.entry else None)) }
+{
+    if is_sought && found.is_none() {
+        *found = Some(own_value(item)?);
+    }
+    Ok(())
+}
+
+/// The value of an item, copied where it is lent.
+fn own_value(item: CowValue<'_>) -> std::result::Result<Value, AllocError>
+    ensures { IfOk result (λ v. v ≡ item.entry) }
+{
+    match item.into_cow() {
+        Cow::Owned(value) => Ok(value),
+        Cow::Borrowed(value) => value.clone(),
+    }
+}
+
+/// One more item beside its key, which is a scalar.
+#[inline(never)]
+fn put_beside(
+    alloc: Global,
+    pairs: &mut Vec<(Key, Value)>,
+    answer: Value,
+    item: CowValue<'_>,
+) -> Result<()>
+    ensures ok { IfOk result (λ _. (k : key) × (key_of answer ≡ Some k)
+        × (pairs.new.items ≡ pairs.old.items ++ (k, item.entry) ∷ [])) }
+    ensures err { RefusesWith result (λ k. (key_of answer ≡ None) × (k ≡ evaluation)) }
+{
+    let Some(key) = answer.into_key() else {
+        return Err(refusal(alloc, "groupBy takes a predicate that answers a scalar"));
+    };
+    pairs.push((key, item.into_value()?))?;
+    Ok(())
+}
+
+/// One more item beside its key, which is nil where the answer is no scalar.
+#[inline(never)]
+fn put_by(pairs: &mut Vec<(Key, Value)>, answer: Value, item: CowValue<'_>) -> Result<()>
+    ensures ok { IfOk result (λ _. pairs.new.items ≡ pairs.old.items ++ (sort_key answer, item.entry) ∷ []) }
+    ensures err { OnlyMemory result }
+{
+    pairs.push((answer.into_key().unwrap_or(Key::Nil), item.into_value()?))?;
+    Ok(())
+}

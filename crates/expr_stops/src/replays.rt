@@ -1,0 +1,116 @@
+//! One run in a host that answers from replies.
+ghost use Rattle.std.specs.Prelude.{◌≡◌, ◌≢◌, ℕ, List, IfErr, None};
+ghost use Rattle.expr_limited.specs.Outcomes.{ReturnsOutcome};
+ghost use Rattle.expr_lowering.specs.Blocks.{CodeKeeps, blocks_of};
+ghost use Rattle.expr_lowering.specs.Kept.{ProgramKeeps};
+ghost use Rattle.expr_machine.specs.Texts.{text_of};
+ghost use Rattle.expr_meaning.specs.Allows.{AllowsBlock};
+ghost use Rattle.expr_meaning.specs.Independence.{AgreeAt};
+ghost use Rattle.expr_meaning.specs.Refusals.{NeverRefusesWith};
+ghost use Rattle.expr_steps.specs.Context.{ContextView};
+ghost use Rattle.expr_meaning.specs.World.{world_of};
+ghost use Rattle.expr_stops.specs.Stops.{CodeComes, ComesTo, host_replying, is_named};
+ghost use Rattle.expr_tree.specs.Names.{AreNamesOf};
+ghost use Rattle.expr_tree.specs.TermOf.{program_term};
+ghost use Rattle.expr_error.specs.ErrorKind.{error_kind, pattern as bad_pattern};
+
+use crate::limited::execute_in;
+use crate::names::StopNames;
+use crate::replay::{Replay, Stop};
+use crate::replies::CallReply;
+use expr_context::ContextProvider;
+use expr_lowering::{Code, Pointer};
+use expr_machine::Machine;
+use expr_meaning::Functions;
+use expr_meter::{Limits, Outcome};
+use expr_pattern::Pattern;
+use expr_tree::node::Program;
+use expr_value::{Result, Value};
+use std::alloc::Global;
+
+/// What one run came to: its answer, or the limit that it would have passed, and the call that it stopped at.
+#[derive(Drop)]
+pub struct RunOutcome {
+    pub went: Result<Outcome<Value>>,
+    pub stop: Option<Stop>,
+}
+
+/// Runs a program on replies.
+pub fn play<'a, H: Functions>(
+    alloc: Global,
+    host: &'a H,
+    names: &'a StopNames,
+    given: &'a [CallReply],
+    program: &Program,
+    ctx: &dyn ContextProvider,
+) -> RunOutcome
+    ensures answer { ReturnsOutcome result.went (ComesTo (AllowsBlock
+        (world_of (host_replying (H.host host.now) (is_named names.now) given.now) (context ctx.now))
+        (program_term program.now))) }
+    ensures independent { ReturnsOutcome result.went (ComesTo
+        (λ a. (other : ContextView) (keys : List (List ℕ)) → AreNamesOf keys (program_term program.now)
+        → AgreeAt keys (program_term program.now) (context ctx.now) other
+        → AllowsBlock (world_of (host_replying (H.host host.now) (is_named names.now) given.now) other)
+        (program_term program.now) a)) }
+    ensures pattern { NeverRefusesWith (H.host host.now) bad_pattern → ProgramKeeps program.now
+        → IfErr result.went (λ e. error_kind e ≢ bad_pattern) }
+{
+    let replay = Replay::new(host, names, given);
+    let went = run_in(alloc, &replay, program, ctx);
+    let stop = replay.take_stop();
+    RunOutcome { went, stop }
+}
+
+/// Runs code on replies, within limits or where there are none.
+pub fn play_code<
+    'a,
+    H: Functions,
+    P: ContextProvider + Drop,
+    L: Pointer<Value>,
+    N: Pointer<String>,
+    K: Pointer<Pattern>,
+>(
+    alloc: Global,
+    host: &'a H,
+    names: &'a StopNames,
+    given: &'a [CallReply],
+    code: &Code<L, N, K>,
+    provider: P,
+    limits: Option<Limits>,
+) -> RunOutcome
+    ensures ends { ReturnsOutcome result.went (CodeComes limits
+        (world_of (host_replying (H.host host.now) (is_named names.now) given.now) (P.context provider))
+        (blocks_of L.held (text_of N.held) code.now)) }
+    ensures pattern { limits ≡ None → NeverRefusesWith (H.host host.now) bad_pattern
+        → CodeKeeps L.held K.held code.now → IfErr result.went (λ e. error_kind e ≢ bad_pattern) }
+{
+    let replay = Replay::new(host, names, given);
+    let went = execute_in(alloc, &replay, code, provider, limits);
+    let stop = replay.take_stop();
+    RunOutcome { went, stop }
+}
+
+/// What a program answers in a host and a context.
+fn run_in<H: Functions>(
+    alloc: Global,
+    host: &H,
+    program: &Program,
+    ctx: &dyn ContextProvider,
+) -> Result<Outcome<Value>>
+    ensures answer { ReturnsOutcome result
+        (ComesTo (AllowsBlock (world_of (H.host host.now) (context ctx.now))
+        (program_term program.now))) }
+    ensures independent { ReturnsOutcome result (ComesTo
+        (λ a. (other : ContextView) (keys : List (List ℕ)) → AreNamesOf keys (program_term program.now)
+        → AgreeAt keys (program_term program.now) (context ctx.now) other
+        → AllowsBlock (world_of (H.host host.now) other) (program_term program.now) a)) }
+    ensures pattern { NeverRefusesWith (H.host host.now) bad_pattern → ProgramKeeps program.now
+        → IfErr result (λ e. error_kind e ≢ bad_pattern) }
+{
+    let machine = Machine {
+        alloc,
+        host,
+        provider: ctx,
+    };
+    Ok(Outcome::Answered(machine.answer_program(program)?))
+}
