@@ -30,10 +30,10 @@ void expr_c_call(void *at, call *call);
 /* As `Ask` of call.rt. */
 enum ask {
     COMPILE, NAMES, RUN, CONTEXT, CONTEXT_OF, SET, PUSH, ARRAY, MAP, UNBUILD, LOOK, DOWN, UP, KEY, SHOWN, TEXT, JSON, SAID,
-    ENVIRONMENT, FIXED_ZONE, ZONE_RULE, NOW, DROP_PROGRAM, DROP_CONTEXT, DROP_ENVIRONMENT, CLEAR, NAME, ANSWER, REFUSE, ASKED,
-    LIMIT, UNLIMITED
+    ENVIRONMENT, FIXED_ZONE, ZONE_RULE, NOW, DROP_PROGRAM, DROP_CONTEXT, DROP_ENVIRONMENT, CLEAR, NAME, ANSWER, REFUSE,
+    WAITING_CALL, LIMIT, UNLIMITED
 };
-/* As `Kind` of call.rt, behind those of expr_kind. */
+/* As `Kind` of kind.rt, behind those of expr_kind. */
 enum { KIND_JSON = EXPR_KEYED_MAP + 1, KIND_BUILT, KIND_LOOKED };
 
 struct expr_engine {
@@ -464,7 +464,7 @@ expr_status expr_add_name(expr_engine *engine, expr_environment environment, con
 expr_status expr_asked(expr_engine *engine, const char **name, expr_answer *arguments) {
     if (name) *name = "";
     if (arguments) *arguments = (expr_answer){EXPR_NIL, 0, 0, NULL};
-    expr_status status = asked_alone(engine, ASKED);
+    expr_status status = asked_alone(engine, WAITING_CALL);
     if (status != EXPR_OK) return status;
     if (arguments) *arguments = (expr_answer){EXPR_ARRAY, 0, engine->call.number, NULL};
     if (!name) return EXPR_OK;

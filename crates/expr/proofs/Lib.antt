@@ -1,3 +1,4 @@
+pub mod Answering
 pub mod Bracketed
 pub mod Ending
 pub mod Faults

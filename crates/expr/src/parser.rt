@@ -1,5 +1,5 @@
 //! The older way in: a parser that holds an environment.
-ghost use Rattle.std.specs.Prelude.{◌≡◌, ◌≢◌, ℕ, List, None, Err, Some, IfOk, OnErr, OnOk, bytes_eq, option_map};
+ghost use Rattle.std.specs.Prelude.{◌≡◌, ◌≢◌, ℕ, List, None, Err, Some, IfOk, OnErr, OnOk, bytes_eq, if◌then◌else◌, option_map};
 ghost use Rattle.expr.specs.Hosted.{host_of, moment_at, function_named, zone_at};
 ghost use Rattle.expr.specs.Parsers.{environment_of};
 ghost use Rattle.std.specs.Str.{IsCharBoundary};

@@ -61,5 +61,5 @@ pub(crate) fn evaluate_text<H: Functions, P: ContextProvider>(
         → ReturnsExactly result (Ok v) }
 {
     let program = compile(machine.alloc, code)?;
-    machine.answer_program(&program)
+    (&*machine).answer_program(&program)
 }

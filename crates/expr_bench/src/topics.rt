@@ -1,11 +1,11 @@
 //! What only code can see of a topic.
 use crate::engine;
 use expr::value;
-use expr_bench_answers::{answers, deep, reading_back, values};
+use expr_bench_answers::{answers, deep, macros, reading_back, values};
 use expr_bench_hosts::{additions, hosts, served};
 use expr_bench_programs::{parts, plain, programs, sizes, tokens};
 use expr_bench_values::page::Page;
-use expr_bench_values::{collections, macros};
+use expr_bench_values::{collections, refusals};
 use expr_context::Context;
 use expr_value::Result;
 use std::alloc::Global;
@@ -31,7 +31,10 @@ fn put_topic(alloc: Global, topic: &str, page: &mut Page) -> Result<()> {
         "deep" => deep::put_deep(alloc, page),
         "engine" => engine::put_engine(alloc, page)?,
         "hosts" => hosts::put_hosts(alloc, page)?,
-        "macros" => macros::put_macros(alloc, page)?,
+        "macros" => {
+            macros::put_macros(alloc, page);
+            refusals::put_refusals(alloc, page)?;
+        }
         "plain" => plain::put_plain(alloc, page),
         "programs" => programs::put_programs(alloc, page)?,
         "reading_back" => reading_back::put_reading_back(alloc, page)?,

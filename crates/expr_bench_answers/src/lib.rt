@@ -5,6 +5,8 @@ pub mod answers;
 pub mod calls;
 mod damaged;
 pub mod deep;
+pub mod macros;
+mod made;
 pub mod reading_back;
 pub mod rows;
 pub mod values;

@@ -1,7 +1,7 @@
 //! What values answer that no text makes, and what values and contexts lend.
+use crate::made::{made_context, made_pairs};
 use expr::{Context, ContextProvider, Result, Value, eval, value};
 use expr_bench_values::lent::{has_name, is_no_context, put_lent};
-use expr_bench_values::made::{made_context, made_pairs};
 use expr_bench_values::page::Page;
 use std::alloc::Global;
 

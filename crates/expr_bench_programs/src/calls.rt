@@ -1,5 +1,4 @@
 //! Each public call on patterns, programs, nodes and code that takes memory, by its name and with memory to spare.
-use expr::value;
 use expr_bench_values::calls::one;
 use expr_bench_values::page::Page;
 use expr_context::Context;
@@ -133,7 +132,8 @@ fn put_nodes(alloc: Global, context: &Context, wrong: &mut Page) -> Result<()> {
 
 /// Puts what is wrong of calls, one with a program that it asks of items.
 fn put_functions(alloc: Global, context: &Context, wrong: &mut Page) -> Result<()> {
-    let list = one(alloc, value!(in alloc; [1, 2])?)?;
+    let items = vec![in alloc; Value::Integer(1), Value::Integer(2)]?;
+    let list = one(alloc, Value::from(items))?;
     let asked = compile(alloc, "# * 10")?;
     let answer = eval_func(alloc, context, "map", list, Some(&asked));
     wrong.answer("eval_func", answer, "[10, 20]");

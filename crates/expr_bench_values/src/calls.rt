@@ -1,7 +1,6 @@
 //! Each public call on values that takes memory, by its name and with memory to spare; `bin/called` holds this table, and
 //! those of the same name in the crates above, to the sources.
 use crate::page::Page;
-use expr::value;
 use expr_context::{Context, ContextProvider};
 use expr_value::{
     DateTimeValue, Items, Key, KeyedMap, Result, Text, TimezoneValue, Value, ValueMap,
@@ -41,6 +40,13 @@ fn key_pairs(alloc: Global) -> Result<Vec<(Value, Value)>> {
 /// What such scalars and values print.
 const KEYED: &str = "{2: \"b\", \"x\": 1}";
 
+/// A map where `a` has a value.
+fn map_of_a(alloc: Global, value: Value) -> Result<Value> {
+    let mut map = ValueMap::new(alloc);
+    map.insert(Text::copy(alloc, "a")?, value)?;
+    Ok(Value::Map(map))
+}
+
 /// The value of the names of a provider.
 fn names_value(context: Context) -> Value {
     Value::from(context.into_map())
@@ -58,8 +64,9 @@ fn put_values(alloc: Global, wrong: &mut Page) -> Result<()> {
     wrong.answer("Value::text", Value::text(alloc, "a"), "\"a\"");
     let pairs = Value::from_pairs(alloc, name_pairs(alloc)?);
     wrong.answer("Value::from_pairs", pairs, NAMED);
-    let list = value!(in alloc; [1, {"a": nil}])?;
-    put_list(alloc, &list, wrong)
+    let mut items = one(alloc, Value::Integer(1))?;
+    items.push(map_of_a(alloc, Value::Nil)?)?;
+    put_list(alloc, &Value::from(items), wrong)
 }
 
 fn put_texts(alloc: Global, wrong: &mut Page) -> Result<()> {
@@ -126,7 +133,8 @@ fn put_new_keyed_map(alloc: Global, wrong: &mut Page) -> Result<()> {
 /// Puts the answer to pairs of which one's key is a list.
 fn put_refused_key(alloc: Global, wrong: &mut Page) -> Result<()> {
     let mut pairs = key_pairs(alloc)?;
-    pairs.push((value!(in alloc; [3])?, Value::Nil))?;
+    let list = Value::from(one(alloc, Value::Integer(3))?);
+    pairs.push((list, Value::Nil))?;
     let answer = match KeyedMap::from_pairs(alloc, pairs) {
         Ok(map) => Ok(Value::KeyedMap(map)),
         Err(error) => Err(error),
@@ -169,7 +177,7 @@ fn put_context(alloc: Global, wrong: &mut Page) -> Result<()> {
 fn put_made_contexts(alloc: Global, wrong: &mut Page) -> Result<()> {
     let context = Context::from_pairs(alloc, name_pairs(alloc)?)?;
     wrong.answer("Context::from_pairs", Ok(names_value(context)), NAMED);
-    let value = value!(in alloc; {"a": 1})?;
+    let value = map_of_a(alloc, Value::Integer(1))?;
     let first = match value.as_map() {
         Some(map) => map.get("a"),
         None => None,

@@ -1,6 +1,5 @@
 //! What collections, texts and contexts give to who walks, asks, copies and prints them.
 use crate::page::Page;
-use expr::value;
 use expr_context::Context;
 use expr_value::{Boxed, Items, Key, KeyedMap, Result, Text, Value, ValueMap};
 use std::alloc::Global;
@@ -139,7 +138,9 @@ fn put_texts(alloc: Global, page: &mut Page) -> Result<()> {
 
 /// Puts the names of a context, its copy, and the facts of it that don't hold.
 fn put_context(alloc: Global, page: &mut Page) -> Result<()> {
-    let context = Context::try_from(alloc, value!(in alloc; {"a": 1, "b": nil})?)?;
+    let mut context = Context::new(alloc);
+    context.insert(String::from_str(alloc, "a")?, Value::Integer(1))?;
+    context.insert(String::from_str(alloc, "b")?, Value::Nil)?;
     for (name, value) in context.iter() {
         page.put_made(format!(in alloc; "{name}={value};"));
     }

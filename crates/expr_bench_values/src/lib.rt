@@ -5,7 +5,6 @@ pub mod calls;
 pub mod collections;
 pub mod lent;
 pub mod lines;
-pub mod macros;
-pub mod made;
 pub mod page;
+pub mod refusals;
 pub mod seeds;

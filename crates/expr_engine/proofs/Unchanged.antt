@@ -3,7 +3,7 @@ use Rattle.std.proofs.Common.{◌≡◌, ◌≤◌, ℕ, Bool, true, false, List
 use Rattle.std.proofs.lemmas.Bool.{false≢true}
 use Rattle.std.proofs.lemmas.Grind.{common_steps}
 use Rattle.std.specs.Option.{unwrap_or}
-use Rattle.expr_engine.specs.Effects.{Changes}
+use Rattle.expr_engine.specs.Effects.{Adds, Changes}
 use Rattle.expr_engine.specs.Engines.{Leaves, NumbersRise, SameAdditions, SameKept}
 use Rattle.expr_engine.specs.Runs.{named_at, zone_at}
 use Rattle.expr_engine.specs.declared.additions.Additions.{Additions}
@@ -79,6 +79,22 @@ additions_by_exchange old mid new h spare was is m n w zones moment names = reco
   moments = λ k. told_at (λ a. a.moment) old mid new h spare was is m n w moment k (is_same h k) refl;
   names = λ k name. told_at (λ a. named_at a name) old mid new h spare was is m n w (names name) k (is_same h k) refl;
 }
+
+-- a thing was exchanged, and exchanged back as it was
+put_back : {T : Type 0} (o n : Option T) (spare was is : T) → n ≡ option_map (λ _. is) o → was ≡ unwrap_or o spare → is ≡ was → n ≡ o
+put_back None n spare was is e w z = e
+put_back (Some x) n spare was is e w z = e ∙ ap Some (z ∙ w)
+
+thing_by_exchange : {T : Type 0} (old mid new : HandleMap T) (h : Handle) (spare was is : T) → ((k : Handle) → thing_at mid k ≡ (if is_same h k then option_map (λ _. spare) (thing_at old k) else thing_at old k))
+    → ((k : Handle) → thing_at new k ≡ (if is_same h k then option_map (λ _. is) (thing_at mid k) else thing_at mid k)) → was ≡ unwrap_or (thing_at old h) spare → is ≡ was
+    → (k : Handle) (b : Bool) → is_same h k ≡ b → thing_at new k ≡ thing_at old k
+thing_by_exchange old mid new h spare was is m n w z k true e =
+    put_back (thing_at old k) (thing_at new k) spare was is (exchanged_twice (thing_at old k) (thing_at mid k) (thing_at new k) spare is (rw e at (m k)) (rw e at (n k))) (w ∙ ap (λ o. unwrap_or o spare) (sym (one_finds old h k e))) z
+thing_by_exchange old mid new h spare was is m n w z k false e = rw e at (n k) ∙ rw e at (m k)
+
+pub things_by_exchange : {T : Type 0} (old mid new : HandleMap T) (h : Handle) (spare was is : T) → ((k : Handle) → thing_at mid k ≡ (if is_same h k then option_map (λ _. spare) (thing_at old k) else thing_at old k))
+    → ((k : Handle) → thing_at new k ≡ (if is_same h k then option_map (λ _. is) (thing_at mid k) else thing_at mid k)) → was ≡ unwrap_or (thing_at old h) spare → is ≡ was → SameThings old new
+things_by_exchange old mid new h spare was is m n w z = λ k. thing_by_exchange old mid new h spare was is m n w z k (is_same h k) refl
 
 -- what holds, holds where a result is a refusal
 pub on_err : {A E P : Type 0} (r : Result A E) → P → OnErr r P
@@ -180,3 +196,13 @@ left_look old new (Err x) k c e l = record { kept = same_kept k c e; look = l }
 pub left_answer : {A E : Type 0} (old new : Engine) (r : Result A E) → new.rules ≡ old.rules → new.contexts ≡ old.contexts → new.environments ≡ old.environments → OnErr r (new.answer ≡ old.answer) → OnErr r (Leaves old new)
 left_answer old new (Ok v) k c e a = tt
 left_answer old new (Err x) k c e a = leaves (same_kept k c e) a
+
+-- a new thing takes the next number
+pub adds_rise : {T : Type 0} {Is : T → Type 0} {old new : HandleMap T} {h : Handle} → Adds Is old new h → next_number old ≤ next_number new
+adds_rise a = omega (arith, a.number, a.next)
+
+pub rise_by_rules : {old new : Engine} → next_number old.rules ≤ next_number new.rules → new.contexts ≡ old.contexts → new.environments ≡ old.environments → NumbersRise old new
+rise_by_rules r c e = record { rules = r; contexts = no_less _ _ (ap (λ k. next_number k) c); environments = no_less _ _ (ap (λ k. next_number k) e) }
+
+pub rise_by_contexts : {old new : Engine} → new.rules ≡ old.rules → next_number old.contexts ≤ next_number new.contexts → new.environments ≡ old.environments → NumbersRise old new
+rise_by_contexts r c e = record { rules = no_less _ _ (ap (λ k. next_number k) r); contexts = c; environments = no_less _ _ (ap (λ k. next_number k) e) }

@@ -13,7 +13,7 @@ use expr_exchange::HostError;
 pub fn drop_program(engine: &mut Engine, call: &Call<'_>) -> Result<(), HostError>
     ensures done { OnOk result (DropsProgram engine.old engine.new call.now) }
     ensures unknown { thing_at engine.old.rules call.now.program ≡ None → result ≡ Err HostError.Unknown }
-    ensures check_known { result ≡ Err HostError.Unknown → thing_at engine.old.rules call.now.program ≡ None }
+    ensures known { result ≡ Err HostError.Unknown → thing_at engine.old.rules call.now.program ≡ None }
     ensures next { next_number engine.new.rules ≡ next_number engine.old.rules }
     ensures answer { engine.new.answer ≡ engine.old.answer }
     ensures err { OnErr result (SameThings engine.old.rules engine.new.rules) }
@@ -30,7 +30,7 @@ pub fn drop_program(engine: &mut Engine, call: &Call<'_>) -> Result<(), HostErro
 pub fn drop_context(engine: &mut Engine, call: &Call<'_>) -> Result<(), HostError>
     ensures done { OnOk result (DropsContext engine.old engine.new call.now) }
     ensures unknown { thing_at engine.old.contexts call.now.context ≡ None → result ≡ Err HostError.Unknown }
-    ensures check_known { result ≡ Err HostError.Unknown
+    ensures known { result ≡ Err HostError.Unknown
         → thing_at engine.old.contexts call.now.context ≡ None }
     ensures next { next_number engine.new.contexts ≡ next_number engine.old.contexts }
     ensures answer { engine.new.answer ≡ engine.old.answer }
@@ -50,7 +50,7 @@ pub fn drop_environment(engine: &mut Engine, call: &Call<'_>) -> Result<(), Host
     ensures done { OnOk result (DropsEnvironment engine.old engine.new call.now) }
     ensures unknown { thing_at engine.old.environments call.now.environment ≡ None
         → result ≡ Err HostError.Unknown }
-    ensures check_known { result ≡ Err HostError.Unknown
+    ensures known { result ≡ Err HostError.Unknown
         → thing_at engine.old.environments call.now.environment ≡ None }
     ensures next { next_number engine.new.environments ≡ next_number engine.old.environments }
     ensures answer { engine.new.answer ≡ engine.old.answer }

@@ -50,7 +50,7 @@ pub fn serve(engine: &mut Engine, call: &mut Call<'_>)
         (λ ask. IsMissing ask engine.old call.old) }
     // No handle is given twice.
     ensures numbers { NumbersRise engine.old engine.new }
-    ensures shown_bytes { call.new.status ≡ 0 → MatchOption (ask_of call.old.ask) ⊥
+    ensures shown { call.new.status ≡ 0 → MatchOption (ask_of call.old.ask) ⊥
         (λ ask. call.new.length ≡ length (text_shown (shows_of ask) engine.new)) }
 {
     match Ask::from_number(call.ask) {

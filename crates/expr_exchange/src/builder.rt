@@ -1,7 +1,9 @@
 //! Values that a host builds, one behind the other.
-ghost use Rattle.std.specs.Prelude.{◌≡◌, ◌≢◌, ◌++◌, ◌∷◌, [], IfErr, IfOk, IsOk, OnErr, OnOk, length, pos};
+ghost use Rattle.std.specs.Prelude.{◌≡◌, ◌≢◌, ◌+ℤ◌, ◌++◌, ◌∷◌, [], IfErr, IfOk, IsOk, OnErr, OnOk, length, pos};
+ghost use Rattle.expr_error.specs.ErrorKind.{OnlyMemory, RefusesWith, evaluation};
 ghost use Rattle.expr_exchange.specs.Builder.{EndsInMap, HasLast, TakesNames, TakesPlace, values_of};
-ghost use Rattle.expr_exchange.specs.Refusals.{IsForMemory, NotMeant};
+ghost use Rattle.expr_exchange.specs.declared.host_error.Status.TheVariants.{Evaluation};
+ghost use Rattle.expr_exchange.specs.Refusals.{IsForMemory, NotMeant, status_of};
 
 use crate::host_error::HostError;
 use expr_context::Context;
@@ -82,8 +84,14 @@ impl ValueBuilder {
     }
 
     /// Makes a map of the last pairs: one by names where all keys are texts, else one by scalars. A repeated key keeps its
-    /// first place and takes its last value.
+    /// first place and takes its last value. A key that is no scalar is refused as the language refuses it.
+    #[tactic(auto, using(crate::proofs::Refused::memory_else))]
     pub fn map(&mut self, count: i64) -> Result<(), HostError>
+        ensures ok { OnOk result (
+            (made : Value) × TakesPlace (count +ℤ count) (values_of self.old)
+            (λ _. made) (values_of self.new)) }
+        ensures refused { IfErr result (λ e. status_of e ≢ Evaluation
+            → NotMeant (HasLast (count +ℤ count) (values_of self.old)) e) }
         ensures found { IfErr result (λ e. e ≢ HostError.Unknown) }
     {
         let Some(count) = count.checked_mul(2) else {
@@ -106,7 +114,9 @@ impl ValueBuilder {
 }
 
 /// The map of keys and values that stand one behind the other.
-fn map_of(alloc: Global, values: Vec<Value>) -> expr_value::Result<Value> {
+fn map_of(alloc: Global, values: Vec<Value>) -> expr_value::Result<Value>
+    ensures kind { RefusesWith result (λ k. k ≡ evaluation) }
+{
     let mut names: Vec<(String, Value)> = Vec::with_capacity(alloc, values.len() / 2)?;
     let mut keyed: Vec<(Value, Value)> = Vec::new(alloc);
     let mut key = None;
@@ -133,7 +143,9 @@ fn map_of(alloc: Global, values: Vec<Value>) -> expr_value::Result<Value> {
 }
 
 /// The same pairs with values for keys.
-fn keyed_of(alloc: Global, names: Vec<(String, Value)>) -> expr_value::Result<Vec<(Value, Value)>> {
+fn keyed_of(alloc: Global, names: Vec<(String, Value)>) -> expr_value::Result<Vec<(Value, Value)>>
+    ensures err { OnlyMemory result }
+{
     let mut keyed = Vec::with_capacity(alloc, names.len())?;
     for (name, value) in names {
         keyed.push((Value::from(name), value))?;

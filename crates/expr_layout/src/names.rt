@@ -1,26 +1,6 @@
-//! The names of months and of days of the week.
+//! The first three letters of the names of months and of days of the week.
 ghost use Rattle.std.specs.Prelude.{◌≡◌, take};
 ghost use Rattle.expr_value.specs.Strings.{month_name, weekday_name};
-
-pub(crate) fn month_name(number: u32) -> &'static str
-    ensures { result.now ≡ month_name number }
-{
-    match number {
-        1 => "January",
-        2 => "February",
-        3 => "March",
-        4 => "April",
-        5 => "May",
-        6 => "June",
-        7 => "July",
-        8 => "August",
-        9 => "September",
-        10 => "October",
-        11 => "November",
-        12 => "December",
-        _ => "",
-    }
-}
 
 /// The first three letters of a month's name.
 pub(crate) fn short_month_name(number: u32) -> &'static str
@@ -39,21 +19,6 @@ pub(crate) fn short_month_name(number: u32) -> &'static str
         10 => "Oct",
         11 => "Nov",
         12 => "Dec",
-        _ => "",
-    }
-}
-
-pub(crate) fn weekday_name(number: u32) -> &'static str
-    ensures { result.now ≡ weekday_name number }
-{
-    match number {
-        0 => "Sunday",
-        1 => "Monday",
-        2 => "Tuesday",
-        3 => "Wednesday",
-        4 => "Thursday",
-        5 => "Friday",
-        6 => "Saturday",
         _ => "",
     }
 }

@@ -6,8 +6,9 @@ ghost use Rattle.expr_layout.specs.Layouts.{after_name, either};
 ghost use Rattle.expr_layout.specs.KnownFields.{after_any_case, after_pad, after_space, number_below, digit_at, found_as, found_at, found_number, four_digits, fraction_found, full_year, with_next_unit, half_at, hours_at, if_more, in_units, mark_at, name_at, name_of, nothing_behind, offset_at, one_more, parts_at, parts_behind, read_all, seen_finding, seen_number, small_zulu_at, spelled_at, two_digits, no_fields, up_to_three, up_to_two, zulu_at};
 
 use crate::found::{Finding, KnownFields, NameTable};
-use crate::names::{month_name, short_month_name, short_weekday_name, weekday_name};
+use crate::names::{short_month_name, short_weekday_name};
 use crate::token::{Field, LayoutToken, Pad, Spelling};
+use expr_value::{month_name, weekday_name};
 
 /// What the tokens of a layout find in a text, if they read the whole text and what they find agrees.
 pub fn read_all(tokens: &[LayoutToken], text: &[u8]) -> Option<KnownFields>

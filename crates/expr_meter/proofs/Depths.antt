@@ -62,6 +62,6 @@ code_depth costs world blocks s w d v left (x, ran, p) =
       works = λ n k. begins d n k;
       makes = λ v. holds d (inner_weight v) (depth v);
       keeps = λ v. holds d (weight v) (depth v);
-      room_released = frees d;
+      freed = frees d;
     }) costs world blocks 0 [] (limited s w d) x refl ran
     ) p

@@ -65,5 +65,5 @@ rooms = record {
   works = TakesWork;
   makes = λ v. Holds (inner_weight v) (depth v);
   keeps = λ v. Holds (weight v) (depth v);
-  room_released = room_released;
+  freed = room_released;
 }

@@ -125,7 +125,7 @@ pub struct PredicateRun<'s> {
     /// How many items have been handed out.
     asked: usize,
     gathered: Accumulator,
-    ghost fits: { asked + length (items_remaining remaining_items) < 2 ^ 64 },
+    ghost fits: { asked + length (items_remaining left) < 2 ^ 64 },
 }
 
 // Written out so that letting go of one is a single step in the proofs above.

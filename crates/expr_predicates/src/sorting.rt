@@ -117,7 +117,7 @@ fn sort_pairs<T>(down: bool, pairs: &mut Vec<(Key, T)>) -> std::result::Result<(
 
 fn sort_upward<T>(pairs: &mut Vec<(Key, T)>) -> std::result::Result<(), AllocError>
     ensures permutation { IsPermutation pairs.old.items pairs.new.items }
-    ensures sort_by_keys { OnOk result (IsSortedBy (precedes false) pairs.new.items) }
+    ensures sorted { OnOk result (IsSortedBy (precedes false) pairs.new.items) }
     ensures stable { IsStableBy (precedes false) pairs.old.items pairs.new.items }
 {
     pairs.sort_by(|a: &(Key, T), b: &(Key, T)| a.0.cmp(&b.0))
@@ -125,7 +125,7 @@ fn sort_upward<T>(pairs: &mut Vec<(Key, T)>) -> std::result::Result<(), AllocErr
 
 fn sort_downward<T>(pairs: &mut Vec<(Key, T)>) -> std::result::Result<(), AllocError>
     ensures permutation { IsPermutation pairs.old.items pairs.new.items }
-    ensures sort_by_keys { OnOk result (IsSortedBy (precedes true) pairs.new.items) }
+    ensures sorted { OnOk result (IsSortedBy (precedes true) pairs.new.items) }
     ensures stable { IsStableBy (precedes true) pairs.old.items pairs.new.items }
 {
     pairs.sort_by(|a: &(Key, T), b: &(Key, T)| b.0.cmp(&a.0))

@@ -102,7 +102,7 @@ fn height_refusal(alloc: Global) -> Error
 
 /// Puts the value of a binding under its name. Its code is evaluated in an empty context.
 fn bind(alloc: Global, word: &str, context: &mut Context) -> Result<()>
-    ensures context_of { OnOk result ((v : Value) × MayGive [] (code_of word.now) (Ok v)
+    ensures bound { OnOk result ((v : Value) × MayGive [] (code_of word.now) (Ok v)
         × context.new ≡ put (name_of word.now) v context.old) }
     ensures refused { RefusesWith result
         (λ k. MayGive [] (code_of word.now) (Err k)) }

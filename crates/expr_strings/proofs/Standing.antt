@@ -1,8 +1,9 @@
 -- The places of a text, found one after the other.
 use Rattle.std.proofs.Common.{◌≡◌, subst, ℕ, zero, suc, ◌+◌, ◌-◌, ◌<◌, ◌≤◌, Bool, true, false, ◌||◌, List, [], ◌∷◌, ◌++◌, length, take, drop, nat_lt, refl, sym, ap, ◌∙◌, arith, ◌⊎◌, inl, inr, if◌then◌else◌}
-use Rattle.std.specs.Str.{IsCharBoundary}
+use Rattle.std.specs.Str.{IsCharBoundary, bytes_eq}
 use Rattle.std.specs.Prelude.{MatchOption, ◌==◌}
-use Rattle.std.specs.Str.Pattern.{LacksTextAt, FindsText, MatchBeginsAt}
+use Rattle.std.specs.Str.Pattern.{LacksTextAt, FindsText, MatchBeginsAt, FindsTextPrefix, HasPrefixMatch}
+use Rattle.std.specs.Bool.{MatchBool}
 use Rattle.std.specs.declared.option.Option.{Option}
 use Rattle.std.specs.declared.option.Option.TheVariants.{Some, None}
 use Rattle.std.proofs.lemmas.Bool.Decides.{nat_tests}
@@ -193,3 +194,9 @@ count t (c ∷ s) at (suc k) = omega (arith, count t s (suc at) k)
 
 pub all_places : (t s : List ℕ) → take (length s + 1) (places t s) ≡ places t s
 all_places t s = take_all (length s + 1) (places t s) (omega (arith, count t s 0 0))
+
+-- what std says of a prefix
+pub prefix_is : (t s : List ℕ) (r : Bool) → MatchBool r (HasPrefixMatch (FindsTextPrefix t) s) (LacksTextAt t s 0) → r ≡ bytes_eq (take (length t) s) t
+prefix_is t s true h = sym ((bytes_eq-Decides (take (length t) s) t).1 (ap (take (length t)) h.1.1 ∙ take-append_seam t (drop h.0 s)))
+prefix_is t s false h = sym (is_false (bytes_eq (take (length t) s) t) (λ e.
+    h (drop (length t) s) (sym (take-append-drop (length t) s) ∙ ap (λ l. l ++ drop (length t) s) ((bytes_eq-Decides (take (length t) s) t).0 e))))

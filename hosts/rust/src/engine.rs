@@ -182,7 +182,7 @@ impl Session<'_> {
 
     /// The name of the function that is called, and the arguments.
     pub fn asked(&mut self) -> Result<(String, Vec<Value>)> {
-        let told = self.ask(Ask::Asked, Asked::default())?;
+        let told = self.ask(Ask::WaitingCall, Asked::default())?;
         let name = self.text(&told, Ask::Said);
         match self.value(&told)? {
             Value::Array(arguments) => Ok((name, arguments)),

@@ -105,19 +105,19 @@ pub enum Ask {
     Name,
     Answer,
     Refuse,
-    Asked,
+    WaitingCall,
     Limit,
     Unlimited,
 }
 
-/// The status of a run that waits for the host's reply, as `Status` of refused.rt.
+/// The status of a run that waits for the host's reply, as `Status` of host_error.rt.
 pub const ASKS: u32 = 8;
 /// The status of a run that came to another call than the one that was replied to.
 pub const DIFFERS: u32 = 9;
 /// The first of the statuses of limits, one for each in the order of [`Limits`](crate::Limits).
 pub const LIMITS: u32 = 10;
 
-/// Kinds of values, as `Kind` of call.rt.
+/// Kinds of values, as `Kind` of kind.rt.
 pub mod kind {
     pub const NIL: u32 = 0;
     pub const BOOL: u32 = 1;

@@ -12,8 +12,8 @@ returns-clause-state c =
     let t = term_of c.args.condition.now in
     let s = state_of c.args.self.now in
     on_ok c.put_off.result (
-    λ e. e ∙ ap (λ m. with_task (jump_task jump_if_false t m) (state_of c.emit.new.self)) c.position-position.ensures
-    ∙ ap (with_task (jump_task jump_if_false t (length s.ops))) (c.in_ok-emit.ensures.state ∙ ap (λ n. with_op (jump n) s) c.jump_length-jump_length.ensures)
+    λ e. e ∙ ap (λ m. with_task (jump_task jump_if_false t m) (state_of c.emit.new.self)) c.position-here.ensures
+    ∙ ap (with_task (jump_task jump_if_false t (length s.ops))) (c.in_ok-emit.ensures.state ∙ ap (λ n. with_op (jump n) s) c.jump_length-passed.ensures)
     ) c.put_off.ensures.state
 
 pub returns-clause-kept : goal.returns-clause-kept

@@ -31,25 +31,25 @@ pub returns-in_ok-emit-in-AndThen-clause-leads : goal.returns-in_ok-emit-in-AndT
 returns-in_ok-emit-in-AndThen-clause-leads c =
     let s = state_of c.args.self.now in
     let t = term_of c.in-AndThen.node.now in
-    goes_to 0 _ _ _ (term_task t) (c.in_ok-emit-in-AndThen.ensures.state ∙ ap (λ n. with_op (and_then n) s) c.jump_length-jump_length.ensures) (from_work 0 c.args.work _ s _ c.in-AndThen.is (leads_jump s and_then t c.in-AndThen.mark))
+    goes_to 0 _ _ _ (term_task t) (c.in_ok-emit-in-AndThen.ensures.state ∙ ap (λ n. with_op (and_then n) s) c.jump_length-passed.ensures) (from_work 0 c.args.work _ s _ c.in-AndThen.is (leads_jump s and_then t c.in-AndThen.mark))
 
 pub returns-in_ok-emit-in-OrElse-clause-leads : goal.returns-in_ok-emit-in-OrElse-clause-leads
 returns-in_ok-emit-in-OrElse-clause-leads c =
     let s = state_of c.args.self.now in
     let t = term_of c.in-OrElse.node.now in
-    goes_to 0 _ _ _ (term_task t) (c.in_ok-emit-in-OrElse.ensures.state ∙ ap (λ n. with_op (or_else n) s) c.jump_length-jump_length-in-OrElse.ensures) (from_work 0 c.args.work _ s _ c.in-OrElse.is (leads_jump s or_else t c.in-OrElse.mark))
+    goes_to 0 _ _ _ (term_task t) (c.in_ok-emit-in-OrElse.ensures.state ∙ ap (λ n. with_op (or_else n) s) c.jump_length-passed-in-OrElse.ensures) (from_work 0 c.args.work _ s _ c.in-OrElse.is (leads_jump s or_else t c.in-OrElse.mark))
 
 pub returns-in_ok-emit-in-UnlessNil-clause-leads : goal.returns-in_ok-emit-in-UnlessNil-clause-leads
 returns-in_ok-emit-in-UnlessNil-clause-leads c =
     let s = state_of c.args.self.now in
     let t = term_of c.in-UnlessNil.node.now in
-    goes_to 0 _ _ _ (term_task t) (c.in_ok-emit-in-UnlessNil.ensures.state ∙ ap (λ n. with_op (unless_nil n) s) c.jump_length-jump_length-in-UnlessNil.ensures) (from_work 0 c.args.work _ s _ c.in-UnlessNil.is (leads_jump s unless_nil t c.in-UnlessNil.mark))
+    goes_to 0 _ _ _ (term_task t) (c.in_ok-emit-in-UnlessNil.ensures.state ∙ ap (λ n. with_op (unless_nil n) s) c.jump_length-passed-in-UnlessNil.ensures) (from_work 0 c.args.work _ s _ c.in-UnlessNil.is (leads_jump s unless_nil t c.in-UnlessNil.mark))
 
 pub returns-in_ok-emit-in-JumpIfFalse-clause-leads : goal.returns-in_ok-emit-in-JumpIfFalse-clause-leads
 returns-in_ok-emit-in-JumpIfFalse-clause-leads c =
     let s = state_of c.args.self.now in
     let t = term_of c.in-JumpIfFalse.node.now in
-    goes_to 0 _ _ _ (term_task t) (c.in_ok-emit-in-JumpIfFalse.ensures.state ∙ ap (λ n. with_op (jump_if_false n) s) c.jump_length-jump_length-in-JumpIfFalse.ensures) (from_work 0 c.args.work _ s _ c.in-JumpIfFalse.is (leads_jump s jump_if_false t c.in-JumpIfFalse.mark))
+    goes_to 0 _ _ _ (term_task t) (c.in_ok-emit-in-JumpIfFalse.ensures.state ∙ ap (λ n. with_op (jump_if_false n) s) c.jump_length-passed-in-JumpIfFalse.ensures) (from_work 0 c.args.work _ s _ c.in-JumpIfFalse.is (leads_jump s jump_if_false t c.in-JumpIfFalse.mark))
 
 pub returns-in_ok-lines-in-Choice-clause-leads : goal.returns-in_ok-lines-in-Choice-clause-leads
 returns-in_ok-lines-in-Choice-clause-leads c =

@@ -1,7 +1,5 @@
 //! Values that no text makes.
-use expr::value;
-use expr_context::Context;
-use expr_value::{Result, Value};
+use expr::{Context, Result, Value, value};
 use std::alloc::Global;
 
 /// Names and integers, a name of them twice.

@@ -1,7 +1,6 @@
 //! What `value!` and `bail!` make.
-use crate::page::Page;
-use expr::{bail, value};
-use expr_value::{Error, Result, Value, refusal};
+use expr::{Result, Value, bail, value};
+use expr_bench_values::page::Page;
 use std::alloc::Global;
 
 /// A list of literals of each form.
@@ -27,16 +26,8 @@ fn quotient(alloc: Global, a: i64, b: i64) -> Result<Value> {
     Ok(Value::Integer(a.wrapping_div(b)))
 }
 
-/// Puts what is wrong of literals and refusals.
-pub fn put_macros(alloc: Global, wrong: &mut Page) -> Result<()> {
-    let message = String::from_str(alloc, "no")?;
+/// Puts what is wrong of both.
+pub fn put_macros(alloc: Global, wrong: &mut Page) {
     wrong.answer("literals", literals(alloc, "key"), PRINTED);
     wrong.answer("bail!", quotient(alloc, 7, 0), "!evaluation");
-    wrong.answer("refusal", Err(refusal(alloc, "no")), "!evaluation");
-    wrong.answer("a text", Err(Error::from(message)), "!evaluation");
-    let out_of_memory = Error::from(regex::Error::OutOfMemory);
-    wrong.answer("out of memory", Err(out_of_memory), "!memory");
-    let too_big = Error::from(regex::Error::CompiledTooBig);
-    wrong.answer("too big", Err(too_big), "!pattern");
-    Ok(())
 }
