@@ -77,8 +77,8 @@ module _ {K : Type 0} (cmp : K → K → Ordering) (o : IsTotalOrder cmp) where
     step : (ps : List (K × X)) → Rises ps → (k : ℕ) (d : K × X) → suc k < length ps → NotBelow (slice_index_or ps (suc k) d) (slice_index_or ps k d)
     step [] h k d w = absurd (omega arith)
     step (p ∷ []) h k d w = absurd (omega arith)
-    step (p ∷ q ∷ ps) h zero d w = h.0.0
-    step (p ∷ q ∷ ps) h (suc k) d w = step (q ∷ ps) h.1 k d (omega arith)
+    step (p ∷ q ∷ ps) (below, rises) zero d w = below.0
+    step (p ∷ q ∷ ps) (below, rises) (suc k) d w = step (q ∷ ps) rises k d (omega arith)
 
     pub sorted_items-rises : (ps : List (K × X)) → IsSortedByKey (λ p. p.0) cmp (sorted_items (by_key cmp) ps)
     sorted_items-rises ps k d from within =
