@@ -25,7 +25,7 @@ pub use Rattle.expr_operators.specs.Operators
 pub use Rattle.expr_parts.specs.Kept
 pub use Rattle.expr_predicates.specs.Calls as Predicated
 pub use Rattle.expr_predicates.specs.Runs
-pub use Rattle.expr_predicates.specs.Sorting
+pub use Rattle.expr_sorting.specs.Sorting
 pub use Rattle.expr_predicates.specs.Folds
 pub use Rattle.expr_steps.specs.Methods
 pub use Rattle.expr_printed.specs.Printed

@@ -37,10 +37,10 @@ pub use expr_operators::{
     outside_is_not_within, part_stands_between_front_and_back, unequal_is_not_equal,
 };
 pub use expr_predicates::{
-    Predicate, a_list_has_one_stable_order, a_run_asks_about_its_items, a_run_is_a_list_of_answers,
-    none_is_the_opposite_of_any,
+    Predicate, a_run_asks_about_its_items, a_run_is_a_list_of_answers, none_is_the_opposite_of_any,
 };
 pub use expr_printed::printed_text_reads;
+pub use expr_sorting::a_list_has_one_stable_order;
 pub use expr_strings::{
     parts_after_joined_are_the_text, parts_joined_are_the_text, places_are_the_matches,
 };

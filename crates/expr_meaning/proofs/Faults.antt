@@ -7,7 +7,7 @@ use Rattle.expr_operators.specs.declared.strictness.Strictness.{Strictness}
 use Rattle.expr_operators.specs.declared.strictness.Strictness.TheVariants.{Both, EndsAtFalse, EndsAtTrue, Pattern}
 use Rattle.expr_predicates.specs.Calls.{AllowsHigherOrder, SortsItems, array_and_more, array_then, fold_of_call, direction_named, direction_of, reduce_from_first, runs_alone, sort_in_direction, fold_of, fold_of_array}
 use Rattle.expr_predicates.specs.Runs.{FoldMayReturn, AnswersItself}
-use Rattle.expr_predicates.specs.Sorting.{IsSorting, Sorts, are_alike, beside_keys, own_answers}
+use Rattle.expr_sorting.specs.Sorting.{IsSorting, Sorts, are_alike, beside_keys, own_answers}
 use Rattle.expr_predicates.specs.Folds.{Fold, ItemAnswer, PredicateArgsView, FoldOutcome, args_about, fold_outcome, refuses_answer, sorting, has_stopped}
 use Rattle.expr_functions.specs.Functions.{builtin_named}
 use Rattle.expr_functions.specs.declared.functions.HigherOrderCall.{HigherOrderCall}

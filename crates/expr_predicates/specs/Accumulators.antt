@@ -5,7 +5,7 @@ use Rattle.expr_error.specs.ErrorKind.{ErrorKind}
 use Rattle.expr_value.specs.declared.value.Value.{Value}
 use Rattle.expr_predicates.specs.Calls.{FoldOver}
 use Rattle.expr_predicates.specs.Remaining.{items_remaining}
-use Rattle.expr_predicates.specs.Sorting.{beside_keys}
+use Rattle.expr_sorting.specs.Sorting.{beside_keys}
 use Rattle.expr_predicates.specs.Folds.{Fold, PredicateArgsView, number, all_hold, any_holds, none_holds, one_holds, mapping, filtering, finding, finding_place, finding_last_place, counting, summing, reducing, grouping, sorting, ItemAnswer, holds, fails, acc_after, first_place, total, items_by_key}
 use Rattle.expr_predicates.specs.declared.run.Accumulator.{Accumulator}
 use Rattle.expr_predicates.specs.declared.run.Accumulator.TheVariants as accumulator

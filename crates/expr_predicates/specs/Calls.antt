@@ -5,10 +5,10 @@ use Rattle.expr_value.specs.Values.{items_of, string_of}
 use Rattle.expr_value.specs.declared.value.Value.{Value}
 use Rattle.expr_value.specs.Answers.{Answer, ThenIfOk}
 use Rattle.expr_predicates.specs.Runs.{FoldMayReturn}
-use Rattle.expr_predicates.specs.Sorting.{Sorts, own_answers}
-use Rattle.expr_predicates.specs.Folds.{Fold, all_hold, any_holds, none_holds, one_holds, mapping, filtering, finding, finding_place, finding_last_place, counting, summing, reducing, grouping, sorting, PredicateArgsView}
+use Rattle.expr_sorting.specs.Sorting.{Sorts, own_answers}
+use Rattle.expr_predicates.specs.Folds.{Fold, PredicateArgsView, finding, finding_last_place, front_fold, reducing, sorting}
 use Rattle.expr_functions.specs.declared.functions.HigherOrderCall.{HigherOrderCall}
-use Rattle.expr_functions.specs.declared.functions.HigherOrderCall.TheVariants.{All, Any, NoneOf, One, Map, Filter, Find, FindIndex, FindLast, FindLastIndex, Count, Sum, Reduce, GroupBy, SortBy}
+use Rattle.expr_functions.specs.declared.functions.HigherOrderCall.TheVariants.{Count, FindLast, FindLastIndex, Reduce, SortBy, Sum}
 
 -- what is made of which items, in the order in which they are asked about
 pub record FoldOver : Type 0 where
@@ -42,24 +42,18 @@ reduce_from_first (x ∷ items) = Ok (record { task = reducing x 1; items = item
 abbrev pub fold_over : Fold → List Value → Result FoldOver ErrorKind
 fold_over t items = Ok (record { task = t; items = items })
 
+-- the same, where there is anything to make of them
+abbrev pub fold_over_if : Option Fold → List Value → Result FoldOver ErrorKind
+fold_over_if (Some t) items = fold_over t items
+fold_over_if None items = Err evaluation
+
 abbrev pub fold_of : HigherOrderCall → List Value → Option Value → Result FoldOver ErrorKind
-fold_of All items None = fold_over all_hold items
-fold_of Any items None = fold_over any_holds items
-fold_of NoneOf items None = fold_over none_holds items
-fold_of One items None = fold_over one_holds items
-fold_of Map items None = fold_over mapping items
-fold_of Filter items None = fold_over filtering items
-fold_of Find items None = fold_over finding items
-fold_of FindIndex items None = fold_over finding_place items
 fold_of FindLast items None = fold_over finding (reverse items)
 fold_of FindLastIndex items None = fold_over (finding_last_place (length items)) (reverse items)
-fold_of Count items None = fold_over counting items
-fold_of Sum items None = fold_over summing items
-fold_of Reduce items (Some init) = fold_over (reducing init 0) items
 fold_of Reduce items None = reduce_from_first items
-fold_of GroupBy items None = fold_over grouping items
-fold_of SortBy items None = fold_over (sorting false) items
+fold_of Reduce items (Some init) = fold_over (reducing init 0) items
 fold_of SortBy items (Some d) = sort_in_direction items (direction_named (string_of d))
+fold_of b items None = fold_over_if (front_fold b) items
 fold_of b items more = Err evaluation
 
 abbrev pub fold_of_array : HigherOrderCall → Result (List Value × Option Value) ErrorKind → Result FoldOver ErrorKind

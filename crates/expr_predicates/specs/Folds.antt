@@ -1,15 +1,17 @@
 -- What a built-in makes of the items that it asks a predicate about, and of the answers.
-use Rattle.std.specs.Prelude.{◌≡◌, ℕ, ◌+◌, ◌-◌, ◌==◌, ℤ, pos, negsuc, nat_lt, Bool, true, false, not, List, length, map, count_by, Option, Some, None, option_map, unwrap_or, Ok}
+use Rattle.std.specs.Prelude.{◌≡◌, ℕ, ◌+◌, ◌-◌, ◌==◌, ℤ, pos, negsuc, nat_lt, Bool, true, false, not, List, [], ◌∷◌, length, map, count_by, Option, Some, None, option_map, unwrap_or, Ok}
 use Rattle.std.specs.Int.{w64, int_wrapping_add, cast_signed}
 use Rattle.std.specs.List.{filter, filter_map, find, fold, list_any, position_from}
-use Rattle.std.specs.Option.{is_some}
+use Rattle.std.specs.Option.{is_some, option_or}
 use Rattle.expr_value.specs.Keys.{key_eq}
 use Rattle.expr_value.specs.Values.{integer_of, key_of, truth_of}
 use Rattle.expr_value.specs.declared.key.Key.{Key}
 use Rattle.expr_value.specs.declared.value.Value as value
 use Rattle.expr_value.specs.declared.value.Value.{Value}
 use Rattle.expr_value.specs.Answers.{Answer}
-use Rattle.expr_predicates.specs.Sorting.{Sorts, firsts}
+use Rattle.expr_sorting.specs.Sorting.{Sorts}
+use Rattle.expr_functions.specs.declared.functions.HigherOrderCall.{HigherOrderCall}
+use Rattle.expr_functions.specs.declared.functions.HigherOrderCall.TheVariants as higher_order_call
 
 -- what is made of them
 pub data Fold : Type 0 where
@@ -29,6 +31,30 @@ pub data Fold : Type 0 where
   reducing : (init : Value) (first : ℕ) → Fold
   grouping : Fold
   sorting : (down : Bool) → Fold
+
+-- what those begin with that ask about the items of an array alone, from the front, and keep neither an item nor an answer
+abbrev pub scalar_fold : HigherOrderCall → Option Fold
+scalar_fold higher_order_call.All = Some all_hold
+scalar_fold higher_order_call.Any = Some any_holds
+scalar_fold higher_order_call.NoneOf = Some none_holds
+scalar_fold higher_order_call.One = Some one_holds
+scalar_fold higher_order_call.FindIndex = Some finding_place
+scalar_fold higher_order_call.Count = Some counting
+scalar_fold higher_order_call.Sum = Some summing
+scalar_fold b = None
+
+-- and those that keep items or answers
+abbrev pub values_fold : HigherOrderCall → Option Fold
+values_fold higher_order_call.Map = Some mapping
+values_fold higher_order_call.Filter = Some filtering
+values_fold higher_order_call.Find = Some finding
+values_fold higher_order_call.GroupBy = Some grouping
+values_fold higher_order_call.SortBy = Some (sorting false)
+values_fold b = None
+
+-- whichever of the two
+abbrev pub front_fold : HigherOrderCall → Option Fold
+front_fold b = option_or (scalar_fold b) (values_fold b)
 
 -- an item, and the answer about it
 abbrev pub ItemAnswer : Type 0
@@ -94,6 +120,11 @@ total rs = fold (λ n r. int_wrapping_add w64 n (unwrap_or (integer_of r.1) (pos
 -- the items by the keys that the answers are
 abbrev pub items_by_key : List ItemAnswer → List (Key × Value)
 items_by_key rs = filter_map (λ r. option_map (λ k. (k, r.0)) (key_of r.1)) rs
+
+-- each key where it is first seen
+abbrev pub firsts : {K : Type 0} → (K → K → Bool) → List K → List K
+firsts eq [] = []
+firsts eq (k ∷ ks) = k ∷ filter (λ l. not (eq k l)) (firsts eq ks)
 
 -- each key once, as first seen and in that order, with the items that have it
 abbrev pub groups_of : List (Key × Value) → List (Key × Value)

@@ -8,4 +8,3 @@ pub mod Grouping
 pub mod PredicateArgs
 pub mod Remaining
 pub mod Runs
-pub mod Sorting

@@ -1,19 +1,11 @@
 //! What follows from the definitions of the built-ins alone.
 ghost use Rattle.std.specs.Prelude.{◌≡◌, ◌↔◌, Bool, not, List, [], Ok};
 ghost use Rattle.expr_value.specs.Answers.{Answer};
-ghost use Rattle.expr_value.specs.declared.key.Key.{Key as key};
 ghost use Rattle.expr_value.specs.declared.value.Value.{Value as value, Bool as truth};
 ghost use Rattle.expr_predicates.specs.Allowed.{AreAlike, HasOneAnswer};
 ghost use Rattle.expr_predicates.specs.AnswersInTurn.{AnswersInTurn};
 ghost use Rattle.expr_predicates.specs.Runs.{FoldMayReturn};
-ghost use Rattle.expr_predicates.specs.Sorting.{IsSorting};
 ghost use Rattle.expr_predicates.specs.Folds.{ItemAnswer, Fold, any_holds, none_holds};
-
-/// Two stable orders of one list by the same keys, both upward or both downward, are one.
-pub fn a_list_has_one_stable_order()
-    ensures { (down : Bool) (ps qs rs : List (key × value)) → IsSorting down ps qs → IsSorting down ps rs
-        → qs ≡ rs }
-{}
 
 /// What a predicate may answer, whatever that is: laws over it hold of each relation between questions and answers.
 pub trait Predicate {

@@ -8,12 +8,10 @@ mod predicate_args;
 mod remaining;
 mod run;
 mod scalar_accumulator;
-mod sorting;
 mod value_accumulator;
 
 pub use laws::{
-    Predicate, a_list_has_one_stable_order, a_run_asks_about_its_items, a_run_is_a_list_of_answers,
-    none_is_the_opposite_of_any,
+    Predicate, a_run_asks_about_its_items, a_run_is_a_list_of_answers, none_is_the_opposite_of_any,
 };
 pub use predicate_args::{PredicateArgs, PredicateArgsRef};
 pub use run::{PredicateRun, sort};

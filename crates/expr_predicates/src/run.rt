@@ -1,5 +1,5 @@
 //! A run of a predicate over the items of an array.
-ghost use Rattle.std.specs.Prelude.{◌≡◌, ◌≢◌, ℕ, ◌+◌, ◌<◌, ◌^◌, ◌∷◌, ◌++◌, [], List, reverse, length, IfOk, IfSome, Ok, Err, Some, None, option_map, true, false};
+ghost use Rattle.std.specs.Prelude.{◌≡◌, ◌≢◌, ℕ, ◌+◌, ◌<◌, ◌^◌, ◌∷◌, ◌++◌, [], List, reverse, length, IfOk, IfSome, IsSomeAnd, Ok, Err, Some, None, option_map, true, false};
 ghost use Rattle.expr_value.specs.Answers.{Returns};
 ghost use Rattle.expr_error.specs.ErrorKind.{evaluation, RefusesWith};
 ghost use Rattle.expr_arguments.specs.Arrays.{array_items};
@@ -10,11 +10,11 @@ use crate::arguments::{array_and_more, direction, is_downward, runs_alone};
 use crate::predicate_args::PredicateArgs;
 use crate::remaining::Remaining;
 use crate::scalar_accumulator::ScalarAccumulator;
-use crate::sorting::sort_items;
 use crate::value_accumulator::ValueAccumulator;
 use expr_arguments::{Array, count_items, into_items};
 use expr_cow::CowValue;
 use expr_functions::HigherOrderCall;
+use expr_sorting::sort_items;
 use expr_value::{Items, Result, Value, refusal};
 use std::alloc::Global;
 
@@ -26,8 +26,20 @@ enum Accumulator {
 }
 
 impl Accumulator {
-    ghost use Rattle.expr_predicates.specs.Folds.{Fold, ItemAnswer, FoldOutcome, first_place, refuses_answer, has_stopped};
+    ghost use Rattle.expr_predicates.specs.Folds.{Fold, ItemAnswer, FoldOutcome, first_place, front_fold, refuses_answer, has_stopped};
     ghost use Rattle.expr_predicates.specs.Accumulators.{Represents, RepresentsRest, acc_arg, index_arg};
+
+    /// What is kept before any answer, for a built-in that asks about the items of an array alone, from the front.
+    fn at_start(alloc: Global, asking: HigherOrderCall) -> Option<Accumulator>
+        ensures begun { IfSome result (λ a. IsSomeAnd (front_fold asking) (λ t. Represents a t [])) }
+        ensures none { result ≡ None → front_fold asking ≡ None }
+    {
+        if let Some(noted) = ScalarAccumulator::at_start(asking) {
+            return Some(Accumulator::Scalar(noted));
+        }
+        let kept = ValueAccumulator::at_start(alloc, asking)?;
+        Some(Accumulator::Values(kept))
+    }
 
     /// Whether no more is to be asked.
     #[inline(always)]
@@ -142,11 +154,11 @@ impl<'s> Drop for PredicateRun<'s> {
 
 impl<'s> PredicateRun<'s> {
     ghost use Rattle.expr_value.specs.declared.value.Value.{Value};
-    ghost use Rattle.expr_predicates.specs.Calls.{fold_of_call, reduce_from_first, fold_of};
+    ghost use Rattle.expr_predicates.specs.Calls.{fold_of_call, fold_over_if, reduce_from_first, fold_of};
     ghost use Rattle.expr_predicates.specs.Accumulators.{Awaits, RunRepresents, StartsWith, acc_out, pending_args, index_out, remaining_items, remaining_count};
     ghost use Rattle.expr_predicates.specs.PredicateArgs.{args_view};
     ghost use Rattle.expr_predicates.specs.Runs.{FoldMayReturn, AnswersItself, next_args};
-    ghost use Rattle.expr_predicates.specs.Folds.{Fold, ItemAnswer, FoldOutcome, refuses_answer};
+    ghost use Rattle.expr_predicates.specs.Folds.{Fold, ItemAnswer, FoldOutcome, front_fold, refuses_answer};
 
     /// A built-in on its arguments, with or without a predicate: an array, and for `reduce` what it begins with or for
     /// `sortBy` its direction. An array that is lent stays where it stands. Other arguments, no predicate where one is
@@ -181,38 +193,6 @@ impl<'s> PredicateRun<'s> {
         ensures refused { RefusesWith result (λ k. fold_of asking (array_items array.entry) None ≡ Err k) }
     {
         match asking {
-            HigherOrderCall::All => Ok(PredicateRun::forward(
-                array,
-                Accumulator::Scalar(ScalarAccumulator::All(false)),
-            )),
-            HigherOrderCall::Any => Ok(PredicateRun::forward(
-                array,
-                Accumulator::Scalar(ScalarAccumulator::Any(false)),
-            )),
-            HigherOrderCall::NoneOf => Ok(PredicateRun::forward(
-                array,
-                Accumulator::Scalar(ScalarAccumulator::NoneOf(false)),
-            )),
-            HigherOrderCall::One => Ok(PredicateRun::forward(
-                array,
-                Accumulator::Scalar(ScalarAccumulator::One(0)),
-            )),
-            HigherOrderCall::Map => Ok(PredicateRun::forward(
-                array,
-                Accumulator::Values(ValueAccumulator::Map(Vec::new(alloc))),
-            )),
-            HigherOrderCall::Filter => Ok(PredicateRun::forward(
-                array,
-                Accumulator::Values(ValueAccumulator::Filter(Vec::new(alloc))),
-            )),
-            HigherOrderCall::Find => Ok(PredicateRun::forward(
-                array,
-                Accumulator::Values(ValueAccumulator::Find(None)),
-            )),
-            HigherOrderCall::FindIndex => Ok(PredicateRun::forward(
-                array,
-                Accumulator::Scalar(ScalarAccumulator::FindIndex(None)),
-            )),
             HigherOrderCall::FindLast => Ok(PredicateRun::backward(
                 array,
                 Accumulator::Values(ValueAccumulator::Find(None)),
@@ -224,23 +204,25 @@ impl<'s> PredicateRun<'s> {
                     Accumulator::Scalar(ScalarAccumulator::FindLastIndex(count, None)),
                 ))
             }
-            HigherOrderCall::Count => Ok(PredicateRun::forward(
-                array,
-                Accumulator::Scalar(ScalarAccumulator::Count(0)),
-            )),
-            HigherOrderCall::Sum => Ok(PredicateRun::forward(
-                array,
-                Accumulator::Scalar(ScalarAccumulator::Sum(0)),
-            )),
             HigherOrderCall::Reduce => PredicateRun::from_first(alloc, array),
-            HigherOrderCall::GroupBy => Ok(PredicateRun::forward(
-                array,
-                Accumulator::Values(ValueAccumulator::GroupBy(Vec::new(alloc))),
-            )),
-            HigherOrderCall::SortBy => Ok(PredicateRun::forward(
-                array,
-                Accumulator::Values(ValueAccumulator::SortBy(false, Vec::new(alloc))),
-            )),
+            _ => PredicateRun::from_front(alloc, asking, array),
+        }
+    }
+
+    /// A built-in that asks about the items of an array alone, from the front.
+    fn from_front(
+        alloc: Global,
+        asking: HigherOrderCall,
+        array: Array<'s>,
+    ) -> Result<PredicateRun<'s>>
+        ensures begun { IfOk result (λ r. StartsWith r
+            (fold_over_if (front_fold asking) (array_items array.entry))) }
+        ensures refused { RefusesWith result (λ k. fold_over_if (front_fold asking) (array_items array.entry)
+            ≡ Err k) }
+    {
+        match Accumulator::at_start(alloc, asking) {
+            Some(gathered) => Ok(PredicateRun::forward(array, gathered)),
+            None => Err(refusal(alloc, "the function takes one more argument")),
         }
     }
 

@@ -1,11 +1,12 @@
 //! What is kept of the answers where neither an item nor an answer is.
-ghost use Rattle.std.specs.Prelude.{◌≡◌, ◌≢◌, ◌+◌, ◌-◌, ◌<◌, ◌^◌, ◌∷◌, ◌++◌, [], List, length, IfOk, Ok, Some, None, true, false, not, unwrap_or, if◌then◌else◌};
+ghost use Rattle.std.specs.Prelude.{◌≡◌, ◌≢◌, ◌+◌, ◌-◌, ◌<◌, ◌^◌, ◌∷◌, ◌++◌, [], List, length, IfOk, IfSome, IsSomeAnd, Ok, Some, None, true, false, not, unwrap_or, if◌then◌else◌};
 ghost use Rattle.std.specs.Option.{option_map, option_or};
 ghost use Rattle.expr_value.specs.Values.{truth_of};
 ghost use Rattle.expr_error.specs.ErrorKind.{evaluation, RefusesWith, IsOfKind};
 ghost use Rattle.expr_value.specs.declared.value.Value.{Value as value};
 ghost use Rattle.expr_predicates.specs.Folds.{place_or_none};
 
+use expr_functions::HigherOrderCall;
 use expr_value::{Error, Result, Value, refusal};
 use std::alloc::Global;
 
@@ -28,8 +29,25 @@ pub(crate) enum ScalarAccumulator {
 }
 
 impl ScalarAccumulator {
-    ghost use Rattle.expr_predicates.specs.Folds.{Fold, ItemAnswer, FoldOutcome, first_place, refuses_answer, has_stopped};
+    ghost use Rattle.expr_predicates.specs.Folds.{Fold, ItemAnswer, FoldOutcome, first_place, refuses_answer, has_stopped, scalar_fold};
     ghost use Rattle.expr_predicates.specs.Accumulators.{ScalarRepresents};
+
+    /// What is kept before any answer, for a built-in that keeps no more.
+    pub(crate) fn at_start(asking: HigherOrderCall) -> Option<ScalarAccumulator>
+        ensures begun { IfSome result (λ a. IsSomeAnd (scalar_fold asking) (λ t. ScalarRepresents a t [])) }
+        ensures none { result ≡ None → scalar_fold asking ≡ None }
+    {
+        match asking {
+            HigherOrderCall::All => Some(ScalarAccumulator::All(false)),
+            HigherOrderCall::Any => Some(ScalarAccumulator::Any(false)),
+            HigherOrderCall::NoneOf => Some(ScalarAccumulator::NoneOf(false)),
+            HigherOrderCall::One => Some(ScalarAccumulator::One(0)),
+            HigherOrderCall::FindIndex => Some(ScalarAccumulator::FindIndex(None)),
+            HigherOrderCall::Count => Some(ScalarAccumulator::Count(0)),
+            HigherOrderCall::Sum => Some(ScalarAccumulator::Sum(0)),
+            _ => None,
+        }
+    }
 
     /// Whether no more is to be asked.
     pub(crate) fn has_stopped(&self) -> bool

@@ -1,16 +1,17 @@
 //! What is kept of the answers where items or answers are.
-ghost use Rattle.std.specs.Prelude.{◌≡◌, ◌≢◌, ◌∷◌, ◌++◌, [], List, IfOk, OnOk, Some, None, true, false, if◌then◌else◌};
+ghost use Rattle.std.specs.Prelude.{◌≡◌, ◌≢◌, ◌∷◌, ◌++◌, [], List, IfOk, IfSome, IsSomeAnd, OnOk, Some, None, true, false, if◌then◌else◌};
 ghost use Rattle.std.specs.Option.{option_or};
 ghost use Rattle.expr_value.specs.Answers.{Returns};
 ghost use Rattle.expr_value.specs.Values.{key_of};
 ghost use Rattle.expr_error.specs.ErrorKind.{evaluation, OnlyMemory, RefusesWith};
 ghost use Rattle.expr_value.specs.declared.key.Key.{Key as key};
-ghost use Rattle.expr_predicates.specs.Sorting.{sort_key};
+ghost use Rattle.expr_sorting.specs.Sorting.{sort_key};
 
 use crate::grouping::group_by_key;
 use crate::scalar_accumulator::is_true;
-use crate::sorting::sort_by_keys;
 use expr_cow::{Cow, CowValue};
+use expr_functions::HigherOrderCall;
+use expr_sorting::sort_by_keys;
 use expr_value::{Items, Key, Result, Value, refusal};
 use std::alloc::{AllocError, Global};
 
@@ -32,8 +33,23 @@ pub(crate) enum ValueAccumulator {
 }
 
 impl ValueAccumulator {
-    ghost use Rattle.expr_predicates.specs.Folds.{Fold, ItemAnswer, FoldOutcome, refuses_answer, has_stopped};
+    ghost use Rattle.expr_predicates.specs.Folds.{Fold, ItemAnswer, FoldOutcome, refuses_answer, has_stopped, values_fold};
     ghost use Rattle.expr_predicates.specs.Accumulators.{ValuesRepresent, ValuesRepresentRest};
+
+    /// What is kept before any answer, for a built-in that keeps items or answers.
+    pub(crate) fn at_start(alloc: Global, asking: HigherOrderCall) -> Option<ValueAccumulator>
+        ensures begun { IfSome result (λ a. IsSomeAnd (values_fold asking) (λ t. ValuesRepresent a t [])) }
+        ensures none { result ≡ None → values_fold asking ≡ None }
+    {
+        match asking {
+            HigherOrderCall::Map => Some(ValueAccumulator::Map(Vec::new(alloc))),
+            HigherOrderCall::Filter => Some(ValueAccumulator::Filter(Vec::new(alloc))),
+            HigherOrderCall::Find => Some(ValueAccumulator::Find(None)),
+            HigherOrderCall::GroupBy => Some(ValueAccumulator::GroupBy(Vec::new(alloc))),
+            HigherOrderCall::SortBy => Some(ValueAccumulator::SortBy(false, Vec::new(alloc))),
+            _ => None,
+        }
+    }
 
     /// Whether no more is to be asked.
     pub(crate) fn has_stopped(&self) -> bool

@@ -1,8 +1,8 @@
 use Rattle.std.proofs.Common.{rules, ◌≡◌, true, false, Ok, Err, sym, ◌∙◌, subst}
 use Rattle.expr_value.specs.declared.value.Value as value
-use Rattle.expr_predicates.specs.Sorting.{IsSorting, Sorts, own_keys, are_alike, own_answers}
-use Rattle.expr_predicates.proofs.Own.{refuses_alone, sorts_alone}
-use Rattle.expr_predicates.proofs.sorting.sort_items.Goals as goal
+use Rattle.expr_sorting.specs.Sorting.{IsSorting, Sorts, own_keys, are_alike, own_answers}
+use Rattle.expr_sorting.proofs.Own.{refuses_alone, sorts_alone}
+use Rattle.expr_sorting.proofs.sorting.sort_items.Goals as goal
 
 pub returns-then-not-are_alike : goal.returns-then-not-are_alike
 returns-then-not-are_alike c = λ m.

@@ -12,7 +12,7 @@ use Rattle.expr_value.specs.declared.key.Key.{Key}
 use Rattle.expr_value.specs.declared.value.Value as value
 use Rattle.expr_value.specs.declared.value.Value.{Value, roll-Value, ind-Value}
 use Rattle.expr_value.specs.declared.value.Value.TheOpen.{Value-F}
-use Rattle.expr_predicates.specs.Sorting.{IsSorting, Sorts, are_alike, beside_keys, is_integer, is_text, precedes, sort_key, own_keys, own_answers}
+use Rattle.expr_sorting.specs.Sorting.{IsSorting, Sorts, are_alike, beside_keys, is_integer, is_text, precedes, sort_key, own_keys, own_answers}
 
 abbrev Sorted_by : Key → Bool
 Sorted_by k = is_integer k || is_text k

@@ -4,7 +4,7 @@ ghost use Rattle.std.specs.List.{list_all};
 ghost use Rattle.std.specs.List.Sorted.{IsPermutation, IsSortedBy, IsStableBy};
 ghost use Rattle.expr_value.specs.Answers.{Returns};
 ghost use Rattle.expr_value.specs.Values.{of_key};
-ghost use Rattle.expr_predicates.specs.Sorting.{IsSorting, Sorts, SortsPairs, own_keys, are_alike, is_integer, is_text, precedes, own_answers};
+ghost use Rattle.expr_sorting.specs.Sorting.{IsSorting, Sorts, SortsPairs, own_keys, are_alike, is_integer, is_text, precedes, own_answers};
 
 use expr_value::{Items, Key, Result, Value, refusal};
 use std::alloc::{AllocError, Global};
@@ -25,7 +25,7 @@ pub fn sort_by_keys(alloc: Global, down: bool, pairs: Vec<(Key, Value)>) -> Resu
 
 /// Items in their own order, which are all integers or all texts. Equal ones keep their order. They are moved into their
 /// keys and back, and none is copied.
-pub(crate) fn sort_items(alloc: Global, down: bool, items: Vec<Value>) -> Result<Value>
+pub fn sort_items(alloc: Global, down: bool, items: Vec<Value>) -> Result<Value>
     ensures { Returns result (Sorts down (own_answers items.items)) }
 {
     let mut keys = own_keys(alloc, items)?;

@@ -2,9 +2,9 @@ use Rattle.std.proofs.Common.{rules, true}
 use Rattle.std.proofs.lemmas.Fn.{always_returns_same}
 use Rattle.std.proofs.lemmas.Result.{on_ok_weaker}
 use Rattle.std.proofs.lemmas.List.Sorted.{ranks_by, IsStrictWeakOrder-flip}
-use Rattle.expr_predicates.specs.Sorting.{precedes, rises}
+use Rattle.expr_sorting.specs.Sorting.{precedes, rises}
 use Rattle.expr_value.specs.contracts.key.KeyOrd.TheImpl.Laws as order_laws
-use Rattle.expr_predicates.proofs.sorting.sort_downward.Goals as goal
+use Rattle.expr_sorting.proofs.sorting.sort_downward.Goals as goal
 
 pub returns-clause-sorted : goal.returns-clause-sorted
 returns-clause-sorted g c =

@@ -1,6 +1,6 @@
 -- Items in the order of their keys.
-use Rattle.std.specs.Prelude.{◌≡◌, Bool, true, false, not, ◌||◌, List, [], ◌∷◌, map, unwrap_or, Ok, Err, MatchBool, if◌then◌else◌}
-use Rattle.std.specs.List.{filter, list_all}
+use Rattle.std.specs.Prelude.{◌≡◌, Bool, true, false, ◌||◌, List, map, unwrap_or, Ok, Err, MatchBool, if◌then◌else◌}
+use Rattle.std.specs.List.{list_all}
 use Rattle.std.specs.List.Sorted.{IsPermutation, IsSortedBy, IsStableBy}
 use Rattle.std.specs.Ordering.{is_lt}
 use Rattle.expr_error.specs.ErrorKind.{evaluation}
@@ -10,11 +10,6 @@ use Rattle.expr_value.specs.declared.key.Key.{Key}
 use Rattle.expr_value.specs.declared.value.Value as value
 use Rattle.expr_value.specs.declared.value.Value.{Value}
 use Rattle.expr_value.specs.Answers.{Answer}
-
--- each key where it is first seen
-abbrev pub firsts : {K : Type 0} → (K → K → Bool) → List K → List K
-firsts eq [] = []
-firsts eq (k ∷ ks) = k ∷ filter (λ l. not (eq k l)) (firsts eq ks)
 
 -- what an answer sorts its item by; what is no scalar sorts nothing, and is here as nil, which sorts nothing either
 abbrev pub sort_key : Value → Key

@@ -6,7 +6,7 @@ use Rattle.std.specs.List.Sorted.{IsSortedBy, IsStableBy, ties}
 use Rattle.std.proofs.lemmas.Bool.{false≢true}
 use Rattle.std.proofs.lemmas.List.Sorted.{ranks_by, sorted_far, IsStrictWeakOrder-flip}
 use Rattle.expr_value.specs.contracts.key.KeyOrd.TheImpl.Laws as order_laws
-use Rattle.expr_predicates.specs.Sorting.{precedes, rises}
+use Rattle.expr_sorting.specs.Sorting.{precedes, rises}
 
 empty_is_not : {X : Type 0} (x : X) (l : List X) → [] ≡ x ∷ l → ⊥
 empty_is_not x l e = cc
