@@ -9,9 +9,10 @@ use Rattle.expr_tree.specs.declared.node.CompiledRegex.{CompiledRegex}
 use Rattle.expr_tree.specs.declared.node.PostfixOperator.{PostfixOperator}
 use Rattle.expr_tree.specs.declared.node.Program.{Program}
 use Rattle.expr_tree.specs.declared.operator.Operator.{Operator}
+use Rattle.expr_tree.specs.declared.operator.UnaryOperator.{UnaryOperator}
 use Rattle.expr_tree.specs.declared.node.Node.TheViews.{roll-Program}
 use Rattle.expr_tree.proofs.Programs.{term_of-parts, term_of-program}
-use Rattle.expr_tree.proofs.Shapes.{term_of-Array, term_of-Map, term_of-Range, term_of-Func, term_of-Operation, term_of-Postfix, term_of-Conditional}
+use Rattle.expr_tree.proofs.Shapes.{term_of-Array, term_of-Map, term_of-Range, term_of-Func, term_of-Unary, term_of-Operation, term_of-Postfix, term_of-Conditional}
 
 abbrev pub node_weight : Node → ℕ
 node_weight n = weight (term_of n)
@@ -55,6 +56,9 @@ weight-Range a b = ap weight (term_of-Range a b)
 
 pub weight-Func : (s : String Global) (ns : Vec Node Global) (p : Option (Box Program Global)) → weight (term_of (node.Func s ns p)) ≡ 1 + (items_weight ns.items + predicate_weight (predicate_term p))
 weight-Func s ns p = ap weight (term_of-Func s ns p)
+
+pub weight-Unary : (o : UnaryOperator) (n : Box Node Global) → weight (term_of (node.Unary o n)) ≡ 1 + weight (term_of n.value)
+weight-Unary o n = ap weight (term_of-Unary o n)
 
 pub weight-Operation : (o : Operator) (l r : Box Node Global) (kept : CompiledRegex) → weight (term_of (node.Operation o l r kept)) ≡ 1 + (weight (term_of l.value) + weight (term_of r.value))
 weight-Operation o l r kept = ap weight (term_of-Operation o l r kept)
