@@ -79,28 +79,28 @@ bare v S = let none_of : 0 * S ≡ 0 = omega arith in ap (λ m. v * S + m / 1) n
 -- a whole number of units
 wholes : (q : ℕ) (s : Scale) → q < 2 ^ 64 → IsSpelled (decimal q ++ scale_name s) (q * scale_size s)
 wholes q s h =
-    let is = decimal_is_IsNumeral q h in
+    let ((some, digits), is) = decimal_is_IsNumeral q h in
     let same : decimal q ++ [] ≡ decimal q = append-nil (decimal q) in (
       record { whole = decimal q; fraction = None; scale = s },
-      (is.0.1, tt, omega (arith, is.0.0, ap length same)),
+      (digits, tt, omega (arith, some, ap length same)),
       ap (λ t. t ++ scale_name s) (sym same),
-      ap (λ v. v * scale_size s + 0 * scale_size s / 1) is.1 ∙ bare q (scale_size s),
+      ap (λ v. v * scale_size s + 0 * scale_size s / 1) is ∙ bare q (scale_size s),
     )
 
 -- a number of units with a fraction
 broken : (n q r : ℕ) (s : Scale) (ds : List ℕ) → q < 2 ^ 64 → n ≤ 18 → scale_size s ≡ 10 ^ n → AllDigits 10 ds → (k : ℕ) → length ds + k ≡ n → digits_value 10 ds * 10 ^ k ≡ r
     → IsSpelled (decimal q ++ (codes "." ++ ds) ++ scale_name s) (q * 10 ^ n + r)
 broken n q r s ds h small size digits k long value =
-    let is = decimal_is_IsNumeral q h in
+    let ((some, whole_digits), is) = decimal_is_IsNumeral q h in
     let p : LengthPart = record { whole = decimal q; fraction = Some ds; scale = s } in
     let all : take 18 ds ≡ ds = take_all 18 ds (omega arith) in
     let power : 10 ^ n ≡ 10 ^ length ds * 10 ^ k = sym (ap (λ e. 10 ^ e) long) ∙ pow-add 10 (length ds) k in
     let V = digits_value 10 ds in
     let turned : V * 10 ^ n ≡ r * 10 ^ length ds = ap (λ m. V * m) power ∙ turn V (10 ^ length ds) (10 ^ k) ∙ ap (λ m. m * 10 ^ length ds) value in (
       p,
-      (is.0.1, digits, omega (arith, is.0.0, length-append (decimal q) ds)),
+      (whole_digits, digits, omega (arith, some, length-append (decimal q) ds)),
       refl,
-      (λ i. is.1 i * size i + digits_value 10 (all i) * size i / 10 ^ length (all i)) ∙ ap (λ m. q * 10 ^ n + m / 10 ^ length ds) turned
+      (λ i. is i * size i + digits_value 10 (all i) * size i / 10 ^ length (all i)) ∙ ap (λ m. q * 10 ^ n + m / 10 ^ length ds) turned
           ∙ ap (λ m. q * 10 ^ n + m) (mul-div_cancel r (positive (length ds))),
     )
   where

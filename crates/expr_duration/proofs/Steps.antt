@@ -82,17 +82,18 @@ one_fraction (Some ds) (Some es) s text rest t p a stops e =
 -- the digits, the fraction and the unit at the front of a part are those that were found
 pub found_same : (text whole behind rest t : List ℕ) (f : Option (List ℕ)) (q : LengthPart) → AllDigits 10 whole → Stops behind → text ≡ whole ++ behind → Splits behind f rest → BeginsWithPart text q t
     → (whole ≡ q.whole) × (f ≡ q.fraction) × (rest ≡ scale_name q.scale ++ t)
-found_same text whole behind rest t f q a stops e p b =
-    let digits = span whole q.whole behind _ a b.0.0 stops (behind_stops q.fraction q.scale t) (sym e ∙ b.2 ∙ part_before_same q t) in
-    let rests = one_fraction f q.fraction q.scale behind rest t p b.0.1 (scale_stops q.scale t) digits.1 in
+found_same text whole behind rest t f q a stops e p ((whole_digits, fraction_digits, _), _, is) =
+    let digits = span whole q.whole behind _ a whole_digits stops (behind_stops q.fraction q.scale t) (sym e ∙ is ∙ part_before_same q t) in
+    let rests = one_fraction f q.fraction q.scale behind rest t p fraction_digits (scale_stops q.scale t) digits.1 in
     (digits.0, rests.0, rests.1)
 
 -- a part has a digit
 pub has_digits : (text whole behind rest t : List ℕ) (f : Option (List ℕ)) (q : LengthPart) → AllDigits 10 whole → Stops behind → text ≡ whole ++ behind → Splits behind f rest → BeginsWithPart text q t
     → length whole ≡ 0 → length (fraction_digits_of f) ≡ 0 → ⊥
 has_digits text whole behind rest t f q a stops e p b n m =
+    let ((_, _, some), _, _) = b in
     let same = found_same text whole behind rest t f q a stops e p b in
-    omega (arith, b.0.2, length-append q.whole (fraction_digits_of q.fraction), n, m, ap length same.0, ap (λ g. length (fraction_digits_of g)) same.1)
+    omega (arith, some, length-append q.whole (fraction_digits_of q.fraction), n, m, ap length same.0, ap (λ g. length (fraction_digits_of g)) same.1)
 
 -- a unit that goes on as far as it can is the one before a fresh text
 pub one_name : (text rest t : List ℕ) (s r : Scale) → NamesUnit text s rest → IsFresh t → text ≡ scale_name r ++ t → (s ≡ r) × (rest ≡ t)

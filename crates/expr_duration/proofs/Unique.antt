@@ -127,7 +127,7 @@ fresh_part (c ∷ cs) f t a h = inl a.0
 
 pub fresh_parts : (ps : List LengthPart) → AllByRecursion IsPart ps → IsFresh (parts_text ps)
 fresh_parts [] a = tt
-fresh_parts (p ∷ ps) a = subst IsFresh (sym (part_before_same p (parts_text ps))) (fresh_part p.whole p.fraction _ a.0.0 a.0.2)
+fresh_parts (p ∷ ps) ((digits, _, some), _) = subst IsFresh (sym (part_before_same p (parts_text ps))) (fresh_part p.whole p.fraction _ digits some)
 
 -- a part has a digit and a unit
 pub part_long : (p : LengthPart) → IsPart p → 2 ≤ length (part_text p)

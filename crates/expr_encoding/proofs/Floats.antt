@@ -66,8 +66,11 @@ object_free (Some ms) h = h
 abbrev Pairs : Type 0
 Pairs = List (List ℕ × Free)
 
+abbrev bare_pair : List ℕ × Free → List ℕ × Value
+bare_pair (key, (v, _)) = (key, v)
+
 abbrev known : Pairs → List (List ℕ × Option Data)
-known es = map (λ (p : List ℕ × Value). (p.0, data_of p.1)) (map (λ (p : List ℕ × Free). (p.0, p.1.0)) es)
+known es = map (λ (p : List ℕ × Value). (p.0, data_of p.1)) (map bare_pair es)
 
 member_free : (k : List ℕ) (o : Option Data) (rest : List (List ℕ × Option Data)) (done : Members) → IsFree o → members_have_float done ≡ false
     → ((ms : Members) → members_have_float ms ≡ false → HasFree (members_all rest ms)) → HasFree (members_all ((k, o) ∷ rest) done)
@@ -76,7 +79,7 @@ member_free k (Some d) rest done h free later = later (put k d done) (put_free k
 
 members_free : (es : Pairs) (done : Members) → members_have_float done ≡ false → HasFree (members_all (known es) done)
 members_free [] done free = free
-members_free (e ∷ es) done free = member_free e.0 (data_of e.1.0) (known es) done e.1.1 free (members_free es)
+members_free ((key, (v, is_free)) ∷ es) done free = member_free key (data_of v) (known es) done is_free free (members_free es)
 
 layer_free : (y : Value-F Free) → IsFree (layer_data (map-Value Value (Option Data) data_of (bare y)))
 layer_free (Value-F.Integer n) = integer_free n

@@ -50,15 +50,18 @@ items_back (e ∷ es) h =
     )
 
 -- the pairs of a map
+abbrev bare_pair : List ℕ × Such → List ℕ × Value
+bare_pair (key, (v, _)) = (key, v)
+
 abbrev named : List (List ℕ × Such) → Pairs
-named es = map (λ (p : List ℕ × Such). (p.0, p.1.0)) es
+named es = map bare_pair es
 
 abbrev truths : Pairs → List (List ℕ × Bool)
 truths ps = map (λ (p : List ℕ × Value). (p.0, in_json p.1)) ps
 
 all_read : (es : List (List ℕ × Such)) → list_all (λ p. p.1) (truths (named es)) ≡ true → AreRead (named es)
 all_read [] h = tt
-all_read (e ∷ es) h = (e.1.1 (first_so _ _ h), all_read es (second_so _ _ h))
+all_read ((_, (_, back)) ∷ es) h = (back (first_so _ _ h), all_read es (second_so _ _ h))
 
 names-truths : (ps : Pairs) → keys_of (truths ps) ≡ keys_of ps
 names-truths [] = refl

@@ -6,7 +6,7 @@ use Rattle.base64.specs.declared.decode.DecodeError.{DecodeError}
 use Rattle.base64.proofs.EngineFacts.{decode_of-encode_of}
 use Rattle.expr_value.specs.Answers.{Then, Answer, ThenIfOk}
 use Rattle.expr_value.specs.declared.value.Value as value
-use Rattle.expr_value.specs.declared.value.Value.{Value, out-Value, the_lemmas}
+use Rattle.expr_value.specs.declared.value.Value.{out-Value, the_lemmas}
 use Rattle.expr_value.specs.declared.value.Value.TheOpen.{Value-F}
 use Rattle.expr_encoding.specs.Base64.{FromBase64, FromBase64Layer, FromText, in_base64, text_in_base64}
 use Rattle.expr_encoding.proofs.TextBytes.{text_bytes}
@@ -24,7 +24,7 @@ same_text : (s t : List ℕ) → IsUtf8 s → IsUtf8 t → encode_of standard s 
 same_text s t u v is = given s t (decode_of standard (encode_of standard s)) (decoded s u) (ap (decode_of standard) is ∙ decoded t v)
 
 from_text : (s : List ℕ) (answer : Answer) → IsUtf8 s → FromText (encode_of standard s) answer → answer ≡ Ok (value.String s)
-from_text s (Ok v) u q = ap Ok (q.2 ∙ ap value.String (sym (same_text s q.0 u q.1.0 q.1.1)))
+from_text s (Ok v) u (t, (utf8, same), is) = ap Ok (is ∙ ap value.String (sym (same_text s t u utf8 same)))
 from_text s (Err e) u q = absurd (q.1 s u refl)
 
 pub text_back : (s : List ℕ) (answer : Answer) → IsUtf8 s → Then (λ written. written ≡ in_base64 (value.String s)) FromBase64 answer → answer ≡ Ok (value.String s)

@@ -105,14 +105,8 @@ Made ps done = (ms : Members) × (members_all (map pair_data ps) done ≡ Some m
 
 pub made : (ps : Pairs) (done : Members) (qs : Pairs) → AreRead ps → has_distinct_names (keys_of ps) ≡ true → pairs_of done ≡ Some qs → Made ps done
 made [] done qs all once e = (done, refl, qs, e, λ k. refl)
-made (p ∷ ps) done qs all once e =
-    let d = all.0.0 in
+made (p ∷ ps) done qs ((d, has, w, is, _), all) once e =
     let fresh = not_true _ (first_so _ _ once) in
-    let next = put_read p.0 d all.0.2 done qs all.0.3 e in
-    let later = made ps (put p.0 d done) next.0 all.1 (second_so _ _ once) next.1 in (
-      later.0,
-      ap (option_and_then (λ g. members_all (map pair_data ps) (put p.0 g done))) all.0.1 ∙ later.1,
-      later.2,
-      later.3,
-      λ k. later.4 k ∙ put_placed k p ps d done all.0.1 fresh (bytes_eq k p.0) refl,
-    )
+    let next = put_read p.0 d w done qs is e in
+    let (ms, written, rs, read, at) = made ps (put p.0 d done) next.0 all (second_so _ _ once) next.1 in
+    (ms, ap (option_and_then (λ g. members_all (map pair_data ps) (put p.0 g done))) has ∙ written, rs, read, λ k. at k ∙ put_placed k p ps d done has fresh (bytes_eq k p.0) refl)

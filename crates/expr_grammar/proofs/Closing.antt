@@ -7,7 +7,7 @@ use Rattle.expr_token.specs.declared.reserved.Reserved.TheVariants as reserved
 use Rattle.expr_grammar.specs.declared.sign.InfixSign.TheVariants as infixed
 use Rattle.expr_grammar.specs.declared.role.Role.{Role}
 use Rattle.expr_grammar.specs.declared.role.Role.TheVariants.{Applying, NoOperator}
-use Rattle.expr_grammar.specs.Grammar.{Word, Usual, Constant, Nil, Key, EntryRow, Tree, Literal, Name, Member, Argument, Expression, Braces, TreeProgram, Program, Lines, NoLines, MoreLines, key_token, Spells, Fits}
+use Rattle.expr_grammar.specs.Grammar.{Word, Nil, Key, EntryRow, Tree, Literal, Name, Member, Argument, Expression, Braces, TreeProgram, Program, Lines, NoLines, MoreLines, key_token, Spells, Fits}
 use Rattle.expr_grammar.specs.Machine.{OperandStart, Bracing, Letting, Other, start_of, role_of, role_level, level_at, word_at, key_at, Holder, InArray, InMethod, Branches, Section, Top, Then, Last, Predicate, Frame, Under, After, Otherwise, Inside, Middle, Listed, Calling, Indexed, Cut, Condition, Body, Value, Entry, reach, plug, State, Want, Have, Dotted, Questioned, Negated, Barred, Piped, Chosen, Alternate, NamesLine, Named, Argued, NamesField, Braced, BracedKey, Keys, Colons, Fail, at_close, at_square, at_colon, at_comma, at_semicolon, at_brace, at_end_brace, at_end, after_argument, after_section, bind, close, apply, after_operand, without_operand, begin_line, begin_brace, begin, want, word_after_dot, at_square_open, in_after_not, word_after_bar, open_after_word, else_after, at_if, word_after_let, equals_after, word_of_field, after_brace, key_in, step_on, step, parse, first_state}
 use Rattle.expr_grammar.specs.Prefixes.{SomeBegins}
 use Rattle.expr_grammar.proofs.Measures.{prefix_above, reach_above}
@@ -306,7 +306,7 @@ ends_body Top ls [] l e h = (record { rest = []; tree = Program ls l; leads = re
 ends_body Top ls (f ∷ k) l e h = absurd h
 ends_body (Then bs c) ls k l e h = ends_by _ brace_close (token.Reserved reserved.Else ∷ brace_open ∷ nil ∷ brace_close ∷ []) refl (e.0 h _).0
 ends_body (Last bs c a) ls k l e h = ends_by _ brace_close [] refl (e.0 h _).0
-ends_body Predicate ls (Calling c r ∷ k) l e h = ends_by _ brace_close (paren_close ∷ []) refl (e.1.0 h.1 _).0
+ends_body Predicate ls (Calling c r ∷ k) l (_, (ends, _)) (_, is_open) = ends_by _ brace_close (paren_close ∷ []) refl (ends is_open _).0
 ends_body Predicate ls k l e h = absurd h.0
 
 ends_over : (k : List Frame) → EndsBelow k → IsOpen k → (l : Tree) → Ends (Have k l)

@@ -149,12 +149,12 @@ plugs p (After l o) k r seen h a =
       spelled = a.spelled ∙ append_assoc (before k) (tokens_of l ++ infix_tokens o) (tokens_of r) ∙ ap (λ q. before k ++ q) (append_assoc (tokens_of l) (infix_tokens o) (tokens_of r));
     }
 plugs p (Otherwise c t) k b seen h a =
-    let f = a.stack.0 in
+    let ((condition, above), fit) = a.stack.0 in
     record {
       stack = a.stack.1;
       left = record {
-        fits = (f.0.0.fits, f.1, a.left.fits, none_of_ends 1 (omega arith) c f.0.0.ends);
-        starts = (f.0.1, f.0.0.starts);
+        fits = (condition.fits, fit, a.left.fits, none_of_ends 1 (omega arith) c condition.ends);
+        starts = (above, condition.starts);
         ends = (h, a.left.ends);
       };
       spelled = a.spelled ∙ simp append_assoc;
@@ -316,11 +316,11 @@ end_at (InMethod l w) s seen a t = close_at s seen a t
 
 -- an argument is whole
 argues : (t : Token) (k : List Frame) (a : Argument) (seen : List Token) → IsStack k → ArgumentFits a → seen ≡ before k ++ argument_tokens a → IsState (after_argument t k a) (seen ++ t ∷ [])
-argues t (Calling c r ∷ k) a seen st f e =
+argues t (Calling c r ∷ k) a seen ((caller, fit), stack) f e =
     comma_at _ _ seen
-    (((st.0.0, push_argument_fits r a st.0.1 f), st.1), ap (λ q. q ++ token.Sign sign.Comma ∷ []) e ∙ simp (push_argument_tokens, append_assoc))
+    (((caller, push_argument_fits r a fit f), stack), ap (λ q. q ++ token.Sign sign.Comma ∷ []) e ∙ simp (push_argument_tokens, append_assoc))
     t
-    (close_at _ seen (caller_done c k (SomeArguments (push_argument r a) false) _ st.1 st.0.0 (push_argument_fits r a st.0.1 f) (ap (λ q. q ++ token.Sign sign.ParenClose ∷ []) e ∙ simp (push_argument_tokens, append_assoc, append-nil))) t)
+    (close_at _ seen (caller_done c k (SomeArguments (push_argument r a) false) _ stack caller (push_argument_fits r a fit f) (ap (λ q. q ++ token.Sign sign.ParenClose ∷ []) e ∙ simp (push_argument_tokens, append_assoc, append-nil))) t)
 argues t k a seen st f e = tt
 
 -- a program between braces is whole
@@ -331,7 +331,7 @@ section_done (Last bs c a) p k seen st h f e = holds k (chosen bs c a (Else p)) 
 section_done Predicate p k seen st h f e = (st, f, e)
 
 line_done : (k : List Frame) (w : List ℕ) (l : Tree) (seen : List Token) → IsStack k → TreeFits l → seen ≡ before k ++ token.Reserved reserved.Let ∷ token.Word w ∷ token.Sign sign.Equal ∷ (tokens_of l ++ token.Sign sign.Semicolon ∷ []) → IsState (bind k w l) seen
-line_done (Body b ls ∷ k) w l seen st f e = (((st.0.0, (st.0.1, f)), st.1), e ∙ simp append_assoc)
+line_done (Body b ls ∷ k) w l seen ((section, fit), stack) f e = (((section, (fit, f)), stack), e ∙ simp append_assoc)
 line_done k w l seen st f e = tt
 
 -- one more token after what is spelled
@@ -342,10 +342,11 @@ close_state : (t : Token) (k : List Frame) (l : Tree) (seen : List Token) → Ho
 close_state t (Inside ∷ k) l seen a = close_at _ seen (holds k (Paren l) _ a.stack.1 a.left.fits (tt, tt) (λ p. tt) (more (Inside ∷ k) l seen (token.Sign sign.ParenClose) a.spelled ∙ simp append_assoc)) t
 close_state t (Middle c ∷ k) l seen a = colon_at _ _ seen (((a.stack.0, a.left.fits), a.stack.1), more (Middle c ∷ k) l seen (token.Sign sign.Colon) a.spelled ∙ simp append_assoc) t tt
 close_state t (Listed s r ∷ k) l seen a =
+    let ((holder, fit), stack) = a.stack in
     comma_at _ _ seen
-    (((a.stack.0.0, push_fits r l a.stack.0.1 a.left.fits), a.stack.1), more (Listed s r ∷ k) l seen (token.Sign sign.Comma) a.spelled ∙ simp (push_tokens, append_assoc))
+    (((holder, push_fits r l fit a.left.fits), stack), more (Listed s r ∷ k) l seen (token.Sign sign.Comma) a.spelled ∙ simp (push_tokens, append_assoc))
     t
-    (end_at s _ seen (holder_done s k (SomeItems (push r l) false) _ a.stack.1 a.stack.0.0 (push_fits r l a.stack.0.1 a.left.fits) (more (Listed s r ∷ k) l seen (holder_end s) a.spelled ∙ simp (push_tokens, append_assoc, append-nil))) t)
+    (end_at s _ seen (holder_done s k (SomeItems (push r l) false) _ stack holder (push_fits r l fit a.left.fits) (more (Listed s r ∷ k) l seen (holder_end s) a.spelled ∙ simp (push_tokens, append_assoc, append-nil))) t)
 close_state t (Calling c r ∷ k) l seen a = argues t (Calling c r ∷ k) (Expression l) seen a.stack a.left.fits a.spelled
 close_state t (Indexed x true ∷ k) l seen a =
     let f = a.stack.0 in
@@ -357,11 +358,12 @@ close_state t (Indexed x false ∷ k) l seen a =
     t
     (square_at _ seen (holds k (Index x false l) _ a.stack.1 (f.0.fits, none_of_ends 13 (omega arith) x f.0.ends, a.left.fits) (f.1, f.0.starts) (λ p. tt) (more (Indexed x false ∷ k) l seen (token.Sign sign.SquareClose) a.spelled ∙ simp append_assoc)) t)
 close_state t (Cut x b ∷ k) l seen a =
-    let f = a.stack.0 in
-    square_at _ seen (holds k (Slice x b (At l)) _ a.stack.1 (f.0.0.fits, none_of_ends 13 (omega arith) x f.0.0.ends, f.1, a.left.fits) (f.0.1, f.0.0.starts) (λ p. tt) (more (Cut x b ∷ k) l seen (token.Sign sign.SquareClose) a.spelled ∙ simp append_assoc)) t
+    let ((left, above), fit) = a.stack.0 in
+    square_at _ seen (holds k (Slice x b (At l)) _ a.stack.1 (left.fits, none_of_ends 13 (omega arith) x left.ends, fit, a.left.fits) (above, left.starts) (λ p. tt) (more (Cut x b ∷ k) l seen (token.Sign sign.SquareClose) a.spelled ∙ simp append_assoc)) t
 close_state t (Condition bs ∷ k) l seen a = brace_at _ _ seen ((((a.stack.0, a.left.fits), tt), a.stack.1), more (Condition bs ∷ k) l seen (token.Sign sign.BraceOpen) a.spelled ∙ simp (append_assoc, append-nil)) t tt
 close_state t (Body b ls ∷ k) l seen a =
-    end_brace_at _ _ seen (section_done b (Program ls l) k _ a.stack.1 a.stack.0.0 (a.stack.0.1, a.left.fits) (more (Body b ls ∷ k) l seen (token.Sign sign.BraceClose) a.spelled ∙ simp append_assoc)) t tt
+    let ((section, fit), stack) = a.stack in
+    end_brace_at _ _ seen (section_done b (Program ls l) k _ stack section (fit, a.left.fits) (more (Body b ls ∷ k) l seen (token.Sign sign.BraceClose) a.spelled ∙ simp append_assoc)) t tt
 close_state t (Value w ∷ k) l seen a = semicolon_at _ seen (line_done k w l _ a.stack.1 a.left.fits (more (Value w ∷ k) l seen (token.Sign sign.Semicolon) a.spelled ∙ append_assoc (before k) (front (Value w)) _)) t
 close_state t (Entry r key ∷ k) l seen a =
     comma_at _ _ seen
@@ -415,13 +417,13 @@ after_operand_state (token.Reserved reserved.Matches) k l seen a r = infix_state
 after_operand_state t k l seen a r = close_state t k l seen a
 
 without_operand_state : (t : Token) (k : List Frame) (seen : List Token) → IsStack k → seen ≡ before k → IsState (without_operand t k) (seen ++ t ∷ [])
-without_operand_state t (Listed s r ∷ k) seen st e = end_at s _ seen (holder_done s k (items_end r) _ st.1 st.0.0 (items_end_fit r st.0.1) (ap (λ x. x ++ holder_end s ∷ []) e ∙ simp (items_end_tokens, append_assoc))) t
-without_operand_state t (Calling c r ∷ k) seen st e =
-    close_at _ seen (caller_done c k (arguments_end r) _ st.1 st.0.0 (arguments_end_fit r st.0.1) (ap (λ x. x ++ token.Sign sign.ParenClose ∷ []) e ∙ simp (arguments_end_tokens, append_assoc))) t
+without_operand_state t (Listed s r ∷ k) seen ((holder, fit), stack) e =
+    end_at s _ seen (holder_done s k (items_end r) _ stack holder (items_end_fit r fit) (ap (λ x. x ++ holder_end s ∷ []) e ∙ simp (items_end_tokens, append_assoc))) t
+without_operand_state t (Calling c r ∷ k) seen ((caller, fit), stack) e =
+    close_at _ seen (caller_done c k (arguments_end r) _ stack caller (arguments_end_fit r fit) (ap (λ x. x ++ token.Sign sign.ParenClose ∷ []) e ∙ simp (arguments_end_tokens, append_assoc))) t
 without_operand_state t (Indexed x false ∷ k) seen st e = colon_at _ _ seen (((st.0, tt), st.1), ap (λ x. x ++ token.Sign sign.Colon ∷ []) e ∙ simp append_assoc) t tt
-without_operand_state t (Cut x b ∷ k) seen st e =
-    let f = st.0 in
-    square_at _ seen (holds k (Slice x b LeftOut) _ st.1 (f.0.0.fits, none_of_ends 13 (omega arith) x f.0.0.ends, f.1, tt) (f.0.1, f.0.0.starts) (λ p. tt) (ap (λ x. x ++ token.Sign sign.SquareClose ∷ []) e ∙ simp append_assoc)) t
+without_operand_state t (Cut x b ∷ k) seen (((left, above), fit), stack) e =
+    square_at _ seen (holds k (Slice x b LeftOut) _ stack (left.fits, none_of_ends 13 (omega arith) x left.ends, fit, tt) (above, left.starts) (λ p. tt) (ap (λ x. x ++ token.Sign sign.SquareClose ∷ []) e ∙ simp append_assoc)) t
 without_operand_state t k seen st e = tt
 
 begins : (k : List Frame) (seen : List Token) → IsStack k → seen ≡ before k → IsState (begin_line k) (seen ++ token.Reserved reserved.Let ∷ [])
@@ -556,7 +558,7 @@ IsAnswer None seen = Unit {0}
 IsAnswer (Some p) seen = (program_tokens p ≡ seen) × Fits p
 
 ends_whole : (k : List Frame) (l : Tree) (seen : List Token) → Holds 0 k l seen → IsAnswer (whole k l) seen
-ends_whole (Body Top ls ∷ []) l seen a = (sym a.spelled, (a.stack.0.1, a.left.fits))
+ends_whole (Body Top ls ∷ []) l seen a = let ((_, fit), _) = a.stack in (sym a.spelled, (fit, a.left.fits))
 ends_whole k l seen a = tt
 
 ends : (s : State) (seen : List Token) → IsState s seen → IsAnswer (finish s) seen

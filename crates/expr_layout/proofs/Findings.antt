@@ -64,10 +64,6 @@ of_none : (b : Bool) (x : ℕ × List ℕ) → cond {A = NumberAndRest} b (Some 
 of_none true x e = absurd (cc)
 of_none false x e = refl
 
-pub digit_less : (d : ℕ) (text rest : List ℕ) → digit_at text ≡ Some (d, rest) → length rest < length text
-digit_less d [] rest e = absurd (cc)
-digit_less d (c ∷ cs) rest e = let h = of_digit (is_digit c) c d cs rest e in omega (arith, ap length h.2)
-
 pub parts_more : (unit sum d : ℕ) (text rest : List ℕ) → digit_at text ≡ Some (d, rest) → parts_at unit sum text ≡ parts_at (unit / 10) (sum + d * unit) rest
 unfolding Rattle.expr_layout.specs.KnownFields.parts_at
 parts_more unit sum d [] rest e = absurd (cc)

@@ -1,5 +1,5 @@
 -- What stands behind the names of tokens.
-use Rattle.std.proofs.Common.{◌≡◌, ◌≢◌, inl, inr, ℕ, zero, suc, ◌+◌, ◌-◌, ◌<◌, ◌≤◌, ◌==◌, ◌&&◌, ◌||◌, nat_lt, cond, Bool, true, false, refl, sym, ap, ◌∙◌, arith, rules, eq-eqb, List, [], ◌∷◌, ◌++◌, length, Some, None, append_assoc}
+use Rattle.std.proofs.Common.{◌≡◌, ◌≢◌, inl, inr, ℕ, zero, suc, ◌+◌, ◌-◌, ◌<◌, ◌≤◌, ◌==◌, ◌&&◌, ◌||◌, nat_lt, cond, Bool, true, false, refl, sym, ap, ◌∙◌, arith, rules, eq-eqb, List, [], ◌∷◌, ◌++◌, length, Some, None}
 use Rattle.std.proofs.Math.Path.{subst}
 use Rattle.std.specs.Char.{encode_utf8}
 use denote.Ref.{Bor}
@@ -12,7 +12,7 @@ use Rattle.std.proofs.lemmas.List.{length-append}
 use Rattle.std.proofs.lemmas.Str.{len_utf8_bounds, length-encode}
 use Rattle.expr_layout.specs.declared.token.LayoutToken.{LayoutToken}
 use Rattle.expr_layout.specs.declared.token.LayoutToken.TheVariants as layout_token
-use Rattle.expr_layout.specs.Layouts.{Heads, HeadsBy, IsLayout, after_name, either, ends_run, first_of, first_or, fraction_at, is_second, named_token, numbers, offsets, run_at, run_behind, run_token, short_words, token_at, whole_run, words}
+use Rattle.expr_layout.specs.Layouts.{Heads, HeadsBy, after_name, either, ends_run, first_of, first_or, fraction_at, named_token, numbers, offsets, run_at, run_behind, run_token, short_words, token_at, whole_run, words}
 
 pub after_append : (name rest : List ℕ) → after_name name (name ++ rest) ≡ Some rest
 unfolding Rattle.expr_layout.specs.Layouts.after_name
@@ -39,7 +39,7 @@ after_some (c ∷ cs) (d ∷ ds) rest e = elim (eqb_tells c d) [
 
 -- where a name was found, and where it wasn't
 pub name_found : (name text rest : List ℕ) → StripsPrefix (FindsTextPrefix name) text rest → after_name name text ≡ Some rest
-name_found name text rest h = ap (after_name name) (h.1.1 ∙ ap (λ t. name ++ t) (sym h.2)) ∙ after_append name rest
+name_found name text rest (n, (_, split, _), left, _) = ap (after_name name) (split ∙ ap (λ t. name ++ t) (sym left)) ∙ after_append name rest
 
 -- a token whose name isn't empty leaves less
 abbrev Leaves : List ℕ → Option (LayoutToken × List ℕ) → Type 0
@@ -129,11 +129,6 @@ pub heads_characters : (second : Bool) (text : List ℕ) (r : Option (LayoutToke
 heads_characters second text None e h = h
 heads_characters second text (Some found) e h = heads_character second text found.0 found.1.now h.0 (sym e) h.1 h.2
 
--- tokens that lead from the beginning of a layout to what is left of it
-pub leads_on : (second : Bool) (text : List ℕ) (before : List LayoutToken) (was : Bool) (left : List ℕ) (t : LayoutToken) (rest : List ℕ)
-    → ((ts : List LayoutToken) → IsLayout was left ts → IsLayout second text (before ++ ts)) → Heads was left t rest → (ts : List LayoutToken) → IsLayout (is_second t) rest ts → IsLayout second text ((before ++ (t ∷ [])) ++ ts)
-leads_on second text before was left t rest lead heads ts h = subst (λ (all : List LayoutToken). IsLayout second text all) (sym (append_assoc before (t ∷ []) ts)) (lead (t ∷ ts) (rest, heads, h))
-
 -- one more digit of a run, and its end
 pub run_more : (left c count : ℕ) (text rest : List ℕ) → 0 < left → text ≡ c ∷ rest → run_at left c count text ≡ run_at (left - 1) c (count + 1) rest
 unfolding Rattle.expr_layout.specs.Layouts.run_at
@@ -150,10 +145,6 @@ run_end (suc left) c count (d ∷ ds) h other = elim (eqb_tells d c) [
   | inl same ↦ absurd (other ds (λ i. same.1 i ∷ ds))
   | inr differs ↦ ap (λ b. cond b (run_at left c (count + 1) ds) (Some (count, d ∷ ds))) differs.0
 ]
-
-pub run_none : (left c count : ℕ) (text : List ℕ) → left ≡ 0 → run_at left c count text ≡ None
-unfolding Rattle.expr_layout.specs.Layouts.run_at
-run_none left c count text e = ap (λ k. run_at k c count text) e
 
 neither : (a b : Bool) → a ≡ false → b ≡ false → (a || b) ≡ false
 neither a b e f = λ i. (e i || f i)

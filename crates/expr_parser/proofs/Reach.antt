@@ -72,11 +72,11 @@ module _ (text : List ℕ) (at : ℕ) (fit : Bool) (k : List Frame) (p : ParseSt
     pub stops_at : step_in k p token ≡ Fail → FaultPlace text start
     stops_at e =
         let tokens = read.tokens ++ token ∷ [] in
-        let s = stops tokens read.tokens (length read.tokens) k p refl read.stands [] token refl (fails e) in
+        let (_, (before, none)) = stops tokens read.tokens (length read.tokens) k p refl read.stands [] token refl (fails e) in
         let less : length read.tokens < length tokens = omega (arith, length-append read.tokens (token ∷ [])) in
         let here : slice_get (read.starts ++ start ∷ []) (length read.tokens) ≡ Some start =
         ap (λ n. slice_get (read.starts ++ start ∷ []) n) (sym (begun_paired text at read.tokens read.starts read.begins)) ∙ at_seam read.starts start in
-        AtToken end tokens (read.starts ++ start ∷ []) (length read.tokens) more here s.1.0 (s.1.1 less)
+        AtToken end tokens (read.starts ++ start ∷ []) (length read.tokens) more here before (none less)
 
   -- what can't be read
   module _ (stuck : ℕ) (here : Begins text stuck read.tokens read.starts × NoPiece (drop stuck text)) where

@@ -1,5 +1,5 @@
 -- A run of brackets with one more or one less.
-use Rattle.std.proofs.Common.{◌≡◌, ◌≤◌, ◌+◌, ℕ, zero, suc, List, [], ◌∷◌, length, fold, slice_get, slice_set, Option, Some, None, arith, sym, ap, ◌∙◌, refl}
+use Rattle.std.proofs.Common.{◌≡◌, ◌≤◌, ◌+◌, ℕ, zero, suc, List, [], ◌∷◌, length, fold, slice_get, slice_set, Some, arith, sym, ap, ◌∙◌, refl}
 use Rattle.expr_frames.specs.declared.frame.Frame.{Frame}
 use Rattle.expr_frames.specs.declared.frame.Frame.TheVariants as frame
 use Rattle.expr_parser.specs.Reading.{stack, with_frame}

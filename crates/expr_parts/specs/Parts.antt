@@ -52,7 +52,7 @@ abbrev pub pairs_code : Coded PairsWithHeight
 pairs_code = code_by (LineTerms × ℕ) (coded× named_code coded_ℕ) (λ m. (m.pairs, m.height)) (λ p. record { pairs = p.0; height = p.1 }) (λ _. refl)
 
 abbrev pub arguments_code : Coded ArgumentsWithHeight
-arguments_code = code_by (List Term × (Predicate × ℕ)) (coded× (coded_list term_code) (coded× predicate_code coded_ℕ)) (λ g. (g.terms, (g.program, g.height))) (λ p. record { terms = p.0; program = p.1.0; height = p.1.1 }) (λ _. refl)
+arguments_code = code_by (List Term × (Predicate × ℕ)) (coded× (coded_list term_code) (coded× predicate_code coded_ℕ)) (λ g. (g.terms, (g.program, g.height))) (λ (terms, (program, height)). record { terms = terms; program = program; height = height }) (λ _. refl)
 
 -- Expressions.
 abbrev pub leaf : Term → WithHeight

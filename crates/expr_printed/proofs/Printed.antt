@@ -216,10 +216,10 @@ items_back (e ∷ es) h = let parts = and_parts _ _ h in (e.1 parts.0, items_bac
 pairs_back : (ps : List (List ℕ × Such IsBack)) → list_all (λ p. is_word p.0 && p.1) (with_each is_readable (pairs_of ps)) ≡ true
     → BackAll (map (λ p. p.0 ++ codes ": " ++ p.1) (with_each text_of (pairs_of ps))) (map pair_tokens (with_each printed_tokens (pairs_of ps)))
 pairs_back [] h = tt
-pairs_back (p ∷ ps) h =
-    let parts = and_parts _ _ h in
-    let first = and_parts _ _ parts.0 in
-    (pair_back p.0 first.0 (p.1.1 first.1), pairs_back ps parts.1)
+pairs_back ((key, (_, back)) ∷ ps) h =
+    let (here, later) = and_parts _ _ h in
+    let (word, readable) = and_parts _ _ here in
+    (pair_back key word (back readable), pairs_back ps later)
 
 -- one layer
 layer_back : (y : Value-F (Such IsBack)) → readable_layer (map-Value Value Bool is_readable (bare y)) ≡ true

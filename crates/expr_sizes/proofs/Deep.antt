@@ -14,13 +14,16 @@ bare layer = map-Value Deep Value (λ e. e.0) layer
 
 items_deep : (es : List Deep) (b a : ℕ) → b ≤ a → fold max b (map depth (map (λ e. e.0) es)) ≤ fold (λ n m. n + suc m) a (map inner_weight (map (λ e. e.0) es))
 items_deep [] b a l = l
-items_deep (e ∷ es) b a l = items_deep es (max b (depth e.0)) (a + suc (inner_weight e.0)) (omega (arith, l, e.1))
+items_deep ((v, deep) ∷ es) b a l = items_deep es (max b (depth v)) (a + suc (inner_weight v)) (omega (arith, l, deep))
+
+abbrev bare_pair : {K : Type 0} → K × Deep → K × Value
+bare_pair (key, (v, _)) = (key, v)
 
 pairs_deep : {K : Type 0} (es : List (K × Deep)) (b a : ℕ) → b ≤ a
-    → fold max b (values_of (map (λ (p : K × Value). (p.0, depth p.1)) (map (λ (p : K × Deep). (p.0, p.1.0)) es)))
-    ≤ fold (λ n m. n + suc m) a (values_of (map (λ (p : K × Value). (p.0, inner_weight p.1)) (map (λ (p : K × Deep). (p.0, p.1.0)) es)))
+    → fold max b (values_of (map (λ (p : K × Value). (p.0, depth p.1)) (map bare_pair es)))
+    ≤ fold (λ n m. n + suc m) a (values_of (map (λ (p : K × Value). (p.0, inner_weight p.1)) (map bare_pair es)))
 pairs_deep [] b a l = l
-pairs_deep (e ∷ es) b a l = pairs_deep es (max b (depth e.1.0)) (a + suc (inner_weight e.1.0)) (omega (arith, l, e.1.1))
+pairs_deep ((_, (v, deep)) ∷ es) b a l = pairs_deep es (max b (depth v)) (a + suc (inner_weight v)) (omega (arith, l, deep))
 
 layer_deep : (y : Value-F Deep) → depth_layer (map-Value Value ℕ depth (bare y)) ≤ inner_weight_layer (map-Value Value ℕ inner_weight (bare y))
 layer_deep (Value-F.Integer n) = omega arith

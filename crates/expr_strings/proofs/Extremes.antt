@@ -46,10 +46,10 @@ plus_none n = omega arith
 
 pub least_is : (t s : List ℕ) (r : Option ℕ) → MatchOption r ((i : ℕ) → i ≤ length s → LacksTextAt t s i) (MatchBeginsAt (FindsText t) s) → r ≡ least_place t 0 s
 least_is t s None h = sym (no_least t s 0 (λ j w. stands_not t s j (h j w)))
-least_is t s (Some i) h =
-    sym (least_at t s 0 i h.3.0 (λ j w. stands_not t s j (h.1.0 j w)) (stands_here t s i h.0 h.3 h.1.1.split) ∙ ap Some (plus_none i))
+least_is t s (Some i) (j, (none, here), _, boundary, _) =
+    sym (least_at t s 0 i boundary.0 (λ k w. stands_not t s k (none k w)) (stands_here t s i j boundary here.split) ∙ ap Some (plus_none i))
 
 pub greatest_is : (t s : List ℕ) (r : Option ℕ) → MatchOption r ((i : ℕ) → i ≤ length s → LacksTextAt t s i) (MatchBeginsAt (RFindsText t) s) → r ≡ greatest_place t 0 s
 greatest_is t s None h = sym (no_greatest t s 0 (λ j w. stands_not t s j (h j w)))
-greatest_is t s (Some i) h =
-    sym (greatest_at t s 0 i h.3.0 (λ j w k. stands_not t s j (h.1.0 j w k)) (stands_here t s i h.0 h.3 h.1.1.split) ∙ ap Some (plus_none i))
+greatest_is t s (Some i) (j, (none, here), _, boundary, _) =
+    sym (greatest_at t s 0 i boundary.0 (λ k w l. stands_not t s k (none k w l)) (stands_here t s i j boundary here.split) ∙ ap Some (plus_none i))

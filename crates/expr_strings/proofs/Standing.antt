@@ -1,9 +1,8 @@
 -- The places of a text, found one after the other.
 use Rattle.std.proofs.Common.{◌≡◌, subst, ℕ, zero, suc, ◌+◌, ◌-◌, ◌<◌, ◌≤◌, Bool, true, false, ◌||◌, List, [], ◌∷◌, ◌++◌, length, take, drop, nat_lt, refl, sym, ap, ◌∙◌, arith, ◌⊎◌, inl, inr, if◌then◌else◌}
-use Rattle.std.specs.Str.{IsCharBoundary, bytes_eq}
+use Rattle.std.specs.Str.{IsCharBoundary}
 use Rattle.std.specs.Prelude.{MatchOption, ◌==◌}
-use Rattle.std.specs.Str.Pattern.{LacksTextAt, FindsText, MatchBeginsAt, FindsTextPrefix, HasPrefixMatch}
-use Rattle.std.specs.Bool.{MatchBool}
+use Rattle.std.specs.Str.Pattern.{LacksTextAt, FindsText, MatchBeginsAt}
 use Rattle.std.specs.declared.option.Option.{Option}
 use Rattle.std.specs.declared.option.Option.TheVariants.{Some, None}
 use Rattle.std.proofs.lemmas.Bool.Decides.{nat_tests}
@@ -117,8 +116,8 @@ pub found : (t s : List ℕ) (again : Bool) (r : Option ℕ) → again ≡ false
     → MatchOption r ((i : ℕ) → i ≤ length s → LacksTextAt t s i) (MatchBeginsAt (FindsText t) s) → IsNext t s again r
 found t s true r e h = absurd (false≢true (sym e))
 found t s false None e h = λ at. no_match t s at (λ j w. stands_not t s j (h j w))
-found t s false (Some i) e h =
-    (λ at. first_match t s at i h.3.0 (λ j w. stands_not t s j (h.1.0 j w)) (stands_here t s i h.0 h.3 h.1.1.split), h.3, h.1.1.after)
+found t s false (Some i) e (j, (none, here), _, boundary, _) =
+    (λ at. first_match t s at i boundary.0 (λ k w. stands_not t s k (none k w)) (stands_here t s i j boundary here.split), boundary, here.after)
 
 not_nil : (s : List ℕ) → false ≡ (length s == 0) → 1 ≤ length s
 not_nil [] h = absurd (false≢true h)
@@ -194,9 +193,3 @@ count t (c ∷ s) at (suc k) = omega (arith, count t s (suc at) k)
 
 pub all_places : (t s : List ℕ) → take (length s + 1) (places t s) ≡ places t s
 all_places t s = take_all (length s + 1) (places t s) (omega (arith, count t s 0 0))
-
--- what std says of a prefix
-pub prefix_is : (t s : List ℕ) (r : Bool) → MatchBool r (HasPrefixMatch (FindsTextPrefix t) s) (LacksTextAt t s 0) → r ≡ bytes_eq (take (length t) s) t
-prefix_is t s true h = sym ((bytes_eq-Decides (take (length t) s) t).1 (ap (take (length t)) h.1.1 ∙ take-append_seam t (drop h.0 s)))
-prefix_is t s false h = sym (is_false (bytes_eq (take (length t) s) t) (λ e.
-    h (drop (length t) s) (sym (take-append-drop (length t) s) ∙ ap (λ l. l ++ drop (length t) s) ((bytes_eq-Decides (take (length t) s) t).0 e))))

@@ -40,7 +40,7 @@ abbrev pub split_after : List Value → Answer
 split_after arguments = answer_on (two_texts_and_limit arguments) (λ a. Ok (value.Array (map value.String (parts_after a.0 a.1 a.2))))
 
 abbrev pub replace : List Value → Answer
-replace arguments = answer_on (three_texts_and_limit arguments) (λ a. Ok (value.String (replaced_text a.0.0 a.0.1 a.1.0 a.1.1)))
+replace arguments = answer_on (three_texts_and_limit arguments) (λ ((s, from), (to, n)). Ok (value.String (replaced_text s from to n)))
 
 -- so many copies: at most a million, of less than 2^64 bytes
 abbrev pub repeated_text : List ℕ → ℤ → Answer

@@ -1,7 +1,6 @@
 -- A text in which the bytes `matches` stand nowhere has no literal pattern.
-use Rattle.std.proofs.Common.{◌≡◌, ◌||◌, ℕ, Bool, true, false, List, [], ◌∷◌, ◌++◌, codes, refl, sym, ap, ◌∙◌, subst, arith, append_assoc, append-nil, zero-add, true≢false, IsTrue}
+use Rattle.std.proofs.Common.{◌≡◌, ℕ, Bool, true, false, List, [], ◌∷◌, ◌++◌, codes, refl, sym, ap, ◌∙◌, subst, arith, append_assoc, append-nil, zero-add, IsTrue}
 use Rattle.std.proofs.lemmas.Bool.{false≢true}
-use Rattle.std.specs.List.{list_any}
 use Rattle.std.specs.Prelude.{MatchBool}
 use Rattle.std.specs.Str.Iter.{HasSubslice}
 use Rattle.expr_syntax.specs.Bounds.{IsLight, patterns_weight, is_behind_matches, weight_from}
@@ -46,19 +45,6 @@ light_without text patterns lacks ts r =
     let none : weight_from false (tokens_of r.1.pieces) ≡ 0 = light_pieces text [] r.1.pieces [] lacks (sym r.1.whole ∙ sym (append-nil (pieces_text r.1.pieces))) r.1.fit in
     let same : patterns_weight ts ≡ 0 = ap patterns_weight (sym r.1.in_order) ∙ none in
     omega (arith, same)
-
-or_true : (a b : Bool) → b ≡ true → (a || b) ≡ true
-or_true true b e = refl
-or_true false b e = e
-
-any_there : (is : ℕ → Bool) (front : List ℕ) (x : ℕ) (rest : List ℕ) → is x ≡ true → list_any is (front ++ (x ∷ rest)) ≡ true
-any_there is [] x rest e = ap (λ b. b || list_any is rest) e
-any_there is (y ∷ front) x rest e = or_true (is y) (list_any is (front ++ (x ∷ rest))) (any_there is front x rest e)
-
--- a text without the first byte of `matches` has none of them
-pub none_without : (is : ℕ → Bool) (text : List ℕ) → is 109 ≡ true → list_any is text ≡ false → HasSubslice text (codes "matches") → ⊥
-none_without is text e none (front, tail, whole) =
-    true≢false (sym (any_there is front 109 (codes "atches" ++ tail) e) ∙ ap (list_any is) (sym whole) ∙ none)
 
 -- so it is told
 pub told : (b : Bool) (text : List ℕ) → (HasSubslice text (codes "matches") → IsTrue b) → MatchBool b (Unit {0}) (HasSubslice text (codes "matches") → ⊥)

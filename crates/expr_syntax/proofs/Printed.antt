@@ -174,28 +174,28 @@ ReadablePairs ps = list_all (λ p. is_word p.0 && p.1) (with_each is_readable (p
 entries_spelled : (ps : List (List ℕ × Such IsSpelled)) → ReadablePairs ps → (ts : List Token) (xs : List (List ℕ × Term)) → SpelledEntries ts xs
     → SpelledEntries (ts ++ with_commas (map pair_tokens (with_each printed_tokens (pairs_of ps)))) (xs ++ with_each printed_term (pairs_of ps))
 entries_spelled [] h ts xs r = subst (λ l. SpelledEntries l (xs ++ [])) (sym (append-nil ts)) (subst (SpelledEntries ts) (sym (append-nil xs)) r)
-entries_spelled (p ∷ ps) h ts xs r =
-    let parts = and_parts _ _ h in
-    let us = token.Sign sign.Comma ∷ pair_tokens (p.0, printed_tokens p.1.0) in
-    let x : List ℕ × Term = (p.0, printed_term p.1.0) in
+entries_spelled ((name, (v, spelled)) ∷ ps) h ts xs r =
+    let (here, later) = and_parts _ _ h in
+    let us = token.Sign sign.Comma ∷ pair_tokens (name, printed_tokens v) in
+    let x : List ℕ × Term = (name, printed_term v) in
     let more = with_commas (map pair_tokens (with_each printed_tokens (pairs_of ps))) in
     let pairs = with_each printed_term (pairs_of ps) in
     subst (λ l. SpelledEntries l (xs ++ x ∷ pairs)) (append_assoc ts us more)
     (subst (SpelledEntries ((ts ++ us) ++ more)) (append_assoc xs (x ∷ []) pairs)
-    (entries_spelled ps parts.1 (ts ++ us) (xs ++ x ∷ []) (entry_pushed r p.0 (p.1.1 (and_parts _ _ parts.0).1))))
+    (entries_spelled ps later (ts ++ us) (xs ++ x ∷ []) (entry_pushed r name (spelled (and_parts _ _ here).1))))
 
 pairs_spelled : (ps : List (List ℕ × Such IsSpelled)) → ReadablePairs ps
     → Spelled (tokens_layer (Value-F.Map (with_each printed_tokens (pairs_of ps)))) (term_layer (Value-F.Map (with_each printed_term (pairs_of ps))))
 pairs_spelled [] h = record { tree = Map NoEntries; spells = refl; fits = tt; literals = (tt, (tt, tt)); same = refl }
-pairs_spelled (p ∷ ps) h =
-    let parts = and_parts _ _ h in
-    let r = entries_spelled ps parts.1 _ _ (first_entry p.0 (p.1.1 (and_parts _ _ parts.0).1)) in
+pairs_spelled ((name, (v, spelled)) ∷ ps) h =
+    let (here, later) = and_parts _ _ h in
+    let r = entries_spelled ps later _ _ (first_entry name (spelled (and_parts _ _ here).1)) in
     let close : List Token = token.Sign sign.BraceClose ∷ [] in
     record {
       tree = Map (SomeEntries r.row false);
       spells = ap (λ l. token.Sign sign.BraceOpen ∷ (l ++ close)) (append-nil (entry_row_tokens r.row) ∙ r.spells);
       fits = r.fits;
-      literals = (tt, all_both (pair_tokens (p.0, printed_tokens p.1.0) ++ with_commas (map pair_tokens (with_each printed_tokens (pairs_of ps)))) close r.literals (tt, tt));
+      literals = (tt, all_both (pair_tokens (name, printed_tokens v) ++ with_commas (map pair_tokens (with_each printed_tokens (pairs_of ps)))) close r.literals (tt, tt));
       same = ap map_term r.same;
     }
 

@@ -31,10 +31,7 @@ agreed None m n e h = absurd (cc)
 agreed (Some k) m n e h = let same : n ≡ k = h in cc
 
 year_known : (f : KnownFields) (d : Date) (y : ℕ) → f.year ≡ Some y → HasParts f d → d.year ≡ pos y
-year_known f d y e h =
-    let found : f.year ≡ Some h.0.0 = h.0.1 in
-    let same : h.0.0 ≡ y = cc in
-    h.0.2 ∙ ap pos same
+year_known f d y e ((z, found, is), _, _, _, _) = let same : z ≡ y = cc in is ∙ ap pos same
 
 or_true : (b : Bool) → (b || true) ≡ true
 or_true true = refl

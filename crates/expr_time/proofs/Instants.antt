@@ -17,7 +17,7 @@ use Rattle.expr_datetime.specs.declared.moment.MomentZone.TheVariants.{Fixed, Na
 use Rattle.expr_value.specs.declared.value.Value as value
 use Rattle.expr_datetime.specs.declared.zone.TimezoneValue.{TimezoneValue}
 use Rattle.expr_layout.specs.declared.found.KnownFields.{KnownFields}
-use Rattle.expr_time.specs.Civil.{ByForm, MomentMayReturn, MomentMayReturnIf, HasParts, IsOrZero, IsCivil, ReadBy, answer_in, place_at}
+use Rattle.expr_time.specs.Civil.{ByForm, MomentMayReturn, MomentMayReturnIf, IsOrZero, IsCivil, ReadBy, answer_in, place_at}
 use Rattle.expr_moment.specs.Fields.{date_at, time_at}
 use Rattle.expr_layout.specs.Layouts.{printed_text}
 use Rattle.expr_layout.specs.declared.token.LayoutToken.{LayoutToken}
@@ -96,14 +96,10 @@ some_same : (m n : ℕ) → ◌≡◌ {A = Option ℕ} (Some m) (Some n) → m �
 some_same m n e = cc
 
 civil_one : (dt e : DateTime) (off : ℤ) → dt.date.year ≡ pos (year_of dt) → IsCivil (found_of dt off) e → civil_nanos e ≡ civil_nanos dt
-civil_one dt e off year h =
-    let parts : HasParts (found_of dt off) e.date = h.0.1 in
-    let same_year : e.date.year ≡ dt.date.year = parts.0.2 ∙ ap pos (sym (some_same (year_of dt) parts.0.0 parts.0.1)) ∙ sym year in
-    let days : epoch_day e.date ≡ epoch_day dt.date = epoch_day_same e.date dt.date same_year parts.1 parts.2 in
-    let hour : e.time.hour ≡ dt.time.hour = h.1.0 in
-    let minute : e.time.minute ≡ dt.time.minute = h.1.1 in
-    let second : e.time.second ≡ dt.time.second = h.1.2 in
-    let parts_of_second : e.time.subsec_nanosecond ≡ dt.time.subsec_nanosecond = fraction_one dt.time.subsec_nanosecond e.time.subsec_nanosecond h.1.3 in
+civil_one dt e off year ((_, ((y, found, is), month, day, _, _)), (hour, minute, second, fraction)) =
+    let same_year : e.date.year ≡ dt.date.year = is ∙ ap pos (sym (some_same (year_of dt) y found)) ∙ sym year in
+    let days : epoch_day e.date ≡ epoch_day dt.date = epoch_day_same e.date dt.date same_year month day in
+    let parts_of_second : e.time.subsec_nanosecond ≡ dt.time.subsec_nanosecond = fraction_one dt.time.subsec_nanosecond e.time.subsec_nanosecond fraction in
     let nanos : time_nanos e.time ≡ time_nanos dt.time = omega (arith, hour, minute, second, parts_of_second) in
     civil_nanos-parts e ∙ (λ i. days i *ℤ pos 86_400_000_000_000 +ℤ pos (nanos i)) ∙ sym (civil_nanos-parts dt)
 

@@ -28,7 +28,7 @@ use Rattle.expr_layout.specs.declared.token.LayoutToken.TheVariants as layout_to
 use Rattle.expr_time.specs.Civil.{both_form, by_form, date_form, stamp_form, time_form}
 use Rattle.expr_moment.specs.Fields.{date_at, time_at}
 use Rattle.expr_layout.specs.KnownFields.{FindingAndRest, NumberAndRest, number_below, digit_at, found_as, found_at, found_number, four_digits, with_next_unit, hours_at, if_digit, if_more, in_units, is_digit, with_finding, nothing_behind, offset_at, one_more, or_same, parts_at, parts_behind, read_all, spelled_at, two_digits, no_fields, up_to_two, with_digit, zulu_at}
-use Rattle.expr_layout.specs.Layouts.{after_name, either, fraction_of, number_of, padded_number, pad_text, printed_text, short_places, signed_offset, offset_text, token_text, zulu}
+use Rattle.expr_layout.specs.Layouts.{after_name, either, number_of, padded_number, pad_text, printed_text, short_places, signed_offset, offset_text, token_text, zulu}
 use Rattle.expr_layout.proofs.Findings.{parts_end, parts_more}
 use Rattle.expr_layout.proofs.Tokens.{after_append}
 use Rattle.expr_moment.proofs.InZone.{not_equal}
@@ -415,8 +415,8 @@ mark_found u rest = refl
 form_offset_found : (u : DateTimeValue) (off : ℤ) → Stands off (token_text u (layout_token.Zulu spelling.ColonMinutes) ++ [])
     → found_at layout_token.StampOffset (token_text u (layout_token.Zulu spelling.ColonMinutes) ++ []) ≡ Some (finding.Offset off, [])
 unfolding Rattle.expr_layout.specs.KnownFields.found_at
-form_offset_found u off stands =
-    ap (λ (o : Option (List ℕ)). either (option_map (λ rest. (finding.Offset (pos 0), rest)) o) (zulu_read_of (token_text u (layout_token.Zulu spelling.ColonMinutes) ++ []))) stands.1.2 ∙ stands.0
+form_offset_found u off (read, (_, _, no_zulu)) =
+    ap (λ (o : Option (List ℕ)). either (option_map (λ rest. (finding.Offset (pos 0), rest)) o) (zulu_read_of (token_text u (layout_token.Zulu spelling.ColonMinutes) ++ []))) no_zulu ∙ read
 
 abbrev f12 : List LayoutToken
 f12 = layout_token.StampOffset ∷ []

@@ -40,11 +40,11 @@ returns-in_err-size c =
 pub returns : goal.returns
 returns c =
     let f = c.fraction.ensures in
-    let u = c.in_ok-unit.ensures in
+    let (scale, size, (named, _)) = c.in_ok-unit.ensures in
     let long = length-append c.digits.result.0.now (fraction_digits_of f.0) in
     let some : 0 < length (c.digits.result.0.now ++ fraction_digits_of f.0) = elim c.else-is_empty.branch [
       | else-is_empty-via-then-is_empty+else-is_empty-2 w ↦ omega (arith, long, ap length f.1, is_some _ w.if-is_empty-2.ensures)
       | else-is_empty-via-else-is_empty w ↦ omega (arith, long, is_some _ w.if-is_empty.ensures)
     ] in
-    let p = part_found _ _ _ _ _ f.0 u.0 c.digits.ensures.digits c.digits.ensures.whole f.2 u.2.0 c.if-not-is_fresh.ensures some in
-    (record { whole = c.digits.result.0.now; fraction = f.0; scale = u.0 }, p, c.in_ok-size.ensures.0 ∙ (λ i. part_nanos c.digits.result.0.now (f.1 i) (u.1 i)), c.in_ok-size.ensures.1)
+    let p = part_found _ _ _ _ _ f.0 scale c.digits.ensures.digits c.digits.ensures.whole f.2 named c.if-not-is_fresh.ensures some in
+    (record { whole = c.digits.result.0.now; fraction = f.0; scale = scale }, p, c.in_ok-size.ensures.0 ∙ (λ i. part_nanos c.digits.result.0.now (f.1 i) (size i)), c.in_ok-size.ensures.1)

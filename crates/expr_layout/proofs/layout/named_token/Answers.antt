@@ -1,6 +1,6 @@
 use Rattle.std.proofs.Common.{ap, ◌∙◌, List, ℕ}
 use Rattle.std.specs.Prelude.{Option}
-use Rattle.expr_layout.specs.Layouts.{first_of, named_token, numbers, offsets, short_words, words}
+use Rattle.expr_layout.specs.Layouts.{first_of, named_token, offsets, short_words, words}
 use Rattle.expr_layout.specs.declared.token.LayoutToken.{LayoutToken}
 use Rattle.expr_layout.proofs.layout.named_token.Goals as goal
 

@@ -1,6 +1,6 @@
 use Rattle.std.proofs.Common.{◌≡◌, ℕ, Bool, refl}
 use Rattle.std.specs.Char.{char_set_contains}
-use Rattle.expr_strings.proofs.Ending.{trimmed_by}
+use Rattle.expr_strings.proofs.Trimming.{trimmed_by}
 use Rattle.expr_strings.proofs.trimmed.without_any.Goals as goal
 
 pub returns : goal.returns

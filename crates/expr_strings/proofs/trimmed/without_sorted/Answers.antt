@@ -1,7 +1,7 @@
 use Rattle.std.proofs.Common.{rules}
 use Rattle.std.specs.Char.{char_set_contains}
 use Rattle.std.proofs.lemmas.Fn.{always_returns_same}
-use Rattle.expr_strings.proofs.Ending.{trimmed_by}
+use Rattle.expr_strings.proofs.Trimming.{trimmed_by}
 use Rattle.expr_strings.proofs.trimmed.without_sorted.Goals as goal
 
 pub returns : goal.returns

@@ -1,7 +1,7 @@
 use Rattle.std.proofs.Common.{rules}
 use Rattle.std.proofs.lemmas.List.Sorted.{answers_always}
 use Rattle.std.specs.Char.{is_whitespace}
-use Rattle.expr_strings.proofs.Ending.{trimmed_by}
+use Rattle.expr_strings.proofs.Trimming.{trimmed_by}
 use Rattle.expr_strings.proofs.trimmed.without_space.Goals as goal
 
 pub returns : goal.returns

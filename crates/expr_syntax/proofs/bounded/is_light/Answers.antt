@@ -1,5 +1,4 @@
-use Rattle.std.proofs.Common.{IsTrue, codes, rules}
-use Rattle.std.proofs.lemmas.Str.Pattern.{contains_text}
+use Rattle.std.proofs.Common.{rules}
 use Rattle.expr_syntax.proofs.Matches.{light_without}
 use Rattle.expr_syntax.proofs.Weighing.{ended_light, weighed_heavier, weighed_more, weighed_none}
 use Rattle.expr_syntax.proofs.bounded.is_light.Goals as goal
