@@ -104,7 +104,7 @@ module _ (t s : List ℕ) where
   apart_each : (ps : List ℕ) (from : ℕ) → Chain from ps → Apart ps
   apart_each [] from h k d l = absurd (omega (arith, l))
   apart_each (p ∷ []) from h k d l = absurd (omega (arith, l))
-  apart_each (p ∷ q ∷ ps) from (_, _, _, (apart, _)) zero d l = apart
+  apart_each (p ∷ q ∷ ps) from (_, _, _, (apart, _, _, _)) zero d l = apart
   apart_each (p ∷ q ∷ ps) from h (suc k) d l = apart_on p (q ∷ ps) k d (apart_each (q ∷ ps) (next_after t p) h.3 k d (omega (arith, l)))
 
   abbrev Within : List ℕ → ℕ → Type 0
@@ -148,7 +148,7 @@ module _ (t s : List ℕ) where
   within_next ps p q n (r, (suc k, l, e), b, u) = (r, (k, omega (arith, l), e), b, u)
 
   chained : (ps : List ℕ) (from : ℕ) → Begins from ps → All (IsMatch t s) ps → Apart ps → ((q : ℕ) → from ≤ q → IsMatch t s q → Within ps q) → Chain from ps
-  chained [] from b m a w = λ q l n. let (_, (_, inside, _), _) = w q l n in absurd (omega (arith, inside))
+  chained [] from b m a w = λ q l n. let (_, (_, inside, _), _, _) = w q l n in absurd (omega (arith, inside))
   chained (p ∷ ps) from b m a w =
       let first : from ≤ p = b p (omega arith) in (
         first,
