@@ -1,5 +1,5 @@
 -- What is counted of a cost that is told up to a bound.
-use Rattle.std.proofs.Common.{◌≡◌, ℕ, ◌+◌, ◌<◌, ◌≤◌, Result, Ok, Err, Some, ap, subst, sym, arith}
+use Rattle.std.proofs.Common.{◌≡◌, ℕ, ◌+◌, ◌<◌, Result, Ok, Err, Some, subst, arith}
 use Rattle.expr_meter.specs.Counting.{Charge}
 use Rattle.expr_meter.specs.MeterView.{Charges, MeterView}
 use Rattle.expr_meter.specs.Rooms.{TakesWork, Overruns, Room, steps_left, unlimited, limited}

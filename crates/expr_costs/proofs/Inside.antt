@@ -22,11 +22,15 @@ items_few : (es : List Few) (b a : ℕ) → b ≤ a → fold (λ n m. n + m) b (
 items_few [] b a l = l
 items_few (e ∷ es) b a l = items_few es (b + entries_inside e.0) (a + suc (inner_weight e.0)) (omega (arith, l, e.1))
 
+-- a key with its value alone
+abbrev bare_pair : {K : Type 0} → K × Few → K × Value
+bare_pair (key, (v, is_few)) = (key, v)
+
 pairs_few : {K : Type 0} (es : List (K × Few)) (c b a : ℕ) → c + b ≤ a
-    → length (known entries_inside (map (λ (p : K × Few). (p.0, p.1.0)) es)) + (c + fold (λ n m. n + m) b (values_of (known entries_inside (map (λ (p : K × Few). (p.0, p.1.0)) es))))
-    ≤ fold (λ n m. n + suc m) a (values_of (known inner_weight (map (λ (p : K × Few). (p.0, p.1.0)) es)))
+    → length (known entries_inside (map bare_pair es)) + (c + fold (λ n m. n + m) b (values_of (known entries_inside (map bare_pair es))))
+    ≤ fold (λ n m. n + suc m) a (values_of (known inner_weight (map bare_pair es)))
 pairs_few [] c b a l = omega (arith, l)
-pairs_few (e ∷ es) c b a l = omega (arith, pairs_few es (suc c) (b + entries_inside e.1.0) (a + suc (inner_weight e.1.0)) (omega (arith, l, e.1.1)))
+pairs_few ((key, (v, is_few)) ∷ es) c b a l = omega (arith, pairs_few es (suc c) (b + entries_inside v) (a + suc (inner_weight v)) (omega arith))
 
 layer_few : (y : Value-F Few) → entries_inside_layer (map-Value Value ℕ entries_inside (bare y)) ≤ inner_weight_layer (map-Value Value ℕ inner_weight (bare y))
 layer_few (Value-F.Integer n) = omega arith

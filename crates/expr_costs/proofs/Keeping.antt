@@ -1,7 +1,6 @@
 -- What the tasks keep that a built-in begins with, by its name.
 use Rattle.std.proofs.Common.{◌≡◌, List, [], ◌∷◌, Option, Some, None, Result, Ok, Err, Bool, refl, subst}
 use Rattle.expr_predicates.specs.Calls.{FoldOver, direction_named, reduce_from_first, sort_in_direction, fold_of}
-use Rattle.expr_predicates.specs.Folds.{sorting}
 use Rattle.expr_functions.specs.declared.functions.HigherOrderCall.{HigherOrderCall}
 use Rattle.expr_functions.specs.declared.functions.HigherOrderCall.TheVariants.{Map, Filter, Find, FindLast, Reduce, GroupBy, SortBy}
 use Rattle.expr_error.specs.ErrorKind.{ErrorKind}
