@@ -12,194 +12,88 @@ use Rattle.expr_meter.specs.Rooms.{TakesWork}
 use Rattle.expr_meter.specs.contracts.budget.BudgetMeter.TheImpl.{ghosts}
 use Rattle.expr_sizes.specs.Sizes.{byte_units}
 use Rattle.expr_stack.specs.Cells.{cell_values}
-use Rattle.expr_stack.specs.Pushes.{OnOne, OnTwo}
 use Rattle.expr_stack.specs.Memories.{slot_values}
 use Rattle.expr_tree.specs.declared.operator.Operator.TheVariants.{Matches}
-use Rattle.expr_turns.proofs.Light.{is_free, paid_as, paid_look, paid_none, paid_one, paid_two, slot_item}
+use Rattle.expr_turns.proofs.Light.{is_free, paid_as, paid_look, paid_none, paid_on_two, paid_operator, slot_item}
 use Rattle.expr_turns.proofs.charges.charge_light.Goals as goal
 
 pub charge_two-requires : goal.charge_two-requires
 charge_two-requires g c =
-    let V = g.L.Pointer.held in
-    let T = text_of g.N.Pointer.held in
-    let f = op_of V T in
-    let there : Op = act (operate c.in-Operate.operator) in
-    let old = c.args.stack.now in
-    let now = c.args.memory.now in
-    let is-here = ap f c.in-Operate.is in
-    values_as (f c.args.instruction.now) there is-here (length old) c.requires.values
+    let f = op_of g.L.Pointer.held (text_of g.N.Pointer.held) in
+    values_as (f c.args.instruction.now) (act (operate c.in-Operate.operator)) (ap f c.in-Operate.is) (length c.args.stack.now) c.requires.values
 
 pub returns-in-Operate : goal.returns-in-Operate
 returns-in-Operate g c =
-    let V = g.L.Pointer.held in
-    let T = text_of g.N.Pointer.held in
-    let f = op_of V T in
-    let there : Op = act (operate c.in-Operate.operator) in
-    let old = c.args.stack.now in
-    let now = c.args.memory.now in
-    let is-here = ap f c.in-Operate.is in
+    let f = op_of g.L.Pointer.held (text_of g.N.Pointer.held) in
     let was : MeterView = ghosts.metered c.args.budget.now in
     let is : MeterView = ghosts.metered c.charge_two.new.budget in
-    let r = c.charge_two.result in
-    paid_as no_host now old r was is (f c.args.instruction.now) there is-here (
-    paid_two no_host now old r was is (operate c.in-Operate.operator) (λ x y. operator_work c.in-Operate.operator x y) (λ x y. operator_room c.in-Operate.operator x y) refl (λ x y. refl) (λ x y. refl) (values_as (f c.args.instruction.now) there is-here (length old) c.requires.values) (
-    subst (λ k. OnTwo k old (λ x y rest. Charges r (TakesWork (operator_work c.in-Operate.operator x y) (operator_room c.in-Operate.operator x y)) was is)) c.kept_values.ensures.places c.charge_two.ensures
-    )
-    )
+    paid_on_two no_host c.args.memory.now c.args.stack.now c.charge_two.result was is (f c.args.instruction.now) (operate c.in-Operate.operator) (ap f c.in-Operate.is) (operator_work c.in-Operate.operator) (operator_room c.in-Operate.operator) refl (λ x y. refl) (λ x y. refl) c.requires.values
+    c.kept_values.result.now c.kept_values.ensures.places c.charge_two.ensures
 
 pub charge_two-requires-in-Match : goal.charge_two-requires-in-Match
 charge_two-requires-in-Match g c =
-    let V = g.L.Pointer.held in
-    let T = text_of g.N.Pointer.held in
-    let f = op_of V T in
-    let there : Op = act (operate Matches) in
-    let old = c.args.stack.now in
-    let now = c.args.memory.now in
-    let is-here = ap f c.in-Match.is in
-    values_as (f c.args.instruction.now) there is-here (length old) c.requires.values
+    let f = op_of g.L.Pointer.held (text_of g.N.Pointer.held) in
+    values_as (f c.args.instruction.now) (act (operate Matches)) (ap f c.in-Match.is) (length c.args.stack.now) c.requires.values
 
 pub returns-in-Match : goal.returns-in-Match
 returns-in-Match g c =
-    let V = g.L.Pointer.held in
-    let T = text_of g.N.Pointer.held in
-    let f = op_of V T in
-    let there : Op = act (operate Matches) in
-    let old = c.args.stack.now in
-    let now = c.args.memory.now in
-    let is-here = ap f c.in-Match.is in
+    let f = op_of g.L.Pointer.held (text_of g.N.Pointer.held) in
     let was : MeterView = ghosts.metered c.args.budget.now in
     let is : MeterView = ghosts.metered c.charge_two-in-Match.new.budget in
-    let r = c.charge_two-in-Match.result in
-    paid_as no_host now old r was is (f c.args.instruction.now) there is-here (
-    paid_two no_host now old r was is (operate Matches) (λ x y. operator_work Matches x y) (λ x y. operator_room Matches x y) refl (λ x y. refl) (λ x y. refl) (values_as (f c.args.instruction.now) there is-here (length old) c.requires.values) (
-    subst (λ k. OnTwo k old (λ x y rest. Charges r (TakesWork (operator_work Matches x y) (operator_room Matches x y)) was is)) c.kept_values-in-Match.ensures.places c.charge_two-in-Match.ensures
-    )
-    )
+    paid_on_two no_host c.args.memory.now c.args.stack.now c.charge_two-in-Match.result was is (f c.args.instruction.now) (operate Matches) (ap f c.in-Match.is) (operator_work Matches) (operator_room Matches) refl (λ x y. refl) (λ x y. refl) c.requires.values
+    c.kept_values-in-Match.result.now c.kept_values-in-Match.ensures.places c.charge_two-in-Match.ensures
 
 pub charge_one-requires : goal.charge_one-requires
 charge_one-requires g c =
-    let V = g.L.Pointer.held in
-    let T = text_of g.N.Pointer.held in
-    let f = op_of V T in
-    let there : Op = act (operate_with c.in-OperateWith.operator (V c.in-OperateWith.right)) in
-    let old = c.args.stack.now in
-    let now = c.args.memory.now in
-    let is-here = ap f c.in-OperateWith.is in
-    values_as (f c.args.instruction.now) there is-here (length old) c.requires.values
+    let f = op_of g.L.Pointer.held (text_of g.N.Pointer.held) in
+    values_as (f c.args.instruction.now) (act (operate_with c.in-OperateWith.operator (g.L.Pointer.held c.in-OperateWith.right))) (ap f c.in-OperateWith.is) (length c.args.stack.now) c.requires.values
 
 pub returns-in-OperateWith : goal.returns-in-OperateWith
 returns-in-OperateWith g c =
-    let V = g.L.Pointer.held in
-    let T = text_of g.N.Pointer.held in
-    let f = op_of V T in
-    let there : Op = act (operate_with c.in-OperateWith.operator (V c.in-OperateWith.right)) in
-    let old = c.args.stack.now in
-    let now = c.args.memory.now in
-    let is-here = ap f c.in-OperateWith.is in
+    let f = op_of g.L.Pointer.held (text_of g.N.Pointer.held) in
     let was : MeterView = ghosts.metered c.args.budget.now in
     let is : MeterView = ghosts.metered c.charge_one.new.budget in
-    let r = c.charge_one.result in
-    let right = V c.in-OperateWith.right in
-    paid_as no_host now old r was is (f c.args.instruction.now) there is-here (
-    paid_one no_host now old r was is (operate_with c.in-OperateWith.operator (V c.in-OperateWith.right)) (λ x. operator_work c.in-OperateWith.operator x right) (λ x. operator_room c.in-OperateWith.operator x right) refl (λ x. refl) (λ x. refl) (values_as (f c.args.instruction.now) there is-here (length old) c.requires.values) (
-    subst (λ w. OnOne now.kept old (λ x rest. Charges r (TakesWork (operator_work c.in-OperateWith.operator x w) (operator_room c.in-OperateWith.operator x w)) was is)) c.get.ensures (
-    subst (λ k. OnOne k old (λ x rest. Charges r (TakesWork (operator_work c.in-OperateWith.operator x c.get.result.now) (operator_room c.in-OperateWith.operator x c.get.result.now)) was is)) c.kept_values-in-OperateWith.ensures.places c.charge_one.ensures
-    )
-    )
-    )
+    paid_operator no_host c.args.memory.now c.args.stack.now c.charge_one.result was is (f c.args.instruction.now) c.in-OperateWith.operator (g.L.Pointer.held c.in-OperateWith.right) (ap f c.in-OperateWith.is) c.requires.values
+    c.kept_values-in-OperateWith.result.now c.kept_values-in-OperateWith.ensures.places c.get.result.now c.get.ensures c.charge_one.ensures
 
 pub charge_one-requires-in-OperateWithMade : goal.charge_one-requires-in-OperateWithMade
 charge_one-requires-in-OperateWithMade g c =
-    let V = g.L.Pointer.held in
-    let T = text_of g.N.Pointer.held in
-    let f = op_of V T in
-    let there : Op = act (operate_with c.in-OperateWithMade.operator c.in-OperateWithMade.right.value.value) in
-    let old = c.args.stack.now in
-    let now = c.args.memory.now in
-    let is-here = ap f c.in-OperateWithMade.is in
-    values_as (f c.args.instruction.now) there is-here (length old) c.requires.values
+    let f = op_of g.L.Pointer.held (text_of g.N.Pointer.held) in
+    values_as (f c.args.instruction.now) (act (operate_with c.in-OperateWithMade.operator c.in-OperateWithMade.right.value.value)) (ap f c.in-OperateWithMade.is) (length c.args.stack.now) c.requires.values
 
 pub returns-in-OperateWithMade : goal.returns-in-OperateWithMade
 returns-in-OperateWithMade g c =
-    let V = g.L.Pointer.held in
-    let T = text_of g.N.Pointer.held in
-    let f = op_of V T in
-    let there : Op = act (operate_with c.in-OperateWithMade.operator c.in-OperateWithMade.right.value.value) in
-    let old = c.args.stack.now in
-    let now = c.args.memory.now in
-    let is-here = ap f c.in-OperateWithMade.is in
+    let f = op_of g.L.Pointer.held (text_of g.N.Pointer.held) in
     let was : MeterView = ghosts.metered c.args.budget.now in
     let is : MeterView = ghosts.metered c.charge_one-in-OperateWithMade.new.budget in
-    let r = c.charge_one-in-OperateWithMade.result in
-    let right = c.in-OperateWithMade.right.value.value in
-    paid_as no_host now old r was is (f c.args.instruction.now) there is-here (
-    paid_one no_host now old r was is (operate_with c.in-OperateWithMade.operator c.in-OperateWithMade.right.value.value) (λ x. operator_work c.in-OperateWithMade.operator x right) (λ x. operator_room c.in-OperateWithMade.operator x right) refl (λ x. refl) (λ x. refl) (values_as (f c.args.instruction.now) there is-here (length old) c.requires.values) (
-    subst (λ w. OnOne now.kept old (λ x rest. Charges r (TakesWork (operator_work c.in-OperateWithMade.operator x w) (operator_room c.in-OperateWithMade.operator x w)) was is)) c.get-in-OperateWithMade.ensures (
-    subst (λ k. OnOne k old (λ x rest. Charges r (TakesWork (operator_work c.in-OperateWithMade.operator x c.get-in-OperateWithMade.result.now) (operator_room c.in-OperateWithMade.operator x c.get-in-OperateWithMade.result.now)) was is)) c.kept_values-in-OperateWithMade.ensures.places c.charge_one-in-OperateWithMade.ensures
-    )
-    )
-    )
+    paid_operator no_host c.args.memory.now c.args.stack.now c.charge_one-in-OperateWithMade.result was is (f c.args.instruction.now) c.in-OperateWithMade.operator c.in-OperateWithMade.right.value.value (ap f c.in-OperateWithMade.is) c.requires.values
+    c.kept_values-in-OperateWithMade.result.now c.kept_values-in-OperateWithMade.ensures.places c.get-in-OperateWithMade.result.now c.get-in-OperateWithMade.ensures c.charge_one-in-OperateWithMade.ensures
 
 pub charge_one-requires-in-MatchWith : goal.charge_one-requires-in-MatchWith
 charge_one-requires-in-MatchWith g c =
-    let V = g.L.Pointer.held in
-    let T = text_of g.N.Pointer.held in
-    let f = op_of V T in
-    let there : Op = act (operate_with Matches (V c.in-MatchWith.right)) in
-    let old = c.args.stack.now in
-    let now = c.args.memory.now in
-    let is-here = ap f c.in-MatchWith.is in
-    values_as (f c.args.instruction.now) there is-here (length old) c.requires.values
+    let f = op_of g.L.Pointer.held (text_of g.N.Pointer.held) in
+    values_as (f c.args.instruction.now) (act (operate_with Matches (g.L.Pointer.held c.in-MatchWith.right))) (ap f c.in-MatchWith.is) (length c.args.stack.now) c.requires.values
 
 pub returns-in-MatchWith : goal.returns-in-MatchWith
 returns-in-MatchWith g c =
-    let V = g.L.Pointer.held in
-    let T = text_of g.N.Pointer.held in
-    let f = op_of V T in
-    let there : Op = act (operate_with Matches (V c.in-MatchWith.right)) in
-    let old = c.args.stack.now in
-    let now = c.args.memory.now in
-    let is-here = ap f c.in-MatchWith.is in
+    let f = op_of g.L.Pointer.held (text_of g.N.Pointer.held) in
     let was : MeterView = ghosts.metered c.args.budget.now in
     let is : MeterView = ghosts.metered c.charge_one-in-MatchWith.new.budget in
-    let r = c.charge_one-in-MatchWith.result in
-    let right = V c.in-MatchWith.right in
-    paid_as no_host now old r was is (f c.args.instruction.now) there is-here (
-    paid_one no_host now old r was is (operate_with Matches (V c.in-MatchWith.right)) (λ x. operator_work Matches x right) (λ x. operator_room Matches x right) refl (λ x. refl) (λ x. refl) (values_as (f c.args.instruction.now) there is-here (length old) c.requires.values) (
-    subst (λ w. OnOne now.kept old (λ x rest. Charges r (TakesWork (operator_work Matches x w) (operator_room Matches x w)) was is)) c.get-in-MatchWith.ensures (
-    subst (λ k. OnOne k old (λ x rest. Charges r (TakesWork (operator_work Matches x c.get-in-MatchWith.result.now) (operator_room Matches x c.get-in-MatchWith.result.now)) was is)) c.kept_values-in-MatchWith.ensures.places c.charge_one-in-MatchWith.ensures
-    )
-    )
-    )
+    paid_operator no_host c.args.memory.now c.args.stack.now c.charge_one-in-MatchWith.result was is (f c.args.instruction.now) Matches (g.L.Pointer.held c.in-MatchWith.right) (ap f c.in-MatchWith.is) c.requires.values
+    c.kept_values-in-MatchWith.result.now c.kept_values-in-MatchWith.ensures.places c.get-in-MatchWith.result.now c.get-in-MatchWith.ensures c.charge_one-in-MatchWith.ensures
 
 pub charge_pick-requires : goal.charge_pick-requires
 charge_pick-requires g c =
-    let V = g.L.Pointer.held in
-    let T = text_of g.N.Pointer.held in
-    let f = op_of V T in
-    let there : Op = act (pick c.in-Index.field-0) in
-    let old = c.args.stack.now in
-    let now = c.args.memory.now in
-    let is-here = ap f c.in-Index.is in
-    values_as (f c.args.instruction.now) there is-here (length old) c.requires.values
+    let f = op_of g.L.Pointer.held (text_of g.N.Pointer.held) in
+    values_as (f c.args.instruction.now) (act (pick c.in-Index.field-0)) (ap f c.in-Index.is) (length c.args.stack.now) c.requires.values
 
 pub returns-in-Index : goal.returns-in-Index
 returns-in-Index g c =
-    let V = g.L.Pointer.held in
-    let T = text_of g.N.Pointer.held in
-    let f = op_of V T in
-    let there : Op = act (pick c.in-Index.field-0) in
-    let old = c.args.stack.now in
-    let now = c.args.memory.now in
-    let is-here = ap f c.in-Index.is in
+    let f = op_of g.L.Pointer.held (text_of g.N.Pointer.held) in
     let was : MeterView = ghosts.metered c.args.budget.now in
     let is : MeterView = ghosts.metered c.charge_pick.new.budget in
-    let r = c.charge_pick.result in
-    paid_as no_host now old r was is (f c.args.instruction.now) there is-here (
-    paid_two no_host now old r was is (pick c.in-Index.field-0) (λ x y. lookup_work x y) (λ x y. 0) refl (λ x y. refl) (λ x y. refl) (values_as (f c.args.instruction.now) there is-here (length old) c.requires.values) (
-    subst (λ k. OnTwo k old (λ x y rest. Charges r (TakesWork (lookup_work x y) (0)) was is)) c.kept_values-in-Index.ensures.places c.charge_pick.ensures
-    )
-    )
+    paid_on_two no_host c.args.memory.now c.args.stack.now c.charge_pick.result was is (f c.args.instruction.now) (pick c.in-Index.field-0) (ap f c.in-Index.is) lookup_work (λ x y. 0) refl (λ x y. refl) (λ x y. refl) c.requires.values
+    c.kept_values-in-Index.result.now c.kept_values-in-Index.ensures.places c.charge_pick.ensures
 
 pub charge_look-requires : goal.charge_look-requires
 charge_look-requires g c =
@@ -207,7 +101,6 @@ charge_look-requires g c =
     let T = text_of g.N.Pointer.held in
     let f = op_of V T in
     let there : Op = look_with (T c.in-NameAt.name) c.in-NameAt.slot in
-    let old = c.args.stack.now in
     let now = c.args.memory.now in
     let is-here = ap f c.in-NameAt.is in
     slot_as (f c.args.instruction.now) there is-here (length now.slots) c.requires.slot
