@@ -1,4 +1,3 @@
-pub mod Answering
 pub mod Bracketed
 pub mod Ending
 pub mod Faults

@@ -1,7 +1,7 @@
 -- A term that takes no memory has one answer, whatever the host and the names; and how nodes are written.
 use Rattle.std.proofs.Common.{◌≡◌, ◌≢◌, ◌&&◌, Bool, true, false, IsTrue, Option, Some, None, Result, Ok, Err, ap, sym, ◌∙◌, refl, subst, rules, String, Global, Vec}
-use Rattle.std.specs.declared.boxed.Box.{Box}
 use Rattle.expr_evaluation.specs.AllocFree.{IsPlainly, IsPlainlyAfter, and_answer, answer_then, is_alloc_free_node, operation_answer, or_answer, plain_answer}
+use Rattle.expr_evaluation.specs.Promises.{TakesNoMemory}
 use Rattle.expr_evaluation.specs.Several.{field_terms}
 use Rattle.expr_meaning.specs.Allows.{Allows, AndThenLayer, OperationMayReturn, OperationMayReturnBy, OrElseLayer}
 use Rattle.expr_operators.specs.Operators.{operator_answer, unary_answer, truth}
@@ -13,7 +13,6 @@ use Rattle.expr_operators.specs.declared.strictness.Strictness.TheVariants.{Both
 use Rattle.expr_meaning.specs.World.{World}
 use Rattle.expr_tree.specs.Term.{Term, name, literal, list, mapping, range, call, unary, operation, postfix, choice}
 use Rattle.expr_tree.specs.TermOf.{term_of}
-use Rattle.expr_tree.specs.declared.node.CompiledRegex.{CompiledRegex}
 use Rattle.expr_tree.specs.declared.node.Node as node
 use Rattle.expr_tree.specs.declared.node.Node.{Node, the_lemmas as node_lemmas}
 use Rattle.expr_tree.specs.declared.operator.Operator.{Operator}
@@ -27,9 +26,6 @@ use Rattle.expr_value.specs.declared.value.Value.TheOpen.{Value-F}
 
 pub term_of-pairs : (ps : Vec (String Global × Node) Global) → term_of (node.Map ps) ≡ mapping (field_terms ps.items)
 term_of-pairs ps = search (rules, node_lemmas)
-
-pub term_of-Operation : (op : Operator) (l r : Box Node Global) (k : CompiledRegex) → term_of (node.Operation op l r k) ≡ operation op (term_of l.value) (term_of r.value)
-term_of-Operation op l r k = search (rules, node_lemmas)
 
 pub left-true : (a b : Bool) → IsTrue (a && b) → IsTrue a
 left-true true b p = refl
@@ -129,6 +125,14 @@ plain_only world (range a b) v p h = cc
 plain_only world (call key ts q) v p h = cc
 plain_only world (postfix q t) v p h = cc
 plain_only world (choice c a b) v p h = cc
+
+-- a value that is found of it is what it comes to, and where none is found it comes to none
+pub found_plainly : (world : World) (t : Term) (v : Value) → plain_answer t ≡ Ok v → TakesNoMemory world t (Ok v)
+found_plainly world t v found = λ w p h.
+    let same : v ≡ w = cc (sym found ∙ plain_only world t w p h) in ap Ok same
+
+pub not_plainly : (world : World) (t : Term) (r : Result Value Error) → IsPlainly None t → TakesNoMemory world t r
+not_plainly world t r none = λ v p h. absurd (none p v (plain_only world t v p h))
 
 -- a plain term has a plain value
 module _ (a : Answer) (of_right : (w : Value) → a ≡ Ok w → IsTrue (is_alloc_free_value w)) where

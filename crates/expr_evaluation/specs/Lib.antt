@@ -1,4 +1,5 @@
 pub mod AllocFree
+pub mod Forms
 pub mod Handed
 pub mod Here
 pub mod Promises

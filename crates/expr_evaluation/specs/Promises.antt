@@ -24,17 +24,17 @@ TakesNoMemory world t result = (v : Value) → IsTrue (is_alloc_free_node t) →
 -- what a term is answered with
 pub record AnswersTerm (world : World) (t : Term) (result : Result Value Error) : Type 0 where
   pub answer : Returns result (Allows world t)
-  pub plain : TakesNoMemory world t result
+  pub alloc_free : TakesNoMemory world t result
 
 -- so a node is; where it keeps its pattern, one that can't be built is met on the left alone
 pub record AnswersNode (world : World) (node : Node) (result : Result Value Error) : Type 0 where
   pub answer : Returns result (Allows world (term_of node))
-  pub plain : TakesNoMemory world (term_of node) result
+  pub alloc_free : TakesNoMemory world (term_of node) result
   pub kept : (k : IsKeeping node) → PatternsAreOf world (term_of k.left.value) result
 
 -- so an operator is between two nodes; where a pattern of the text on the right is handed in, one that can't be built is met
 -- on the left alone
 pub record AnswersOperation (world : World) (operator : Operator) (left right : Node) (handed_in : Option (List ℕ)) (result : Result Value Error) : Type 0 where
   pub answer : Returns result (Allows world (operation operator (term_of left) (term_of right)))
-  pub plain : TakesNoMemory world (operation operator (term_of left) (term_of right)) result
+  pub alloc_free : TakesNoMemory world (operation operator (term_of left) (term_of right)) result
   pub handed : IsHanded operator (term_of right) handed_in → PatternsAreOf world (term_of left) result

@@ -1,10 +1,10 @@
-use Rattle.std.proofs.Common.{◌≡◌, Err, IsTrue, None, Ok, ap, refl, sym, ◌∙◌, subst}
-use Rattle.expr_evaluation.proofs.AllocFree.{after_plainly, answers_plain, none_first, none_left, none_next, term_of-Operation}
-use Rattle.expr_evaluation.specs.AllocFree.{IsPlainly, IsPlainlyAfter, is_alloc_free_node, operation_answer, plain_answer}
+use Rattle.std.proofs.Common.{◌≡◌, Err, None, Ok, ap, refl, sym, ◌∙◌, subst}
+use Rattle.expr_evaluation.proofs.AllocFree.{after_plainly, answers_plain, none_first, none_left, none_next}
+use Rattle.expr_evaluation.specs.AllocFree.{IsPlainly, IsPlainlyAfter, operation_answer, plain_answer}
 use Rattle.expr_operators.specs.Operators.{operator_answer, unary_answer}
 use Rattle.expr_operators.specs.Strictness.{operator_strictness}
 use Rattle.expr_operators.specs.declared.strictness.Strictness.TheVariants.{Both}
-use Rattle.expr_tree.proofs.Shapes.{term_of-Unary}
+use Rattle.expr_tree.proofs.Shapes.{term_of-Operation, term_of-Unary}
 use Rattle.expr_tree.specs.Term.{operation, unary}
 use Rattle.expr_tree.specs.TermOf.{term_of}
 use Rattle.expr_evaluation.proofs.plain.+plain.Goals as goal

@@ -1,9 +1,9 @@
-use Rattle.std.proofs.Common.{◌≡◌, ◌&&◌, IsTrue, ◌+◌, ◌≤◌, ◌++◌, List, [], ◌∷◌, length, map, get_or, drop, arith, rules, true, sym, ap, ◌∙◌, subst, refl, ◌≢◌, Ok, Err, String, Global, string_bytes}
+use Rattle.std.proofs.Common.{◌≡◌, ◌+◌, ◌≤◌, ◌++◌, List, [], ◌∷◌, length, map, get_or, drop, arith, rules, true, sym, ap, ◌∙◌, subst, refl, ◌≢◌, Ok, Err, String, Global, string_bytes}
 use Rattle.std.proofs.lemmas.List.{drop_all}
 use denote.Param.Weighed.{most, at_most}
 use Rattle.expr_tree.specs.declared.node.Node.TheShapes.{weighed-Node-Map-0-at-2}
 use Rattle.expr_tree.proofs.node.Node.TheLaws.{the_size}
-use Rattle.expr_tree.proofs.Shapes.{term_of-Func, term_of-Slice}
+use Rattle.expr_tree.proofs.Shapes.{term_of-Func, term_of-Operation, term_of-Slice}
 use Rattle.expr_predicates.proofs.Turns.{Answers, turn_on, turn_refused, turn_misanswered, turn_done}
 use Rattle.expr_predicates.specs.Accumulators.{remaining_items}
 use Rattle.expr_predicates.specs.PredicateArgs.{args_view}
@@ -17,7 +17,6 @@ use Rattle.expr_tree.specs.declared.node.Node.{Node}
 use Rattle.expr_error.specs.ErrorKind.{error_kind, pattern}
 use Rattle.expr_value.specs.Names.{put_all}
 use Rattle.expr_value.specs.declared.value.Value as value
-use Rattle.expr_value.specs.declared.value.Value.{Value}
 use Rattle.expr_meaning.specs.Allows.{Allows, AllowsAll, AllowsPredicate, AllowsBlock, AllowsBound, AllowsCall, AllowsMore, AllowsPairs, AllowsPiped, AllowsPostfix, OperationMayReturn, OperationMayReturnBy, is_given}
 use Rattle.expr_steps.specs.Options.{option_list}
 use Rattle.expr_value.specs.Answers.{Then, Answer, Returns}
@@ -30,33 +29,32 @@ use Rattle.expr_operators.specs.Operators.{operator_answer}
 use Rattle.expr_operators.specs.declared.strictness.Strictness.TheVariants.{Both}
 use Rattle.expr_operators.specs.Positions.{slice_answer}
 use Rattle.expr_steps.specs.Scope.{context_in}
+use Rattle.expr_evaluation.specs.Forms.{IsOperation, IsOtherForm}
 use Rattle.expr_evaluation.specs.Several.{field_terms, node_terms}
 use Rattle.expr_steps.specs.declared.scope.Binding.{Binding}
 use Rattle.expr_steps.specs.declared.scope.Scope.{Scope, Scope-F, out-Scope, roll-Scope, out-roll-Scope}
-use Rattle.expr_meaning.proofs.Literal.{OnLiteral, OnLiteral-continued, OnLiteral-only}
+use Rattle.expr_meaning.proofs.Literal.{OnLiteral, OnLiteral-continued}
 use Rattle.expr_evaluation.proofs.Allowed.{prepended, drop-at, loop-step, loop-failed, loop-done, AllowsAll-first, AllowsPairs-first, AllowsBlock-line, AllowsMore-all, AllowsMore-rest}
-use Rattle.expr_value.proofs.Answered.{Returns-of-ReturnsExactly, Returns-passed, Returns-under, first_of-Then}
+use Rattle.expr_value.proofs.Answered.{Returns-of-ReturnsExactly, Returns-passed, Returns-under}
 use Rattle.expr_evaluation.proofs.Handed.{handed-not-Both, handed-not-EndsAtFalse, handed-not-EndsAtTrue, handed-refused, handed-value, refusal-passed}
-use Rattle.expr_evaluation.proofs.AllocFree.{term_of-Operation, term_of-pairs}
+use Rattle.expr_evaluation.proofs.AllocFree.{term_of-pairs}
 use Rattle.expr_evaluation.proofs.evaluation.Evaluation.+evaluation.Goals as goal
 
-pub evaluate_form-returns-in-Operation : goal.evaluate_form-returns-in-Operation
-evaluate_form-returns-in-Operation g t c =
-    let world : World = here g.H.Functions.host g.P.ContextProvider.context c.args.self.now c.args.scope.now in
-    let l = c.in-Operation.left.value in
-    let r = c.in-Operation.right.value in
-    let op = c.in-Operation.operator in
-    let is : term_of c.args.node.now ≡ operation op (term_of l) (term_of r) = ap term_of c.in-Operation.is ∙ term_of-Operation op c.in-Operation.left c.in-Operation.right c.in-Operation.compiled_regex in
-    let first = c.in_ok-first-in-Operation.first in
-    let first_is = subst (λ m. Allows world (term_of m) (Ok first)) c.deref-in-Operation.ensures c.in_ok-first-in-Operation.ensures.answer in
-    let next = OperationMayReturn op first (Allows world (term_of r)) in
-    record {
-      answer = subst (λ n. Returns c.operate.result (Allows world n)) (sym is) (
-          Returns-under c.operate.result next (Allows world (operation op (term_of l) (term_of r))) (λ a p. (Ok first, first_is, p)) (
-          subst (λ m. Returns c.operate.result (OperationMayReturn op first (Allows world (term_of m)))) c.deref-in-Operation-2.ensures c.operate.ensures.answer
-          )
-          );
-    }
+pub evaluate-evaluate_operation-requires : goal.evaluate-evaluate_operation-requires
+evaluate-evaluate_operation-requires g t c κs within =
+    let found = c.in-Operation in
+    let asked : IsOperation c.args.node.now = record { operator = found.operator; left = found.left; right = found.right; kept = found.compiled_regex; is = found.is } in
+    (omega arith, (within.0, (within.1, asked)))
+
+pub evaluate-evaluate_form-requires : goal.evaluate-evaluate_form-requires
+evaluate-evaluate_form-requires g t c κs within =
+    let form : IsOtherForm c.args.node.now = record { no_literal = c.in_default.not-Value; no_name = c.in_default.not-Ident; no_operation = c.in_default.not-Operation } in
+    (omega arith, (within.0, (within.1, form)))
+
+pub evaluate_operation-unreachable-requires : goal.evaluate_operation-unreachable-requires
+evaluate_operation-unreachable-requires g t c =
+    let asked = c.requires in
+    c.in_default.not-Operation asked.operator asked.left asked.right asked.kept asked.is
 
 pub evaluate_operation-returns-in-Some : goal.evaluate_operation-returns-in-Some
 evaluate_operation-returns-in-Some g t c =
@@ -66,10 +64,10 @@ evaluate_operation-returns-in-Some g t c =
     let op = c.in-Operation.operator in
     let v = c.in-Some.value in
     let is : term_of c.args.node.now ≡ operation op (term_of l) (term_of r) = ap term_of c.in-Operation.is ∙ term_of-Operation op c.in-Operation.left c.in-Operation.right c.in-Operation.compiled_regex in
-    let first = c.in_ok-first-in-Operation.first in
-    let first_is = subst (λ m. Allows world (term_of m) (Ok first)) c.deref.ensures c.in_ok-first-in-Operation.ensures.answer in
-    let read = subst (λ x. OnLiteral op x (term_of c.deref-in-Operation.result.now) v) c.get.ensures c.in-Some.ensures in
-    let found = subst (λ m. OnLiteral op first (term_of m) v) c.deref-in-Operation.ensures read in
+    let first = c.in_ok-first.first in
+    let first_is = subst (λ m. Allows world (term_of m) (Ok first)) c.deref.ensures c.in_ok-first.ensures.answer in
+    let read = subst (λ x. OnLiteral op x (term_of c.deref-2.result.now) v) c.get.ensures c.in-Some.ensures in
+    let found = subst (λ m. OnLiteral op first (term_of m) v) c.deref-2.ensures read in
     record {
       answer = subst (λ n. Allows world n (Ok c.from_owned.result)) (sym is) (
           subst (λ w. Allows world (operation op (term_of l) (term_of r)) (Ok w)) (sym c.from_owned.ensures) (
@@ -80,20 +78,20 @@ evaluate_operation-returns-in-Some g t c =
           );
     }
 
-pub evaluate_operation-returns-in_default-of_literal : goal.evaluate_operation-returns-in_default-of_literal
-evaluate_operation-returns-in_default-of_literal g t c =
+pub evaluate_operation-returns : goal.evaluate_operation-returns
+evaluate_operation-returns g t c =
     let world : World = here g.H.Functions.host g.P.ContextProvider.context c.args.self.now c.args.scope.now in
     let l = c.in-Operation.left.value in
     let r = c.in-Operation.right.value in
     let op = c.in-Operation.operator in
     let is : term_of c.args.node.now ≡ operation op (term_of l) (term_of r) = ap term_of c.in-Operation.is ∙ term_of-Operation op c.in-Operation.left c.in-Operation.right c.in-Operation.compiled_regex in
-    let first = c.in_ok-first-in-Operation.first in
-    let first_is = subst (λ m. Allows world (term_of m) (Ok first)) c.deref.ensures c.in_ok-first-in-Operation.ensures.answer in
+    let first = c.in_ok-first.first in
+    let first_is = subst (λ m. Allows world (term_of m) (Ok first)) c.deref.ensures c.in_ok-first.ensures.answer in
     let next = OperationMayReturn op first (Allows world (term_of r)) in
     record {
       answer = subst (λ n. Returns c.operate.result (Allows world n)) (sym is) (
           Returns-under c.operate.result next (Allows world (operation op (term_of l) (term_of r))) (λ a p. (Ok first, first_is, p)) (
-          subst (λ m. Returns c.operate.result (OperationMayReturn op first (Allows world (term_of m)))) c.deref-in-Operation-2.ensures c.operate.ensures.answer
+          subst (λ m. Returns c.operate.result (OperationMayReturn op first (Allows world (term_of m)))) c.deref-3.ensures c.operate.ensures.answer
           )
           );
     }

@@ -1,5 +1,5 @@
-use Rattle.std.proofs.Common.{◌≡◌, Ok, Err, ◌&&◌, IsTrue, ap, sym, subst, ◌∙◌}
-use Rattle.expr_meaning.specs.Allows.{Allows, OperationMayReturn}
+use Rattle.std.proofs.Common.{◌≡◌, Ok, Err, subst}
+use Rattle.expr_meaning.specs.Allows.{Allows}
 use Rattle.expr_steps.specs.Context.{ContextView}
 use Rattle.expr_meaning.specs.Host.{Host}
 use Rattle.expr_meaning.specs.World.{World, world_of, with_context}
@@ -8,7 +8,7 @@ use Rattle.expr_steps.specs.Scope.{context_in}
 use Rattle.expr_tree.specs.Term.{operation}
 use Rattle.expr_tree.specs.TermOf.{term_of}
 use Rattle.expr_error.specs.ErrorKind.{error_kind, pattern}
-use Rattle.expr_value.proofs.Answered.{Returns-of-ReturnsExactly, Returns-passed, first_of-Then}
+use Rattle.expr_value.proofs.Answered.{Returns-of-ReturnsExactly, Returns-passed}
 use Rattle.expr_evaluation.proofs.Handed.{memory-alone, refusal-passed, refused-pattern}
 use Rattle.expr_evaluation.proofs.evaluation.Evaluation.answer_between.Goals as goal
 
