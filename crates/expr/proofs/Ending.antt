@@ -26,8 +26,8 @@ use Rattle.expr_error.specs.declared.error.Error.{Error}
 use Rattle.expr_error.specs.declared.error.Error.TheVariants.{PestError, ParseError, ExprError, RegexError, MemoryError}
 use Rattle.expr_value.specs.declared.value.Value.{Value}
 use Rattle.expr.specs.Limited.{CodeEnds, EndsText, IsCompiledLimited, MayGive, TextEnds, room_of}
-use Rattle.expr.specs.Texts.{IsOwnFault, IsRefused, IsRefusedWithin, MayAnswer, MayAnswerWithin}
-use Rattle.expr.proofs.Faults.{boundary_of_run, place_of_run, same_place}
+use Rattle.expr_eval.specs.Texts.{IsOwnFault, IsRefused, IsRefusedWithin, MayAnswer, MayAnswerWithin}
+use Rattle.expr_eval.proofs.Faults.{boundary_of_run, place_of_run, same_place}
 use Rattle.expr.proofs.Stopping.{stops_of_runs}
 
 -- the program of a tree within a height is one of the text

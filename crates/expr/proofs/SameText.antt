@@ -15,7 +15,7 @@ use Rattle.expr_meaning.specs.Allows.{AllowsBlock}
 use Rattle.expr_steps.specs.Context.{ContextView}
 use Rattle.expr_meaning.specs.Host.{no_host}
 use Rattle.expr_meaning.specs.World.{world_of}
-use Rattle.expr.proofs.Meant.{printed_only}
+use Rattle.expr_eval.proofs.Meant.{printed_only}
 
 -- a text has one program
 one_program : (text : List ℕ) (b c : Block) → IsProgramOf text b → IsProgramOf text c → b ≡ c

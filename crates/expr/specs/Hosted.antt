@@ -1,6 +1,6 @@
 -- What an environment has added.
 use Rattle.jiff.specs.Types.{TimeZone as Rules}
-use Rattle.std.specs.Prelude.{◌≡◌, ℕ, List, Result, Ok, Err, Option, Some, IfSome, bytes_eq, if◌then◌else◌, is_some, option_map, string_bytes}
+use Rattle.std.specs.Prelude.{◌≡◌, ℕ, List, Result, Ok, Err, Option, Some, IfSome, bytes_eq, if◌then◌else◌, is_some, string_bytes}
 use Rattle.std.specs.HashMap.{get_by_text}
 use Rattle.expr_value.specs.Answers.{Answer}
 use Rattle.expr_error.specs.ErrorKind.{error_kind}

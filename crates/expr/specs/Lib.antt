@@ -3,13 +3,13 @@ pub mod Hosted
 pub mod Limited
 pub mod LineColumns
 pub mod Parsers
-pub mod Promises
-pub mod Texts
 pub use Rattle.expr_builtins.specs.Bits as OnBits
 pub use Rattle.expr_builtins.specs.Collections as OnCollections
 pub use Rattle.expr_builtins.specs.Conversions
 pub use Rattle.expr_builtins.specs.Numbers as OnNumbers
 pub use Rattle.expr_strings.specs.Text as OnTexts
+pub use Rattle.expr_eval.specs.Promises
+pub use Rattle.expr_eval.specs.Texts
 pub use Rattle.expr_functions.specs.Functions
 pub use Rattle.expr_lowering.specs.Kept as Matched
 pub use Rattle.expr_meaning.specs.Allows

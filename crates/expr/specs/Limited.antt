@@ -21,7 +21,7 @@ use Rattle.expr_error.specs.ErrorKind.{error_kind, memory}
 use Rattle.expr_error.specs.declared.error.Error.{Error}
 use Rattle.expr_error.specs.declared.error.Error.TheVariants.{PestError, ParseError, ExprError, RegexError, MemoryError}
 use Rattle.expr_value.specs.declared.value.Value.{Value}
-use Rattle.expr.specs.Texts.{IsRefused}
+use Rattle.expr_eval.specs.Texts.{IsRefused}
 
 -- what each answer of `compile_limited` says of the text
 abbrev pub IsCompiledLimited : List ℕ → Limits → Result (Outcome Program) Error → Type 0

@@ -8,7 +8,6 @@ mod limited;
 mod line_column;
 mod macros;
 mod parser;
-mod text;
 
 pub use boxed_function::Function;
 pub use environment::Environment;
@@ -19,6 +18,7 @@ pub use expr_code::{
 };
 pub use expr_context::{Context, ContextProvider};
 pub use expr_duration::{texts_have_one_meaning, texts_spell_lengths};
+pub use expr_eval::eval;
 pub use expr_evaluation::{
     eval_expr, eval_func, eval_operator, eval_postfix_operator, eval_unary_operator,
 };
@@ -64,4 +64,3 @@ pub use laws::{equal_texts_mean_equal_values, levels_are_as_in_brackets};
 pub use limited::{compile_limited, eval_limited, execute_limited};
 pub use line_column::{LineColumn, line_column_of};
 pub use parser::Parser;
-pub use text::eval;

@@ -3,7 +3,7 @@ ghost use Rattle.std.specs.Prelude.{◌≡◌, ◌≤◌, ℕ, Err, IfOk, string
 ghost use Rattle.std.specs.Str.{IsCharBoundary};
 ghost use Rattle.expr.specs.Hosted.{host_of};
 ghost use Rattle.expr.specs.Limited.{CodeEnds, EndsText, IsCompiledLimited, MayGive, OnProgram};
-ghost use Rattle.expr.specs.Texts.{IsOwnFault, MayAnswer};
+ghost use Rattle.expr_eval.specs.Texts.{IsOwnFault, MayAnswer};
 ghost use Rattle.expr_code.specs.Machine.{CodeAnswers};
 ghost use Rattle.expr_limited.specs.Outcomes.{ReturnsOutcome, OnAnswer};
 ghost use Rattle.expr_lowering.specs.Blocks.{blocks_of};

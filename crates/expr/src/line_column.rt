@@ -1,5 +1,5 @@
 //! Places in a text, as a person finds them.
-ghost use Rattle.std.specs.Prelude.{◌≡◌, ◌≢◌, ◌+◌, ◌<◌, ◌^◌, ◌==◌, ◌++◌, ◌∷◌, [], length, string_bytes, IfOk};
+ghost use Rattle.std.specs.Prelude.{◌≡◌, ◌+◌, ◌<◌, ◌^◌, ◌==◌, ◌++◌, ◌∷◌, [], length, string_bytes, IfOk};
 ghost use Rattle.std.specs.List.{count_by, repeat};
 ghost use Rattle.std.specs.Str.{IsCharBoundary, chars};
 ghost use Rattle.expr_error.specs.ErrorKind.{evaluation, OnlyMemory, RefusesWith};

@@ -1,5 +1,5 @@
 //! The older way in: a parser that holds an environment.
-ghost use Rattle.std.specs.Prelude.{◌≡◌, ◌≢◌, ℕ, List, None, Err, Some, IfOk, OnErr, OnOk, bytes_eq, if◌then◌else◌, option_map};
+ghost use Rattle.std.specs.Prelude.{◌≡◌, ℕ, List, None, Err, Some, IfOk, OnErr, OnOk, bytes_eq, if◌then◌else◌, option_map};
 ghost use Rattle.expr.specs.Hosted.{host_of, moment_at, function_named, zone_at};
 ghost use Rattle.expr.specs.Parsers.{environment_of};
 ghost use Rattle.std.specs.Str.{IsCharBoundary};
@@ -11,7 +11,7 @@ ghost use Rattle.expr_tree.specs.KeptPatterns.{program_operations};
 ghost use Rattle.expr_error.specs.ErrorKind.{OnlyMemory};
 ghost use Rattle.expr_value.specs.declared.value.Value.{Value};
 ghost use Rattle.expr_machine.specs.Promises.{RunsProgram};
-ghost use Rattle.expr.specs.Promises.{AnswersText};
+ghost use Rattle.expr_eval.specs.Promises.{AnswersText};
 ghost use Rattle.expr_evaluation.specs.Promises.{AnswersNode};
 
 use crate::boxed_function::Function;

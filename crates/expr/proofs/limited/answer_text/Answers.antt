@@ -7,7 +7,7 @@ use Rattle.expr_tree.specs.declared.node.Program.{Program}
 use Rattle.expr_value.specs.declared.value.Value.{Value}
 use Rattle.expr.specs.Limited.{IsCompiledLimited}
 use Rattle.expr.proofs.Ending.{memory_ends, passed_ends, run_boundary, run_place, stopped_ends, text_ends}
-use Rattle.expr.proofs.Faults.{boundary_kept, memory_boundary, memory_place, place_kept}
+use Rattle.expr_eval.proofs.Faults.{boundary_kept, memory_boundary, memory_place, place_kept}
 use Rattle.expr.proofs.limited.answer_text.Goals as goal
 
 pub returns-in_err-compiled-clause-outcome : goal.returns-in_err-compiled-clause-outcome

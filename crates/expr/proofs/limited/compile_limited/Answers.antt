@@ -2,7 +2,7 @@ use Rattle.expr_meter.specs.declared.outcome.Outcome.{Outcome}
 use Rattle.expr_syntax.specs.declared.bounded.BoundedProgram.{BoundedProgram}
 use Rattle.expr_tree.specs.declared.node.Program.{Program}
 use Rattle.expr.proofs.Ending.{passed_bounded}
-use Rattle.expr.proofs.Faults.{boundary_kept, place_kept}
+use Rattle.expr_eval.proofs.Faults.{boundary_kept, place_kept}
 use Rattle.expr.proofs.limited.compile_limited.Goals as goal
 
 pub returns-in_err-compiled-clause-answer : goal.returns-in_err-compiled-clause-answer

@@ -3,7 +3,7 @@ use Rattle.expr_meaning.specs.Host.{no_host}
 use Rattle.expr_steps.specs.Context.{ContextView}
 use Rattle.expr_meaning.specs.World.{world_of}
 use Rattle.expr.proofs.Ending.{text_answers}
-use Rattle.expr.proofs.Faults.{nothing_refuses}
+use Rattle.expr_eval.proofs.Faults.{nothing_refuses}
 use Rattle.expr.proofs.limited.eval_limited.Goals as goal
 
 pub returns-clause-answer : goal.returns-clause-answer

@@ -17,7 +17,7 @@ use Rattle.expr_error.specs.declared.error.Error.TheVariants.{PestError, ParseEr
 use Rattle.expr_value.specs.declared.value.Value.{Value}
 use Rattle.expr_meaning.specs.Allows.{Allows, AllowsBlock}
 use Rattle.expr_meaning.specs.World.{World}
-use Rattle.expr.proofs.Meant.{printed_only}
+use Rattle.expr_eval.proofs.Meant.{printed_only}
 
 -- what a program of that text gives is the value
 only_value : (world : World) (v : Value) → IsTrue (is_readable v) → (r : Result Value Error) → Returns r (Allows world (printed_term v)) → ReturnsExactly r (Ok v)

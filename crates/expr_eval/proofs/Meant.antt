@@ -152,12 +152,12 @@ module _ (world : World) where
 
   pairs_only : (ps : List (List ℕ × Such IsMeant)) → ReadablePairs ps → Only (AllowsPairs world (terms.pairs_of (written ps))) (pairs_of ps)
   pairs_only [] h = only_is []
-  pairs_only (p ∷ ps) h =
+  pairs_only ((key, e) ∷ ps) h =
       let parts = and_parts _ _ h in
       let rest = AllowsPairs world (terms.pairs_of (written ps)) in
-      let all : List Named = (p.0, p.1.0) ∷ pairs_of ps in
-      then_only (Allows world (printed_term p.1.0)) (λ v. Then rest (λ ms a. a ≡ Ok ((p.0, v) ∷ ms))) p.1.0 all (p.1.1 (and_parts _ _ parts.0).1)
-      (then_only rest (λ ms a. a ≡ Ok ((p.0, p.1.0) ∷ ms)) (pairs_of ps) all (pairs_only ps parts.1) (only_is all))
+      let all : List Named = (key, e.0) ∷ pairs_of ps in
+      then_only (Allows world (printed_term e.0)) (λ v. Then rest (λ ms a. a ≡ Ok ((key, v) ∷ ms))) e.0 all (e.1 (and_parts _ _ parts.0).1)
+      (then_only rest (λ ms a. a ≡ Ok ((key, e.0) ∷ ms)) (pairs_of ps) all (pairs_only ps parts.1) (only_is all))
 
   map_only : (ps : List (List ℕ × Such IsMeant)) → are_distinct (keys_of (with_each is_readable (pairs_of ps))) ≡ true → ReadablePairs ps
       → Only (Allows world (map_term (written ps))) (value.Map (pairs_of ps))

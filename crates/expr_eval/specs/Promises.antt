@@ -1,13 +1,10 @@
 -- What answering a text promises: said once for each call that answers one.
 use Rattle.std.specs.Prelude.{◌≡◌, ℕ, IsTrue, List, Result, Ok, Err}
 use Rattle.std.specs.Str.{IsCharBoundary}
-use Rattle.expr.specs.Texts.{IsOwnFault, MayAnswer}
-use Rattle.expr_meaning.specs.World.{World, with_context}
-use Rattle.expr_steps.specs.Context.{ContextView}
-use Rattle.expr_syntax.specs.Texts.{IsPlaced, IsProgramOf}
+use Rattle.expr_eval.specs.Texts.{IsOwnFault, MayAnswer, MayAnswerWhereAgreed}
+use Rattle.expr_meaning.specs.World.{World}
+use Rattle.expr_syntax.specs.Texts.{IsPlaced}
 use Rattle.expr_printed.specs.Printed.{is_readable}
-use Rattle.expr_tree.specs.Context.{AgreeFor}
-use Rattle.expr_tree.specs.Term.{Block}
 use Rattle.expr_value.specs.Answers.{Returns, ReturnsExactly}
 use Rattle.expr_value.specs.Values.{text_of}
 use Rattle.expr_error.specs.declared.error.Error.{Error}
@@ -19,7 +16,7 @@ pub record AnswersText (world : World) (text : List ℕ) (result : Result Value 
   -- it is one of the text's answers
   pub answer : Returns result (MayAnswer text world)
   -- it is one in each context, too, that agrees with this one for the text's program
-  pub independent : Returns result (λ a. (other : ContextView) → ((b : Block) → IsProgramOf text b → AgreeFor world.context other b) → MayAnswer text (with_context world other) a)
+  pub independent : Returns result (MayAnswerWhereAgreed text world)
   -- a syntax fault that no function of the host answers is at the text's first fault, where the text may be cut
   pub place : IsOwnFault text world.host → IsPlaced text result
   pub boundary : IsOwnFault text world.host → (place : ℕ) → result ≡ Err (PestError place) → IsCharBoundary text place

@@ -1,8 +1,8 @@
--- The place of a syntax fault, where a text is read and its program is run.
-use Rattle.std.proofs.Common.{◌≡◌, ◌≢◌, ℕ, List, Result, Ok, Err, inl, inr, sym, ◌∙◌, subst, ap}
+-- What a text is refused with, and the place of a syntax fault, where it is read and its program is run.
+use Rattle.std.proofs.Common.{◌≡◌, ◌≢◌, ℕ, List, Result, Ok, Err, inl, inr, refl, sym, ◌∙◌, subst, ap}
 use Rattle.std.specs.Result.{IsErrAnd}
 use Rattle.std.specs.Str.{IsCharBoundary}
-use Rattle.expr_syntax.specs.Texts.{HasNoTree, IsPlaced, IsProgramOf}
+use Rattle.expr_syntax.specs.Texts.{HasNoTree, IsCompiled, IsPlaced, IsProgramOf}
 use Rattle.expr_tree.specs.Term.{Block}
 use Rattle.expr_tree.specs.declared.node.Program.{Program}
 use Rattle.expr_steps.specs.Context.{ContextView}
@@ -16,7 +16,15 @@ use Rattle.expr_meaning.specs.Allows.{AllowsBlock}
 use Rattle.expr_meaning.specs.Host.{Host, no_host}
 use Rattle.expr_meaning.specs.World.{World, world_of}
 use Rattle.expr_meaning.specs.Refusals.{NeverRefusesWith}
-use Rattle.expr.specs.Texts.{IsOwnFault}
+use Rattle.expr_eval.specs.Texts.{IsOwnFault, IsRefused}
+
+-- a refusal of `compile` is one that the text deserves, but for want of memory
+pub refused_by_compile : (text : List ℕ) (e : Error) → IsCompiled text (Err e) → error_kind e ≢ memory → IsRefused text (Err (error_kind e))
+refused_by_compile text (PestError place) h m = h
+refused_by_compile text (ParseError message) h m = h
+refused_by_compile text (ExprError message) h m = absurd h
+refused_by_compile text (RegexError error) h m = absurd h
+refused_by_compile text MemoryError h m = absurd (m refl)
 
 -- a text with a program has a tree
 pub has_tree : {A : Type 0} (text : List ℕ) (b : Block) → IsProgramOf text b → HasNoTree text → A

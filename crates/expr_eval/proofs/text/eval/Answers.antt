@@ -1,0 +1,6 @@
+use Rattle.std.proofs.Common.{inr}
+use Rattle.expr_eval.proofs.Faults.{nothing_refuses}
+use Rattle.expr_eval.proofs.text.eval.Goals as goal
+
+pub returns-clause-own : goal.returns-clause-own
+returns-clause-own g c = inr nothing_refuses
