@@ -3,8 +3,8 @@
 #
 # form: what an answer looks like, `expr` (a value on standard output, or the word for a refusal on standard error with
 # status 1), `bench` (a line on standard output) or `lines` (lines on standard output, a line on standard error for each record
-# that is refused). answers: the file of the rows' own answers, one a line up to the row `topics`; the rows of `lines` have
-# none there, and what stands for them is the run that has all its memory.
+# that is refused). answers: the file of the rows' own answers, one a line; the rows of `lines` have none there, and what stands
+# for them is the run that has all its memory.
 BEGIN {
     while ((getline answer < answers) > 0) own[++lines] = answer
 }
@@ -60,14 +60,15 @@ function is_memory(how) {
     if (form == "expr") return how == "1\t\tmemory\\n" || how == "1\t\t"
     return how == "0\t!memory\\n\t" || how == "1\t\tError: Kind(OutOfMemory)\\n"
 }
-# the table of `1 + 2`: want of memory where it is read, and where it is run, and never where its node is evaluated
+# the row of the calls on `1 + 2`: want of memory where it is read, and where it is run, and never where its node is evaluated
 function is_plain_memory(how) {
-    if (how == "0\trun: !memory\\neval_expr: 3\\n\\n\t") { plain += many[how]; return 1 }
-    return how == "0\tcompile: !memory\\n\\n\t"
+    if (how != "0\trun: !memory eval_expr: 3\\n\t") return 0
+    plain += many[how]
+    return 1
 }
 function judge(row, whole,    how) {
     own_runs++
-    if (form == "lines" ? whole !~ /^[0-3]\t/ : row < topics ? whole != wanted(row) : whole !~ /^0\t/) { print "fault: " form ", row " row ", with all its memory: " whole; faults++ }
+    if (form == "lines" ? whole !~ /^[0-3]\t/ : whole != wanted(row)) { print "fault: " form ", row " row ", with all its memory: " whole; faults++ }
     for (how in many) {
         if (how == whole) own_runs += many[how]
         else if (form == "lines" ? is_lines_memory(how, whole) : is_memory(how) || is_plain_memory(how)) memory += many[how]

@@ -2,7 +2,8 @@
  * as a tab and NAME=CODE; in both files a backslash, newline, carriage return and tab are written \\ \n \r \t. The names'
  * values come from the engine by expr_set_looked. Each answer is also read item by item, built anew and handed in again,
  * and must then print the same, unless a moment or a zone is in it, whose place no host hands in. A row that stops at one of
- * the limits for strangers is answered once more without limits, and they are counted. */
+ * the limits for strangers is answered once more without limits, and they are counted. From the first row `%damaged` on the
+ * rows ask for something else, and are left out. */
 #include "expr.h"
 #include <stdio.h>
 #include <stdlib.h>
@@ -136,9 +137,8 @@ int main(int count, char **words) {
     size_t row_room = 0, line_room = 0;
     for (size_t number = 1; getline(&row, &row_room, texts) > 0 && getline(&line, &line_room, answers) > 0; number++) {
         row[strcspn(row, "\n")] = line[strcspn(line, "\n")] = 0;
-        if (!strncmp(row, "%table ", 7) || !strncmp(row, "%damaged ", 9)) break;
-        char *code = strncmp(row, "%once ", 6) ? row : row + 6;
-        check(engine, code, line, number);
+        if (!strncmp(row, "%damaged ", 9)) break;
+        check(engine, row, line, number);
     }
     expr_close(engine);
     free(row);

@@ -21,7 +21,8 @@ huge: price > 9223372036854775808
 
 /// Puts what the engine says of them.
 pub fn put_engine(alloc: Global, page: &mut Page) -> Result<()> {
-    page.fact("an order of 120 is large", is_large(alloc, 60, 2)?);
+    page.put_fact("an order of 120 is large", is_large(alloc, 60, 2)?);
+    page.put("\n");
     page.put(report(alloc, RULES)?.as_str());
     Ok(())
 }

@@ -1,32 +1,40 @@
 //! Vectors: reads a line for each expression and prints a line for its answer: its `Display`, or `!` and the word of its
 //! refusal. In both a backslash, newline, carriage return and tab are written `\\`, `\n`, `\r`, `\t`. After the
 //! expression a line may bind names, each as a tab and `NAME=CODE`. A line is answered by each way from a text to its
-//! answer, but one that begins with `%once ` by `eval` alone. A line that begins with `%damaged ` has the kinds of what
-//! the damages of its expression answer, and the line `%table TOPIC` what only code can see of a topic.
+//! answer. A line that begins with `%KIND ` is asked for something else, which `kinds` tells.
 #![tactic(auto)]
 
 mod engine;
+mod kinds;
 mod topics;
 
-use expr_bench_answers::rows::{damages_text, once_text, row_text};
+use expr_bench_answers::rows::row_text;
+use expr_bench_values::lines::{Row, escape};
 use expr_bench_values::page::word_of;
+use expr_value::Result;
+use kinds::kind_text;
 use std::alloc::{AllocError, Global};
 use std::io;
-use topics::topic_text;
+
+/// What is printed of a line. An expression may begin with `%` too.
+fn line_text(alloc: Global, line: &str) -> Result<String> {
+    if let Some(rest) = line.strip_prefix('%') {
+        let (kind, row) = rest.split_once(' ').unwrap_or((rest, ""));
+        if let Some(text) = kind_text(alloc, kind, &Row::read(alloc, row)?) {
+            return text;
+        }
+    }
+    row_text(alloc, &Row::read(alloc, line)?)
+}
 
 /// Puts what is printed of a line.
-fn put_line(alloc: Global, line: &str, answers: &mut String) -> Result<(), AllocError> {
-    let text = if let Some(topic) = line.strip_prefix("%table ") {
-        topic_text(alloc, topic)
-    } else if let Some(row) = line.strip_prefix("%damaged ") {
-        damages_text(alloc, row)
-    } else if let Some(row) = line.strip_prefix("%once ") {
-        once_text(alloc, row)
-    } else {
-        row_text(alloc, line)
-    };
-    match text {
-        Ok(text) => answers.push_str(&text)?,
+fn put_line(
+    alloc: Global,
+    line: &str,
+    answers: &mut String,
+) -> std::result::Result<(), AllocError> {
+    match line_text(alloc, line) {
+        Ok(text) => answers.push_str(&escape(alloc, &text)?)?,
         Err(error) => answers.push_str(word_of(&error))?,
     }
     answers.push('\n')

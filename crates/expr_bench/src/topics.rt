@@ -1,48 +1,37 @@
 //! What only code can see of a topic.
 use crate::engine;
 use expr::value;
-use expr_bench_answers::{answers, deep, macros, reading_back, values};
-use expr_bench_hosts::{additions, hosts, served};
-use expr_bench_programs::{parts, plain, programs, sizes, tokens};
+use expr_bench_answers::{macros, reading_back, values};
+use expr_bench_programs::sizes;
 use expr_bench_values::page::Page;
 use expr_bench_values::{collections, refusals};
 use expr_context::Context;
 use expr_value::Result;
 use std::alloc::Global;
 
-/// Puts each public call that answers otherwise than it should.
-fn put_calls(alloc: Global, page: &mut Page) -> Result<()> {
-    expr_bench_values::calls::put_calls(alloc, page)?;
-    let context = Context::try_from(alloc, value!(in alloc; {"a": 2})?)?;
-    expr_bench_programs::calls::put_calls(alloc, &context, page)?;
-    expr_bench_answers::calls::put_calls(alloc, &context, page)
+/// Names of which `a` stands for 2.
+fn where_a_is_2(alloc: Global) -> Result<Context> {
+    Context::try_from(alloc, value!(in alloc; {"a": 2})?)
 }
 
-/// Puts what the module of a topic prints, and below it a line for each row of its tables that doesn't hold.
+/// Puts what is printed of a topic.
 fn put_topic(alloc: Global, topic: &str, page: &mut Page) -> Result<()> {
     match topic {
-        "additions" => additions::put_additions(alloc, page)?,
-        "answers" => {
-            answers::put_answers(alloc, page)?;
-            parts::put_parts(alloc, page);
+        "calls_on_values" => expr_bench_values::calls::put_calls(alloc, page)?,
+        "calls_on_programs" => {
+            expr_bench_programs::calls::put_calls(alloc, &where_a_is_2(alloc)?, page)?
         }
-        "calls" => put_calls(alloc, page)?,
+        "calls_on_texts" => {
+            expr_bench_answers::calls::put_calls(alloc, &where_a_is_2(alloc)?, page)?
+        }
         "collections" => collections::put_collections(alloc, page)?,
-        "deep" => deep::put_deep(alloc, page),
+        "context" => values::put_context(alloc, page)?,
         "engine" => engine::put_engine(alloc, page)?,
-        "hosts" => hosts::put_hosts(alloc, page)?,
-        "macros" => {
-            macros::put_macros(alloc, page);
-            refusals::put_refusals(alloc, page)?;
-        }
-        "plain" => plain::put_plain(alloc, page),
-        "programs" => programs::put_programs(alloc, page)?,
-        "reading_back" => reading_back::put_reading_back(alloc, page)?,
-        "served" => served::put_served(alloc, page)?,
+        "macros" => macros::put_macros(alloc, page),
+        "reading_back" => page.put_made(reading_back::read_back(alloc)?.to_string(alloc)),
+        "refusals" => refusals::put_refusals(alloc, page)?,
         "sizes" => sizes::put_sizes(page),
-        "tokens" => tokens::put_readings(alloc, page),
-        "values" => values::put_values(alloc, page)?,
-        _ => page.put("no such topic"),
+        _ => page.put("!!no such topic"),
     }
     Ok(())
 }
@@ -51,5 +40,5 @@ fn put_topic(alloc: Global, topic: &str, page: &mut Page) -> Result<()> {
 pub fn topic_text(alloc: Global, topic: &str) -> Result<String> {
     let mut page = Page::new(alloc);
     put_topic(alloc, topic, &mut page)?;
-    Ok(String::from_str(alloc, page.text())?)
+    page.into_text()
 }

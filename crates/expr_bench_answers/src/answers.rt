@@ -1,6 +1,6 @@
 //! Answers that depend on what a host lends.
 use expr::{Context, ContextProvider, Error, Result, Value, eval, value};
-use expr_bench_values::page::Page;
+use expr_bench_values::lines::{Row, answer_text};
 use std::alloc::Global;
 
 /// A provider whose function and map may disagree, and which may have no memory for its map where that is asked for.
@@ -32,36 +32,24 @@ impl ContextProvider for Odd {
     }
 }
 
-fn odd_provider(alloc: Global) -> Result<Odd> {
+fn odd_provider(alloc: Global, refuses: bool) -> Result<Odd> {
     let names = Context::try_from(alloc, value!(in alloc; {"#": {"x": 7}, "$env": 1, "a": 2})?)?;
     let shown = Context::try_from(alloc, value!(in alloc; {"a": 3})?)?;
     Ok(Odd {
         names,
         shown,
-        refuses: false,
+        refuses,
     })
 }
 
-/// Texts, whether the odd provider refuses its map, and what they answer under it.
-const UNDER_ODD_PROVIDERS: &[(&str, bool, &str)] = &[
-    ("x", false, "7"),
-    ("#", false, "{x: 7}"),
-    ("a", false, "2"),
-    ("$env", false, "{a: 3}"),
-    (r#"$env["$env"]"#, false, "nil"),
-    ("let a = 1; $env.a", false, "3"),
-    ("let $env = 5; $env.a", false, "3"),
-    ("map([1], {x})", false, "!evaluation"),
-    ("$env", true, "!memory"),
-    ("a", true, "2"),
-];
+/// What a text answers under a provider whose function and map disagree.
+pub fn odd_text(alloc: Global, row: &Row) -> Result<String> {
+    let odd = odd_provider(alloc, false)?;
+    answer_text(alloc, eval(alloc, row.text(0), &odd))
+}
 
-/// Puts what is wrong of these answers.
-pub fn put_answers(alloc: Global, wrong: &mut Page) -> Result<()> {
-    let mut odd = odd_provider(alloc)?;
-    for (code, refuses, expected) in UNDER_ODD_PROVIDERS {
-        odd.refuses = *refuses;
-        wrong.answer(code, eval(alloc, code, &odd), expected);
-    }
-    Ok(())
+/// What a text answers under a provider that has no memory for its map.
+pub fn refusing_text(alloc: Global, row: &Row) -> Result<String> {
+    let odd = odd_provider(alloc, true)?;
+    answer_text(alloc, eval(alloc, row.text(0), &odd))
 }

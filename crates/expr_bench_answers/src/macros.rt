@@ -15,10 +15,6 @@ fn literals(alloc: Global, key: &str) -> Result<Value> {
     ])
 }
 
-/// What they print.
-const PRINTED: &str =
-    r#"[{a: [1, nil, {b: true}], c: "x"}, {key: 42, d: {}, e: [[]]}, {key: true, keys: "x"}, [[1], 2], [{a: 1}, 2], {a: nil, b: 1}]"#;
-
 fn quotient(alloc: Global, a: i64, b: i64) -> Result<Value> {
     if b == 0 {
         bail!(in alloc; "{a} divided by zero");
@@ -26,8 +22,8 @@ fn quotient(alloc: Global, a: i64, b: i64) -> Result<Value> {
     Ok(Value::Integer(a.wrapping_div(b)))
 }
 
-/// Puts what is wrong of both.
-pub fn put_macros(alloc: Global, wrong: &mut Page) {
-    wrong.answer("literals", literals(alloc, "key"), PRINTED);
-    wrong.answer("bail!", quotient(alloc, 7, 0), "!evaluation");
+/// Puts what both make.
+pub fn put_macros(alloc: Global, page: &mut Page) {
+    page.put_call("value!", literals(alloc, "key"));
+    page.put_call("bail!", quotient(alloc, 7, 0));
 }

@@ -19,6 +19,7 @@ pub fn made_context(alloc: Global) -> Result<Context> {
     let bytes = vec![in alloc; 1_u8, 2]?;
     let names = value!(in alloc; {
         "default": Value::default(),
+        "small": 7_i32,
         "largest": usize::MAX,
         "span": Value::Duration(-5),
         "last": Value::Month(12),

@@ -1,27 +1,9 @@
 //! What a host's objects answer where an addition to them is refused: what they answered before.
 use expr::{Context, Environment, ExprCall, Result, Value};
+use expr_bench_values::lines::Row;
 use expr_bench_values::page::Page;
 use jiff::tz::{Offset, TimeZone};
-use std::alloc::{AllocError, Global};
-
-/// What is added to.
-#[derive(Clone, Copy)]
-enum Kind {
-    Names,
-    Functions,
-    Zones,
-}
-
-/// The text that asks for the number of a name, function or zone.
-fn text_asking(alloc: Global, kind: Kind, name: &str) -> std::result::Result<String, AllocError> {
-    match kind {
-        Kind::Names => String::from_str(alloc, name),
-        Kind::Functions => format!(in alloc; "{name}()"),
-        Kind::Zones => format!(in alloc;
-            "date(\"2024-01-31T00:00:00Z\").In(timezone(\"{name}\")).Minute()"
-        ),
-    }
-}
+use std::alloc::Global;
 
 /// Names that are added, each with the number of its place.
 const NAMES: &[&str] = &["a", "b", "c", "d", "e", "f", "g", "h", "i"];
@@ -29,85 +11,66 @@ const NAMES: &[&str] = &["a", "b", "c", "d", "e", "f", "g", "h", "i"];
 /// The number of an addition that is tried.
 const TRIED: i64 = 59;
 
-/// What each name's number is.
-fn numbers(alloc: Global, kind: Kind, host: &Environment, context: &Context) -> Result<Page> {
-    let mut page = Page::new(alloc);
-    for name in NAMES {
-        page.put(name);
-        let code = text_asking(alloc, kind, name)?;
-        page.put_answer(host.eval(alloc, &code, context));
-    }
-    Ok(page)
-}
-
-/// What each name's number is where the first ones are added, and one has the number that was tried.
-fn expected_page(alloc: Global, count: usize, tried: Option<&str>) -> Page {
-    let mut page = Page::new(alloc);
-    let mut place = 0_usize;
-    for name in NAMES {
-        page.put(name);
-        if tried == Some(*name) {
-            page.put_made(TRIED.to_string(alloc));
-        } else if place < count {
-            page.put_made(place.to_string(alloc));
-        } else {
-            page.put("!evaluation");
-        }
-        place = place.wrapping_add(1);
-    }
-    page
-}
-
-/// Passes on what an addition answered, and puts the numbers then if they aren't those that they should be.
-fn judge(
+/// What each name's number is, which a text asks for that has the name between a front and a back.
+fn numbers(
     alloc: Global,
-    count: usize,
-    tried: &str,
-    added: Result<()>,
-    given: &Page,
-    wrong: &mut Page,
-) -> Result<()> {
-    let expected = match &added {
-        Ok(()) => expected_page(alloc, count, Some(tried)),
-        Err(_) => expected_page(alloc, count, None),
-    };
-    if given.text() == expected.text() {
-        return added;
+    front: &str,
+    back: &str,
+    host: &Environment,
+    context: &Context,
+) -> Result<String> {
+    let mut page = Page::new(alloc);
+    for name in NAMES {
+        let code = format!(in alloc; "{front}{name}{back}")?;
+        page.put_call(name, host.eval(alloc, &code, context));
     }
-    wrong.same(tried, given, &expected);
-    Ok(())
+    page.into_text()
 }
 
-/// Tries to put a name into a context with the first ones.
-fn put_name(alloc: Global, count: usize, tried: &str, wrong: &mut Page) -> Result<()> {
+/// What is printed of an addition by the numbers before and after it. One that is refused has to leave them as they were.
+fn added_text(alloc: Global, added: Result<()>, before: String, after: String) -> Result<String> {
+    if added.is_err() && before != after {
+        return Ok(String::from_str(alloc, "!!a refused addition changes what is there")?);
+    }
+    added?;
+    Ok(after)
+}
+
+/// The numbers of names where a row's name is put into a context with the first ones.
+pub fn name_text(alloc: Global, row: &Row) -> Result<String> {
+    let host = Environment::new(alloc);
     let mut context = Context::new(alloc);
     let mut number = 0_i64;
-    for name in NAMES.iter().take(count) {
+    for name in NAMES.iter().take(row.number(1)) {
         context.insert(String::from_str(alloc, name)?, Value::Integer(number))?;
         number = number.wrapping_add(1);
     }
-    let added = context.insert(String::from_str(alloc, tried)?, Value::Integer(TRIED));
-    let given = numbers(alloc, Kind::Names, &Environment::new(alloc), &context)?;
-    judge(alloc, count, tried, added, &given, wrong)
+    let before = numbers(alloc, "", "", &host, &context)?;
+    let tried = String::from_str(alloc, row.text(0))?;
+    let added = context.insert(tried, Value::Integer(TRIED));
+    let after = numbers(alloc, "", "", &host, &context)?;
+    added_text(alloc, added, before, after)
 }
 
-/// Tries to add a function to an environment with the first ones.
-fn put_function(alloc: Global, count: usize, tried: &str, wrong: &mut Page) -> Result<()> {
+/// The numbers of functions where one of a row's name is added to an environment with the first ones.
+pub fn function_text(alloc: Global, row: &Row) -> Result<String> {
+    let context = Context::new(alloc);
     let mut host = Environment::new(alloc);
     let mut number = 0_i64;
-    for name in NAMES.iter().take(count) {
+    for name in NAMES.iter().take(row.number(1)) {
         host.add_function(
             name,
             Box::new(alloc, move |_call: ExprCall| Ok(Value::Integer(number)))?,
         )?;
         number = number.wrapping_add(1);
     }
+    let before = numbers(alloc, "", "()", &host, &context)?;
     let added = host.add_function(
-        tried,
+        row.text(0),
         Box::new(alloc, |_call: ExprCall| Ok(Value::Integer(TRIED)))?,
     );
-    let given = numbers(alloc, Kind::Functions, &host, &Context::new(alloc))?;
-    judge(alloc, count, tried, added, &given, wrong)
+    let after = numbers(alloc, "", "()", &host, &context)?;
+    added_text(alloc, added, before, after)
 }
 
 /// The rules of a zone that is so many minutes ahead.
@@ -119,40 +82,22 @@ fn zone_ahead(minutes: i64) -> TimeZone<'static> {
     }
 }
 
-/// Tries to add a zone to an environment with the first ones.
-fn put_zone(alloc: Global, count: usize, tried: &str, wrong: &mut Page) -> Result<()> {
+/// What asks for the minutes that a zone is ahead, before the zone's name and behind it.
+const ZONE_FRONT: &str = "date(\"2024-01-31T00:00:00Z\").In(timezone(\"";
+
+const ZONE_BACK: &str = "\")).Minute()";
+
+/// The numbers of zones where one of a row's name is added to an environment with the first ones.
+pub fn zone_text(alloc: Global, row: &Row) -> Result<String> {
+    let context = Context::new(alloc);
     let mut host = Environment::new(alloc);
     let mut number = 0_i64;
-    for name in NAMES.iter().take(count) {
+    for name in NAMES.iter().take(row.number(1)) {
         host.add_timezone(name, zone_ahead(number))?;
         number = number.wrapping_add(1);
     }
-    let added = host.add_timezone(tried, zone_ahead(TRIED));
-    let given = numbers(alloc, Kind::Zones, &host, &Context::new(alloc))?;
-    judge(alloc, count, tried, added, &given, wrong)
-}
-
-/// How many names there are, and the one that is tried: a new one, or one that is there.
-const TRIALS: &[(usize, &str)] = &[
-    (0, "a"),
-    (1, "a"),
-    (1, "b"),
-    (2, "c"),
-    (3, "b"),
-    (3, "d"),
-    (4, "e"),
-    (6, "g"),
-    (7, "h"),
-    (8, "i"),
-    (8, "a"),
-];
-
-/// Puts the additions that leave other numbers than they should.
-pub fn put_additions(alloc: Global, wrong: &mut Page) -> Result<()> {
-    for (count, tried) in TRIALS {
-        put_name(alloc, *count, tried, wrong)?;
-        put_function(alloc, *count, tried, wrong)?;
-        put_zone(alloc, *count, tried, wrong)?;
-    }
-    Ok(())
+    let before = numbers(alloc, ZONE_FRONT, ZONE_BACK, &host, &context)?;
+    let added = host.add_timezone(row.text(0), zone_ahead(TRIED));
+    let after = numbers(alloc, ZONE_FRONT, ZONE_BACK, &host, &context)?;
+    added_text(alloc, added, before, after)
 }

@@ -1,5 +1,8 @@
 //! Hosts of the bench's own: functions and zones that are added to an environment, and a function that is added to a parser.
-use expr::{Context, Environment, Error, ExprCall, Node, Parser, Result, Value, compile};
+use expr::{
+    Code, Context, Environment, Error, ExprCall, KeptMachine, Node, Parser, Result, Value, compile,
+};
+use expr_bench_values::lines::{Row, answer_text};
 use expr_bench_values::page::Page;
 use jiff::Timestamp;
 use jiff::tz::{Offset, TimeZone};
@@ -31,85 +34,40 @@ const SUMS: &[&str] = &["add", "n", "len"];
 /// Names of functions that count their arguments, the second of which is a built-in's.
 const NUMBERS: &[&str] = &["n", "map"];
 
-/// Texts, and what they answer where those functions are added.
-const WITH_FUNCTIONS: &[(&str, &str)] = &[
-    ("add(1, 2, 3)", "6"),
-    ("3 | add(1, 2)", "6"),
-    ("n(1, {#})", "1"),
-    ("map([1, 2], # + 1)", "1"),
-    ("filter([1, 2], # > n())", "[1, 2]"),
-    ("len([1])", "0"),
-    ("p()", "!literal"),
-    ("p(nope)", "!evaluation"),
-    ("nope()", "!evaluation"),
-    ("ad(1)", "!evaluation"),
-    ("tick() + tick() * 10", "21"),
-];
-
-/// What the last node of a text answers, by the environment's call for nodes of its kind.
-fn by_its_parts(alloc: Global, host: &Environment, context: &Context, code: &str) -> Result<Value> {
-    let program = compile(alloc, code)?;
-    by_its_kind(alloc, host, context, &program.expr)
-}
-
-/// What a node answers, by the environment's call for nodes of its kind.
-fn by_its_kind(alloc: Global, host: &Environment, context: &Context, node: &Node) -> Result<Value> {
+/// Puts the environment's call for nodes of a node's kind, and what it answers.
+fn put_node(alloc: Global, host: &Environment, node: &Node, page: &mut Page) {
+    let context = Context::new(alloc);
     match node {
         Node::Operation {
             operator,
             left,
             right,
             ..
-        } => host.eval_operator(alloc, context, operator, left, right, None),
-        Node::Unary { operator, node } => host.eval_unary_operator(alloc, context, operator, node),
-        Node::Postfix { operator, node } => {
-            host.eval_postfix_operator(alloc, context, operator, node)
+        } => {
+            let answer = host.eval_operator(alloc, &context, operator, left, right, None);
+            page.put_call("Environment::eval_operator", answer);
         }
-        Node::Func { ident, .. } => host.eval_func(alloc, context, ident, Vec::new(alloc), None),
-        other => host.eval_expr(alloc, context, other),
+        Node::Unary { operator, node } => {
+            let answer = host.eval_unary_operator(alloc, &context, operator, node);
+            page.put_call("Environment::eval_unary_operator", answer);
+        }
+        Node::Postfix { operator, node } => {
+            let answer = host.eval_postfix_operator(alloc, &context, operator, node);
+            page.put_call("Environment::eval_postfix_operator", answer);
+        }
+        Node::Func { ident, .. } => {
+            let answer = host.eval_func(alloc, &context, ident, Vec::new(alloc), None);
+            page.put_call("Environment::eval_func", answer);
+        }
+        other => {
+            let answer = host.eval_expr(alloc, &context, other);
+            page.put_call("Environment::eval_expr", answer);
+        }
     }
 }
 
-/// Texts, and what their parts answer where those functions are added.
-const BY_PARTS: &[(&str, &str)] = &[
-    ("[add(1, 2)]", "[3]"),
-    ("add(1) + 2", "3"),
-    ("-add(1)", "-1"),
-    ("[7][add()]", "7"),
-    ("n()", "0"),
-    ("nope()", "!evaluation"),
-];
-
-/// Puts what is wrong of a parser's answer to a text of one argument, by each of its calls.
-fn put_parser(alloc: Global, code: &str, wrong: &mut Page) -> Result<()> {
-    let mut host = Parser::new(alloc);
-    host.add_function("n", Box::new(alloc, |call: ExprCall| number(call))?)?;
-    put_parsed(alloc, &host, code, wrong)
-}
-
-fn put_parsed(alloc: Global, host: &Parser, code: &str, wrong: &mut Page) -> Result<()> {
-    let context = Context::new(alloc);
-    wrong.answer("eval", host.eval(alloc, code, &context), "1");
-    let program = host.compile(alloc, code)?;
-    wrong.answer("run", host.run(alloc, &program, &context), "1");
-    let answer = host.eval_expr(alloc, &context, &program.expr);
-    wrong.answer("eval_expr", answer, "1");
-    Ok(())
-}
-
-/// Puts what is wrong of the answers of an environment with those functions.
-fn put_answers(alloc: Global, host: &Environment, wrong: &mut Page) {
-    let context = Context::new(alloc);
-    for (code, expected) in WITH_FUNCTIONS {
-        wrong.answer(code, host.eval(alloc, code, &context), expected);
-    }
-    for (code, expected) in BY_PARTS {
-        wrong.answer(code, by_its_parts(alloc, host, &context, code), expected);
-    }
-}
-
-/// Puts what is wrong of an environment with functions of its own.
-fn put_environment(alloc: Global, wrong: &mut Page) -> Result<()> {
+/// An environment with functions of its own.
+fn host_of_functions(alloc: Global) -> Result<Environment> {
     let calls = Cell::new(0_i64);
     let mut host = Environment::new(alloc);
     for name in SUMS {
@@ -129,59 +87,78 @@ fn put_environment(alloc: Global, wrong: &mut Page) -> Result<()> {
             Ok(Value::Integer(calls.get()))
         })?,
     )?;
-    put_answers(alloc, &host, wrong);
-    Ok(())
+    Ok(host)
 }
 
-/// Texts, and what they answer where those zones are added.
-const WITH_ZONES: &[(&str, &str)] = &[
-    (
-        r#"date("2024-11-03 01:30:00", "2006-01-02 15:04:05", "E").Unix()"#,
-        "1730611800",
-    ),
-    (
-        r#"date("2024-03-10 02:30:00", "2006-01-02 15:04:05", "E").Unix()"#,
-        "!evaluation",
-    ),
-    (
-        r#"date("2024-07-01T12:00:00Z").In(timezone("E")).String()"#,
-        r#""2024-07-01 08:00:00 -0400 E""#,
-    ),
-    (
-        r#"fromPairs([[date("2024-07-01T12:00:00Z").In(timezone("E")), 1], [date("2024-07-01T12:00:00Z"), 2]])"#,
-        "{2024-07-01T08:00:00-04:00: 2}",
-    ),
-    (
-        r#"string(fromPairs([[date("2024-07-01T12:00:00Z").In(timezone("E")), 1], [date("2024-07-01T12:00:00Z"), 2]]))"#,
-        r#""map[2024-07-01 08:00:00 -0400 E:2]""#,
-    ),
-    (
-        r#"date("2024-01-01 00:00:00", "2006-01-02 15:04:05", "X/Plus1").Unix()"#,
-        "1704063600",
-    ),
-    ("now()", "1970-01-01T00:00:00+00:00"),
-    ("string(now())", r#""1970-01-01 00:00:00 +0000 UTC""#),
-    ("now().Unix()", "0"),
-    ("now().Location().String()", r#""UTC""#),
-    (r#"timezone("e")"#, "!evaluation"),
-];
-
-/// Puts what is wrong of the answers of an environment with those zones.
-fn put_zoned(alloc: Global, host: &Environment, wrong: &mut Page) {
-    let context = Context::new(alloc);
-    for (code, expected) in WITH_ZONES {
-        wrong.answer(code, host.eval(alloc, code, &context), expected);
-    }
+/// What a text answers where those functions are added.
+pub fn functions_text(alloc: Global, row: &Row) -> Result<String> {
+    let host = host_of_functions(alloc)?;
+    answer_text(alloc, host.eval(alloc, row.text(0), &Context::new(alloc)))
 }
 
-/// Nil in place of what an addition answers.
-fn nil_of(added: Result<()>) -> Result<Value> {
-    added?;
-    Ok(Value::Nil)
+/// What the last node of a text answers where those functions are added, by the environment's call for nodes of its kind.
+pub fn function_parts_text(alloc: Global, row: &Row) -> Result<String> {
+    let host = host_of_functions(alloc)?;
+    let program = compile(alloc, row.text(0))?;
+    let mut page = Page::new(alloc);
+    put_node(alloc, &host, &program.expr, &mut page);
+    page.into_text()
 }
 
-/// Puts what is wrong of an environment with zones of a rule and of an offset, whose moment is the instant 0.
-fn put_zones(alloc: Global, wrong: &mut Page) -> Result<()> {
+/// Names of which `a` stands for 2.
+fn where_a_is_2(alloc: Global) -> Result<Context> {
+    let mut context = Context::new(alloc);
+    context.insert(String::from_str(alloc, "a")?, Value::Integer(2))?;
+    Ok(context)
+}
+
+/// What a text, its program and its code answer where those functions are added and `a` is 2, by each call for them.
+pub fn hosted_text(alloc: Global, row: &Row) -> Result<String> {
+    let host = host_of_functions(alloc)?;
+    let context = where_a_is_2(alloc)?;
+    let program = compile(alloc, row.text(0))?;
+    let mut page = Page::new(alloc);
+    let answer = host.eval(alloc, row.text(0), &context);
+    page.put_call("Environment::eval", answer);
+    page.put_call("Environment::run", host.run(alloc, &program, &context));
+    let answer = host.eval_expr(alloc, &context, &program.expr);
+    page.put_call("Environment::eval_expr", answer);
+    let code = Code::lower(alloc, &program)?;
+    page.put_call("Environment::execute", host.execute(alloc, &code, &context));
+    page.into_text()
+}
+
+/// What a kept machine answers of a text there, once and again, and then where `a` stands for nothing.
+pub fn machine_text(alloc: Global, row: &Row) -> Result<String> {
+    let host = host_of_functions(alloc)?;
+    let context = where_a_is_2(alloc)?;
+    let program = compile(alloc, row.text(0))?;
+    let code = Code::lower(alloc, &program)?;
+    let mut machine = KeptMachine::new(alloc, &code);
+    let mut page = Page::new(alloc);
+    page.put_call("KeptMachine::new", machine.execute(&host, &context));
+    page.put_call("KeptMachine::execute", machine.execute(&host, &context));
+    let answer = machine.execute_among(&host, Context::new(alloc));
+    page.put_call("KeptMachine::execute_among", answer);
+    page.into_text()
+}
+
+/// What a parser answers that counts the arguments of `n`, by each of its calls, where `a` is 2.
+pub fn parser_text(alloc: Global, row: &Row) -> Result<String> {
+    let mut host = Parser::new(alloc);
+    host.add_function("n", Box::new(alloc, |call: ExprCall| number(call))?)?;
+    let context = where_a_is_2(alloc)?;
+    let program = host.compile(alloc, row.text(0))?;
+    let mut page = Page::new(alloc);
+    page.put_call("Parser::eval", host.eval(alloc, row.text(0), &context));
+    page.put_call("Parser::run", host.run(alloc, &program, &context));
+    let answer = host.eval_expr(alloc, &context, &program.expr);
+    page.put_call("Parser::eval_expr", answer);
+    page.into_text()
+}
+
+/// An environment with zones of a rule and of an offset, whose moment is the instant 0.
+fn host_of_zones(alloc: Global) -> Result<Environment> {
     let mut host = Environment::new(alloc);
     if let Ok(rules) = TimeZone::posix("EST5EDT,M3.2.0,M11.1.0") {
         host.add_timezone("E", rules)?;
@@ -190,17 +167,18 @@ fn put_zones(alloc: Global, wrong: &mut Page) -> Result<()> {
         host.add_timezone("X/Plus1", TimeZone::fixed(ahead))?;
     }
     host.set_now(Timestamp::UNIX_EPOCH);
-    put_zoned(alloc, &host, wrong);
-    let taken = host.add_timezone("UTC", TimeZone::UTC);
-    wrong.answer("UTC is taken", nil_of(taken), "!evaluation");
-    let free = host.add_timezone("utc", TimeZone::UTC);
-    wrong.answer("utc is free", nil_of(free), "nil");
-    Ok(())
+    Ok(host)
 }
 
-/// Puts what is wrong of hosts.
-pub fn put_hosts(alloc: Global, wrong: &mut Page) -> Result<()> {
-    put_environment(alloc, wrong)?;
-    put_parser(alloc, "n(1, {#})", wrong)?;
-    put_zones(alloc, wrong)
+/// What a text answers where those zones are added.
+pub fn zones_text(alloc: Global, row: &Row) -> Result<String> {
+    let host = host_of_zones(alloc)?;
+    answer_text(alloc, host.eval(alloc, row.text(0), &Context::new(alloc)))
+}
+
+/// That a name is free for a zone, or the refusal of one that is taken.
+pub fn zone_name_text(alloc: Global, row: &Row) -> Result<String> {
+    let mut host = host_of_zones(alloc)?;
+    host.add_timezone(row.text(0), TimeZone::UTC)?;
+    Ok(String::from_str(alloc, "free")?)
 }

@@ -2,151 +2,109 @@
 use expr_bench_values::calls::one;
 use expr_bench_values::page::Page;
 use expr_context::Context;
-use expr_evaluation::{
-    eval_expr, eval_func, eval_operator, eval_postfix_operator, eval_unary_operator,
-};
+use expr_evaluation::{eval_expr, eval_func, eval_postfix_operator};
 use expr_lowering::Code;
 use expr_machine::{execute, run};
 use expr_syntax::{compile, compile_within};
-use expr_tree::node::{Node, Pattern, PostfixOperator, Program, Unbuilt};
+use expr_tree::node::{Node, Pattern, Program, Unbuilt};
 use expr_value::{Error, Result, Value};
 use std::alloc::Global;
 
-/// Puts what is wrong of the pattern `^f`.
-fn put_pattern(alloc: Global, pattern: &Pattern, wrong: &mut Page) -> Result<()> {
-    wrong.row("Pattern::new", pattern.text(), "^f");
+/// Puts the calls on the pattern `^f`.
+fn put_pattern(alloc: Global, pattern: &Pattern, page: &mut Page) -> Result<()> {
+    page.put_named("Pattern::new", pattern.text());
     let is_match = pattern.is_match(alloc, "foo")?;
     let is_other = pattern.is_match(alloc, "oof")?;
-    wrong.fact("Pattern::is_match", is_match && !is_other);
+    page.put_fact("Pattern::is_match", is_match && !is_other);
     let mut matcher = pattern.matcher(alloc)?;
     let is_match = matcher.is_match("foo");
     let is_other = matcher.is_match("oof");
-    wrong.fact("Pattern::matcher", is_match && !is_other);
+    page.put_fact("Pattern::matcher", is_match && !is_other);
     Ok(())
 }
 
-fn put_patterns(alloc: Global, wrong: &mut Page) -> Result<()> {
+fn put_patterns(alloc: Global, page: &mut Page) -> Result<()> {
     let pattern = Pattern::new(alloc, "^f")?;
-    put_pattern(alloc, &pattern, wrong)?;
+    put_pattern(alloc, &pattern, page)?;
     match Pattern::kept(alloc, "^f") {
-        Ok(kept) => wrong.fact("Pattern::kept", kept.is_some()),
+        Ok(kept) => page.put_fact("Pattern::kept", kept.is_some()),
         Err(Unbuilt::Memory) => return Err(Error::MemoryError),
-        Err(Unbuilt::TooBig) => wrong.fact("Pattern::kept", false),
+        Err(Unbuilt::TooBig) => page.put_fact("Pattern::kept", false),
     }
     Ok(())
 }
 
-/// Puts what is wrong of the copies of a program of `a * 10`, where `a` is 2.
-fn put_copies(alloc: Global, context: &Context, program: &Program, wrong: &mut Page) -> Result<()> {
+/// Puts the copies of a program of `a * 10`, where `a` is 2.
+fn put_copies(alloc: Global, context: &Context, program: &Program, page: &mut Page) -> Result<()> {
     let copy = program.clone()?;
-    wrong.answer("Program::clone", run(alloc, &copy, context), "20");
+    page.put_call("Program::clone", run(alloc, &copy, context));
     let copy = program.expr.clone()?;
-    wrong.answer("Node::clone", eval_expr(alloc, context, &copy), "20");
+    page.put_call("Node::clone", eval_expr(alloc, context, &copy));
     Ok(())
 }
 
-/// Puts what is wrong of the code of such a program.
-fn put_code(alloc: Global, context: &Context, program: &Program, wrong: &mut Page) -> Result<()> {
+/// Puts the code of such a program.
+fn put_code(alloc: Global, context: &Context, program: &Program, page: &mut Page) -> Result<()> {
     let code = Code::lower(alloc, program)?;
-    wrong.answer("Code::lower", execute(alloc, &code, context), "20");
+    page.put_call("Code::lower", execute(alloc, &code, context));
     let once = Code::lower_once(alloc, program)?;
-    wrong.answer("Code::lower_once", execute(alloc, &once, context), "20");
+    page.put_call("Code::lower_once", execute(alloc, &once, context));
     let kept = code.keep(alloc)?;
-    wrong.answer("Code::keep", execute(alloc, &kept, context), "20");
-    wrong.answer("execute", execute(alloc, &code, context), "20");
+    page.put_call("Code::keep", execute(alloc, &kept, context));
+    page.put_call("execute", execute(alloc, &code, context));
     Ok(())
 }
 
-/// Puts what is wrong of such a program.
-fn put_program(
-    alloc: Global,
-    context: &Context,
-    program: &Program,
-    wrong: &mut Page,
-) -> Result<()> {
-    wrong.answer("run", run(alloc, program, context), "20");
-    put_copies(alloc, context, program, wrong)?;
+/// Puts the calls on such a program.
+fn put_program(alloc: Global, context: &Context, program: &Program, page: &mut Page) -> Result<()> {
+    page.put_call("run", run(alloc, program, context));
+    put_copies(alloc, context, program, page)?;
     let answer = eval_expr(alloc, context, &program.expr);
-    wrong.answer("eval_expr", answer, "20");
-    put_code(alloc, context, program, wrong)?;
+    page.put_call("eval_expr", answer);
+    put_code(alloc, context, program, page)?;
     let names = program.names(alloc)?.join(alloc, " ")?;
-    wrong.row("Program::names", names.as_str(), "a");
+    page.put_named("Program::names", names.as_str());
     Ok(())
 }
 
-fn put_programs(alloc: Global, context: &Context, wrong: &mut Page) -> Result<()> {
+fn put_programs(alloc: Global, context: &Context, page: &mut Page) -> Result<()> {
     let program = compile(alloc, "a * 10")?;
-    wrong.answer("compile", run(alloc, &program, context), "20");
+    page.put_call("compile", run(alloc, &program, context));
     let program = compile_within(alloc, "a * 10", 2)?;
-    wrong.answer("compile_within", run(alloc, &program, context), "20");
-    put_program(alloc, context, &program, wrong)
+    page.put_call("compile_within", run(alloc, &program, context));
+    put_program(alloc, context, &program, page)
 }
 
-/// Puts what is wrong of a call for one node.
-fn put_node(alloc: Global, context: &Context, node: &Node, wrong: &mut Page) -> Result<()> {
-    match node {
-        Node::Operation {
-            operator,
-            left,
-            right,
-            ..
-        } => {
-            let answer = eval_operator(alloc, context, operator, left, right, None);
-            wrong.answer("eval_operator", answer, "20");
-        }
-        Node::Unary { operator, node } => {
-            let answer = eval_unary_operator(alloc, context, operator, node);
-            wrong.answer("eval_unary_operator", answer, "-2");
-        }
-        Node::Postfix { operator, node } => put_postfix(alloc, context, operator, node, wrong)?,
-        _ => wrong.put("another node\n"),
+/// Puts a copy of a node's postfix.
+fn put_postfix(alloc: Global, context: &Context, node: &Node, page: &mut Page) -> Result<()> {
+    if let Node::Postfix { operator, node } = node {
+        let copy = operator.clone()?;
+        let answer = eval_postfix_operator(alloc, context, &copy, node);
+        page.put_call("PostfixOperator::clone", answer);
+    } else {
+        page.put_fact("PostfixOperator::clone", false);
     }
     Ok(())
 }
 
-fn put_postfix(
-    alloc: Global,
-    context: &Context,
-    operator: &PostfixOperator,
-    node: &Node,
-    wrong: &mut Page,
-) -> Result<()> {
-    let answer = eval_postfix_operator(alloc, context, operator, node);
-    wrong.answer("eval_postfix_operator", answer, "7");
-    let copy = operator.clone()?;
-    let answer = eval_postfix_operator(alloc, context, &copy, node);
-    wrong.answer("PostfixOperator::clone", answer, "7");
-    Ok(())
-}
-
-/// Texts of an operator, a prefix and a postfix.
-const NODES: &[&str] = &["a * 10", "-a", "[7][a - 2]"];
-
-fn put_nodes(alloc: Global, context: &Context, wrong: &mut Page) -> Result<()> {
-    for code in NODES {
-        let program = compile(alloc, code)?;
-        put_node(alloc, context, &program.expr, wrong)?;
-    }
-    Ok(())
-}
-
-/// Puts what is wrong of calls, one with a program that it asks of items.
-fn put_functions(alloc: Global, context: &Context, wrong: &mut Page) -> Result<()> {
+/// Puts calls of built-ins, one with a program that it asks of items.
+fn put_functions(alloc: Global, context: &Context, page: &mut Page) -> Result<()> {
     let items = vec![in alloc; Value::Integer(1), Value::Integer(2)]?;
     let list = one(alloc, Value::from(items))?;
     let asked = compile(alloc, "# * 10")?;
     let answer = eval_func(alloc, context, "map", list, Some(&asked));
-    wrong.answer("eval_func", answer, "[10, 20]");
+    page.put_call("eval_func", answer);
     let text = one(alloc, Value::text(alloc, "abc")?)?;
     let answer = eval_func(alloc, context, "len", text, None);
-    wrong.answer("eval_func", answer, "3");
+    page.put_call("eval_func", answer);
     Ok(())
 }
 
-/// Puts the calls that answer otherwise than they should, where `a` is 2.
-pub fn put_calls(alloc: Global, context: &Context, wrong: &mut Page) -> Result<()> {
-    put_patterns(alloc, wrong)?;
-    put_programs(alloc, context, wrong)?;
-    put_nodes(alloc, context, wrong)?;
-    put_functions(alloc, context, wrong)
+/// Puts what the calls answer, where `a` is 2.
+pub fn put_calls(alloc: Global, context: &Context, page: &mut Page) -> Result<()> {
+    put_patterns(alloc, page)?;
+    put_programs(alloc, context, page)?;
+    let indexed = compile(alloc, "[7][a - 2]")?;
+    put_postfix(alloc, context, &indexed.expr, page)?;
+    put_functions(alloc, context, page)
 }

@@ -1,32 +1,28 @@
-//! Which calls on `1 + 2` ask for memory: reading it does and running it may, and evaluating its node doesn't.
-use expr_bench_values::page::{NO_MEMORY, Page};
+//! Which calls on a text ask for memory: of `1 + 2`, reading it does and running it may, and evaluating its node doesn't.
+use expr_bench_values::lines::Row;
+use expr_bench_values::page::{Page, word_of};
 use expr_context::Context;
 use expr_evaluation::eval_expr;
 use expr_machine::run;
 use expr_syntax::compile;
-use expr_value::{Error, Result, Value};
+use expr_value::{Result, Value};
 use std::alloc::Global;
 
 /// Puts a call and its answer, or the word for its refusal, want of memory too.
 fn put_call(call: &str, answer: Result<Value>, page: &mut Page) {
-    page.put(call);
-    page.put(": ");
     match answer {
-        Err(Error::MemoryError) => page.put(NO_MEMORY),
-        other => page.put_answer(other),
+        Ok(value) => page.put_call(call, Ok(value)),
+        Err(error) => page.put_named(call, word_of(&error)),
     }
-    page.put("\n");
 }
 
-/// Puts what the calls answer, or that there was no memory for the program.
-pub fn put_plain(alloc: Global, page: &mut Page) {
+/// What `run` and `eval_expr` answer of a text.
+pub fn plain_text(alloc: Global, row: &Row) -> Result<String> {
     let context = Context::new(alloc);
-    match compile(alloc, "1 + 2") {
-        Ok(program) => {
-            put_call("run", run(alloc, &program, &context), page);
-            let answer = eval_expr(alloc, &context, &program.expr);
-            put_call("eval_expr", answer, page);
-        }
-        Err(error) => put_call("compile", Err(error), page),
-    }
+    let program = compile(alloc, row.text(0))?;
+    let mut page = Page::new(alloc);
+    put_call("run", run(alloc, &program, &context), &mut page);
+    let answer = eval_expr(alloc, &context, &program.expr);
+    put_call("eval_expr", answer, &mut page);
+    page.into_text()
 }

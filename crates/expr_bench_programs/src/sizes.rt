@@ -23,9 +23,9 @@ const SIZES: &[(&str, usize, usize)] = &[
     ),
 ];
 
-/// Puts the types that are too large.
-pub fn put_sizes(wrong: &mut Page) {
+/// Puts the types, and whether each is as small as it should be.
+pub fn put_sizes(page: &mut Page) {
     for (name, bytes, most) in SIZES {
-        wrong.fact(name, bytes <= most);
+        page.put_fact(name, bytes <= most);
     }
 }

@@ -52,86 +52,79 @@ fn names_value(context: Context) -> Value {
     Value::from(context.into_map())
 }
 
-/// Puts what is wrong of the calls on a list `[1, {a: nil}]`.
-fn put_list(alloc: Global, list: &Value, wrong: &mut Page) -> Result<()> {
-    wrong.answer("Value::clone", Ok(list.clone()?), "[1, {a: nil}]");
+/// Puts the calls on a list `[1, {a: nil}]`.
+fn put_list(alloc: Global, list: &Value, page: &mut Page) -> Result<()> {
+    page.put_call("Value::clone", Ok(list.clone()?));
     let text = list.string_text(alloc)?;
-    wrong.row("Value::string_text", text.as_str(), "[1 map[a:<nil>]]");
+    page.put_named("Value::string_text", text.as_str());
     Ok(())
 }
 
-fn put_values(alloc: Global, wrong: &mut Page) -> Result<()> {
-    wrong.answer("Value::text", Value::text(alloc, "a"), "\"a\"");
+fn put_values(alloc: Global, page: &mut Page) -> Result<()> {
+    page.put_call("Value::text", Value::text(alloc, "a"));
     let pairs = Value::from_pairs(alloc, name_pairs(alloc)?);
-    wrong.answer("Value::from_pairs", pairs, NAMED);
+    page.put_call("Value::from_pairs", pairs);
     let mut items = one(alloc, Value::Integer(1))?;
     items.push(map_of_a(alloc, Value::Nil)?)?;
-    put_list(alloc, &Value::from(items), wrong)
+    put_list(alloc, &Value::from(items), page)
 }
 
-fn put_texts(alloc: Global, wrong: &mut Page) -> Result<()> {
+fn put_texts(alloc: Global, page: &mut Page) -> Result<()> {
     let text = Text::copy(alloc, "t")?;
-    wrong.answer("Text::clone", Ok(Value::String(text.clone()?)), "\"t\"");
-    wrong.answer("Text::copy", Ok(Value::String(text)), "\"t\"");
+    page.put_call("Text::clone", Ok(Value::String(text.clone()?)));
+    page.put_call("Text::copy", Ok(Value::String(text)));
     Ok(())
 }
 
-fn put_items(alloc: Global, wrong: &mut Page) -> Result<()> {
+fn put_items(alloc: Global, page: &mut Page) -> Result<()> {
     let items = Items::from_vec(one(alloc, Value::Nil)?);
-    wrong.answer("Items::clone", Ok(Value::Array(items.clone()?)), "[nil]");
+    page.put_call("Items::clone", Ok(Value::Array(items.clone()?)));
     Ok(())
 }
 
-fn put_keys(alloc: Global, wrong: &mut Page) -> Result<()> {
+fn put_keys(alloc: Global, page: &mut Page) -> Result<()> {
     let key = Key::String(Text::copy(alloc, "k")?);
-    wrong.answer("Key::to_value", key.to_value(alloc), "\"k\"");
+    page.put_call("Key::to_value", key.to_value(alloc));
     let copy = key.clone()?;
-    wrong.answer("Key::clone", copy.to_value(alloc), "\"k\"");
+    page.put_call("Key::clone", copy.to_value(alloc));
     Ok(())
 }
 
-fn put_map(alloc: Global, wrong: &mut Page) -> Result<()> {
+fn put_map(alloc: Global, page: &mut Page) -> Result<()> {
     let mut map = ValueMap::new(alloc);
     map.insert(Text::copy(alloc, "a")?, Value::Integer(1))?;
-    wrong.answer("ValueMap::clone", Ok(Value::Map(map.clone()?)), "{a: 1}");
-    wrong.answer("ValueMap::insert", Ok(Value::Map(map)), "{a: 1}");
+    page.put_call("ValueMap::clone", Ok(Value::Map(map.clone()?)));
+    page.put_call("ValueMap::insert", Ok(Value::Map(map)));
     Ok(())
 }
 
-fn put_new_maps(alloc: Global, wrong: &mut Page) -> Result<()> {
+fn put_new_maps(alloc: Global, page: &mut Page) -> Result<()> {
     let map = ValueMap::new(alloc);
-    wrong.answer("ValueMap::new", Ok(Value::Map(map)), "{}");
+    page.put_call("ValueMap::new", Ok(Value::Map(map)));
     let map = ValueMap::with_capacity(alloc, 2)?;
-    wrong.answer("ValueMap::with_capacity", Ok(Value::Map(map)), "{}");
+    page.put_call("ValueMap::with_capacity", Ok(Value::Map(map)));
     let map = ValueMap::from_pairs(alloc, name_pairs(alloc)?)?;
-    wrong.answer("ValueMap::from_pairs", Ok(Value::Map(map)), NAMED);
+    page.put_call("ValueMap::from_pairs", Ok(Value::Map(map)));
     Ok(())
 }
 
-fn put_keyed_map(alloc: Global, wrong: &mut Page) -> Result<()> {
+fn put_keyed_map(alloc: Global, page: &mut Page) -> Result<()> {
     let map = KeyedMap::from_pairs(alloc, key_pairs(alloc)?)?;
     let copy = Value::KeyedMap(map.clone()?);
-    wrong.answer("KeyedMap::clone", Ok(copy), KEYED);
-    let value = Value::KeyedMap(map);
-    let first = match value.as_keyed_map() {
-        Some(map) => map.get(&Value::text(alloc, "x")?),
-        None => None,
-    };
-    wrong.fact("as_keyed_map", matches!(first, Some(Value::Integer(1))));
-    wrong.fact("as_map of a keyed map", value.as_map().is_none());
-    wrong.answer("KeyedMap::from_pairs", Ok(value), KEYED);
+    page.put_call("KeyedMap::clone", Ok(copy));
+    page.put_call("KeyedMap::from_pairs", Ok(Value::KeyedMap(map)));
     Ok(())
 }
 
-fn put_new_keyed_map(alloc: Global, wrong: &mut Page) -> Result<()> {
+fn put_new_keyed_map(alloc: Global, page: &mut Page) -> Result<()> {
     let mut map = KeyedMap::with_capacity(alloc, 1)?;
     map.insert(Key::Nil, Value::Integer(1))?;
-    wrong.answer("KeyedMap::insert", Ok(Value::KeyedMap(map)), "{nil: 1}");
+    page.put_call("KeyedMap::insert", Ok(Value::KeyedMap(map)));
     Ok(())
 }
 
 /// Puts the answer to pairs of which one's key is a list.
-fn put_refused_key(alloc: Global, wrong: &mut Page) -> Result<()> {
+fn put_refused_key(alloc: Global, page: &mut Page) -> Result<()> {
     let mut pairs = key_pairs(alloc)?;
     let list = Value::from(one(alloc, Value::Integer(3))?);
     pairs.push((list, Value::Nil))?;
@@ -139,109 +132,85 @@ fn put_refused_key(alloc: Global, wrong: &mut Page) -> Result<()> {
         Ok(map) => Ok(Value::KeyedMap(map)),
         Err(error) => Err(error),
     };
-    wrong.answer("a key that is a list", answer, "!evaluation");
+    page.put_call("a key that is a list", answer);
     Ok(())
 }
 
-/// Puts what is wrong of the copies of a context where `a` is 1.
-fn put_copies(alloc: Global, context: &Context, wrong: &mut Page) -> Result<()> {
-    wrong.answer(
-        "Context::clone",
-        Ok(names_value(context.clone()?)),
-        "{a: 1}",
-    );
+/// Puts the copies of a context where `a` is 1.
+fn put_copies(alloc: Global, context: &Context, page: &mut Page) -> Result<()> {
+    page.put_call("Context::clone", Ok(names_value(context.clone()?)));
     let copy = context.to_context(alloc)?;
-    wrong.answer(
-        "ContextProvider::to_context",
-        Ok(names_value(copy)),
-        "{a: 1}",
-    );
+    page.put_call("ContextProvider::to_context", Ok(names_value(copy)));
     let copy = context.environment(alloc)?;
-    wrong.answer(
-        "ContextProvider::environment",
-        Ok(names_value(copy)),
-        "{a: 1}",
-    );
+    page.put_call("ContextProvider::environment", Ok(names_value(copy)));
     Ok(())
 }
 
-fn put_context(alloc: Global, wrong: &mut Page) -> Result<()> {
+fn put_context(alloc: Global, page: &mut Page) -> Result<()> {
     let mut context = Context::new(alloc);
-    wrong.fact("Context::new", context.is_empty());
+    page.put_fact("Context::new", context.is_empty());
     context.insert(String::from_str(alloc, "a")?, Value::Integer(1))?;
-    put_copies(alloc, &context, wrong)?;
-    wrong.answer("Context::insert", Ok(names_value(context)), "{a: 1}");
+    put_copies(alloc, &context, page)?;
+    page.put_call("Context::insert", Ok(names_value(context)));
     Ok(())
 }
 
-fn put_made_contexts(alloc: Global, wrong: &mut Page) -> Result<()> {
+fn put_made_contexts(alloc: Global, page: &mut Page) -> Result<()> {
     let context = Context::from_pairs(alloc, name_pairs(alloc)?)?;
-    wrong.answer("Context::from_pairs", Ok(names_value(context)), NAMED);
-    let value = map_of_a(alloc, Value::Integer(1))?;
-    let first = match value.as_map() {
-        Some(map) => map.get("a"),
-        None => None,
-    };
-    wrong.fact("as_map", matches!(first, Some(Value::Integer(1))));
-    let context = Context::try_from(alloc, value)?;
-    wrong.answer("Context::try_from", Ok(names_value(context)), "{a: 1}");
+    page.put_call("Context::from_pairs", Ok(names_value(context)));
+    let context = Context::try_from(alloc, map_of_a(alloc, Value::Integer(1))?)?;
+    page.put_call("Context::try_from", Ok(names_value(context)));
     Ok(())
 }
 
 /// What the instant 0 prints.
 const INSTANT: &str = "1970-01-01T00:00:00+00:00";
 
-/// Puts what is wrong of copies of the instant 0.
-fn put_moment(alloc: Global, moment: &DateTimeValue, wrong: &mut Page) -> Result<()> {
+/// Puts copies of the instant 0.
+fn put_moment(alloc: Global, moment: &DateTimeValue, page: &mut Page) -> Result<()> {
     let copy = Value::datetime(alloc, moment.clone()?);
-    wrong.answer("DateTimeValue::clone", copy, INSTANT);
+    page.put_call("DateTimeValue::clone", copy);
     let apart = match moment.clone()?.checked_add_signed(5) {
         Some(later) => later.checked_difference(moment),
         None => None,
     };
-    wrong.fact("checked_difference", apart == Some(5));
+    page.put_fact("checked_difference", apart == Some(5));
     Ok(())
 }
 
-fn put_moments(alloc: Global, wrong: &mut Page) -> Result<()> {
+fn put_moments(alloc: Global, page: &mut Page) -> Result<()> {
     let moment = DateTimeValue::fixed(Timestamp::UNIX_EPOCH, Offset::UTC);
-    put_moment(alloc, &moment, wrong)?;
-    let value = Value::datetime(alloc, moment.clone()?)?;
-    let apart = match value.as_datetime() {
-        Some(found) => found.checked_difference(&moment),
-        None => None,
-    };
-    wrong.fact("as_datetime", apart == Some(0));
-    wrong.answer("Value::datetime", Ok(value), INSTANT);
+    put_moment(alloc, &moment, page)?;
+    page.put_call("Value::datetime", Value::datetime(alloc, moment));
     Ok(())
 }
 
-fn put_zones(alloc: Global, wrong: &mut Page) -> Result<()> {
+fn put_zones(alloc: Global, page: &mut Page) -> Result<()> {
     let zone = TimezoneValue::named(alloc, "Z", TimeZone::UTC)?;
-    wrong.row("TimezoneValue::named", zone.name(), "Z");
+    page.put_named("TimezoneValue::named", zone.name());
     let copy = Value::timezone(alloc, zone.clone()?);
-    wrong.answer("TimezoneValue::clone", copy, "Z");
-    wrong.answer("Value::timezone", Value::timezone(alloc, zone), "Z");
+    page.put_call("TimezoneValue::clone", copy);
+    page.put_call("Value::timezone", Value::timezone(alloc, zone));
     Ok(())
 }
 
-fn put_all_maps(alloc: Global, wrong: &mut Page) -> Result<()> {
-    put_map(alloc, wrong)?;
-    put_new_maps(alloc, wrong)?;
-    put_keyed_map(alloc, wrong)?;
-    put_new_keyed_map(alloc, wrong)?;
-    put_refused_key(alloc, wrong)
+fn put_all_maps(alloc: Global, page: &mut Page) -> Result<()> {
+    put_map(alloc, page)?;
+    put_new_maps(alloc, page)?;
+    put_keyed_map(alloc, page)?;
+    put_new_keyed_map(alloc, page)?;
+    put_refused_key(alloc, page)
 }
 
-/// Puts the calls that answer otherwise than they should.
-pub fn put_calls(alloc: Global, wrong: &mut Page) -> Result<()> {
-    put_values(alloc, wrong)?;
-    put_texts(alloc, wrong)?;
-    put_items(alloc, wrong)?;
-    put_keys(alloc, wrong)?;
-    put_all_maps(alloc, wrong)?;
-    put_context(alloc, wrong)?;
-    put_made_contexts(alloc, wrong)?;
-    put_moments(alloc, wrong)?;
-    put_zones(alloc, wrong)
+/// Puts what the calls answer.
+pub fn put_calls(alloc: Global, page: &mut Page) -> Result<()> {
+    put_values(alloc, page)?;
+    put_texts(alloc, page)?;
+    put_items(alloc, page)?;
+    put_keys(alloc, page)?;
+    put_all_maps(alloc, page)?;
+    put_context(alloc, page)?;
+    put_made_contexts(alloc, page)?;
+    put_moments(alloc, page)?;
+    put_zones(alloc, page)
 }

@@ -1,17 +1,7 @@
 //! What values and contexts lend.
-use crate::page::Page;
-use expr_context::{Context, ContextProvider};
-use expr_value::{Error, Result, Value};
+use expr_context::ContextProvider;
+use expr_value::{Result, Value};
 use std::alloc::Global;
-
-/// Whether a value makes no context.
-pub fn is_no_context(alloc: Global, value: Value) -> Result<bool> {
-    match Context::try_from(alloc, value) {
-        Ok(_) => Ok(false),
-        Err(Error::ExprError(_)) => Ok(true),
-        Err(other) => Err(other),
-    }
-}
 
 /// Whether both maps of a provider of any kind are the same, and it has a name.
 pub fn has_name<P: ContextProvider>(alloc: Global, provider: &P, name: &str) -> Result<bool> {
@@ -20,16 +10,19 @@ pub fn has_name<P: ContextProvider>(alloc: Global, provider: &P, name: &str) -> 
     Ok(map == shown && provider.get(name).is_some())
 }
 
-/// Puts what a value lends to each of the calls that ask for one kind.
-pub fn put_lent(alloc: Global, value: &Value, page: &mut Page) {
-    page.put_made(format!(in alloc;
-        "\n{:?} {:?} {:?} {} {} {} {}",
+/// What a value lends to each of the calls that ask for one kind.
+pub fn text_of_lent(alloc: Global, value: &Value) -> Result<String> {
+    Ok(format!(in alloc;
+        "{:?} {:?} {:?} {} {} {} {} {} {} {}",
         value.as_integer(),
         value.as_bool(),
         value.as_duration(),
         value.as_string().is_some(),
         value.as_array().is_some(),
         value.as_bytes().is_some(),
+        value.as_map().is_some(),
+        value.as_keyed_map().is_some(),
+        value.as_datetime().is_some(),
         value.is_nil(),
-    ));
+    )?)
 }

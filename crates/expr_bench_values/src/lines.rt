@@ -1,10 +1,9 @@
-//! How texts and answers are written on a line.
-use crate::page::word_of;
+//! How texts are written on a line, and the rows that lines write.
 use expr_value::{Result, Value};
 use std::alloc::{AllocError, Global};
 
 /// The text that a line writes.
-pub fn unescape(alloc: Global, line: &str) -> std::result::Result<String, AllocError> {
+fn unescape(alloc: Global, line: &str) -> std::result::Result<String, AllocError> {
     let mut text = String::with_capacity(alloc, line.len())?;
     let mut is_escaped = false;
     for c in line.chars() {
@@ -26,7 +25,7 @@ pub fn unescape(alloc: Global, line: &str) -> std::result::Result<String, AllocE
 }
 
 /// The line that writes a text.
-fn escape(alloc: Global, text: &str) -> std::result::Result<String, AllocError> {
+pub fn escape(alloc: Global, text: &str) -> std::result::Result<String, AllocError> {
     let mut line = String::with_capacity(alloc, text.len())?;
     for c in text.chars() {
         match c {
@@ -40,13 +39,42 @@ fn escape(alloc: Global, text: &str) -> std::result::Result<String, AllocError> 
     Ok(line)
 }
 
-/// The line of an answer.
-pub fn answer_text(
-    alloc: Global,
-    answer: &Result<Value>,
-) -> std::result::Result<String, AllocError> {
-    match answer {
-        Ok(value) => escape(alloc, value.to_string(alloc)?.as_str()),
-        Err(error) => String::from_str(alloc, word_of(error)),
+/// The texts of a row.
+#[derive(Drop)]
+pub struct Row {
+    parts: Vec<String>,
+}
+
+impl Row {
+    /// The row that a line writes, with a tab between two texts.
+    pub fn read(alloc: Global, line: &str) -> std::result::Result<Row, AllocError> {
+        let mut parts = Vec::new(alloc);
+        for part in line.split('\t') {
+            parts.push(unescape(alloc, part)?)?;
+        }
+        Ok(Row { parts })
     }
+
+    /// The text of a place, or an empty one.
+    pub fn text(&self, place: usize) -> &str {
+        match self.parts.get(place) {
+            Some(part) => part.as_str(),
+            None => "",
+        }
+    }
+
+    /// The number that the text of a place writes, or 0.
+    pub fn number(&self, place: usize) -> usize {
+        self.text(place).parse::<usize>().unwrap_or(0)
+    }
+
+    /// The texts behind the first.
+    pub fn behind(&self) -> &[String] {
+        self.parts.get(1..).unwrap_or(&[])
+    }
+}
+
+/// What is printed of an answer.
+pub fn answer_text(alloc: Global, answer: Result<Value>) -> Result<String> {
+    Ok(answer?.to_string(alloc)?)
 }

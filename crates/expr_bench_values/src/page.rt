@@ -1,9 +1,6 @@
 //! A text that is written piece by piece.
-use expr_value::{Error, Value};
+use expr_value::{Error, Result, Value};
 use std::alloc::{AllocError, Global};
-
-/// The word for want of memory.
-pub const NO_MEMORY: &str = "!memory";
 
 /// A text so far, and whether there was memory for each piece of it.
 #[derive(Drop)]
@@ -19,7 +16,7 @@ pub fn word_of(error: &Error) -> &'static str {
         Error::ParseError(_) => "!literal",
         Error::ExprError(_) => "!evaluation",
         Error::RegexError(_) => "!pattern",
-        Error::MemoryError => NO_MEMORY,
+        Error::MemoryError => "!memory",
     }
 }
 
@@ -38,13 +35,15 @@ impl Page {
         }
     }
 
-    /// Puts a piece at the end so many times.
-    pub fn put_times(&mut self, piece: &str, times: usize) {
-        self.put_made(piece.repeat(self.allocator(), times));
+    /// Puts a space at the end, unless nothing stands there yet.
+    pub fn put_space(&mut self) {
+        if !self.text.is_empty() {
+            self.put(" ");
+        }
     }
 
     /// Puts a piece at the end that itself took memory.
-    pub fn put_made(&mut self, piece: Result<String, AllocError>) {
+    pub fn put_made(&mut self, piece: std::result::Result<String, AllocError>) {
         match piece {
             Ok(piece) => self.put(piece.as_str()),
             Err(_) => self.miss(),
@@ -52,7 +51,7 @@ impl Page {
     }
 
     /// Puts the printed text of an answer at the end, or the word for its refusal. Want of memory is a piece that is missed.
-    pub fn put_answer(&mut self, answer: expr_value::Result<Value>) {
+    pub fn put_answer(&mut self, answer: Result<Value>) {
         match answer {
             Ok(value) => self.put_made(value.to_string(self.allocator())),
             Err(Error::MemoryError) => self.miss(),
@@ -60,62 +59,41 @@ impl Page {
         }
     }
 
+    /// Puts a name and what it stands for.
+    pub fn put_named(&mut self, name: &str, text: &str) {
+        self.put_space();
+        self.put(name);
+        self.put(": ");
+        self.put(text);
+    }
+
+    /// Puts the name of a call and what it answers.
+    pub fn put_call(&mut self, name: &str, answer: Result<Value>) {
+        self.put_named(name, "");
+        self.put_answer(answer);
+    }
+
+    /// Puts a fact and whether it holds.
+    pub fn put_fact(&mut self, fact: &str, holds: bool) {
+        self.put_call(fact, Ok(Value::Bool(holds)));
+    }
+
     /// Notes that there was no memory for a piece.
     pub fn miss(&mut self) {
         self.is_whole = false;
-    }
-
-    /// Puts a fact that doesn't hold at the end.
-    pub fn fact(&mut self, fact: &str, holds: bool) {
-        if !holds {
-            self.put(fact);
-            self.put("\n");
-        }
-    }
-
-    /// Puts the row of a text at the end that gives another text than it should. One that had no memory says nothing of
-    /// the row, and the page isn't whole.
-    pub fn row(&mut self, text: &str, given: &str, expected: &str) {
-        if given == expected {
-            return;
-        }
-        if given == NO_MEMORY {
-            self.miss();
-        } else {
-            self.put(text);
-            self.put(": ");
-            self.put(given);
-            self.put("\n");
-        }
-    }
-
-    /// Puts the row of a text at the end that gives another page than it should. Where there was no memory for what it should
-    /// give, nothing is said of the row.
-    pub fn same(&mut self, text: &str, given: &Page, expected: &Page) {
-        if expected.is_whole {
-            self.row(text, given.text(), expected.text());
-        } else {
-            self.miss();
-        }
-    }
-
-    /// Puts the row of a text at the end that answers something else than it should, as [`Page::row`] does.
-    pub fn answer(&mut self, text: &str, answer: expr_value::Result<Value>, expected: &str) {
-        let mut given = Page::new(self.allocator());
-        given.put_answer(answer);
-        self.row(text, given.text(), expected);
     }
 
     pub fn allocator(&self) -> Global {
         *self.text.allocator()
     }
 
-    /// The text, or a word where there was no memory for all of it.
-    pub fn text(&self) -> &str {
-        if self.is_whole {
-            self.text.as_str()
+    /// The text, or want of memory where there was none for all of it.
+    pub fn into_text(self) -> Result<String> {
+        let Page { text, is_whole } = self;
+        if is_whole {
+            Ok(text)
         } else {
-            NO_MEMORY
+            Err(Error::MemoryError)
         }
     }
 }
