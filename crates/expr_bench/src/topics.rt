@@ -1,18 +1,12 @@
 //! What only code can see of a topic.
 use crate::engine;
-use expr::value;
 use expr_bench_answers::{macros, reading_back, values};
 use expr_bench_programs::sizes;
+use expr_bench_values::calls::where_a_is_2;
 use expr_bench_values::page::Page;
 use expr_bench_values::{collections, refusals};
-use expr_context::Context;
 use expr_value::Result;
 use std::alloc::Global;
-
-/// Names of which `a` stands for 2.
-fn where_a_is_2(alloc: Global) -> Result<Context> {
-    Context::try_from(alloc, value!(in alloc; {"a": 2})?)
-}
 
 /// Puts what is printed of a topic.
 fn put_topic(alloc: Global, topic: &str, page: &mut Page) -> Result<()> {

@@ -2,6 +2,7 @@
 use expr::{
     Code, Context, Environment, Error, ExprCall, KeptMachine, Node, Parser, Result, Value, compile,
 };
+use expr_bench_values::calls::where_a_is_2;
 use expr_bench_values::lines::{Row, answer_text};
 use expr_bench_values::page::Page;
 use jiff::Timestamp;
@@ -103,13 +104,6 @@ pub fn function_parts_text(alloc: Global, row: &Row) -> Result<String> {
     let mut page = Page::new(alloc);
     put_node(alloc, &host, &program.expr, &mut page);
     page.into_text()
-}
-
-/// Names of which `a` stands for 2.
-fn where_a_is_2(alloc: Global) -> Result<Context> {
-    let mut context = Context::new(alloc);
-    context.insert(String::from_str(alloc, "a")?, Value::Integer(2))?;
-    Ok(context)
 }
 
 /// What a text, its program and its code answer where those functions are added and `a` is 2, by each call for them.

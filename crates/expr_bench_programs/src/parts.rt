@@ -1,4 +1,5 @@
 //! Answers by the calls for one node, operator or call.
+use expr_bench_values::calls::where_a_is_2;
 use expr_bench_values::lines::Row;
 use expr_bench_values::page::Page;
 use expr_context::Context;
@@ -7,7 +8,7 @@ use expr_evaluation::{
 };
 use expr_syntax::compile;
 use expr_tree::node::{Node, Pattern};
-use expr_value::{Result, Value};
+use expr_value::Result;
 use std::alloc::Global;
 
 /// Puts the call for nodes of a node's kind, and what it answers with a pattern handed in.
@@ -49,8 +50,7 @@ fn put_node(
 pub fn parts_text(alloc: Global, row: &Row) -> Result<String> {
     let program = compile(alloc, row.text(0))?;
     let pattern = Pattern::new(alloc, row.text(1)).ok();
-    let mut context = Context::new(alloc);
-    context.insert(String::from_str(alloc, "a")?, Value::Integer(2))?;
+    let context = where_a_is_2(alloc)?;
     let mut page = Page::new(alloc);
     put_node(alloc, &context, &program.expr, pattern.as_ref(), &mut page);
     page.into_text()

@@ -16,6 +16,13 @@ pub fn one(alloc: Global, value: Value) -> Result<Vec<Value>> {
     Ok(values)
 }
 
+/// Names of which `a` stands for 2.
+pub fn where_a_is_2(alloc: Global) -> Result<Context> {
+    let mut context = Context::new(alloc);
+    context.insert(String::from_str(alloc, "a")?, Value::Integer(2))?;
+    Ok(context)
+}
+
 /// Names and values with a name twice.
 fn name_pairs(alloc: Global) -> Result<Vec<(String, Value)>> {
     let mut pairs = Vec::new(alloc);
