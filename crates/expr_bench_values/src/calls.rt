@@ -1,5 +1,5 @@
-//! Each public call on values that takes memory, by its name and with memory to spare; `bin/called` holds this table, and
-//! those of the same name in the crates above, to the sources.
+//! Each public call on values that takes memory, by its name and with memory to spare; `bin/called` holds what this and the
+//! modules of the same name in the crates above print to the sources.
 use crate::page::Page;
 use expr_context::{Context, ContextProvider};
 use expr_value::{
@@ -32,9 +32,6 @@ fn name_pairs(alloc: Global) -> Result<Vec<(String, Value)>> {
     Ok(pairs)
 }
 
-/// What such names and values print.
-const NAMED: &str = "{a: 2, b: \"x\"}";
-
 /// Scalars and values, with a scalar twice.
 fn key_pairs(alloc: Global) -> Result<Vec<(Value, Value)>> {
     let mut pairs = Vec::new(alloc);
@@ -43,9 +40,6 @@ fn key_pairs(alloc: Global) -> Result<Vec<(Value, Value)>> {
     pairs.push((Value::Integer(2), Value::text(alloc, "b")?))?;
     Ok(pairs)
 }
-
-/// What such scalars and values print.
-const KEYED: &str = "{2: \"b\", \"x\": 1}";
 
 /// A map where `a` has a value.
 fn map_of_a(alloc: Global, value: Value) -> Result<Value> {
@@ -169,9 +163,6 @@ fn put_made_contexts(alloc: Global, page: &mut Page) -> Result<()> {
     page.put_call("Context::try_from", Ok(names_value(context)));
     Ok(())
 }
-
-/// What the instant 0 prints.
-const INSTANT: &str = "1970-01-01T00:00:00+00:00";
 
 /// Puts copies of the instant 0.
 fn put_moment(alloc: Global, moment: &DateTimeValue, page: &mut Page) -> Result<()> {
