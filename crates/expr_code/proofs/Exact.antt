@@ -30,7 +30,7 @@ use Rattle.expr_code.specs.Slots.{name_op, slot_op, slot_of}
 use Rattle.expr_code.specs.declared.binds.Binds.{Binds}
 use Rattle.expr_code.proofs.Alike.{IsAlike, stands_alike}
 use Rattle.expr_code.proofs.HigherOrder.{HasTold, asked_as, call_keeps}
-use Rattle.expr_code.proofs.Slotted.{overridden, overridden-append, overridden-map, Means, in_slot, in_context, name_means}
+use Rattle.expr_code.proofs.Slotted.{overridden, with_slots, overridden-append, overridden-map, Means, in_slot, in_context, name_means}
 use Rattle.expr_code.proofs.Steps.{same, via, back, itself, Then-iff, Then-next, Then-first, Then-nested, Then-single, rest_append, rest_passed, taken_all}
 
 abbrev Stack : Type 0
@@ -421,7 +421,7 @@ module _ (world : World) (later : Later) where
 abbrev pub IsRight : World → Programs → Later → Type 0
 IsRight world programs later =
     (n : ℕ) (scope : SlotNames) (b : Block) → slice_get programs n ≡ Some (scope, b) → (slots : List Value) → length scope ≡ length slots → (a : Answer)
-    → later n slots a ↔ AllowsBlock (with_context world (overridden scope slots world.context)) b a
+    → later n slots a ↔ AllowsBlock (with_slots world scope slots) b a
 
 module _ (world : World) (programs : Programs) (later : Later) (right : IsRight world programs later) where
   -- a call that asks a block
@@ -466,7 +466,7 @@ module _ (world : World) (programs : Programs) (later : Later) (right : IsRight 
         )
 
     exact_asks : (n : ℕ) (vs : List Value) → n ≡ length vs
-        → Exact world later (with_pushed vs) put (asks key n block (length scope) (binds_named key) ∷ []) slots (AllowsCall world.host key vs true (AllowsPredicate (with_context world (overridden scope slots world.context)) (predicate b)))
+        → Exact world later (with_pushed vs) put (asks key n block (length scope) (binds_named key) ∷ []) slots (AllowsCall world.host key vs true (AllowsPredicate (with_slots world scope slots) (predicate b)))
     exact_asks n vs many next stack settled extra a =
         let asked = λ (x : Answer). AllowsCall world.host key vs true (Asked extra) x in
         let allowed = λ (x : Answer). AllowsCall world.host key vs true (λ q. AllowsBlock (with_context world (predicate_context (overridden scope slots world.context) q)) b) x in
@@ -478,11 +478,11 @@ module _ (world : World) (programs : Programs) (later : Later) (right : IsRight 
 
   -- a call by its instruction
   exact_call : (scope : SlotNames) (slots : List Value) → length scope ≡ length slots → (key : List ℕ) (n : ℕ) (p : Predicate) (op : Op) → IsCallOp programs scope key n p op
-      → (vs : List Value) → n ≡ length vs → Exact world later (with_pushed vs) put (op ∷ []) slots (AllowsCall world.host key vs (is_given p) (AllowsPredicate (with_context world (overridden scope slots world.context)) p))
+      → (vs : List Value) → n ≡ length vs → Exact world later (with_pushed vs) put (op ∷ []) slots (AllowsCall world.host key vs (is_given p) (AllowsPredicate (with_slots world scope slots) p))
   exact_call scope slots e key n no_predicate op is vs many =
       subst (λ o. Exact world later (with_pushed vs) put (o ∷ []) slots (AllowsCall world.host key vs false AnswersItself)) (sym is) (exact_act world later (calls key n) vs many slots)
   exact_call scope slots e key n (predicate b) op (block, at, is) vs many =
-      subst (λ o. Exact world later (with_pushed vs) put (o ∷ []) slots (AllowsCall world.host key vs true (AllowsPredicate (with_context world (overridden scope slots world.context)) (predicate b)))) (sym is) (
+      subst (λ o. Exact world later (with_pushed vs) put (o ∷ []) slots (AllowsCall world.host key vs true (AllowsPredicate (with_slots world scope slots) (predicate b)))) (sym is) (
       exact_asks scope slots e key block b at n vs many
       )
 
@@ -500,76 +500,76 @@ module _ (world : World) (programs : Programs) (later : Later) (right : IsRight 
 
   mutual
     pub exact : {scope : SlotNames} {t : Term} {ops : List Op} → TermCode programs scope t ops → (slots : List Value) → length scope ≡ length slots
-        → Exact world later kept put ops slots (Allows (with_context world (overridden scope slots world.context)) t)
+        → Exact world later kept put ops slots (Allows (with_slots world scope slots) t)
     exact (name_code scope key) slots e = exact_name world later scope slots key e
     exact (literal_code scope v) slots e = exact_goes world later kept put (push v ∷ []) slots (Ok v) (λ next stack extra a. itself)
     exact (list_code scope ts c d) slots e =
-        exact_then world later kept with_pushed put c (act (collect (count_terms ts)) ∷ []) slots (AllowsAll (with_context world (overridden scope slots world.context)) ts) (λ vs a. a ≡ Ok (value.Array vs)) (exact_all d slots e) (
-        λ vs known. exact_act world later (collect (count_terms ts)) vs (as_many (with_context world (overridden scope slots world.context)) ts vs known) slots
+        exact_then world later kept with_pushed put c (act (collect (count_terms ts)) ∷ []) slots (AllowsAll (with_slots world scope slots) ts) (λ vs a. a ≡ Ok (value.Array vs)) (exact_all d slots e) (
+        λ vs known. exact_act world later (collect (count_terms ts)) vs (as_many (with_slots world scope slots) ts vs known) slots
         )
     exact (literals_code scope vs) slots e =
-        exact_as world later kept put (push (value.Array vs) ∷ []) slots (λ a. a ≡ Ok (value.Array vs)) (Allows (with_context world (overridden scope slots world.context)) (list (literals vs))) (
-        literals_allow (with_context world (overridden scope slots world.context)) vs
+        exact_as world later kept put (push (value.Array vs) ∷ []) slots (λ a. a ≡ Ok (value.Array vs)) (Allows (with_slots world scope slots) (list (literals vs))) (
+        literals_allow (with_slots world scope slots) vs
         ) (exact_goes world later kept put (push (value.Array vs) ∷ []) slots (Ok (value.Array vs)) (λ next stack extra a. itself))
     exact (mapping_code scope ps c d) slots e =
-        exact_then world later kept (λ ms. with_pushed (values ms)) put c (act (gather (keys_of ps)) ∷ []) slots (AllowsPairs (with_context world (overridden scope slots world.context)) ps) (λ ms a. a ≡ Ok (value.Map (put_all [] ms))) (exact_pairs d slots e) (
-        λ ms known. let m = pairs_match (with_context world (overridden scope slots world.context)) ps ms known in
+        exact_then world later kept (λ ms. with_pushed (values ms)) put c (act (gather (keys_of ps)) ∷ []) slots (AllowsPairs (with_slots world scope slots) ps) (λ ms a. a ≡ Ok (value.Map (put_all [] ms))) (exact_pairs d slots e) (
+        λ ms known. let m = pairs_match (with_slots world scope slots) ps ms known in
         subst (λ l. Exact world later (with_pushed (values ms)) put (act (gather (keys_of ps)) ∷ []) slots (λ a. a ≡ Ok (value.Map (put_all [] l)))) m.again (
         exact_act world later (gather (keys_of ps)) (values ms) m.many slots
         )
         )
     exact (range_code scope l r c d x y) slots e =
-        exact_two world later span refl c d slots (Allows (with_context world (overridden scope slots world.context)) l) (Allows (with_context world (overridden scope slots world.context)) r) (exact x slots e) (exact y slots e)
+        exact_two world later span refl c d slots (Allows (with_slots world scope slots) l) (Allows (with_slots world scope slots) r) (exact x slots e) (exact y slots e)
     exact (call_code scope key ts p c op d is) slots e =
-        exact_then world later kept with_pushed put c (op ∷ []) slots (AllowsAll (with_context world (overridden scope slots world.context)) ts)
-        (λ vs. AllowsCall world.host key vs (is_given p) (AllowsPredicate (with_context world (overridden scope slots world.context)) p)) (exact_all d slots e) (
-        λ vs known. exact_call scope slots e key (count_terms ts) p op is vs (as_many (with_context world (overridden scope slots world.context)) ts vs known)
+        exact_then world later kept with_pushed put c (op ∷ []) slots (AllowsAll (with_slots world scope slots) ts)
+        (λ vs. AllowsCall world.host key vs (is_given p) (AllowsPredicate (with_slots world scope slots) p)) (exact_all d slots e) (
+        λ vs known. exact_call scope slots e key (count_terms ts) p op is vs (as_many (with_slots world scope slots) ts vs known)
         )
     exact (unary_code scope o t c x) slots e =
-        exact_one world later (prefix o) refl c slots (Allows (with_context world (overridden scope slots world.context)) t) (exact x slots e)
+        exact_one world later (prefix o) refl c slots (Allows (with_slots world scope slots) t) (exact x slots e)
     exact (operation_code scope o l r c d both x y) slots e =
-        let F = Allows (with_context world (overridden scope slots world.context)) l in
-        let G = Allows (with_context world (overridden scope slots world.context)) r in
+        let F = Allows (with_slots world scope slots) l in
+        let G = Allows (with_slots world scope slots) r in
         exact_as world later kept put (c ++ (d ++ act (operate o) ∷ [])) slots (Then F (λ v. Then G (λ w. OperatorMayReturn o v w))) (Then F (λ v. OperationMayReturn o v G)) (
         λ a. Then-next F (λ v. Then G (λ w. OperatorMayReturn o v w)) (λ v. OperationMayReturn o v G) (λ v b known. back (continued_both (operator_strictness o) both o v G b)) a
         ) (exact_two world later (operate o) refl c d slots F G (exact x slots e) (exact y slots e))
     exact (operation_with_code scope o l v c both x) slots e =
-        exact_with o both v v (λ w b. itself) c slots (Allows (with_context world (overridden scope slots world.context)) l) (λ b. b ≡ Ok v) (λ b. itself) (exact x slots e)
+        exact_with o both v v (λ w b. itself) c slots (Allows (with_slots world scope slots) l) (λ b. b ≡ Ok v) (λ b. itself) (exact x slots e)
     exact (operation_with_literals_code scope o l vs v c both stands x) slots e =
-        exact_with o both (value.Array vs) v (stands_alike o vs v stands) c slots (Allows (with_context world (overridden scope slots world.context)) l) (Allows (with_context world (overridden scope slots world.context)) (list (literals vs))) (
-        literals_allow (with_context world (overridden scope slots world.context)) vs
+        exact_with o both (value.Array vs) v (stands_alike o vs v stands) c slots (Allows (with_slots world scope slots) l) (Allows (with_slots world scope slots) (list (literals vs))) (
+        literals_allow (with_slots world scope slots) vs
         ) (exact x slots e)
     exact (and_code scope o l r c d s x y) slots e =
-        let F = Allows (with_context world (overridden scope slots world.context)) l in
-        let G = Allows (with_context world (overridden scope slots world.context)) r in
+        let F = Allows (with_slots world scope slots) l in
+        let G = Allows (with_slots world scope slots) r in
         exact_then world later kept put put c (and_then (length d + 1) ∷ (d ++ act check_bool ∷ [])) slots F (λ v. OperationMayReturn o v G) (exact x slots e) (
         λ v known. exact_as world later (put v) put (and_then (length d + 1) ∷ (d ++ act check_bool ∷ [])) slots (AndThenLayer (out-Value v) G) (OperationMayReturn o v G) (
         λ a. same (ap (λ k. OperationMayReturnBy k o v G a) (sym s))
         ) (exact_and world later d slots G (exact y slots e) v)
         )
     exact (or_code scope o l r c d s x y) slots e =
-        let F = Allows (with_context world (overridden scope slots world.context)) l in
-        let G = Allows (with_context world (overridden scope slots world.context)) r in
+        let F = Allows (with_slots world scope slots) l in
+        let G = Allows (with_slots world scope slots) r in
         exact_then world later kept put put c (or_else (length d + 1) ∷ (d ++ act check_bool ∷ [])) slots F (λ v. OperationMayReturn o v G) (exact x slots e) (
         λ v known. exact_as world later (put v) put (or_else (length d + 1) ∷ (d ++ act check_bool ∷ [])) slots (OrElseLayer (out-Value v) G) (OperationMayReturn o v G) (
         λ a. same (ap (λ k. OperationMayReturnBy k o v G a) (sym s))
         ) (exact_or world later d slots G (exact y slots e) v)
         )
     exact (postfix_code scope p t c d x y) slots e =
-        exact_then world later kept put put c d slots (Allows (with_context world (overridden scope slots world.context)) t) (λ v. AllowsPostfix (with_context world (overridden scope slots world.context)) p v) (exact x slots e) (
+        exact_then world later kept put put c d slots (Allows (with_slots world scope slots) t) (λ v. AllowsPostfix (with_slots world scope slots) p v) (exact x slots e) (
         λ v known. exact_postfix y slots e v
         )
     exact (choice_code scope t first second c d f x y z) slots e =
-        let A = AllowsBlock (with_context world (overridden scope slots world.context)) first in
-        let B = AllowsBlock (with_context world (overridden scope slots world.context)) second in
-        exact_then world later kept put put c (jump_if_false (length d + 1) ∷ (d ++ jump (length f) ∷ f)) slots (Allows (with_context world (overridden scope slots world.context)) t) (λ v. BranchMayReturn v A B) (exact x slots e) (
+        let A = AllowsBlock (with_slots world scope slots) first in
+        let B = AllowsBlock (with_slots world scope slots) second in
+        exact_then world later kept put put c (jump_if_false (length d + 1) ∷ (d ++ jump (length f) ∷ f)) slots (Allows (with_slots world scope slots) t) (λ v. BranchMayReturn v A B) (exact x slots e) (
         λ v known. exact_sides world later d f slots A B (exact_block y slots e) (exact_block z slots e) v
         )
 
     exact_postfix : {scope : SlotNames} {p : Postfix} {ops : List Op} → PostfixCode programs scope p ops → (slots : List Value) → length scope ≡ length slots
-        → (v : Value) → Exact world later (put v) put ops slots (AllowsPostfix (with_context world (overridden scope slots world.context)) p v)
+        → (v : Value) → Exact world later (put v) put ops slots (AllowsPostfix (with_slots world scope slots) p v)
     exact_postfix (index_code scope key optional c x) slots e v =
-        exact_behind world later (pick optional) refl c slots (Allows (with_context world (overridden scope slots world.context)) key) (exact x slots e) v
+        exact_behind world later (pick optional) refl c slots (Allows (with_slots world scope slots) key) (exact x slots e) v
     exact_postfix (index_at_code scope key optional) slots e v =
         exact_as world later (put v) put (act (pick_at key optional) ∷ []) slots (λ a. a ≡ index_answer v key optional) (Then (λ a. a ≡ Ok key) (λ k a. a ≡ index_answer v k optional)) (
         λ a. back (Then-single (Ok key) (λ k b. b ≡ index_answer v k optional) a)
@@ -580,73 +580,73 @@ module _ (world : World) (programs : Programs) (later : Later) (right : IsRight 
         λ a. back (via (Then-single (Ok None) to_end a) (Then-single (Ok None) (λ to c. c ≡ slice_answer v None to) a))
         ) (exact_act world later (cut false false) (v ∷ []) refl slots)
     exact_postfix (slice_from_code scope t c x) slots e v =
-        let F = Allows (with_context world (overridden scope slots world.context)) t in
+        let F = Allows (with_slots world scope slots) t in
         let to_end = λ (from : Option ℤ). Then (λ b. b ≡ Ok None) (λ to c. c ≡ slice_answer v from to) in
-        exact_as world later (put v) put (c ++ act (cut true false) ∷ []) slots (Then F (λ w b. b ≡ bound_then (bound_at_top w) (λ from. slice_answer v from None))) (AllowsPostfix (with_context world (overridden scope slots world.context)) (slice (bound t) unbounded) v) (
+        exact_as world later (put v) put (c ++ act (cut true false) ∷ []) slots (Then F (λ w b. b ≡ bound_then (bound_at_top w) (λ from. slice_answer v from None))) (AllowsPostfix (with_slots world scope slots) (slice (bound t) unbounded) v) (
         λ a. via (bound_made F (λ from. slice_answer v from None) a) (
         Then-next (Then F (λ w b. b ≡ bound_at_top w)) (λ from b. b ≡ slice_answer v from None) to_end (λ from b known. back (Then-single (Ok None) (λ to c. c ≡ slice_answer v from to) b)) a
         )
         ) (exact_behind world later (cut true false) refl c slots F (exact x slots e) v)
     exact_postfix (slice_to_code scope t c x) slots e v =
-        let F = Allows (with_context world (overridden scope slots world.context)) t in
+        let F = Allows (with_slots world scope slots) t in
         let to_bound = λ (from : Option ℤ). Then (Then F (λ w b. b ≡ bound_at_top w)) (λ to c. c ≡ slice_answer v from to) in
-        exact_as world later (put v) put (c ++ act (cut false true) ∷ []) slots (Then F (λ w b. b ≡ bound_then (bound_at_top w) (λ to. slice_answer v None to))) (AllowsPostfix (with_context world (overridden scope slots world.context)) (slice unbounded (bound t)) v) (
+        exact_as world later (put v) put (c ++ act (cut false true) ∷ []) slots (Then F (λ w b. b ≡ bound_then (bound_at_top w) (λ to. slice_answer v None to))) (AllowsPostfix (with_slots world scope slots) (slice unbounded (bound t)) v) (
         λ a. via (bound_made F (λ to. slice_answer v None to) a) (back (Then-single (Ok None) to_bound a))
         ) (exact_behind world later (cut false true) refl c slots F (exact x slots e) v)
     exact_postfix (slice_between_code scope t u c d x y) slots e v =
-        let F = Allows (with_context world (overridden scope slots world.context)) t in
-        let G = Allows (with_context world (overridden scope slots world.context)) u in
-        exact_as world later (put v) put (c ++ act check_integer ∷ (d ++ act (cut true true) ∷ [])) slots (Then F (λ w. Then (λ b. b ≡ kept_if (checked_bound w) w) (Between v G))) (AllowsPostfix (with_context world (overridden scope slots world.context)) (slice (bound t) (bound u)) v) (
+        let F = Allows (with_slots world scope slots) t in
+        let G = Allows (with_slots world scope slots) u in
+        exact_as world later (put v) put (c ++ act check_integer ∷ (d ++ act (cut true true) ∷ [])) slots (Then F (λ w. Then (λ b. b ≡ kept_if (checked_bound w) w) (Between v G))) (AllowsPostfix (with_slots world scope slots) (slice (bound t) (bound u)) v) (
         λ a. between_made v G F a
         ) (exact_between world later c d slots F G (exact x slots e) (exact y slots e) v)
     exact_postfix (coalesce_code scope t c x) slots e v =
-        exact_default world later c slots (Allows (with_context world (overridden scope slots world.context)) t) (exact x slots e) v
+        exact_default world later c slots (Allows (with_slots world scope slots) t) (exact x slots e) v
     exact_postfix (pipe_code scope key ts p c op d is) slots e v =
-        exact_then world later (put v) (λ vs stack. with_pushed vs (v ∷ stack)) put c (op ∷ []) slots (AllowsAll (with_context world (overridden scope slots world.context)) ts)
-        (λ vs. AllowsCall world.host key (v ∷ vs) (is_given p) (AllowsPredicate (with_context world (overridden scope slots world.context)) p)) (
-        exact_over world later (put v) kept with_pushed c slots (AllowsAll (with_context world (overridden scope slots world.context)) ts) (exact_all d slots e)
+        exact_then world later (put v) (λ vs stack. with_pushed vs (v ∷ stack)) put c (op ∷ []) slots (AllowsAll (with_slots world scope slots) ts)
+        (λ vs. AllowsCall world.host key (v ∷ vs) (is_given p) (AllowsPredicate (with_slots world scope slots) p)) (
+        exact_over world later (put v) kept with_pushed c slots (AllowsAll (with_slots world scope slots) ts) (exact_all d slots e)
         ) (
-        λ vs known. exact_call scope slots e key (suc (count_terms ts)) p op is (v ∷ vs) (ap suc (as_many (with_context world (overridden scope slots world.context)) ts vs known))
+        λ vs known. exact_call scope slots e key (suc (count_terms ts)) p op is (v ∷ vs) (ap suc (as_many (with_slots world scope slots) ts vs known))
         )
     exact_postfix (pipe_other_code scope t other) slots e v =
-        exact_as world later (put v) put (refuse ∷ []) slots (λ a. a ≡ Err evaluation) (AllowsPiped (with_context world (overridden scope slots world.context)) t v) (λ a. piped_other (with_context world (overridden scope slots world.context)) t other v a) (
+        exact_as world later (put v) put (refuse ∷ []) slots (λ a. a ≡ Err evaluation) (AllowsPiped (with_slots world scope slots) t v) (λ a. piped_other (with_slots world scope slots) t other v a) (
         exact_goes world later (put v) put (refuse ∷ []) slots (Err evaluation) (λ next stack extra a. itself)
         )
     exact_postfix (ternary_code scope first second d f y z) slots e v =
-        exact_sides world later d f slots (Allows (with_context world (overridden scope slots world.context)) first) (Allows (with_context world (overridden scope slots world.context)) second) (exact y slots e) (exact z slots e) v
+        exact_sides world later d f slots (Allows (with_slots world scope slots) first) (Allows (with_slots world scope slots) second) (exact y slots e) (exact z slots e) v
     exact_postfix (method_code scope key ts c d) slots e v =
-        exact_then world later (put v) (λ vs stack. with_pushed vs (v ∷ stack)) put c (act (invoke key (count_terms ts)) ∷ []) slots (AllowsAll (with_context world (overridden scope slots world.context)) ts)
+        exact_then world later (put v) (λ vs stack. with_pushed vs (v ∷ stack)) put c (act (invoke key (count_terms ts)) ∷ []) slots (AllowsAll (with_slots world scope slots) ts)
         (λ vs. AllowsMethod key v vs) (
-        exact_over world later (put v) kept with_pushed c slots (AllowsAll (with_context world (overridden scope slots world.context)) ts) (exact_all d slots e)
+        exact_over world later (put v) kept with_pushed c slots (AllowsAll (with_slots world scope slots) ts) (exact_all d slots e)
         ) (
-        λ vs known. exact_act world later (invoke key (count_terms ts)) (v ∷ vs) (ap suc (as_many (with_context world (overridden scope slots world.context)) ts vs known)) slots
+        λ vs known. exact_act world later (invoke key (count_terms ts)) (v ∷ vs) (ap suc (as_many (with_slots world scope slots) ts vs known)) slots
         )
 
     exact_all : {scope : SlotNames} {ts : Terms} {ops : List Op} → TermsCode programs scope ts ops → (slots : List Value) → length scope ≡ length slots
-        → Exact world later kept with_pushed ops slots (AllowsAll (with_context world (overridden scope slots world.context)) ts)
+        → Exact world later kept with_pushed ops slots (AllowsAll (with_slots world scope slots) ts)
     exact_all (no_terms_code scope) slots e = exact_goes world later kept with_pushed [] slots (Ok []) (λ next stack extra a. itself)
     exact_all (term_code scope t ts c d x y) slots e =
-        let F = Allows (with_context world (overridden scope slots world.context)) t in
-        let G = AllowsAll (with_context world (overridden scope slots world.context)) ts in
+        let F = Allows (with_slots world scope slots) t in
+        let G = AllowsAll (with_slots world scope slots) ts in
         exact_then world later kept put with_pushed c d slots F (λ v. Then G (λ vs a. a ≡ Ok (v ∷ vs))) (exact x slots e) (
         λ v known. exact_made world later (λ vs. v ∷ vs) (put v) with_pushed d slots G (exact_over world later (put v) kept with_pushed d slots G (exact_all y slots e))
         )
 
     exact_pairs : {scope : SlotNames} {ps : TermPairs} {ops : List Op} → PairsCode programs scope ps ops → (slots : List Value) → length scope ≡ length slots
-        → Exact world later kept (λ ms. with_pushed (values ms)) ops slots (AllowsPairs (with_context world (overridden scope slots world.context)) ps)
+        → Exact world later kept (λ ms. with_pushed (values ms)) ops slots (AllowsPairs (with_slots world scope slots) ps)
     exact_pairs (pairs_end_code scope) slots e = exact_goes world later kept (λ ms. with_pushed (values ms)) [] slots (Ok []) (λ next stack extra a. itself)
     exact_pairs (pair_code scope key t ps c d x y) slots e =
-        let F = Allows (with_context world (overridden scope slots world.context)) t in
-        let G = AllowsPairs (with_context world (overridden scope slots world.context)) ps in
+        let F = Allows (with_slots world scope slots) t in
+        let G = AllowsPairs (with_slots world scope slots) ps in
         exact_then world later kept put (λ ms. with_pushed (values ms)) c d slots F (λ v. Then G (λ ms a. a ≡ Ok ((key, v) ∷ ms))) (exact x slots e) (
         λ v known. exact_made world later (λ ms. (key, v) ∷ ms) (put v) (λ ms. with_pushed (values ms)) d slots G (exact_over world later (put v) kept (λ ms. with_pushed (values ms)) d slots G (exact_pairs y slots e))
         )
 
     pub exact_block : {scope : SlotNames} {b : Block} {ops : List Op} → BlockCode programs scope b ops → (slots : List Value) → length scope ≡ length slots
-        → Exact world later kept put ops slots (AllowsBlock (with_context world (overridden scope slots world.context)) b)
+        → Exact world later kept put ops slots (AllowsBlock (with_slots world scope slots) b)
     exact_block (answers_code scope t c x) slots e = exact x slots e
     exact_block (line_code scope key t b c d x y) slots e =
-        let F = Allows (with_context world (overridden scope slots world.context)) t in
+        let F = Allows (with_slots world scope slots) t in
         let inner = scope ++ key ∷ [] in
         exact_then world later kept put put c (store (length scope) ∷ d) slots F (λ v. AllowsBlock (with_context world (override (overridden scope slots world.context) key v)) b) (exact x slots e) (
         λ v known. exact_line world later d (length scope) slots e v (AllowsBlock (with_context world (override (overridden scope slots world.context) key v)) b) (
