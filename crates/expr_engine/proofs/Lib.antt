@@ -1,4 +1,5 @@
 pub mod Ended
+pub mod Faulty
 pub mod Given
 pub mod Handed
 pub mod Told

@@ -3,6 +3,7 @@ pub mod Asks
 pub mod Codes
 pub mod Effects
 pub mod Engines
+pub mod Faults
 pub mod Limiting
 pub mod Promised
 pub mod Runs

@@ -3,10 +3,11 @@ use Rattle.std.specs.Prelude.{◌≡◌, ◌≢◌, [], None, Some, MatchOption,
 use Rattle.expr_engine.specs.Asks.{ask_of, shows_of}
 use Rattle.expr_engine.specs.Effects.{Does, IsMissing, call_result}
 use Rattle.expr_engine.specs.Engines.{Leaves, NumbersRise, run_inputs}
+use Rattle.expr_engine.specs.Faults.{AnswersText, place_of}
 use Rattle.expr_engine.specs.Limiting.{LimitsBy, for_strangers}
 use Rattle.expr_engine.specs.Served.{AnswersNumber, text_shown}
 use Rattle.expr_engine.specs.Turns.{TurnsBy}
-use Rattle.expr_engine.specs.declared.call.Ask.TheVariants.{Run}
+use Rattle.expr_engine.specs.declared.call.Ask.TheVariants.{Compile, Run}
 use Rattle.expr_engine.specs.declared.call.Call.{Call}
 use Rattle.expr_engine.specs.declared.engine.Engine.{Engine}
 use Rattle.expr_exchange.specs.Builder.{values_of}
@@ -29,6 +30,7 @@ pub record IsNew (engine : Engine) : Type 0 where
 -- The clauses of `serve`: of the engine before and after, and of the call as it was asked and as it was answered.
 pub record IsServed (old new : Engine) (call answered : Call) : Type 0 where
   pub done : answered.status ≡ 0 → MatchOption (ask_of call.ask) ⊥ (λ ask. Does ask old new call (call_result answered))
+  pub text : ask_of call.ask ≡ Some Compile → AnswersText old.limits call.text.now answered.status (place_of answered)
   pub run : ask_of call.ask ≡ Some Run
       → MatchOption (run_inputs old call.program call.environment call.context) (answered.status ≡ 6) (λ q. AnswersNumber q [] answered.status (part_of new.answer))
   pub turns : MatchOption (ask_of call.ask) (new.waits ≡ old.waits) (λ ask. TurnsBy ask old call answered.status new.waits (part_of new.answer))

@@ -5,6 +5,7 @@ ghost use Rattle.std.specs.Option.{option_copied};
 ghost use Rattle.expr_engine.specs.Adding.{BecomesByRule, BecomesFixed, BecomesNow, GainsName};
 ghost use Rattle.expr_engine.specs.Effects.{Adds, AreSaid, Changes, IsStale};
 ghost use Rattle.expr_engine.specs.Engines.{IsPlacedRefusal, MayAnswer, MayEnd, NumbersRise, RefusesText, SameAdditions, additions_at, run_inputs, waiting_inputs, names_at};
+ghost use Rattle.expr_engine.specs.Faults.{IsNotedAt, fault_byte, refused_byte};
 ghost use Rattle.expr_engine.specs.Limiting.{IsProgramBy, for_strangers};
 ghost use Rattle.expr_engine.specs.Runs.{pairs_of};
 ghost use Rattle.expr_engine.specs.Served.{RunServes, SaysLimit};
@@ -471,36 +472,74 @@ impl Engine {
         ensures built { self.new.built ≡ self.old.built }
         ensures waits { self.new.waits ≡ self.old.waits }
         ensures limits { self.new.limits ≡ self.old.limits }
+        ensures noted { IfOk result (IsNotedAt (refused_byte refused.now) text.now) }
         ensures unknown { refused.now ≡ HostError.Unknown → IsOk result }
         ensures misuse { refused.now ≡ HostError.Misuse → IsOk result }
         ensures limit { OnOk result (SaysLimit refused.now (string_bytes self.new.said)) }
     {
-        let alloc = self.alloc;
-        self.said = String::new(alloc);
+        self.said = String::new(self.alloc);
         match refused {
-            HostError::Language(Error::PestError(byte)) => {
-                let Ok(text) = std::str::from_utf8(text) else {
-                    return Ok(None);
-                };
-                let spot = line_column_of(alloc, text, *byte)?;
-                self.said = spot.shown;
-                Ok(Some(TextPlace {
-                    byte: *byte,
-                    line: spot.line,
-                    column: spot.column,
-                }))
-            }
-            HostError::Language(error) => {
-                self.said = error.to_string(alloc)?;
-                Ok(None)
-            }
+            HostError::Language(error) => self.note_error(error, text),
             HostError::Stopped(limit) => {
-                self.said = String::from_str(alloc, limit_text(*limit))?;
+                self.said = String::from_str(self.alloc, limit_text(*limit))?;
                 Ok(None)
             }
             HostError::Unknown | HostError::Misuse | HostError::Asks | HostError::Differs => Ok(
                 None,
             ),
         }
+    }
+
+    /// Notes what is said of a refusal of the language, and where a text is refused.
+    fn note_error(&mut self, error: &Error, text: &[u8]) -> Result<Option<TextPlace>, Error>
+        ensures rules { self.new.rules ≡ self.old.rules }
+        ensures contexts { self.new.contexts ≡ self.old.contexts }
+        ensures environments { self.new.environments ≡ self.old.environments }
+        ensures answer { self.new.answer ≡ self.old.answer }
+        ensures built { self.new.built ≡ self.old.built }
+        ensures waits { self.new.waits ≡ self.old.waits }
+        ensures limits { self.new.limits ≡ self.old.limits }
+        ensures noted { IfOk result (IsNotedAt (fault_byte error.now) text.now) }
+    {
+        match fault_of(error) {
+            Some(byte) => self.note_fault(byte, text),
+            None => {
+                self.said = error.to_string(self.alloc)?;
+                Ok(None)
+            }
+        }
+    }
+
+    /// Notes where a text is refused, and says the line with a caret under that place.
+    fn note_fault(&mut self, byte: usize, text: &[u8]) -> Result<Option<TextPlace>, Error>
+        ensures rules { self.new.rules ≡ self.old.rules }
+        ensures contexts { self.new.contexts ≡ self.old.contexts }
+        ensures environments { self.new.environments ≡ self.old.environments }
+        ensures answer { self.new.answer ≡ self.old.answer }
+        ensures built { self.new.built ≡ self.old.built }
+        ensures waits { self.new.waits ≡ self.old.waits }
+        ensures limits { self.new.limits ≡ self.old.limits }
+        ensures noted { IfOk result (IsNotedAt (Some byte) text.now) }
+    {
+        let Ok(text) = std::str::from_utf8(text) else {
+            return Ok(None);
+        };
+        let spot = line_column_of(self.alloc, text, byte)?;
+        self.said = spot.shown;
+        Ok(Some(TextPlace {
+            byte,
+            line: spot.line,
+            column: spot.column,
+        }))
+    }
+}
+
+/// The byte at which a text is refused.
+fn fault_of(error: &Error) -> Option<usize>
+    ensures { result ≡ fault_byte error.now }
+{
+    match error {
+        Error::PestError(byte) => Some(*byte),
+        _ => None,
     }
 }

@@ -16,6 +16,7 @@ use expr_exchange::HostError;
 pub fn compile(engine: &mut Engine, call: &mut Call<'_>) -> Result<(), HostError>
     ensures done { OnOk result (Compiles engine.old engine.new call.old (call_result call.new)) }
     ensures refused { IfErr result (CompileRefuses engine.old.limits call.old.text.now) }
+    ensures text { call.new.text.now ≡ call.old.text.now }
     ensures err { OnErr result (SameThings engine.old.rules engine.new.rules) }
     ensures numbers { NumbersRise engine.old engine.new }
     ensures answer { engine.new.answer ≡ engine.old.answer }

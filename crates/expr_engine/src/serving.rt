@@ -1,8 +1,9 @@
 //! The one call: an engine does what it is asked to.
-ghost use Rattle.std.specs.Prelude.{◌≡◌, ◌≢◌, ◌⊎◌, [], length, Err, MatchOption, Ok, OnErr, OnOk, Some};
+ghost use Rattle.std.specs.Prelude.{◌≡◌, ◌≢◌, ◌⊎◌, [], length, Err, IfErr, IfSome, MatchOption, Ok, OnErr, OnOk, Some};
 ghost use Rattle.expr_engine.specs.Asks.{ask_of, shows_of};
 ghost use Rattle.expr_engine.specs.Effects.{Does, IsMissing, call_result};
-ghost use Rattle.expr_engine.specs.Engines.{Leaves, NumbersRise, run_inputs};
+ghost use Rattle.expr_engine.specs.Engines.{CompileRefuses, Leaves, NumbersRise, run_inputs};
+ghost use Rattle.expr_engine.specs.Faults.{AnswersText, IsAt, place_of, refused_byte};
 ghost use Rattle.expr_engine.specs.Limiting.{LimitsBy};
 ghost use Rattle.expr_engine.specs.Served.{AnswersNumber, EndsCall, RunServes, number_of, text_shown};
 ghost use Rattle.expr_engine.specs.Turns.{Turns, TurnsBy};
@@ -13,7 +14,7 @@ ghost use Rattle.expr_exchange.specs.Refusals.{status_of};
 use crate::adding::{add_environment, add_name, set_now, zone_by_rule, zone_by_seconds};
 use crate::building::{make_array, make_map, push, unbuild};
 use crate::call::{Ask, Call, Shows};
-use crate::engine::Engine;
+use crate::engine::{Engine, TextPlace};
 use crate::filling::{built_context, new_context, set};
 use crate::letting::{clear, drop_context, drop_environment, drop_program};
 use crate::limiting::{let_go_of_limits, set_limit};
@@ -28,6 +29,10 @@ pub fn serve(engine: &mut Engine, call: &mut Call<'_>)
     // What is done, is done to what the call's handles find, and to nothing else.
     ensures done { call.new.status ≡ 0 → MatchOption (ask_of call.old.ask) ⊥
         (λ ask. Does ask engine.old engine.new call.old (call_result call.new)) }
+    // A text is refused, or stops at a limit, since it deserves that; where it has no tree, the place of its first fault is
+    // answered.
+    ensures text { ask_of call.old.ask ≡ Some Ask.Compile
+        → AnswersText engine.old.limits call.old.text.now call.new.status (place_of call.new) }
     // A run answers what the program's meaning allows in the environment and the context of the handles, or one of them
     // finds nothing.
     ensures run { ask_of call.old.ask ≡ Some Ask.Run → MatchOption
@@ -65,6 +70,8 @@ pub fn serve(engine: &mut Engine, call: &mut Call<'_>)
 /// Does what a call asks for.
 fn act(engine: &mut Engine, call: &mut Call<'_>, ask: Ask) -> Result<(), HostError>
     ensures done { OnOk result (Does ask engine.old engine.new call.old (call_result call.new)) }
+    ensures why { ask ≡ Ask.Compile → IfErr result (CompileRefuses engine.old.limits call.old.text.now) }
+    ensures text { ask ≡ Ask.Compile → call.new.text.now ≡ call.old.text.now }
     ensures run { ask ≡ Ask.Run → MatchOption
         (run_inputs engine.old call.old.program call.old.environment call.old.context)
         (result ≡ Err HostError.Unknown) (λ q. RunServes q [] result (part_of engine.new.answer)) }
@@ -124,6 +131,8 @@ fn finish(engine: &mut Engine, call: &mut Call<'_>, shows: Shows, done: Result<(
     ensures built { OnErr done (values_of engine.new.built ≡ []) }
     ensures reply { call_result call.new ≡ call_result call.old }
     ensures ended { EndsCall done call.new.status }
+    ensures placed { IfErr done (λ refused. IsAt (refused_byte refused) call.old.text.now
+        (place_of call.new) ⊎ (call.new.status ≡ 5)) }
     ensures unknown { done ≡ Err HostError.Unknown → call.new.status ≡ 6 }
     ensures known { call.new.status ≡ 6 → done ≡ Err HostError.Unknown }
     ensures misuse { done ≡ Err HostError.Misuse → call.new.status ≡ 7 }
@@ -141,6 +150,7 @@ fn finish(engine: &mut Engine, call: &mut Call<'_>, shows: Shows, done: Result<(
 /// Writes down how a call ended, and the text that is shown, as far as the room goes.
 fn answer(engine: &Engine, call: &mut Call<'_>, status: Status, shows: Shows)
     ensures reply { call_result call.new ≡ call_result call.old }
+    ensures place { place_of call.new ≡ place_of call.old }
     ensures status { call.new.status ≡ number_of status }
     ensures length { call.new.length ≡ length (text_shown shows engine.now) }
 {
@@ -195,19 +205,33 @@ fn refuse(engine: &mut Engine, refused: &HostError, call: &mut Call<'_>) -> Stat
     ensures built { values_of engine.new.built ≡ [] }
     ensures reply { call_result call.new ≡ call_result call.old }
     ensures status { (result ≡ status_of refused.now) ⊎ (result ≡ Status.Memory) }
+    ensures placed { IsAt (refused_byte refused.now) call.old.text.now (place_of call.new)
+        ⊎ (result ≡ Status.Memory) }
     ensures unknown { refused.now ≡ HostError.Unknown → result ≡ Status.Unknown }
     ensures misuse { refused.now ≡ HostError.Misuse → result ≡ Status.Misuse }
 {
     engine.built.clear();
     match engine.note(refused, call.text) {
-        Ok(Some(place)) => {
+        Ok(noted) => {
+            mark(call, noted);
+            refused.status()
+        }
+        Err(_) => Status::Memory,
+    }
+}
+
+/// Writes down where a text is refused, if it is known.
+fn mark(call: &mut Call<'_>, noted: Option<TextPlace>)
+    ensures reply { call_result call.new ≡ call_result call.old }
+    ensures place { IfSome noted (λ place. place_of call.new ≡ place) }
+{
+    match noted {
+        Some(place) => {
             call.place = place.byte;
             call.line = place.line;
             call.column = place.column;
-            refused.status()
         }
-        Ok(None) => refused.status(),
-        Err(_) => Status::Memory,
+        None => {}
     }
 }
 

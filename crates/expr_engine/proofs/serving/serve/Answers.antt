@@ -2,12 +2,14 @@ use Rattle.std.proofs.Common.{◌≡◌, [], MatchOption, length, subst, sym}
 use Rattle.expr_engine.specs.Asks.{ask_of, shows_of}
 use Rattle.expr_engine.specs.Effects.{Does, IsMissing, call_result}
 use Rattle.expr_engine.specs.Engines.{run_inputs}
+use Rattle.expr_engine.specs.Faults.{place_of}
 use Rattle.expr_engine.specs.Limiting.{LimitsBy}
 use Rattle.expr_engine.specs.Served.{AnswersNumber, text_shown}
 use Rattle.expr_engine.specs.Turns.{TurnsBy}
-use Rattle.expr_engine.specs.declared.call.Ask.TheVariants.{Run}
+use Rattle.expr_engine.specs.declared.call.Ask.TheVariants.{Compile, Run}
 use Rattle.expr_exchange.specs.Cursor.{part_of}
 use Rattle.expr_engine.proofs.Ended.{asked_for, does_by, done_by, limits_by, refused_by, served_by, turns_on}
+use Rattle.expr_engine.proofs.Faulty.{placed_in}
 use Rattle.expr_engine.proofs.Unchanged.{leaves_after, rise_after}
 use Rattle.expr_engine.proofs.serving.serve.Goals as goal
 
@@ -16,6 +18,12 @@ returns-in-Some-clause-done c = λ z.
     asked_for ⊥ (ask_of c.args.call.now.ask) c.in-Some.ask (λ ask. Does ask c.args.engine.now c.finish.new.engine c.args.call.now (call_result c.finish.new.call)) (sym c.in-Some.ensures)
     (does_by c.in-Some.ask c.args.engine.now c.act-done.new.engine c.finish.new.engine c.args.call.now (call_result c.act-done.new.call) (call_result c.finish.new.call)
     (done_by c.act-done.result c.finish.new.call.status c.act-done.ensures.done c.finish.ensures.ended z) (done_by c.act-done.result c.finish.new.call.status c.finish.ensures.same c.finish.ensures.ended z) c.finish.ensures.reply)
+
+pub returns-in-Some-clause-text : goal.returns-in-Some-clause-text
+returns-in-Some-clause-text c = λ is_compile.
+    let is : c.in-Some.ask ≡ Compile = cc (is_compile, c.in-Some.ensures) in
+    placed_in c.args.engine.now.limits c.args.call.now.text.now c.act-done.new.call.text.now c.act-done.result c.finish.new.call.status (place_of c.finish.new.call)
+    (c.act-done.ensures.why is) (c.act-done.ensures.text is) c.finish.ensures.ended c.finish.ensures.placed
 
 pub returns-in-Some-clause-run : goal.returns-in-Some-clause-run
 returns-in-Some-clause-run c = λ is_run.
