@@ -1,5 +1,5 @@
 -- What calls have done that are done.
-use Rattle.std.specs.Prelude.{◌≡◌, ◌+◌, ◌≤ℤ◌, ℕ, ℤ, pos, List, [], ◌∷◌, ◌++◌, None, Some, Ok, IsSome, IsSomeAnd, length, codes, map, String, string_bytes}
+use Rattle.std.specs.Prelude.{◌≡◌, ◌+◌, ◌+ℤ◌, ◌≤ℤ◌, ℕ, ℤ, pos, List, [], ◌∷◌, ◌++◌, None, Some, Ok, IsSome, IsSomeAnd, length, codes, map, String, string_bytes}
 use Rattle.std.specs.List.{join_by}
 use Rattle.std.specs.Option.{unwrap_or}
 use Rattle.std.specs.declared.alloc.Global.{Global}
@@ -14,7 +14,7 @@ use Rattle.expr_engine.specs.declared.call.Ask.TheVariants as is
 use Rattle.expr_engine.specs.declared.call.Call.{Call}
 use Rattle.expr_engine.specs.declared.additions.Additions.{Additions}
 use Rattle.expr_engine.specs.declared.engine.Engine.{Engine}
-use Rattle.expr_exchange.specs.Builder.{TakesPlace, values_of}
+use Rattle.expr_exchange.specs.Builder.{BecomesMap, TakesPlace, values_of}
 use Rattle.expr_exchange.specs.Kinds.{fraction_of, kind_numbered, kind_of, number_of}
 use Rattle.expr_exchange.specs.Cursor.{LooksDown, LooksUp, at_number, key_at, part_of, way_of}
 use Rattle.expr_exchange.specs.Scalars.{IsScalar, instant_by}
@@ -176,8 +176,9 @@ pub record MakesArray (old new : Engine) (call : Call) : Type 0 where
   pub keeps : KeepsAll old new
   pub answer : new.answer ≡ old.answer
 
--- A map takes the place of what was built last; which one isn't said.
-pub record MakesMap (old new : Engine) : Type 0 where
+-- The map of the last pairs takes their place.
+pub record MakesMap (old new : Engine) (call : Call) : Type 0 where
+  pub built : BecomesMap (call.number +ℤ call.number) (values_of old.built) (values_of new.built)
   pub keeps : KeepsAll old new
   pub answer : new.answer ≡ old.answer
 
@@ -294,7 +295,7 @@ Does is.ContextOf old new call reply = AddsBuiltContext old new reply
 Does is.Set old new call reply = Sets old new call
 Does is.Push old new call reply = Pushes old new call
 Does is.Array old new call reply = MakesArray old new call
-Does is.Map old new call reply = MakesMap old new
+Does is.Map old new call reply = MakesMap old new call
 Does is.Unbuild old new call reply = Unbuilds old new
 Does is.Look old new call reply = Looks old new reply
 Does is.Down old new call reply = LooksIn old new call reply

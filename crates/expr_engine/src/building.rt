@@ -62,7 +62,7 @@ pub fn make_array(engine: &mut Engine, call: &Call<'_>) -> Result<(), HostError>
 
 /// Makes a map of what was built last.
 pub fn make_map(engine: &mut Engine, call: &Call<'_>) -> Result<(), HostError>
-    ensures done { OnOk result (MakesMap engine.old engine.new) }
+    ensures done { OnOk result (MakesMap engine.old engine.new call.now) }
     ensures found { IfErr result (λ e. e ≢ HostError.Unknown) }
     ensures rules { engine.new.rules ≡ engine.old.rules }
     ensures contexts { engine.new.contexts ≡ engine.old.contexts }

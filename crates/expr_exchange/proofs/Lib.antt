@@ -1,2 +1,3 @@
 pub mod Ends
+pub mod InTurn
 pub mod Refused

@@ -1,5 +1,6 @@
 -- What is built, as a list, of which the last value comes last.
 use Rattle.std.specs.Prelude.{◌≡◌, ◌≤ℤ◌, ℕ, ℤ, pos, Some, List, [], ◌∷◌, ◌++◌, IsSome, length}
+use Rattle.expr_exchange.specs.Maps.{map_in_turn}
 use Rattle.expr_exchange.specs.declared.builder.ValueBuilder.{ValueBuilder}
 use Rattle.expr_value.specs.Values.{map_of}
 use Rattle.expr_value.specs.declared.value.Value.{Value}
@@ -25,6 +26,12 @@ pub record TakesPlace (count : ℤ) (old : List Value) (made : List Value → Va
   pub stood : old ≡ front ++ last
   pub many : pos (length last) ≡ count
   pub stands : new ≡ front ++ made last ∷ []
+
+-- So many last values, keys and values in turn, made way for their map.
+pub record BecomesMap (count : ℤ) (old new : List Value) : Type 0 where
+  pub made : Value
+  pub place : TakesPlace count old (λ _. made) new
+  pub is : map_in_turn place.last ≡ Some made
 
 -- The last value was taken, a map of these names.
 pub record TakesNames (old new : List Value) (names : List (List ℕ × Value)) : Type 0 where

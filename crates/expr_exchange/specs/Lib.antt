@@ -2,5 +2,6 @@ pub mod Builder
 pub mod Cursor
 pub mod Kinds
 pub mod Limits
+pub mod Maps
 pub mod Refusals
 pub mod Scalars

@@ -1,13 +1,13 @@
 //! Values that a host builds, one behind the other.
 ghost use Rattle.std.specs.Prelude.{◌≡◌, ◌≢◌, ◌+ℤ◌, ◌++◌, ◌∷◌, [], IfErr, IfOk, IsOk, OnErr, OnOk, length, pos};
-ghost use Rattle.expr_error.specs.ErrorKind.{OnlyMemory, RefusesWith, evaluation};
-ghost use Rattle.expr_exchange.specs.Builder.{EndsInMap, HasLast, TakesNames, TakesPlace, values_of};
+ghost use Rattle.expr_exchange.specs.Builder.{BecomesMap, EndsInMap, HasLast, TakesNames, TakesPlace, values_of};
 ghost use Rattle.expr_exchange.specs.declared.host_error.Status.TheVariants.{Evaluation};
 ghost use Rattle.expr_exchange.specs.Refusals.{IsForMemory, NotMeant, status_of};
 
 use crate::host_error::HostError;
+use crate::map_pairs::map_of;
 use expr_context::Context;
-use expr_value::{KeyedMap, Value};
+use expr_value::Value;
 use std::alloc::Global;
 
 /// Values that are built: an array takes the place of its items, a map of its pairs.
@@ -87,9 +87,7 @@ impl ValueBuilder {
     /// first place and takes its last value. A key that is no scalar is refused as the language refuses it.
     #[tactic(auto, using(crate::proofs::Refused::memory_else))]
     pub fn map(&mut self, count: i64) -> Result<(), HostError>
-        ensures ok { OnOk result (
-            (made : Value) × TakesPlace (count +ℤ count) (values_of self.old)
-            (λ _. made) (values_of self.new)) }
+        ensures ok { OnOk result (BecomesMap (count +ℤ count) (values_of self.old) (values_of self.new)) }
         ensures refused { IfErr result (λ e. status_of e ≢ Evaluation
             → NotMeant (HasLast (count +ℤ count) (values_of self.old)) e) }
         ensures found { IfErr result (λ e. e ≢ HostError.Unknown) }
@@ -111,44 +109,4 @@ impl ValueBuilder {
         let value = self.pop()?;
         Ok(Context::try_from(self.alloc, value)?)
     }
-}
-
-/// The map of keys and values that stand one behind the other.
-fn map_of(alloc: Global, values: Vec<Value>) -> expr_value::Result<Value>
-    ensures kind { RefusesWith result (λ k. k ≡ evaluation) }
-{
-    let mut names: Vec<(String, Value)> = Vec::with_capacity(alloc, values.len() / 2)?;
-    let mut keyed: Vec<(Value, Value)> = Vec::new(alloc);
-    let mut key = None;
-    for value in values {
-        match key.take() {
-            None => key = Some(value),
-            Some(Value::String(name)) if keyed.is_empty() => names.push((
-                name.into_string(),
-                value,
-            ))?,
-            Some(other) => {
-                if keyed.is_empty() {
-                    keyed = keyed_of(alloc, names)?;
-                    names = Vec::new(alloc);
-                }
-                keyed.push((other, value))?
-            }
-        }
-    }
-    if keyed.is_empty() {
-        return Value::from_pairs(alloc, names);
-    }
-    Ok(Value::KeyedMap(KeyedMap::from_pairs(alloc, keyed)?))
-}
-
-/// The same pairs with values for keys.
-fn keyed_of(alloc: Global, names: Vec<(String, Value)>) -> expr_value::Result<Vec<(Value, Value)>>
-    ensures err { OnlyMemory result }
-{
-    let mut keyed = Vec::with_capacity(alloc, names.len())?;
-    for (name, value) in names {
-        keyed.push((Value::from(name), value))?;
-    }
-    Ok(keyed)
 }

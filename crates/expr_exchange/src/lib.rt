@@ -6,6 +6,7 @@ mod cursor;
 mod host_error;
 mod kind;
 mod limit;
+mod map_pairs;
 mod scalar;
 
 pub use builder::ValueBuilder;
