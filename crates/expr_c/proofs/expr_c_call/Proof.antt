@@ -51,14 +51,13 @@ expr_c_call_spec 𝓤 𝓛 𝓜 𝓡 wired =
     let c = f.clauses 𝓛 𝓜.mem 𝓡.returns in let W = walk_of 𝓛 f.ended stayed c in let 𝓣 = tables 𝓤 𝓛.H 𝓜 𝓡 𝓡.env in
     proved 𝓛 f.ended stayed c 𝓜 𝓡 (Goes-dropped 𝓛 2 (plain (λ _. RawPtr)) yes (λ κs x w. refl), (Goes-gave_ref 𝓛 2 0 tt (plain C), tt))
     f.Key.name code.function (code.unfolded 𝓤 𝓛.H 𝓜 𝓡 wired)
-    (λ κs. (rawptr_vals, (mut_vals, tt))) (λ κs. (rawptr_Tells, (mut_Tells (named 0) κs.0 (C κs), tt))) (λ κs qs bounds a n are.
-    let r = a.1.0 in
+    (λ κs. (rawptr_vals, (mut_vals, tt))) (λ κs. (rawptr_Tells, (mut_Tells (named 0) κs.0 (C κs), tt))) (λ κs qs bounds (lent, (r, _)) n are.
     let y : Ptr → W.Ghost = λ p. ((κs, qs, bounds, (p, (r, tt)), (rawptr_vals p, (mut_vals r, tt))), n) in
     let Rest : Fml = fsep ((MutRef (named 0) κs.0 (C κs)).own_val r (mut_vals r)) ftrue in
-    qed 𝓛 ((raw (alive 𝓛 f.signature κs qs) ⊛ ‵ (RawPtr.own_val a.0 (rawptr_vals a.0)) ⊛ ‵ Rest) ∷ ‵ (lies_at E full_share a.0 n) ∷ []) ∵
+    qed 𝓛 ((raw (alive 𝓛 f.signature κs qs) ⊛ ‵ (RawPtr.own_val lent (rawptr_vals lent)) ⊛ ‵ Rest) ∷ ‵ (lies_at E full_share lent n) ∷ []) ∵
     split ! $ move ! (1 ∷ []) $ split ! $ drop ! $ move ! (2 ∷ 1 ∷ 0 ∷ []) $
     -- [the engine; the tokens; the call]
-    in_a_block ! a.0 (λ p. lies_at E full_share p n) (id⊢ 𝓤 _) (λ b o e.
+    in_a_block ! lent (λ p. lies_at E full_share p n) (id⊢ 𝓤 _) (λ b o e.
     regoal ! (λ p. prop (WpFn 𝓤 𝓛.H 𝓣.C 𝓣.Λ code.function (rawptr_vals p ++ (mut_vals r ++ [])) (W.post (y p)))) e refl $
     enter ! _ _ _ _ _ $ alloc_all ! (λ l. pass_all ! refl ((tt, tt), ((tt, tt), tt)) $
     sets ! (of_opd ! (get ! refl)) refl (tt, tt) $
@@ -69,23 +68,25 @@ expr_c_call_spec 𝓤 𝓛 𝓜 𝓡 wired =
     sets ! (addr ! (through ! refl (stop !))) refl (tt, tt) $
     sets ! (addr ! (through ! refl (stop !))) refl (tt, tt) $
     let G = triple_of 𝓛 g.signature (g.spec 𝓛 𝓜.mem 𝓡.returns) in
+    let lifetimes = (α ∷ [], κs) in
     let x : MutBor E.Denot = record { ref_ptr = (b, o); ghost_name = δ; now = n } in
-    let z : G.Ghost = (((α ∷ [], κs), (full_share, qs), bounds, (x, (r, tt)), (mut_vals x, (mut_vals r, tt))), tt) in
+    let z : G.Ghost = ((lifetimes, (full_share, qs), bounds, (x, (r, tt)), (mut_vals x, (mut_vals r, tt))), tt) in
+    let served : Lasts g.ended lifetimes (x, (r, tt)) → Type 0 = λ (engine, (call, _)). IsServed n engine r.now call in
     move ! (0 ∷ 4 ∷ []) $ fjoin ! $ move ! (2 ∷ 3 ∷ []) $ join ! $ join ! $ nothing ! $ move ! (1 ∷ 0 ∷ []) $ use2 𝓛 (raw (G.pre z)) (id⊢ 𝓤 _) $
     calls_at ! (framed 𝓤 𝓛.H 𝓜 (tables 𝓤 𝓛.H 𝓜 𝓡 𝓡.env)) G (met 𝓤 𝓛 𝓜 𝓡 (code.calls-expr_c::do_call 𝓡.env wired)) z
     (and_then ! (get ! refl) (and_then ! (get ! refl) (no_more !))) (λ v.
     use1 𝓛 (later (some (λ (u : Unit {0}). ((‵ (flft (α ∷ []) full_share) ⊛ raw (alive 𝓛 f.signature κs qs)) ⊛ ‵ (unit.own_val u (v ∷ []))) ⊛
-    some (λ (ws : Lasts g.ended z.0.0 z.0.3). ‵ (lasts g.ended z.0.0 z.0.3 ws) ⊛ raw (fact 𝓤 (IsServed n ws.0 r.now ws.1.0)))))) (id⊢ 𝓤 _) $
+    some (λ (ws : Lasts g.ended lifetimes (x, (r, tt))). ‵ (lasts g.ended lifetimes (x, (r, tt)) ws) ⊛ raw (fact 𝓤 (served ws)))))) (id⊢ 𝓤 _) $
     await ! tt $ pick ! (λ u. split ! $ split ! $ split ! $ lft_end ! tt $ move ! (2 ∷ []) $ feq_l ! (λ is_unit.
     lands_as ! (ap only is_unit) refl (tt, tt) $
     -- [α is over; the tokens; the last values; what the lender keeps]
-    move ! (2 ∷ []) $ pick ! (λ ws. split ! $ move ! (1 ∷ []) $ heard ! (IsServed n ws.0 r.now ws.1.0) (λ served. fsplit ! $ fsplit ! $
+    move ! (2 ∷ []) $ pick ! (λ (engine, (call, _)). split ! $ move ! (1 ∷ []) $ heard ! (IsServed n engine r.now call) (λ served. fsplit ! $ fsplit ! $
     -- [the loan's last value; its borrow; the call's; α is over; the tokens; what the lender keeps]
-    move ! (3 ∷ 5 ∷ 0 ∷ []) $ use3 𝓛 (later (‵ ((mem E).own_at ws.0 b o))) (ref_back 𝓛 E (α ∷ []) δ ws.0 b o) $ await ! tt $
+    move ! (3 ∷ 5 ∷ 0 ∷ []) $ use3 𝓛 (later (‵ ((mem E).own_at engine b o))) (ref_back 𝓛 E (α ∷ []) δ engine b o) $ await ! tt $
     -- [the engine; the loan's borrow; the call's; the tokens]
     move ! (1 ∷ []) $ drop ! $
     sets ! (of_opd ! (unit_lit !)) refl (tt, tt) $
     returns ! (look_at ! 0 refl) $ free_all ! refl $
-    suffices ! _ (ends_at 𝓛 f.ended stayed c (y (block_ptr b o)) vunit tt (tt, (ws.1.0, tt)) (tt, (tt, tt))) $
+    suffices ! _ (ends_at 𝓛 f.ended stayed c (y (block_ptr b o)) vunit tt (tt, (call, tt)) (tt, (tt, tt))) $
     move ! (1 ∷ []) $ nothing ! $ join ! $ feq_i ! _ (vunit ∷ []) _ refl $ move ! (3 ∷ 1 ∷ 0 ∷ []) $ group ! 3 $ frame ! $
-    show ! (λ (after : E.Denot). sep 𝓤 (sem 𝓛 (lies_at E full_share (block_ptr b o) after)) (fact 𝓤 (IsServed n after r.now ws.1.0))) ws.0 $ says ! served $ done !))))))))))
+    show ! (λ (after : E.Denot). sep 𝓤 (sem 𝓛 (lies_at E full_share (block_ptr b o) after)) (fact 𝓤 (IsServed n after r.now call))) engine $ says ! served $ done !))))))))))

@@ -46,13 +46,12 @@ expr_c_open_spec 𝓤 𝓛 𝓜 𝓡 wired =
     let c = f.clauses 𝓛 𝓜.mem 𝓡.returns in let W = walk_of 𝓛 f.ended stayed c in let 𝓣 = tables 𝓤 𝓛.H 𝓜 𝓡 𝓡.env in
     proved 𝓛 f.ended stayed c 𝓜 𝓡 (Goes-dropped 𝓛 0 (plain (λ _. Z)) yes (λ κs x w. refl), (Goes-dropped 𝓛 0 (plain (λ _. RawPtr)) yes (λ κs x w. refl), tt))
     f.Key.name code.function (code.unfolded 𝓤 𝓛.H 𝓜 𝓡 wired)
-    (λ κs. (word, (rawptr_vals, tt))) (λ κs. (heap.val_is, (rawptr_Tells, tt))) (λ κs qs bounds a n are.
-    let h = a.0 in
+    (λ κs. (word, (rawptr_vals, tt))) (λ κs. (heap.val_is, (rawptr_Tells, tt))) (λ κs qs bounds (h, (room, _)) n are.
     let y : Ptr → W.Ghost = λ p. ((κs, qs, bounds, (h, (p, tt)), (word h, (rawptr_vals p, tt))), n) in
-    qed 𝓛 ((‵ ftrue ⊛ ‵ (Z.own_val h (word h)) ⊛ ‵ (fsep (RawPtr.own_val a.1.0 (rawptr_vals a.1.0)) ftrue)) ∷ ‵ (room_at E a.1.0) ∷ []) ∵
+    qed 𝓛 ((‵ ftrue ⊛ ‵ (Z.own_val h (word h)) ⊛ ‵ (fsep (RawPtr.own_val room (rawptr_vals room)) ftrue)) ∷ ‵ (room_at E room) ∷ []) ∵
     split ! $ drop ! $ split ! $ move ! (1 ∷ []) $ drop ! $ move ! (1 ∷ []) $
     -- [the room; the handle]
-    in_a_block ! a.1.0 (λ p. room_at E p) (id⊢ 𝓤 _) (λ b o e.
+    in_a_block ! room (λ p. room_at E p) (id⊢ 𝓤 _) (λ b o e.
     regoal ! (λ p. prop (WpFn 𝓤 𝓛.H 𝓣.C 𝓣.Λ code.function (word h ++ (rawptr_vals p ++ [])) (W.post (y p)))) e refl $
     enter ! _ _ _ _ _ $ alloc_all ! (λ l. pass_all ! refl (((LZ.lawful 𝓛).typed h _ are.0).0, ((tt, tt), tt)) $
     sets ! (of_opd ! (get ! refl)) refl (tt, tt) $
@@ -62,9 +61,9 @@ expr_c_open_spec 𝓤 𝓛 𝓜 𝓡 wired =
     calls_at ! (framed 𝓤 𝓛.H 𝓜 (tables 𝓤 𝓛.H 𝓜 𝓡 𝓡.env)) G (met 𝓤 𝓛 𝓜 𝓡 (code.calls-expr_c::new_engine 𝓡.env wired)) z
     (and_then ! (get ! refl) (no_more !)) (λ v.
     use1 𝓛 (later (some (λ (r : E.Denot). (‵ ftrue ⊛ ‵ (E.own_val r (v ∷ []))) ⊛
-    some (λ (ws : Lasts g.ended z.0.0 z.0.3). ‵ (lasts g.ended z.0.0 z.0.3 ws) ⊛ raw (fact 𝓤 (IsNew r)))))) (id⊢ 𝓤 _) $
+    some (λ (ws : Lasts g.ended κs (h, tt)). ‵ (lasts g.ended κs (h, tt) ws) ⊛ raw (fact 𝓤 (IsNew r)))))) (id⊢ 𝓤 _) $
     await ! tt $ pick ! (λ r. split ! $ split ! $ drop ! $ move ! (1 ∷ []) $
-    use1 𝓛 (raw (fact 𝓤 (IsNew r))) (ex_e 𝓤 _ (λ ws. snd∗ 𝓤 (sem 𝓛 (lasts g.ended z.0.0 z.0.3 ws)) (fact 𝓤 (IsNew r)))) $ heard ! (IsNew r) (λ new.
+    use1 𝓛 (raw (fact 𝓤 (IsNew r))) (ex_e 𝓤 _ (λ ws. snd∗ 𝓤 (sem 𝓛 (lasts g.ended κs (h, tt) ws)) (fact 𝓤 (IsNew r)))) $ heard ! (IsNew r) (λ new.
     -- [the engine; the room]
     peeks ! E (Is E) (shows 𝓛 E) r (v ∷ []) (λ is. let good = ((LE.lawful 𝓛).typed r (v ∷ []) is).0 in
     lands_as ! refl refl good $
