@@ -1,5 +1,5 @@
 -- One answer in a run of a predicate, and what follows it.
-use Rattle.std.proofs.Common.{◌≡◌, ℕ, suc, List, [], ◌∷◌, ◌++◌, Bool, true, false, Result, Some, None, Ok, Err, MatchBool, cond, refl, sym, subst, arith}
+use Rattle.std.proofs.Common.{◌≡◌, suc, List, [], ◌∷◌, ◌++◌, Bool, true, false, Result, Some, None, Ok, Err, MatchBool, cond, refl, sym, subst, arith}
 use Rattle.std.specs.List.{Contains}
 use Rattle.expr_error.specs.ErrorKind.{ErrorKind, evaluation}
 use Rattle.expr_value.specs.declared.value.Value.{Value}

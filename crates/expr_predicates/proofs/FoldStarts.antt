@@ -1,5 +1,5 @@
 -- Where a run stands at first.
-use Rattle.std.proofs.Common.{◌≡◌, ◌+◌, List, [], Option, Some, Result, Ok, Err, refl, sym, ap, subst, ◌∙◌}
+use Rattle.std.proofs.Common.{◌≡◌, ◌+◌, List, [], Option, Result, Ok, sym, ap, subst, ◌∙◌}
 use Rattle.expr_value.specs.declared.value.Value.{Value}
 use Rattle.expr_predicates.specs.Calls.{fold_of}
 use Rattle.expr_predicates.specs.Accumulators.{Represents, RunRepresents, remaining_items}
