@@ -26,7 +26,7 @@ impl Retention {
     #[tactic(auto, using(crate::proofs::Keeping::keeps_so))]
     pub fn from_higher_order(asking: HigherOrderCall) -> Retention
         ensures { (items : List declared) (more : Option declared) (s : FoldOver)
-            → fold_of asking items more ≡ Ok s → RetainsAs result s.task }
+            → fold_of asking items more ≡ Ok s → RetainsAs result s.fold }
     {
         match asking {
             HigherOrderCall::Map => Retention::Answer,
@@ -45,9 +45,9 @@ pub fn first_retained<'v>(
     arguments: &'v [CowValue<'_>],
 ) -> Option<&'v Value>
     ensures { MatchOption result
-        ((s : FoldOver) → fold_of_call asking arguments.now true ≡ Ok s → retained_first s.task ≡ [])
+        ((s : FoldOver) → fold_of_call asking arguments.now true ≡ Ok s → retained_first s.fold ≡ [])
         (λ v. (s : FoldOver) × (fold_of_call asking arguments.now true ≡ Ok s)
-        × (retained_first s.task ≡ v.now ∷ [])) }
+        × (retained_first s.fold ≡ v.now ∷ [])) }
 {
     if !matches!(asking, HigherOrderCall::Reduce) {
         return None;

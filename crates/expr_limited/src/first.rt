@@ -28,7 +28,7 @@ pub fn keep_first<H: Functions>(
         (⟦<Budget as Meter>⟧.metered budget.old) (⟦<Budget as Meter>⟧.metered budget.new) }
     ensures each { IfOk result (λ keeps. (H.host host.now).is_added name.now ≡ false
         → (asking : declared) (s : FoldOver) → higher_order_named name.now ≡ Some asking
-        → fold_of_call asking arguments.now true ≡ Ok s → RetainsAs keeps s.task) }
+        → fold_of_call asking arguments.now true ≡ Ok s → RetainsAs keeps s.fold) }
 {
     if host.has(name) {
         return Ok(Retention::Nothing);

@@ -141,7 +141,7 @@ module _ (P : ErrorKind → Type 0) (of_evaluation : P evaluation) where
         ) p
 
     asking : (b : HigherOrderCall) (vs : List Value) (given : Bool) (a : Answer) → AllowsHigherOrder b vs given asks a → IfErr a P
-    asking b vs given a p = ThenIfOk-faults (fold_of_call b vs given) (λ s. FoldMayReturn s.task asks s.items []) (Evaluates-faults (fold_of_call b vs given) (fold_of_call-evaluates b vs given)) (λ s r. asked s.task s.items [] r) a p
+    asking b vs given a p = ThenIfOk-faults (fold_of_call b vs given) (λ s. FoldMayReturn s.fold asks s.items []) (Evaluates-faults (fold_of_call b vs given) (fold_of_call-evaluates b vs given)) (λ s r. asked s.fold s.items [] r) a p
 
     module _ (host : Host) (key : List ℕ) (vs : List Value) (given : Bool) where
       on_values_faults : (c : ValueCall) (a : Answer) → AllowsOnValues host c vs a → IfErr a P

@@ -27,4 +27,4 @@ pub returns-clause-each : goal.returns-clause-each
 returns-clause-each g c = λ not_added asking s named begins.
     let same : c.in-Some.asking ≡ asking = cc (sym c.in-Some.is ∙ c.from_name.ensures ∙ named) in
     let p = started_by asking c.args.arguments.now s begins in
-    subst (λ b. RetainsAs c.from_higher_order.result s.task) same (c.from_higher_order.ensures p.0 p.1 s (subst (λ b. fold_of b p.0 p.1 ≡ Ok s) (sym same) p.2))
+    subst (λ b. RetainsAs c.from_higher_order.result s.fold) same (c.from_higher_order.ensures p.0 p.1 s (subst (λ b. fold_of b p.0 p.1 ≡ Ok s) (sym same) p.2))

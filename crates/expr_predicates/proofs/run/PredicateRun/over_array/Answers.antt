@@ -14,4 +14,4 @@ returns-in-FindLast-clause-begun c =
 
 pub returns-in-FindLastIndex-clause-begun : goal.returns-in-FindLastIndex-clause-begun
 returns-in-FindLastIndex-clause-begun c =
-    begun_as c.args.asking (array_items c.args.array) None c.backward-in-FindLastIndex.result higher_order_call.FindLastIndex (finding_last_place c.count_items-count.result) (reverse (array_items c.args.array)) (accumulator.Scalar (scalar_accumulator.FindLastIndex c.count_items-count.result None)) c.in-FindLastIndex.is (ap (λ n. Ok (record { task = finding_last_place n; items = reverse (array_items c.args.array) })) (sym c.count_items-count.ensures)) c.backward-in-FindLastIndex.ensures.left c.backward-in-FindLastIndex.ensures.asked c.backward-in-FindLastIndex.ensures.gathered (refl, refl)
+    begun_as c.args.asking (array_items c.args.array) None c.backward-in-FindLastIndex.result higher_order_call.FindLastIndex (finding_last_place c.count_items-count.result) (reverse (array_items c.args.array)) (accumulator.Scalar (scalar_accumulator.FindLastIndex c.count_items-count.result None)) c.in-FindLastIndex.is (ap (λ n. Ok (record { fold = finding_last_place n; items = reverse (array_items c.args.array) })) (sym c.count_items-count.ensures)) c.backward-in-FindLastIndex.ensures.left c.backward-in-FindLastIndex.ensures.asked c.backward-in-FindLastIndex.ensures.gathered (refl, refl)
