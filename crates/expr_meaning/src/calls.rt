@@ -62,8 +62,8 @@ fn dispatch_builtin<'s, H: Functions>(
         (H.host host.now) ident.now args.entry given k) }
 {
     match Builtin::from_name(ident) {
-        Some(Builtin::HigherOrder(asking)) => {
-            Ok(Dispatch::Asks(PredicateRun::begin(alloc, asking, args, given)?))
+        Some(Builtin::HigherOrder(call)) => {
+            Ok(Dispatch::Asks(PredicateRun::begin(alloc, call, args, given)?))
         }
         Some(Builtin::OnValues(call)) => {
             Ok(Dispatch::Answered(call_on_values(alloc, host, call, args)?))

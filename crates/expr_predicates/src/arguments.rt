@@ -13,10 +13,10 @@ use expr_value::{Items, Result, Value, refusal};
 use std::alloc::Global;
 
 /// Whether a built-in needs no predicate, and takes each item as the answer about itself where none is given.
-pub(crate) fn runs_alone(asking: HigherOrderCall) -> bool
-    ensures { result ≡ runs_alone asking }
+pub(crate) fn runs_alone(call: HigherOrderCall) -> bool
+    ensures { result ≡ runs_alone call }
 {
-    matches!(asking, HigherOrderCall::Count | HigherOrderCall::Sum)
+    matches!(call, HigherOrderCall::Count | HigherOrderCall::Sum)
 }
 
 /// The items of an array, and one more argument if there is one.

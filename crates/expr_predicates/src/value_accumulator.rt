@@ -37,11 +37,11 @@ impl ValueAccumulator {
     ghost use Rattle.expr_predicates.specs.Accumulators.{ValuesRepresent, ValuesRepresentRest};
 
     /// What is kept before any answer, for a built-in that keeps items or answers.
-    pub(crate) fn at_start(alloc: Global, asking: HigherOrderCall) -> Option<ValueAccumulator>
-        ensures begun { IfSome result (λ a. IsSomeAnd (values_fold asking) (λ t. ValuesRepresent a t [])) }
-        ensures none { result ≡ None → values_fold asking ≡ None }
+    pub(crate) fn at_start(alloc: Global, call: HigherOrderCall) -> Option<ValueAccumulator>
+        ensures begun { IfSome result (λ a. IsSomeAnd (values_fold call) (λ t. ValuesRepresent a t [])) }
+        ensures none { result ≡ None → values_fold call ≡ None }
     {
-        match asking {
+        match call {
             HigherOrderCall::Map => Some(ValueAccumulator::Map(Vec::new(alloc))),
             HigherOrderCall::Filter => Some(ValueAccumulator::Filter(Vec::new(alloc))),
             HigherOrderCall::Find => Some(ValueAccumulator::Find(None)),
