@@ -346,13 +346,13 @@ fn pair_of_item(value: CowValue<'_>) -> Result<Option<(Value, Value)>>
     ensures err { OnlyMemory result }
 {
     match array_of(value.into_cow()) {
-        Some(Array::Owned(items)) => Ok(both_moved(&mut items.into_vec())),
-        Some(Array::Borrowed(items)) => both_copied(items.as_slice()),
+        Some(Array::Owned(items)) => Ok(take_two_items(&mut items.into_vec())),
+        Some(Array::Borrowed(items)) => copy_two_items(items.as_slice()),
         None => Ok(None),
     }
 }
 
-fn both_moved(items: &mut [Value]) -> Option<(Value, Value)>
+fn take_two_items(items: &mut [Value]) -> Option<(Value, Value)>
     ensures { result ≡ two_items items.old }
 {
     if items.len() != 2 {
@@ -361,7 +361,7 @@ fn both_moved(items: &mut [Value]) -> Option<(Value, Value)>
     Some((std::mem::take(&mut items[0]), std::mem::take(&mut items[1])))
 }
 
-fn both_copied(items: &[Value]) -> Result<Option<(Value, Value)>>
+fn copy_two_items(items: &[Value]) -> Result<Option<(Value, Value)>>
     ensures ok { IfOk result (λ found. found ≡ two_items items.now) }
     ensures err { OnlyMemory result }
 {

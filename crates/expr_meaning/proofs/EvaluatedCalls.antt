@@ -48,10 +48,10 @@ counted-evaluates : (shifted : ℕ → ℤ) (n : ℤ) → Evaluates (bits.shift_
 counted-evaluates shifted (pos n) = tt
 counted-evaluates shifted (negsuc n) = refl
 
-chosen-evaluates : (choice : ℤ → ℤ → ℤ) (vs : List Value) → Evaluates (numbers.chosen_among choice vs)
-chosen-evaluates choice vs =
-    either-evaluates (length vs == 0) (Err evaluation) (answer_on (all_of integer_of (all_flat_items vs)) (λ ns. Ok (numbers.chosen choice ns))) refl
-    (answer_on-evaluates (all_of integer_of (all_flat_items vs)) (λ ns. Ok (numbers.chosen choice ns)) (λ ns. tt))
+choice_among-evaluates : (choice : ℤ → ℤ → ℤ) (vs : List Value) → Evaluates (numbers.choice_among choice vs)
+choice_among-evaluates choice vs =
+    either-evaluates (length vs == 0) (Err evaluation) (answer_on (all_of integer_of (all_flat_items vs)) (λ ns. Ok (numbers.choice_of choice ns))) refl
+    (answer_on-evaluates (all_of integer_of (all_flat_items vs)) (λ ns. Ok (numbers.choice_of choice ns)) (λ ns. tt))
 
 -- texts
 repeated-evaluates : (s : List ℕ) (n : ℤ) → Evaluates (text.repeated_text s n)
@@ -123,8 +123,8 @@ BitCalled-evaluates bit.Bitushr vs a p = on (two_integers vs) _ a p (λ x. count
 BitCalled-evaluates c vs a p = search (rules, same-evaluates)
 
 pub NumberCalled-evaluates : (c : NumberCall) (vs : List Value) (a : Answer) → numbers.Called c vs a → Evaluates a
-NumberCalled-evaluates number.Max vs a p = same-evaluates a _ p (chosen-evaluates _ vs)
-NumberCalled-evaluates number.Min vs a p = same-evaluates a _ p (chosen-evaluates _ vs)
+NumberCalled-evaluates number.Max vs a p = same-evaluates a _ p (choice_among-evaluates _ vs)
+NumberCalled-evaluates number.Min vs a p = same-evaluates a _ p (choice_among-evaluates _ vs)
 NumberCalled-evaluates c vs a p = search (rules, same-evaluates)
 
 pub TextCalled-evaluates : (c : TextCall) (vs : List Value) (a : Answer) → text.Called c vs a → Evaluates a
