@@ -1,7 +1,7 @@
 -- What the built-ins that ask a predicate make of their arguments.
 use Rattle.std.specs.Prelude.{ℕ, Bool, true, false, ◌||◌, List, [], ◌∷◌, length, reverse, Option, Some, None, Result, Ok, Err, bytes_eq, codes, if◌then◌else◌}
 use Rattle.expr_error.specs.ErrorKind.{ErrorKind, evaluation}
-use Rattle.expr_value.specs.Values.{items_of, string_of}
+use Rattle.expr_value.specs.Values.{string_of}
 use Rattle.expr_value.specs.declared.value.Value.{Value}
 use Rattle.expr_value.specs.Answers.{Answer, ThenIfOk}
 use Rattle.expr_predicates.specs.Runs.{FoldMayReturn}
@@ -9,21 +9,12 @@ use Rattle.expr_sorting.specs.Sorting.{Sorts, own_answers}
 use Rattle.expr_predicates.specs.Folds.{Fold, PredicateArgsView, finding, finding_last_place, front_fold, reducing, sorting}
 use Rattle.expr_functions.specs.declared.functions.HigherOrderCall.{HigherOrderCall}
 use Rattle.expr_functions.specs.declared.functions.HigherOrderCall.TheVariants.{Count, FindLast, FindLastIndex, Reduce, SortBy, Sum}
+pub use Rattle.expr_arguments.specs.Arguments.{array_and_more, array_then}
 
 -- what is made of which items, in the order in which they are asked about
 pub record FoldOver : Type 0 where
   pub fold : Fold
   pub items : List Value
-
--- an array, and one more argument if there is one
-abbrev pub array_then : Option (List Value) → Option Value → Result (List Value × Option Value) ErrorKind
-array_then (Some items) more = Ok (items, more)
-array_then None more = Err evaluation
-
-abbrev pub array_and_more : List Value → Result (List Value × Option Value) ErrorKind
-array_and_more (v ∷ []) = array_then (items_of v) None
-array_and_more (v ∷ w ∷ []) = array_then (items_of v) (Some w)
-array_and_more vs = Err evaluation
 
 -- `"desc"` is downward and `"asc"` upward
 abbrev pub direction_named : Option (List ℕ) → Result Bool ErrorKind

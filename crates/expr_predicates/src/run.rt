@@ -6,12 +6,12 @@ ghost use Rattle.expr_arguments.specs.Arrays.{array_items};
 ghost use Rattle.expr_predicates.specs.Calls.{SortsItems};
 ghost use Rattle.expr_predicates.specs.Remaining.{items_remaining};
 
-use crate::arguments::{array_and_more, direction, is_downward, runs_alone};
+use crate::arguments::{direction, is_downward, runs_alone};
 use crate::predicate_args::PredicateArgs;
 use crate::remaining::Remaining;
 use crate::scalar_accumulator::ScalarAccumulator;
 use crate::value_accumulator::ValueAccumulator;
-use expr_arguments::{Array, count_items, into_items};
+use expr_arguments::{Array, array_and_more, count_items, into_items};
 use expr_cow::CowValue;
 use expr_functions::HigherOrderCall;
 use expr_sorting::sort_items;
