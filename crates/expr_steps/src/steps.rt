@@ -266,15 +266,3 @@ fn call_of_name(alloc: Global, ident: &str, value: &Value, args: &[CowValue<'_>]
         None => Err(unknown_method(alloc, ident)),
     }
 }
-
-/// Values that are given, to be held.
-pub fn cow_values<'s>(alloc: Global, values: Vec<Value>) -> Result<Items<CowValue<'s>>>
-    ensures ok { IfOk result (λ hs. hs ≡ values.items) }
-    ensures refusal { IfErr result (λ e. error_kind e ≡ memory) }
-{
-    let mut held = Vec::with_capacity(alloc, values.len())?;
-    for value in values {
-        held.push(CowValue::from_owned(value))?;
-    }
-    Ok(Items::from_vec(held))
-}
