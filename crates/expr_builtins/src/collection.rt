@@ -7,7 +7,8 @@ ghost use Rattle.expr_value.specs.Values.{of_key, string_of, items_of};
 ghost use Rattle.expr_value.specs.Answers.{Returns};
 ghost use Rattle.expr_arguments.specs.Arguments.{all_of};
 ghost use Rattle.expr_arguments.specs.Arrays.{array_items};
-ghost use Rattle.expr_builtins.specs.Collections.{Called, len, size_of, first, last, item_or_nil, take_items, taken_items, reversed_array, keys, values, to_pairs, from_pairs, get, join, concat, pair_of, two_items, in_a_row, item_from, or_nil, pair, named_pair, keyed_pair};
+ghost use Rattle.expr_cow.specs.Parts.{or_nil};
+ghost use Rattle.expr_builtins.specs.Collections.{Called, len, size_of, first, last, item_or_nil, take_items, taken_items, reversed_array, keys, values, to_pairs, from_pairs, get, join, concat, pair_of, two_items, in_a_row, pair, named_pair, keyed_pair};
 
 use crate::array::{first_items, item_at};
 use crate::{distinct, nested};
@@ -15,7 +16,7 @@ use expr_arguments::{
     Array, array_and_integer, array_and_text, array_of, count_items, each_cow, into_items,
     one_array, one_value, two_values,
 };
-use expr_cow::CowValue;
+use expr_cow::{CowValue, item};
 use expr_functions::CollectionCall;
 use expr_strings::join_texts;
 use expr_value::{Items, Key, KeyedMap, Result, Text, Value, ValueMap, refusal};
@@ -217,17 +218,6 @@ fn copied_or_nil(found: Option<&Value>) -> Result<Value>
         Some(value) => Ok(value.clone()?),
         None => Ok(Value::Nil),
     }
-}
-
-// The item at a place, from the end if the place is negative.
-fn item<T>(items: &[T], place: i64) -> Option<&T>
-    ensures { option_copied result ≡ item_from items.now place }
-{
-    if place >= 0 {
-        return items.get(place as usize);
-    }
-    let place = items.len().checked_sub(place.unsigned_abs() as usize)?;
-    items.get(place)
 }
 
 /// The texts of an array, with a separator between.
