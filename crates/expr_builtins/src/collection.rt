@@ -1,14 +1,14 @@
 //! The calls on arrays and maps.
-ghost use Rattle.std.specs.Prelude.{◌≡◌, ◌≢◌, ◌-◌, ◌++◌, None, Some, Ok, map, length, unwrap_or, IfOk, OnOk};
+ghost use Rattle.std.specs.Prelude.{◌≡◌, ◌-◌, ◌++◌, None, Some, Ok, map, length, IfOk, OnOk};
 ghost use Rattle.std.specs.Option.{option_copied, option_map};
 ghost use Rattle.std.specs.Str.{chars};
-ghost use Rattle.expr_error.specs.ErrorKind.{error_kind, memory, evaluation, OnlyMemory};
+ghost use Rattle.expr_error.specs.ErrorKind.{OnlyMemory};
 ghost use Rattle.expr_value.specs.Values.{of_key, string_of, items_of};
 ghost use Rattle.expr_value.specs.Answers.{Returns};
 ghost use Rattle.expr_arguments.specs.Arguments.{all_of};
 ghost use Rattle.expr_arguments.specs.Arrays.{array_items};
 ghost use Rattle.expr_cow.specs.Parts.{or_nil};
-ghost use Rattle.expr_builtins.specs.Collections.{Called, len, size_of, first, last, item_or_nil, take_items, taken_items, reversed_array, keys, values, to_pairs, from_pairs, get, join, concat, pair_of, two_items, in_a_row, pair, named_pair, keyed_pair};
+ghost use Rattle.expr_builtins.specs.Collections.{Called, len, size_of, first, last, take_items, reversed_array, keys, values, to_pairs, from_pairs, get, join, concat, pair_of, two_items, in_a_row, pair, named_pair, keyed_pair};
 
 use crate::array::{first_items, item_at};
 use crate::{distinct, nested};

@@ -1,5 +1,5 @@
 //! A run of a predicate over the items of an array.
-ghost use Rattle.std.specs.Prelude.{◌≡◌, ◌≢◌, ℕ, ◌+◌, ◌<◌, ◌^◌, ◌∷◌, ◌++◌, [], List, reverse, length, IfOk, IfSome, IsSomeAnd, Ok, Err, Some, None, option_map, true, false};
+ghost use Rattle.std.specs.Prelude.{◌≡◌, ℕ, ◌+◌, ◌<◌, ◌^◌, ◌∷◌, ◌++◌, [], List, reverse, length, IfOk, IfSome, IsSomeAnd, Ok, Err, Some, None, option_map, true, false};
 ghost use Rattle.expr_value.specs.Answers.{Returns};
 ghost use Rattle.expr_error.specs.ErrorKind.{evaluation, RefusesWith};
 ghost use Rattle.expr_arguments.specs.Arrays.{array_items};

@@ -1,5 +1,5 @@
 //! What is kept of the answers where neither an item nor an answer is.
-ghost use Rattle.std.specs.Prelude.{◌≡◌, ◌≢◌, ◌+◌, ◌-◌, ◌<◌, ◌^◌, ◌∷◌, ◌++◌, [], List, length, IfOk, IfSome, IsSomeAnd, Ok, Some, None, true, false, not, unwrap_or, if◌then◌else◌};
+ghost use Rattle.std.specs.Prelude.{◌≡◌, ◌+◌, ◌-◌, ◌<◌, ◌^◌, ◌∷◌, ◌++◌, [], List, length, IfOk, IfSome, IsSomeAnd, Ok, Some, None, true, false, not, unwrap_or, if◌then◌else◌};
 ghost use Rattle.std.specs.Option.{option_map, option_or};
 ghost use Rattle.expr_value.specs.Values.{truth_of};
 ghost use Rattle.expr_error.specs.ErrorKind.{evaluation, RefusesWith, IsOfKind};
