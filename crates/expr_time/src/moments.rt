@@ -98,7 +98,7 @@ impl DateTimeMethod {
             DateTimeMethod::String => string(alloc, moment, arguments),
             DateTimeMethod::Location => location_answer(alloc, moment, arguments),
             DateTimeMethod::Utc => in_utc(alloc, moment, arguments),
-            DateTimeMethod::In => moved_into(alloc, moment, arguments),
+            DateTimeMethod::In => in_given_zone(alloc, moment, arguments),
             DateTimeMethod::Add => add(alloc, moment, arguments),
             DateTimeMethod::Sub => subtract(alloc, moment, arguments),
             DateTimeMethod::AddDate => add_date(alloc, moment, arguments),
@@ -205,7 +205,7 @@ pub(crate) fn in_utc(
     without_arguments(alloc, arguments, answer)
 }
 
-fn moved_into(alloc: Global, moment: &DateTimeValue, arguments: &[CowValue<'_>]) -> Result<Value>
+fn in_given_zone(alloc: Global, moment: &DateTimeValue, arguments: &[CowValue<'_>]) -> Result<Value>
     ensures { ReturnsExactly result (answer_for (one_zone arguments.now)
         (λ zone. Ok (Value.DateTime (moment_in moment.now (Named zone))))) }
 {
