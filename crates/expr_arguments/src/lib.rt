@@ -3,6 +3,7 @@
 
 mod arguments;
 mod array;
+mod times;
 
 pub use arguments::{
     array_and_integer, array_and_text, one_array, one_duration, one_integer, one_or_two_texts,
@@ -10,3 +11,4 @@ pub use arguments::{
     two_texts_and_limit, two_values, without_arguments,
 };
 pub use array::{Array, array_of, count_items, each_cow, into_items, values_of_cows};
+pub use times::{one_moment, one_zone, three_integers, timezone_in};

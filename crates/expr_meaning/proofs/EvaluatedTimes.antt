@@ -1,6 +1,7 @@
 -- Methods, and calls of times, give a value or refuse to evaluate.
 use Rattle.std.proofs.Common.{◌≡◌, ℕ, ℤ, List, [], ◌∷◌, Option, Some, None, Ok, Err, inl, inr, refl}
 use Rattle.expr_arguments.specs.Arguments.{without_arguments, one_duration, one_text}
+use Rattle.expr_arguments.specs.Times.{one_moment, one_zone, three_integers, timezone_of}
 use Rattle.expr_duration.specs.Methods.{method_answer, by_step, ReadsLength, OfText}
 use Rattle.expr_duration.specs.declared.method.DurationMethod.{DurationMethod}
 use Rattle.expr_duration.specs.declared.method.DurationMethod.TheVariants as of_length
@@ -12,7 +13,7 @@ use Rattle.expr_moment.specs.Zones.{at_civil, moment_or_refusal}
 use Rattle.expr_steps.specs.Methods.{AllowsDurationMethod, AllowsMethod, AllowsMethodLayer, AllowsMomentMethod, AllowsNameMethod}
 use Rattle.expr_time.specs.Calls.{TimeCallMayReturn}
 use Rattle.expr_time.specs.Civil.{AllowsDate, Dates, DatesLayout, DatesNamed, DatesText, DatesThree, DatesTwo, MomentMayReturnIf, place_read, by_form}
-use Rattle.expr_time.specs.Moments.{AddsDates, AnsweredAt, answer_for, location_answer, name_answer, one_moment, one_zone, three_integers, timezone_of}
+use Rattle.expr_time.specs.Moments.{AddsDates, AnsweredAt, answer_for, location_answer, name_answer}
 use Rattle.expr_time.specs.Zones.{now_answer, timezone_answer, zone_named}
 use Rattle.expr_functions.specs.declared.functions.TimeCall.{TimeCall}
 use Rattle.expr_functions.specs.declared.functions.TimeCall.TheVariants as call

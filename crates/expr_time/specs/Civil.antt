@@ -14,7 +14,8 @@ use Rattle.expr_value.specs.Values.{string_of}
 use Rattle.expr_value.specs.declared.value.Value.{Value}
 use Rattle.expr_layout.specs.KnownFields.{read_all, no_fields}
 use Rattle.expr_layout.specs.Layouts.{IsLayout, either}
-use Rattle.expr_time.specs.Moments.{answer_for, timezone_of}
+use Rattle.expr_arguments.specs.Times.{timezone_of}
+use Rattle.expr_time.specs.Moments.{answer_for}
 use Rattle.expr_moment.specs.Zones.{at_civil, moment_or_refusal}
 use Rattle.expr_datetime.specs.Times.{utc}
 use Rattle.expr_time.specs.Zones.{zone_named}

@@ -1,6 +1,5 @@
 //! Methods of moments, of zones, of months and of days of the week.
 ghost use Rattle.std.specs.Prelude.{◌≡◌, ◌≢◌, ℤ, int_lt, Some, None, Ok, IfOk, MatchOption, string_bytes, ◌-ℤ◌};
-ghost use Rattle.std.specs.Option.{option_copied};
 ghost use Rattle.std.specs.Fmt.{WritesOnOk};
 ghost use Rattle.std.specs.Ordering.{int_eq};
 ghost use Rattle.jiff.specs.Words.{IsTimestampNanos, IsWithin};
@@ -12,11 +11,12 @@ ghost use Rattle.expr_datetime.specs.declared.moment.MomentZone.TheVariants.{Nam
 ghost use Rattle.expr_moment.specs.Dates.{AddsDate};
 ghost use Rattle.expr_moment.specs.Fields.{between, field_of};
 ghost use Rattle.expr_arguments.specs.Arguments.{without_arguments, one_duration};
-ghost use Rattle.expr_time.specs.Moments.{AddsDates, AnsweredAt, answer_for, comparison, instant_rounded, instant_truncated, location_answer, moment_method, name_answer, name_method, one_moment, one_zone, three_integers, timezone_of};
+ghost use Rattle.expr_arguments.specs.Times.{one_moment, one_zone, three_integers};
+ghost use Rattle.expr_time.specs.Moments.{AddsDates, AnsweredAt, answer_for, comparison, instant_rounded, instant_truncated, location_answer, moment_method, name_answer, name_method};
 ghost use Rattle.expr_moment.specs.Zones.{moment_or_refusal, location_of};
 ghost use Rattle.expr_error.specs.ErrorKind.{OnlyMemory};
 
-use expr_arguments::{one_duration, without_arguments};
+use expr_arguments::{one_duration, one_moment, one_zone, three_integers, without_arguments};
 use expr_cow::CowValue;
 use expr_datetime::{show_stamp, utc};
 use expr_layout::format;
@@ -24,7 +24,7 @@ use expr_moment::{
     DateTimeField, ZERO_INSTANT, at_instant, civil_beside, date_after, date_shown, in_zone,
     location, moment_or_refusal, show_place, time_shown,
 };
-use expr_value::{DateTimeValue, Result, Text, TimezoneValue, Value, refusal};
+use expr_value::{DateTimeValue, Result, Text, Value, refusal};
 use jiff::civil::DateTime;
 use std::alloc::Global;
 use std::fmt;
@@ -375,49 +375,4 @@ fn instant_truncated(nanoseconds: i128, step: i64) -> i128
         return nanoseconds;
     }
     nanoseconds - (nanoseconds - ZERO_INSTANT).rem_euclid(step as i128)
-}
-
-fn one_moment<'a>(arguments: &'a [CowValue<'_>]) -> Option<&'a DateTimeValue>
-    ensures { option_copied result ≡ one_moment arguments.now }
-{
-    match arguments {
-        [moment] => moment.get().as_datetime(),
-        _ => None,
-    }
-}
-
-fn one_zone<'a>(arguments: &'a [CowValue<'_>]) -> Option<&'a TimezoneValue>
-    ensures { option_copied result ≡ one_zone arguments.now }
-{
-    match arguments {
-        [zone] => timezone_in(zone.get()),
-        _ => None,
-    }
-}
-
-/// The zone of a zone.
-pub(crate) fn timezone_in(value: &Value) -> Option<&TimezoneValue>
-    ensures { option_copied result ≡ timezone_of value.now }
-{
-    match value {
-        Value::Timezone(zone) => Some(zone.get()),
-        _ => None,
-    }
-}
-
-fn three_integers(arguments: &[CowValue<'_>]) -> Option<(i64, i64, i64)>
-    ensures { result ≡ three_integers arguments.now }
-{
-    match arguments {
-        [years, months, days] => {
-            let years = years.get().as_integer();
-            let months = months.get().as_integer();
-            let days = days.get().as_integer();
-            match (years, months, days) {
-                (Some(years), Some(months), Some(days)) => Some((years, months, days)),
-                _ => None,
-            }
-        }
-        _ => None,
-    }
 }
