@@ -15,18 +15,13 @@ use Rattle.expr_datetime.specs.declared.zone.TimezoneValue.{TimezoneValue}
 use Rattle.expr_moment.specs.Dates.{AddsDate}
 use Rattle.expr_moment.specs.Fields.{between, field_name, field_of, zero_instant}
 use Rattle.expr_layout.specs.Layouts.{Formats}
-use Rattle.expr_arguments.specs.Arguments.{without_arguments, one_duration, one_text}
+use Rattle.expr_arguments.specs.Arguments.{answer_on, without_arguments, one_duration, one_text}
 use Rattle.expr_arguments.specs.Times.{one_moment, one_zone, three_integers}
 use Rattle.expr_moment.specs.Zones.{moment_or_refusal, location_of}
 use Rattle.expr_time.specs.declared.moments.DateTimeMethod.{DateTimeMethod}
 use Rattle.expr_time.specs.declared.moments.DateTimeMethod.TheVariants as is
 use Rattle.expr_time.specs.declared.moments.TextMethod.{TextMethod}
 use Rattle.expr_time.specs.declared.moments.TextMethod.TheVariants as named
-
--- an answer for an argument, and a refusal without one
-abbrev pub answer_for : {A : Type 0} → Option A → (A → Answer) → Answer
-answer_for None f = Err evaluation
-answer_for (Some a) f = f a
 
 -- which of two moments is the later one
 abbrev pub comparison : DateTimeValue → DateTimeValue → ℤ
@@ -56,15 +51,15 @@ AnsweredAt (is.Field field) t arguments answer = without_arguments arguments (fi
 AnsweredAt is.String t arguments answer = without_arguments arguments (value.String (moment_string t)) ≡ answer
 AnsweredAt is.Location t arguments answer = location_answer arguments (location_of t) ≡ answer
 AnsweredAt is.Utc t arguments answer = without_arguments arguments (value.DateTime (moment_in t (Named utc))) ≡ answer
-AnsweredAt is.In t arguments answer = answer_for (one_zone arguments) (λ zone. Ok (value.DateTime (moment_in t (Named zone)))) ≡ answer
-AnsweredAt is.Add t arguments answer = answer_for (one_duration arguments) (λ n. moment_or_refusal (moment_later t n)) ≡ answer
-AnsweredAt is.Sub t arguments answer = answer_for (one_moment arguments) (between t) ≡ answer
-AnsweredAt is.Round t arguments answer = answer_for (one_duration arguments) (λ step. moment_or_refusal (at_instant (instant_rounded (instant t) step) (moment_zone t))) ≡ answer
-AnsweredAt is.Truncate t arguments answer = answer_for (one_duration arguments) (λ step. moment_or_refusal (at_instant (instant_truncated (instant t) step) (moment_zone t))) ≡ answer
-AnsweredAt is.After t arguments answer = answer_for (one_moment arguments) (λ u. Ok (value.Bool (int_lt (instant u) (instant t)))) ≡ answer
-AnsweredAt is.Before t arguments answer = answer_for (one_moment arguments) (λ u. Ok (value.Bool (int_lt (instant t) (instant u)))) ≡ answer
-AnsweredAt is.Equal t arguments answer = answer_for (one_moment arguments) (λ u. Ok (value.Bool (int_eq (instant t) (instant u)))) ≡ answer
-AnsweredAt is.Compare t arguments answer = answer_for (one_moment arguments) (λ u. Ok (value.Integer (comparison t u))) ≡ answer
+AnsweredAt is.In t arguments answer = answer_on (one_zone arguments) (λ zone. Ok (value.DateTime (moment_in t (Named zone)))) ≡ answer
+AnsweredAt is.Add t arguments answer = answer_on (one_duration arguments) (λ n. moment_or_refusal (moment_later t n)) ≡ answer
+AnsweredAt is.Sub t arguments answer = answer_on (one_moment arguments) (between t) ≡ answer
+AnsweredAt is.Round t arguments answer = answer_on (one_duration arguments) (λ step. moment_or_refusal (at_instant (instant_rounded (instant t) step) (moment_zone t))) ≡ answer
+AnsweredAt is.Truncate t arguments answer = answer_on (one_duration arguments) (λ step. moment_or_refusal (at_instant (instant_truncated (instant t) step) (moment_zone t))) ≡ answer
+AnsweredAt is.After t arguments answer = answer_on (one_moment arguments) (λ u. Ok (value.Bool (int_lt (instant u) (instant t)))) ≡ answer
+AnsweredAt is.Before t arguments answer = answer_on (one_moment arguments) (λ u. Ok (value.Bool (int_lt (instant t) (instant u)))) ≡ answer
+AnsweredAt is.Equal t arguments answer = answer_on (one_moment arguments) (λ u. Ok (value.Bool (int_eq (instant t) (instant u)))) ≡ answer
+AnsweredAt is.Compare t arguments answer = answer_on (one_moment arguments) (λ u. Ok (value.Integer (comparison t u))) ≡ answer
 AnsweredAt is.AddDate t arguments answer = AddsDates t (three_integers arguments) answer
 AnsweredAt is.Format t arguments answer = Formats t (one_text arguments) answer
 

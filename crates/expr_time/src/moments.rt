@@ -10,9 +10,9 @@ ghost use Rattle.expr_datetime.specs.Times.{instant, moment_string, moment_zone,
 ghost use Rattle.expr_datetime.specs.declared.moment.MomentZone.TheVariants.{Named};
 ghost use Rattle.expr_moment.specs.Dates.{AddsDate};
 ghost use Rattle.expr_moment.specs.Fields.{between, field_of};
-ghost use Rattle.expr_arguments.specs.Arguments.{without_arguments, one_duration};
+ghost use Rattle.expr_arguments.specs.Arguments.{answer_on, without_arguments, one_duration};
 ghost use Rattle.expr_arguments.specs.Times.{one_moment, one_zone, three_integers};
-ghost use Rattle.expr_time.specs.Moments.{AddsDates, AnsweredAt, answer_for, comparison, instant_rounded, instant_truncated, location_answer, moment_method, name_answer, name_method};
+ghost use Rattle.expr_time.specs.Moments.{AddsDates, AnsweredAt, comparison, instant_rounded, instant_truncated, location_answer, moment_method, name_answer, name_method};
 ghost use Rattle.expr_moment.specs.Zones.{moment_or_refusal, location_of};
 ghost use Rattle.expr_error.specs.ErrorKind.{OnlyMemory};
 
@@ -206,7 +206,7 @@ pub(crate) fn in_utc(
 }
 
 fn in_given_zone(alloc: Global, moment: &DateTimeValue, arguments: &[CowValue<'_>]) -> Result<Value>
-    ensures { ReturnsExactly result (answer_for (one_zone arguments.now)
+    ensures { ReturnsExactly result (answer_on (one_zone arguments.now)
         (λ zone. Ok (Value.DateTime (moment_in moment.now (Named zone))))) }
 {
     let Some(zone) = one_zone(arguments) else {
@@ -218,7 +218,7 @@ fn in_given_zone(alloc: Global, moment: &DateTimeValue, arguments: &[CowValue<'_
 
 fn add(alloc: Global, moment: &DateTimeValue, arguments: &[CowValue<'_>]) -> Result<Value>
     ensures { ReturnsExactly result
-        (answer_for (one_duration arguments.now) (λ n. moment_or_refusal (moment_later moment.now n))) }
+        (answer_on (one_duration arguments.now) (λ n. moment_or_refusal (moment_later moment.now n))) }
 {
     let Some(nanoseconds) = one_duration(arguments) else {
         return Err(refusal(alloc, "Add takes a duration"));
@@ -228,7 +228,7 @@ fn add(alloc: Global, moment: &DateTimeValue, arguments: &[CowValue<'_>]) -> Res
 }
 
 fn subtract(alloc: Global, moment: &DateTimeValue, arguments: &[CowValue<'_>]) -> Result<Value>
-    ensures { ReturnsExactly result (answer_for (one_moment arguments.now) (between moment.now)) }
+    ensures { ReturnsExactly result (answer_on (one_moment arguments.now) (between moment.now)) }
 {
     let Some(other) = one_moment(arguments) else {
         return Err(refusal(alloc, "Sub takes a moment"));
@@ -266,7 +266,7 @@ fn later_date(
 }
 
 fn round(alloc: Global, moment: &DateTimeValue, arguments: &[CowValue<'_>]) -> Result<Value>
-    ensures { ReturnsExactly result (answer_for (one_duration arguments.now)
+    ensures { ReturnsExactly result (answer_on (one_duration arguments.now)
         (λ step. moment_or_refusal
         (at_instant (instant_rounded (instant moment.now) step) (moment_zone moment.now)))) }
 {
@@ -281,7 +281,7 @@ fn round(alloc: Global, moment: &DateTimeValue, arguments: &[CowValue<'_>]) -> R
 }
 
 fn truncate(alloc: Global, moment: &DateTimeValue, arguments: &[CowValue<'_>]) -> Result<Value>
-    ensures { ReturnsExactly result (answer_for (one_duration arguments.now)
+    ensures { ReturnsExactly result (answer_on (one_duration arguments.now)
         (λ step. moment_or_refusal
         (at_instant (instant_truncated (instant moment.now) step) (moment_zone moment.now)))) }
 {
@@ -296,7 +296,7 @@ fn truncate(alloc: Global, moment: &DateTimeValue, arguments: &[CowValue<'_>]) -
 }
 
 fn after(alloc: Global, moment: &DateTimeValue, arguments: &[CowValue<'_>]) -> Result<Value>
-    ensures { ReturnsExactly result (answer_for (one_moment arguments.now)
+    ensures { ReturnsExactly result (answer_on (one_moment arguments.now)
         (λ u. Ok (Value.Bool (int_lt (instant u) (instant moment.now))))) }
 {
     let Some(other) = one_moment(arguments) else {
@@ -307,7 +307,7 @@ fn after(alloc: Global, moment: &DateTimeValue, arguments: &[CowValue<'_>]) -> R
 }
 
 fn before(alloc: Global, moment: &DateTimeValue, arguments: &[CowValue<'_>]) -> Result<Value>
-    ensures { ReturnsExactly result (answer_for (one_moment arguments.now)
+    ensures { ReturnsExactly result (answer_on (one_moment arguments.now)
         (λ u. Ok (Value.Bool (int_lt (instant moment.now) (instant u))))) }
 {
     let Some(other) = one_moment(arguments) else {
@@ -318,7 +318,7 @@ fn before(alloc: Global, moment: &DateTimeValue, arguments: &[CowValue<'_>]) -> 
 }
 
 fn equal(alloc: Global, moment: &DateTimeValue, arguments: &[CowValue<'_>]) -> Result<Value>
-    ensures { ReturnsExactly result (answer_for (one_moment arguments.now)
+    ensures { ReturnsExactly result (answer_on (one_moment arguments.now)
         (λ u. Ok (Value.Bool (int_eq (instant moment.now) (instant u))))) }
 {
     let Some(other) = one_moment(arguments) else {
@@ -329,7 +329,7 @@ fn equal(alloc: Global, moment: &DateTimeValue, arguments: &[CowValue<'_>]) -> R
 }
 
 fn compare(alloc: Global, moment: &DateTimeValue, arguments: &[CowValue<'_>]) -> Result<Value>
-    ensures { ReturnsExactly result (answer_for (one_moment arguments.now)
+    ensures { ReturnsExactly result (answer_on (one_moment arguments.now)
         (λ u. Ok (Value.Integer (comparison moment.now u)))) }
 {
     let Some(other) = one_moment(arguments) else {
