@@ -8,8 +8,8 @@ ghost use Rattle.expr_layout.specs.Layouts.{fraction_of, fraction_places, half_h
 
 use crate::names::{short_month_name, short_weekday_name};
 use crate::token::{Field, LayoutToken, Pad, Spelling};
-use expr_datetime::{power_of_ten, show_digits, show_fraction_digits, show_year};
-use expr_moment::{date_shown, show_place, time_shown, weekday};
+use expr_datetime::{power_of_ten, show_digits, show_fraction_digits, show_place, show_year};
+use expr_moment::{date_shown, time_shown, weekday};
 use expr_value::{DateTimeValue, month_name, weekday_name};
 use std::fmt;
 use std::fmt::{Formatter, Write};

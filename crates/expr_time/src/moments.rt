@@ -18,11 +18,11 @@ ghost use Rattle.expr_error.specs.ErrorKind.{OnlyMemory};
 
 use expr_arguments::{one_duration, one_moment, one_zone, three_integers, without_arguments};
 use expr_cow::CowValue;
-use expr_datetime::{show_stamp, utc};
+use expr_datetime::{show_stamp_of, utc};
 use expr_layout::format;
 use expr_moment::{
     DateTimeField, ZERO_INSTANT, at_instant, civil_beside, date_after, date_shown, in_zone,
-    location, moment_or_refusal, show_place, time_shown,
+    location, moment_or_refusal, time_shown,
 };
 use expr_value::{DateTimeValue, Result, Text, Value, refusal};
 use jiff::civil::DateTime;
@@ -171,9 +171,7 @@ impl<'a> fmt::Display for Stamp<'a> {
     ghost output = { λ s. Some (moment_string s.moment.now) };
 
     fn fmt<W: Write>(&self, f: &mut Formatter<W>) -> fmt::Result {
-        show_stamp(self.moment.civil(), self.moment.offset(), f)?;
-        f.write_str(" ")?;
-        show_place(self.moment, f)
+        show_stamp_of(self.moment, f)
     }
 }
 
