@@ -1,6 +1,5 @@
 //! Methods of moments, of zones, of months and of days of the week.
-ghost use Rattle.std.specs.Prelude.{◌≡◌, ◌≢◌, ℤ, int_lt, Some, None, Ok, IfOk, MatchOption, string_bytes, ◌-ℤ◌};
-ghost use Rattle.std.specs.Fmt.{WritesOnOk};
+ghost use Rattle.std.specs.Prelude.{◌≡◌, ◌≢◌, int_lt, Some, None, Ok, IfOk, MatchOption, string_bytes};
 ghost use Rattle.std.specs.Ordering.{int_eq};
 ghost use Rattle.jiff.specs.Words.{IsTimestampNanos, IsWithin};
 ghost use Rattle.expr_value.specs.Answers.{Returns, ReturnsExactly};
@@ -9,7 +8,7 @@ ghost use Rattle.expr_value.specs.Strings.{string_text};
 ghost use Rattle.expr_datetime.specs.Times.{instant, moment_string, moment_zone, utc};
 ghost use Rattle.expr_datetime.specs.declared.moment.MomentZone.TheVariants.{Named};
 ghost use Rattle.expr_moment.specs.Dates.{AddsDate};
-ghost use Rattle.expr_moment.specs.Fields.{between, field_of};
+ghost use Rattle.expr_moment.specs.Fields.{between};
 ghost use Rattle.expr_arguments.specs.Arguments.{answer_on, without_arguments, one_duration};
 ghost use Rattle.expr_arguments.specs.Times.{one_moment, one_zone, three_integers};
 ghost use Rattle.expr_time.specs.Moments.{AddsDates, AnsweredAt, comparison, instant_rounded, instant_truncated, location_answer, moment_method, name_answer, name_method};
