@@ -6,7 +6,7 @@ use Rattle.expr_value.specs.Values.{duration_of, string_of, integer_of, items_of
 use Rattle.expr_value.specs.declared.value.Value.{Value}
 use Rattle.expr_value.specs.Answers.{Answer}
 
--- what a call answers on arguments of its kinds
+-- what a call answers on arguments of its kinds, and a refusal without them
 abbrev pub answer_on : {A : Type 0} → Option A → (A → Answer) → Answer
 answer_on None answers = Err evaluation
 answer_on (Some x) answers = answers x

@@ -3,6 +3,7 @@
 
 mod arguments;
 mod array;
+mod times;
 
 pub use arguments::{
     array_and_integer, array_and_more, array_and_text, one_array, one_duration, one_integer,
@@ -12,3 +13,4 @@ pub use arguments::{
 pub use array::{
     Array, array_of, count_items, cows_of_values, each_cow, into_items, values_of_cows,
 };
+pub use times::{one_moment, one_zone, three_integers, timezone_in};

@@ -1,5 +1,5 @@
 -- Built-ins on values give a value or refuse to evaluate.
-use Rattle.std.proofs.Common.{◌≡◌, ℕ, ℤ, pos, negsuc, ◌==◌, ◌*◌, ◌^◌, nat_lt, cond, false, List, [], ◌∷◌, length, Option, Some, None, Ok, Err, refl, option_map, rules}
+use Rattle.std.proofs.Common.{◌≡◌, ℕ, ℤ, pos, negsuc, ◌==◌, ◌*◌, ◌^◌, nat_lt, cond, false, List, [], length, Option, Some, None, Ok, Err, refl, option_map, rules}
 use Rattle.std.specs.Option.{option_and_then}
 use Rattle.expr_arguments.specs.Arguments.{answer_on, any_value, array_and_text, all_of, one_of, one_text, text_and_integer, two_integers, two_of, two_texts}
 use Rattle.expr_builtins.specs.Bits as bits
@@ -10,7 +10,7 @@ use Rattle.expr_strings.specs.Trimmed as trimmed
 use Rattle.expr_builtins.specs.Collections as collections
 use Rattle.expr_builtins.specs.Conversions as conversions
 use Rattle.expr_encoding.specs.Base64.{FromBase64Layer, FromText, text_in_base64}
-use Rattle.expr_encoding.specs.Calls.{EncodingMayReturn as EncodingCalled, Encodes, of_json_layer}
+use Rattle.expr_encoding.specs.Calls.{EncodingMayReturn as EncodingCalled, Encodes, EncodesArgument, of_json_layer}
 use Rattle.expr_encoding.specs.Optional.{value_or_refusal as given_encoding}
 use Rattle.expr_encoding.specs.Reading.{json_value}
 use Rattle.expr_encoding.specs.Writing.{json_text}
@@ -172,7 +172,9 @@ encodes-evaluates encoding.ToJson v a p = same-evaluates a (given_encoding (opti
 encodes-evaluates encoding.ToBase64 v a p = same-evaluates a (text_in_base64 (out-Value v)) p (in_base64-evaluates (out-Value v))
 encodes-evaluates encoding.FromBase64 v a p = from_base64-evaluates (out-Value v) a p
 
+encodes_argument-evaluates : (e : EncodingCall) (o : Option Value) (a : Answer) → EncodesArgument e o a → Evaluates a
+encodes_argument-evaluates e None a p = same-evaluates a (Err evaluation) p refl
+encodes_argument-evaluates e (Some v) a p = encodes-evaluates e v a p
+
 pub EncodingCalled-evaluates : (e : EncodingCall) (vs : List Value) (a : Answer) → EncodingCalled e vs a → Evaluates a
-EncodingCalled-evaluates e [] a p = same-evaluates a (Err evaluation) p refl
-EncodingCalled-evaluates e (v ∷ []) a p = encodes-evaluates e v a p
-EncodingCalled-evaluates e (v ∷ w ∷ more) a p = same-evaluates a (Err evaluation) p refl
+EncodingCalled-evaluates e vs a p = encodes_argument-evaluates e (one_of any_value vs) a p

@@ -7,18 +7,15 @@ use Rattle.expr_error.specs.ErrorKind.{error_kind}
 use Rattle.expr_error.specs.declared.error.Error.{Error}
 use Rattle.expr_value.specs.declared.value.Value.{Value}
 use Rattle.expr_value.proofs.Answered.{Returns-of-ReturnsExactly, Returns-passed}
-use Rattle.expr_meaning.specs.Allows.{AllowsPredicate, AllowsCall, is_given}
+use Rattle.expr_meaning.specs.Allows.{AllowsCall}
 use Rattle.expr_meaning.specs.World.{World}
 use Rattle.expr_evaluation.specs.Here.{outermost}
+use Rattle.expr_evaluation.specs.Promises.{AnswersCall}
 use Rattle.expr_evaluation.specs.Several.{predicate_lent}
-use Rattle.expr_evaluation.proofs.evaluation.Evaluation.answer_held.Goals as goal
+use Rattle.expr_evaluation.proofs.evaluation.Evaluation.answer_built_in.Goals as goal
 
--- the call on these values, by the predicate that it is lent
-abbrev Whole : World → List ℕ → List Value → Option (Bor Program) → Result Value Error → Type 0
-Whole world key vs o r = Returns r (AllowsCall world.host key vs (is_given (predicate_lent o)) (AllowsPredicate world (predicate_lent o)))
-
-lent_none : (world : World) (key : List ℕ) (vs : List Value) (o : Option (Bor Program)) (r : Result Value Error) → o ≡ None → Returns r (AllowsCall world.host key vs false AnswersItself) → Whole world key vs o r
-lent_none world key vs o r is p = subst (λ k. Whole world key vs k r) (sym is) p
+lent_none : (world : World) (key : List ℕ) (vs : List Value) (o : Option (Bor Program)) (r : Result Value Error) → o ≡ None → Returns r (AllowsCall world.host key vs false AnswersItself) → AnswersCall world key vs (predicate_lent o) r
+lent_none world key vs o r is p = subst (λ k. AnswersCall world key vs (predicate_lent k) r) (sym is) p
 
 pub returns-in_err-call_alone : goal.returns-in_err-call_alone
 returns-in_err-call_alone g c =

@@ -1,6 +1,6 @@
 //! What takes no memory: nil, booleans and integers under prefixes, `+ - * %`, comparisons, equality, `and` and `or`.
 ghost use Rattle.std.specs.Prelude.{◌≡◌, IsFalse, MatchOption};
-ghost use Rattle.expr_evaluation.specs.AllocFree.{IsPlainTruth, IsPlainly, IsPlainlyAfter};
+ghost use Rattle.expr_evaluation.specs.AllocFree.{FindsAllocFree, FindsAllocFreeAfter, FindsAllocFreeTruth};
 ghost use Rattle.expr_operators.specs.AllocFree.{is_alloc_free_value};
 ghost use Rattle.expr_tree.specs.Term.{operation};
 ghost use Rattle.expr_tree.specs.TermOf.{term_of};
@@ -12,14 +12,14 @@ use expr_value::Value;
 use std::alloc::Global;
 
 /// The value of a node that takes no memory, if it has one. It asks neither a name nor a host.
-#[cycle(plain)]
-pub(crate) fn plain_value(alloc: Global, node: &Node) -> Option<Value>
-    ensures { IsPlainly result (term_of node.now) }
+#[cycle(alloc_free)]
+pub(crate) fn alloc_free_value(alloc: Global, node: &Node) -> Option<Value>
+    ensures { FindsAllocFree result (term_of node.now) }
 {
     match node {
-        Node::Value(value) => plain_literal(value),
+        Node::Value(value) => alloc_free_literal(value),
         Node::Unary { operator, node } => {
-            let value = plain_value(alloc, node)?;
+            let value = alloc_free_value(alloc, node)?;
             match prefix(alloc, *operator, &value) {
                 Ok(answer) => Some(answer),
                 Err(_) => None,
@@ -31,33 +31,33 @@ pub(crate) fn plain_value(alloc: Global, node: &Node) -> Option<Value>
             right,
             ..
         } => {
-            let first = plain_value(alloc, left)?;
-            plain_after(alloc, right, *operator, &first)
+            let first = alloc_free_value(alloc, left)?;
+            alloc_free_after(alloc, right, *operator, &first)
         }
         _ => None,
     }
 }
 
 /// The value of an operator that takes no memory, with this value on the left, if it has one.
-#[cycle(plain)]
-pub(crate) fn plain_after(
+#[cycle(alloc_free)]
+pub(crate) fn alloc_free_after(
     alloc: Global,
     right: &Node,
     operator: Operator,
     first: &Value,
 ) -> Option<Value>
-    ensures { IsPlainlyAfter result operator first.now (term_of right.now) }
+    ensures { FindsAllocFreeAfter result operator first.now (term_of right.now) }
 {
     match (strictness_of(operator), first) {
         (Strictness::Both, _) => {
-            let second = plain_value(alloc, right)?;
+            let second = alloc_free_value(alloc, right)?;
             match apply(alloc, operator, first, &second) {
                 Ok(value) => Some(value),
                 Err(_) => None,
             }
         }
-        (Strictness::EndsAtFalse, Value::Bool(true)) => plain_truth(alloc, right),
-        (Strictness::EndsAtTrue, Value::Bool(false)) => plain_truth(alloc, right),
+        (Strictness::EndsAtFalse, Value::Bool(true)) => alloc_free_truth(alloc, right),
+        (Strictness::EndsAtTrue, Value::Bool(false)) => alloc_free_truth(alloc, right),
         (Strictness::EndsAtFalse, Value::Bool(false)) => Some(Value::Bool(false)),
         (Strictness::EndsAtTrue, Value::Bool(true)) => Some(Value::Bool(true)),
         _ => None,
@@ -65,24 +65,24 @@ pub(crate) fn plain_after(
 }
 
 /// The value of an operator between two nodes that takes no memory, if it has one.
-pub(crate) fn plain_operation(
+pub(crate) fn alloc_free_operation(
     alloc: Global,
     operator: Operator,
     left: &Node,
     right: &Node,
 ) -> Option<Value>
-    ensures { IsPlainly result (operation operator (term_of left.now) (term_of right.now)) }
+    ensures { FindsAllocFree result (operation operator (term_of left.now) (term_of right.now)) }
 {
-    let first = plain_value(alloc, left)?;
-    plain_after(alloc, right, operator, &first)
+    let first = alloc_free_value(alloc, left)?;
+    alloc_free_after(alloc, right, operator, &first)
 }
 
 /// The boolean that a node is which takes no memory, if it is one.
-#[cycle(plain)]
-fn plain_truth(alloc: Global, node: &Node) -> Option<Value>
-    ensures { IsPlainTruth result (term_of node.now) }
+#[cycle(alloc_free)]
+fn alloc_free_truth(alloc: Global, node: &Node) -> Option<Value>
+    ensures { FindsAllocFreeTruth result (term_of node.now) }
 {
-    let value = plain_value(alloc, node)?;
+    let value = alloc_free_value(alloc, node)?;
     match as_truth(alloc, &value) {
         Ok(truth) => Some(truth),
         Err(_) => None,
@@ -90,7 +90,7 @@ fn plain_truth(alloc: Global, node: &Node) -> Option<Value>
 }
 
 /// A literal of nil, a boolean or an integer.
-fn plain_literal(value: &Value) -> Option<Value>
+fn alloc_free_literal(value: &Value) -> Option<Value>
     ensures { MatchOption result (IsFalse (is_alloc_free_value value.now)) (λ v. v ≡ value.now) }
 {
     match value {
