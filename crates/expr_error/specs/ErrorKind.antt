@@ -1,5 +1,5 @@
 -- The kinds of refusal. The text of a message and the place in a text are for people, and no clause speaks of them.
-use Rattle.std.specs.Prelude.{◌≡◌, ◌≢◌, IfErr, Result, Ok, Err}
+use Rattle.std.specs.Prelude.{◌≡◌, ◌≢◌, IfErr, Result}
 use Rattle.expr_error.specs.declared.error.Error.{Error}
 use Rattle.expr_error.specs.declared.error.Error.TheVariants.{PestError, ParseError, ExprError, RegexError, MemoryError}
 

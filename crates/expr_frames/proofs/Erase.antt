@@ -23,7 +23,7 @@ use Rattle.expr_frames.specs.declared.frame.Reaching.TheVariants as reaching
 use Rattle.expr_frames.specs.declared.frame.OpenOperand.{OpenOperand}
 use Rattle.expr_frames.specs.declared.frame.OpenOperand.TheVariants as open_operand
 use Rattle.expr_frames.specs.declared.frame.ParseState.TheVariants as parse_state
-use Rattle.expr_grammar.specs.Grammar.{Word, Usual, ReservedWord, Key, WordKey, QuotedKey, EntryRow, Tree, Name, Paren, Map, Member, Infix, Index, Slice, Row, NoEntries, SomeEntries, SomeItems, SomeArguments, ArgumentRow, Argument, Expression, Braces, Bound, LeftOut, At, Else, ElseIf, TreeProgram, Program, NoLines, key_token}
+use Rattle.expr_grammar.specs.Grammar.{Word, Usual, ReservedWord, Key, WordKey, QuotedKey, EntryRow, Tree, Name, Paren, Map, Member, Index, Slice, Row, SomeEntries, SomeItems, SomeArguments, ArgumentRow, Argument, Expression, Braces, Bound, LeftOut, At, Else, ElseIf, TreeProgram, Program, NoLines, key_token}
 use Rattle.expr_grammar.specs.Machine as tree
 use Rattle.expr_grammar.specs.Machine.{role_of, role_level, word_at, key_at, push, push_argument, push_entry, items_end, arguments_end, entries_end, InArray, InMethod, holder_tree, InCall, InPipe, caller_tree, Branches, NoBranch, Branch, chosen, Top, Then, Last, Predicate, tree_of}
 use Rattle.expr_grammar.specs.Height.{height, items_height, row_height, entries_height, entry_row_height, arguments_height, argument_row_height, else_height, program_height, lines_height}

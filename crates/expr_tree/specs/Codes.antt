@@ -198,9 +198,3 @@ block_code = code_by Symbols symbols_code (λ b. block_symbols b []) (λ xs. las
 
 abbrev pub predicate_code : Coded Predicate
 predicate_code = code_by Symbols symbols_code (λ p. predicate_symbols p []) (λ xs. top no_predicate (read_symbols xs empty_stacks).predicates) predicate-back
-
-pub bound-back : (b : Bound) → top unbounded (read_symbols (bound_symbols b []) empty_stacks).bounds ≡ b
-bound-back b = ap (λ (s : Stacks). top unbounded s.bounds) (read_symbols-bound b [] empty_stacks)
-
-abbrev pub bound_code : Coded Bound
-bound_code = code_by Symbols symbols_code (λ b. bound_symbols b []) (λ xs. top unbounded (read_symbols xs empty_stacks).bounds) bound-back
