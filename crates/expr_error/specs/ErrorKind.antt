@@ -30,6 +30,10 @@ OnlyMemory result = IfErr result (λ e. e ≡ MemoryError)
 abbrev pub RefusesWith : {A : Type 0} → Result A Error → (ErrorKind → Type 0) → Type 0
 RefusesWith result said = IfErr result (λ e. error_kind e ≢ memory → said (error_kind e))
 
+-- A call is never refused for a pattern that does not build.
+abbrev pub RefusesNoPattern : {A : Type 0} → Result A Error → Type 0
+RefusesNoPattern result = IfErr result (λ e. error_kind e ≢ pattern)
+
 -- an error is of this kind, or it says that memory was wanting
 abbrev pub IsOfKind : Error → ErrorKind → Type 0
 IsOfKind e kind = error_kind e ≢ memory → error_kind e ≡ kind
