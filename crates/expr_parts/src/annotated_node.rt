@@ -437,7 +437,7 @@ fn kept_pattern(
 fn pattern_of(alloc: Global, text: &str) -> Result<CompiledRegex, AllocError>
     ensures { IfOk result (IsKeptOf text.now) }
 {
-    match Pattern::kept(alloc, text) {
+    match Pattern::of_text(alloc, text) {
         Ok(Some(pattern)) => Ok(CompiledRegex::Built(Box::new(alloc, pattern)?)),
         Ok(None) => Ok(CompiledRegex::None),
         Err(Unbuilt::TooBig) => Ok(CompiledRegex::TooBig),
