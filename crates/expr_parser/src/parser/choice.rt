@@ -5,14 +5,14 @@ ghost use Rattle.expr_frames.specs.declared.frame.Frame.TheVariants as frame;
 ghost use Rattle.expr_frames.specs.Nodes as machine;
 ghost use Rattle.expr_parser.specs.Reading.{stack, ReachesState};
 
-use crate::parser::{Parser, whole};
+use crate::parser::{FrameParser, whole};
 use expr_frames::build::{nest, with_branch};
 use expr_frames::frame::{Branches, Frame, ParseState, ReadError, Section};
 use expr_parts::{AnnotatedNode, AnnotatedProgram, Lines};
 use expr_token::{Reserved, Sign, Token};
 use expr_value::Boxed;
 
-impl Parser {
+impl FrameParser {
     // A program between braces is whole.
     pub(super) fn end_section(
         &self,

@@ -5,7 +5,7 @@ ghost use Rattle.expr_grammar.specs.Machine.{role_of, role_level};
 ghost use Rattle.expr_frames.specs.Nodes as machine;
 ghost use Rattle.expr_parser.specs.Reading.{stack, ReachesState};
 
-use crate::parser::{Parser, whole};
+use crate::parser::{FrameParser, whole};
 use expr_frames::frame::{Caller, Frame, Holder, OpenOperand, ParseState, Reaching, ReadError};
 use expr_grammar::role::Role;
 use expr_grammar::sign::InfixSign;
@@ -13,7 +13,7 @@ use expr_parts::{AnnotatedNode, Arguments};
 use expr_token::{Reserved, Sign, Token};
 use expr_value::Boxed;
 
-impl Parser {
+impl FrameParser {
     // A token after an operand.
     pub(super) fn follow(
         &mut self,
