@@ -36,11 +36,11 @@ impl Drop for AnnotatedNode {
 }
 
 impl Model for AnnotatedNode {
-    ghost use Rattle.expr_parts.specs.Parts.{WithHeight, with_height_code};
+    ghost use Rattle.expr_parts.specs.Parts.{WithHeight, coded_with_height};
 
     ghost Value = { WithHeight };
 
-    ghost coded = { with_height_code };
+    ghost coded = { coded_with_height };
 
     ghost use Rattle.std.specs.Prelude.{◌≡◌};
     ghost use Rattle.expr_tree.specs.KeptPatterns.{operations};
