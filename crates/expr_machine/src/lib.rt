@@ -4,11 +4,12 @@
 mod acts;
 mod conditions;
 mod kept;
+mod list_arena;
 mod machine;
 mod names;
-mod room;
 mod stores;
 mod turns;
 
+pub use conditions::known_if;
 pub use kept::KeptMachine;
 pub use machine::{Machine, execute, run};

@@ -1,6 +1,7 @@
-use Rattle.std.proofs.Common.{Ok, subst}
+use Rattle.std.proofs.Common.{Ok, ap, subst}
 use Rattle.expr_meter.specs.declared.outcome.Outcome.{Outcome}
 use Rattle.expr_meaning.specs.World.{World}
+use Rattle.expr_error.specs.ErrorKind.{error_kind}
 use Rattle.expr_machine.specs.Here.{here}
 use Rattle.expr_tree.specs.TermOf.{program_term}
 use Rattle.expr_tree.specs.declared.node.Program.{Program}
@@ -26,15 +27,15 @@ returns-in_err-compiled-clause-boundary g c = λ own.
 pub returns-in_err-code-in-Answered-clause-outcome : goal.returns-in_err-code-in-Answered-clause-outcome
 returns-in_err-code-in-Answered-clause-outcome g c =
     let world : World = here g.H.Functions.host g.P.ContextProvider.context c.args.machine.now in
-    memory_ends world c.args.code.now c.args.limits.now c.in_err-code-in-Answered.field-0.0 c.in_err-code-in-Answered.ensures.refused c.from_residual-in_err-code-in-Answered.result c.from_residual-in_err-code-in-Answered.ensures.1
+    memory_ends world c.args.code.now c.args.limits.now c.in_err-code-in-Answered.field-0.0 (ap error_kind c.in_err-code-in-Answered.ensures.refused) c.from_residual-in_err-code-in-Answered.result c.from_residual-in_err-code-in-Answered.ensures.1
 
 pub returns-in_err-code-in-Answered-clause-place : goal.returns-in_err-code-in-Answered-clause-place
 returns-in_err-code-in-Answered-clause-place g c = λ own.
-    memory_place (Outcome Value) c.args.code.now c.in_err-code-in-Answered.field-0.0 c.in_err-code-in-Answered.ensures.refused c.from_residual-in_err-code-in-Answered.result c.from_residual-in_err-code-in-Answered.ensures.1
+    memory_place (Outcome Value) c.args.code.now c.in_err-code-in-Answered.field-0.0 (ap error_kind c.in_err-code-in-Answered.ensures.refused) c.from_residual-in_err-code-in-Answered.result c.from_residual-in_err-code-in-Answered.ensures.1
 
 pub returns-in_err-code-in-Answered-clause-boundary : goal.returns-in_err-code-in-Answered-clause-boundary
 returns-in_err-code-in-Answered-clause-boundary g c = λ own.
-    memory_boundary (Outcome Value) c.args.code.now c.in_err-code-in-Answered.field-0.0 c.in_err-code-in-Answered.ensures.refused c.from_residual-in_err-code-in-Answered.result c.from_residual-in_err-code-in-Answered.ensures.1
+    memory_boundary (Outcome Value) c.args.code.now c.in_err-code-in-Answered.field-0.0 (ap error_kind c.in_err-code-in-Answered.ensures.refused) c.from_residual-in_err-code-in-Answered.result c.from_residual-in_err-code-in-Answered.ensures.1
 
 pub returns-in_ok-code-in-Answered-clause-outcome : goal.returns-in_ok-code-in-Answered-clause-outcome
 returns-in_ok-code-in-Answered-clause-outcome g c =
