@@ -5,14 +5,17 @@ use Rattle.std.specs.declared.alloc.Global.{Global}
 use Rattle.std.specs.HashSet.{contains_text}
 use Rattle.expr_code.specs.Machine.{CodeAnswers, Op}
 use Rattle.expr_costs.specs.Costs.{costs_in}
+use Rattle.expr_meaning.specs.Allows.{AllowsBlock}
 use Rattle.expr_meaning.specs.Host.{Host}
+use Rattle.expr_meaning.specs.Independence.{AgreeAt}
 use Rattle.expr_meter.specs.Counting.{Ending, gives, refuses, stops as stops_at}
 use Rattle.expr_meter.specs.Counts.{CodeCounts}
 use Rattle.expr_meter.specs.Rooms.{Room, rooms, limited}
 use Rattle.expr_meter.specs.declared.limits.Limits.{Limits}
 use Rattle.expr_meter.specs.declared.outcome.Outcome.{Outcome}
 use Rattle.expr_meter.specs.declared.outcome.Outcome.TheVariants as outcome
-use Rattle.expr_meaning.specs.World.{World}
+use Rattle.expr_meaning.specs.World.{World, with_context}
+use Rattle.expr_steps.specs.Context.{ContextView}
 use Rattle.expr_stops.specs.declared.replies.CallReply.{CallReply}
 use Rattle.expr_stops.specs.declared.replies.Reply.{Reply}
 use Rattle.expr_stops.specs.declared.replies.Reply.TheVariants as reply
@@ -21,6 +24,8 @@ use Rattle.expr_stops.specs.declared.replay.Stop.{Stop}
 use Rattle.expr_stops.specs.declared.stops.Stops.{Stops}
 use Rattle.expr_stops.specs.declared.stops.Turn.{Turn}
 use Rattle.expr_stops.specs.declared.stops.Turn.TheVariants.{Ended, Asks, Differs, Stopped}
+use Rattle.expr_tree.specs.Names.{AreNamesOf}
+use Rattle.expr_tree.specs.Term.{Block}
 use Rattle.expr_value.specs.Answers.{Answer}
 use Rattle.expr_error.specs.ErrorKind.{evaluation, error_kind, memory}
 use Rattle.expr_value.specs.Values.{equals}
@@ -77,6 +82,10 @@ abbrev pub ComesTo : (Answer → Type 0) → Ending Room → Type 0
 ComesTo allowed (gives v left) = allowed (Ok v)
 ComesTo allowed (refuses e) = allowed (Err e)
 ComesTo allowed (stops_at limit) = ⊥
+
+-- A program may answer this in each context that agrees with the world's at the program's names.
+abbrev pub AllowedWhereAgreed : World → Block → Answer → Type 0
+AllowedWhereAgreed world b answer = (other : ContextView) (keys : List (List ℕ)) → AreNamesOf keys b → AgreeAt keys b world.context other → AllowsBlock (with_context world other) b answer
 
 -- What a run of code may come to: within limits what one does that counts, and where there are none one of its answers.
 abbrev pub CodeComes : Option Limits → World → List (List Op) → Ending Room → Type 0
