@@ -139,8 +139,8 @@ pub record IsReplied (old new : Stops) (reply : Reply) : Type 0 where
   pub given : replies_of new ≡ replies_of old ++ (record { call = stop.call; reply = reply } ∷ [])
   pub asked : waiting_call_of new ≡ None
 
--- The call that waited is refused with this text.
-pub record IsRefused (old new : Stops) (text : List ℕ) : Type 0 where
+-- The call that waited has a refusal with this text for its reply.
+pub record IsRepliedRefusal (old new : Stops) (text : List ℕ) : Type 0 where
   pub message : String Global
   pub says : string_bytes message ≡ text
   pub replied : IsReplied old new (reply.Refusal message)

@@ -8,7 +8,7 @@ ghost use Rattle.expr_machine.specs.Texts.{text_of};
 ghost use Rattle.expr_meaning.specs.Allows.{AllowsBlock};
 ghost use Rattle.expr_meaning.specs.Refusals.{NeverRefusesWith};
 ghost use Rattle.expr_meaning.specs.World.{world_of};
-ghost use Rattle.expr_stops.specs.Stops.{AllowedWhereAgreed, CodeComes, ComesTo, EndsTurn, IfEnded, IsAsItWent, IsRefused, IsReplied, IsSame, StopsWell, host_replying, waiting_call_of, replies_of, is_named};
+ghost use Rattle.expr_stops.specs.Stops.{AllowedWhereAgreed, CodeComes, ComesTo, EndsTurn, IfEnded, IsAsItWent, IsRepliedRefusal, IsReplied, IsSame, StopsWell, host_replying, waiting_call_of, replies_of, is_named};
 ghost use Rattle.expr_stops.specs.declared.replies.CallReply.{CallReply};
 ghost use Rattle.expr_stops.specs.declared.replies.Reply.{Reply};
 ghost use Rattle.expr_tree.specs.TermOf.{program_term};
@@ -200,7 +200,7 @@ impl Stops {
     ///
     /// `ExprError` where no call waits, or `MemoryError`; the run stays where it was.
     pub fn refuse(&mut self, text: &str) -> Result<()>
-        ensures given { OnOk result (IsRefused self.old self.new text.now) }
+        ensures given { OnOk result (IsRepliedRefusal self.old self.new text.now) }
         ensures err { OnErr result (IsSame self.old self.new) }
         ensures waits { RefusesWith result (λ k. waiting_call_of self.old ≡ None) }
     {
