@@ -38,11 +38,6 @@ IsCompiledLimited text limits (Err (ExprError message)) = ⊥
 IsCompiledLimited text limits (Err (RegexError error)) = ⊥
 IsCompiledLimited text limits (Err MemoryError) = Unit {0}
 
--- this is said of a program
-abbrev pub OnProgram : Outcome Program → (Program → Type 0) → Type 0
-OnProgram (Answered p) said = said p
-OnProgram (Stopped limit) said = Unit {0}
-
 -- what limits leave a run
 abbrev pub room_of : Limits → Room
 room_of limits = limited limits.steps limits.size limits.depth

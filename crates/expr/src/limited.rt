@@ -2,8 +2,9 @@
 ghost use Rattle.std.specs.Prelude.{◌≡◌, ℕ, Err, IfOk, string_bytes};
 ghost use Rattle.std.specs.Str.{IsCharBoundary};
 ghost use Rattle.expr.specs.Hosted.{host_of};
-ghost use Rattle.expr.specs.Limited.{AnswersTextLimited, IsCompiledLimited, OnProgram, RunsCodeLimited};
+ghost use Rattle.expr.specs.Limited.{AnswersTextLimited, IsCompiledLimited, RunsCodeLimited};
 ghost use Rattle.expr_eval.specs.Texts.{IsOwnFault};
+ghost use Rattle.expr_limited.specs.Outcomes.{OnAnswer};
 ghost use Rattle.expr_lowering.specs.Blocks.{blocks_of};
 ghost use Rattle.expr_meaning.specs.Host.{no_host};
 ghost use Rattle.expr_meaning.specs.World.{world_of};
@@ -39,7 +40,7 @@ pub fn compile_limited(alloc: Global, code: &str, limits: &Limits) -> Result<Out
     ensures place { IsPlaced code.now result }
     ensures boundary { (place : ℕ) → result ≡ Err (declared.PestError place) → IsCharBoundary code.now place }
     // Each literal on the right of `matches` has its pattern kept beside it, if it is one that isn't too big.
-    ensures patterns { IfOk result (λ o. OnProgram o (λ program. KeepPatterns (program_operations program))) }
+    ensures patterns { IfOk result (λ o. OnAnswer o (λ program. KeepPatterns (program_operations program))) }
 {
     let compiled = compile_bounded(alloc, code, limits.height, limits.patterns)?;
     match compiled {
