@@ -10,5 +10,6 @@ mod room;
 mod stores;
 mod turns;
 
+pub use conditions::{known_if, passed_unless, passing_on};
 pub use kept::KeptMachine;
 pub use machine::{Machine, execute, run};
