@@ -12,4 +12,4 @@ mod turns;
 
 pub use conditions::{known_if, passed_unless, passing_on};
 pub use kept::KeptMachine;
-pub use machine::{Machine, execute, run};
+pub use machine::{Machine, block_of, execute, run};
