@@ -257,7 +257,7 @@ impl HigherOrderCall {
         ensures { result ≡ higher_order_named name.now }
     {
         match Builtin::from_name(name) {
-            Some(Builtin::HigherOrder(asking)) => Some(asking),
+            Some(Builtin::HigherOrder(call)) => Some(call),
             _ => None,
         }
     }

@@ -14,12 +14,12 @@ use Rattle.expr_meter.specs.Rooms.{Holds, Room, rooms}
 use Rattle.expr_limited.specs.Firsts.{firsts, firsts_of_built_in, firsts_of}
 
 -- nothing is kept
-pub none_kept : (r : Result FoldOver ErrorKind) → ((s : FoldOver) → r ≡ Ok s → retained_first s.task ≡ []) → (room : Room) → KeepsAll rooms (firsts_of r) room (Ok room)
+pub none_kept : (r : Result FoldOver ErrorKind) → ((s : FoldOver) → r ≡ Ok s → retained_first s.fold ≡ []) → (room : Room) → KeepsAll rooms (firsts_of r) room (Ok room)
 none_kept (Ok s) f room = subst (λ l. KeepsAll rooms l room (Ok room)) (sym (f s refl)) refl
 none_kept (Err e) f room = refl
 
 -- one value is
-pub one_kept : (r : Result FoldOver ErrorKind) (v : Value) (s : FoldOver) → r ≡ Ok s → retained_first s.task ≡ v ∷ [] → {A E : Type 0} → (done : Result A E) (old new : MeterView) → Charges done (Holds (weight v) (depth v)) old new
+pub one_kept : (r : Result FoldOver ErrorKind) (v : Value) (s : FoldOver) → r ≡ Ok s → retained_first s.fold ≡ v ∷ [] → {A E : Type 0} → (done : Result A E) (old new : MeterView) → Charges done (Holds (weight v) (depth v)) old new
     → Charges done (λ now x. KeepsAll rooms (firsts_of r) now x) old new
 one_kept r v s is first (Ok a) old new p =
     (p.0, subst (λ l. KeepsAll rooms l old.room (Ok new.room)) (sym (ap firsts_of is ∙ first)) (Ok new.room, p.1, refl))

@@ -80,7 +80,7 @@ module _ (counting : Counting) (holds : counting.Tally → Type 0) (by : Keeps c
         ) p
 
     start_stays : (s : Result FoldOver ErrorKind) (now : Tally) (e : Ending Tally) → holds now → CountsFoldStart counting s asks now e → In e
-    start_stays (Ok s) now e h p = keeping (retained_first s.task) now (λ kept. CountsFold counting s.task now asks s.items [] kept) e h (λ u g q. asks_stay s.task now s.items [] u e g q) p
+    start_stays (Ok s) now e h p = keeping (retained_first s.fold) now (λ kept. CountsFold counting s.fold now asks s.items [] kept) e h (λ u g q. asks_stay s.fold now s.items [] u e g q) p
     start_stays (Err b) now e h p = subst In (sym p) tt
 
     call_stays : (host : Host) (key : List ℕ) (vs : List Value) (now : Tally) (e : Ending Tally) → holds now → CountsCall counting host key vs asks now e → In e
