@@ -1,9 +1,9 @@
 //! Code that a host keeps: a copy that owns its literals, its names and its patterns.
-ghost use Rattle.std.specs.Prelude.{◌≡◌, map, IfOk, IfErr, string_bytes};
+ghost use Rattle.std.specs.Prelude.{◌≡◌, map, IfOk, string_bytes};
 ghost use Rattle.expr_instructions.specs.InMemory.{op_of};
 ghost use Rattle.expr_lowering.specs.Blocks.{blocks_of};
 ghost use Rattle.expr_lowering.specs.Owned.{own_text, own_value};
-ghost use Rattle.expr_error.specs.ErrorKind.{error_kind, memory};
+ghost use Rattle.expr_error.specs.ErrorKind.{OnlyMemory};
 
 use crate::code::Code;
 use expr_instructions::{Block, Instruction, Pointer, PredicateCall};
@@ -27,7 +27,7 @@ impl<L: Pointer<Value>, N: Pointer<String>, P: Pointer<Pattern>> Code<L, N, P> {
     pub fn keep(&self, alloc: Global) -> Result<KeptCode>
         ensures blocks { IfOk result (λ c. blocks_of own_value own_text c ≡ blocks_of L.held
             (λ n. string_bytes (N.held n)) self.now) }
-        ensures refused { IfErr result (λ e. error_kind e ≡ memory) }
+        ensures refused { OnlyMemory result }
     {
         let first = kept_block(alloc, &self.first)?;
         let mut later = Vec::with_capacity(alloc, self.later.len())?;

@@ -4,9 +4,9 @@
 mod acts;
 mod conditions;
 mod kept;
+mod list_arena;
 mod machine;
 mod names;
-mod room;
 mod stores;
 mod turns;
 

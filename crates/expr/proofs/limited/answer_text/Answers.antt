@@ -1,6 +1,7 @@
-use Rattle.std.proofs.Common.{Ok, subst}
+use Rattle.std.proofs.Common.{Ok, ap, subst}
 use Rattle.expr_meter.specs.declared.outcome.Outcome.{Outcome}
 use Rattle.expr_meaning.specs.World.{World}
+use Rattle.expr_error.specs.ErrorKind.{error_kind}
 use Rattle.expr_machine.specs.Here.{here}
 use Rattle.expr_tree.specs.TermOf.{program_term}
 use Rattle.expr_tree.specs.declared.node.Program.{Program}
@@ -29,7 +30,7 @@ returns-in_err-code-in-Answered g c =
     let text = c.args.code.now in
     let limits = c.args.limits.now in
     let e = c.in_err-code-in-Answered.field-0.0 in
-    let wanting = c.in_err-code-in-Answered.ensures.refused in
+    let wanting = ap error_kind c.in_err-code-in-Answered.ensures.refused in
     let r = c.from_residual-in_err-code-in-Answered.result in
     let passed = c.from_residual-in_err-code-in-Answered.ensures.1 in
     text_refused world text limits e r passed (memory_ends world text limits e wanting r passed) (λ own. memory_place (Outcome Value) text e wanting r passed) (

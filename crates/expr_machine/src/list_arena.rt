@@ -1,4 +1,4 @@
-//! The room that a kept machine's lists stand in.
+//! The arena that a kept machine's lists stand in.
 use bumpalo::Bump;
 use expr_lowering::{Code, Pointer};
 use expr_pattern::Pattern;
@@ -13,14 +13,14 @@ const BYTES_OF_ONE: usize = 256;
 /// The room that the lists of a kept machine stand in: it is taken once, and each run has all of it. A run that needs more
 /// is given a larger one, which is kept in its place.
 #[derive(Drop)]
-pub struct Room {
+pub struct ListArena {
     arena: Option<Bump>,
     /// How many bytes are free where no list stands there.
     whole: usize,
 }
 
 // Clauses see nothing of it: what stands there is let go of when a run ends.
-impl Model for Room {
+impl Model for ListArena {
     ghost use Rattle.std.specs.Prelude.{⊤};
 
     ghost Value = { ⊤ };
@@ -28,11 +28,11 @@ impl Model for Room {
     ghost view = { λ _. tt };
 }
 
-impl Room {
+impl ListArena {
     /// No room is taken yet.
     #[inline(always)]
-    pub fn new() -> Room {
-        Room {
+    pub fn new() -> ListArena {
+        ListArena {
             arena: None,
             whole: 0,
         }
