@@ -1,13 +1,9 @@
 //! The older way in: a parser that holds an environment.
-ghost use Rattle.std.specs.Prelude.{◌≡◌, ℕ, None, Err, IfOk, OnErr, OnOk};
+ghost use Rattle.std.specs.Prelude.{◌≡◌, None, OnErr, OnOk};
 ghost use Rattle.expr.specs.Hosted.{FindSame, FindsNothing, IsAdded, host_of, moment_at, function_named, zone_at};
 ghost use Rattle.expr.specs.Parsers.{environment_of};
-ghost use Rattle.std.specs.Str.{IsCharBoundary};
-ghost use Rattle.expr_grammar.specs.Grammar.{TreeProgram};
 ghost use Rattle.expr_meaning.specs.World.{world_of};
-ghost use Rattle.expr_parts.specs.Kept.{KeepPatterns};
-ghost use Rattle.expr_syntax.specs.Texts.{IsAnswerFor, IsCompiled, IsPlaced, IsTreeOf};
-ghost use Rattle.expr_tree.specs.KeptPatterns.{program_operations};
+ghost use Rattle.expr_syntax.specs.Promises.{CompilesText};
 ghost use Rattle.expr_error.specs.ErrorKind.{OnlyMemory};
 ghost use Rattle.expr_value.specs.declared.value.Value.{Value};
 ghost use Rattle.expr_machine.specs.Promises.{RunsProgram};
@@ -18,7 +14,7 @@ use crate::boxed_function::Function;
 use crate::environment::Environment;
 use expr_context::ContextProvider;
 use expr_tree::node::{Node, Program};
-use expr_value::{Error, Result, Value};
+use expr_value::{Result, Value};
 use std::alloc::Global;
 
 /// An environment, and `compile` beside it.
@@ -66,12 +62,7 @@ impl Parser {
     ///
     /// What `compile` refuses.
     pub fn compile(&self, alloc: Global, code: &str) -> Result<Program>
-        ensures answer { IsCompiled code.now result }
-        ensures only { (t : TreeProgram) → IsTreeOf code.now t → IsAnswerFor t result }
-        ensures place { IsPlaced code.now result }
-        ensures boundary { (place : ℕ) → result ≡ Err (Error.PestError place)
-            → IsCharBoundary code.now place }
-        ensures patterns { IfOk result (λ program. KeepPatterns (program_operations program)) }
+        ensures { CompilesText code.now result }
     {
         expr_syntax::compile(alloc, code)
     }

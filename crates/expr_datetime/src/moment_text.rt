@@ -1,5 +1,4 @@
 //! The texts of dates and times of day.
-ghost use Rattle.std.specs.Prelude.{◌≡◌};
 ghost use Rattle.std.specs.Fmt.{WritesOnOk};
 ghost use Rattle.jiff.specs.Words.{civil_nanos};
 ghost use Rattle.expr_datetime.specs.Calendar.{plain_clock, plain_day};

@@ -1,5 +1,4 @@
 //! The texts of offsets.
-ghost use Rattle.std.specs.Prelude.{◌≡◌};
 ghost use Rattle.std.specs.Fmt.{WritesOnOk};
 ghost use Rattle.expr_datetime.specs.Moments.{offset_text, sign_of};
 

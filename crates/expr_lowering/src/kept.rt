@@ -170,7 +170,7 @@ fn kept_pattern<P: Pointer<Pattern>>(
     let Some(pattern) = pattern else {
         return Ok(None);
     };
-    match Pattern::kept(alloc, pattern.get().text()) {
+    match Pattern::of_text(alloc, pattern.get().text()) {
         Ok(Some(pattern)) => Ok(Some(Box::new(alloc, pattern)?)),
         Ok(None) | Err(Unbuilt::TooBig) => Ok(None),
         Err(Unbuilt::Memory) => Err(AllocError),

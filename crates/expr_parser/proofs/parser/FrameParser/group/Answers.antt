@@ -2,7 +2,7 @@ use Rattle.std.proofs.Common.{rules, ◌-◌, ◌+◌, sym, ap}
 use Rattle.expr_frames.specs.Nodes.{On}
 use Rattle.expr_frames.specs.declared.frame.ParseState.TheVariants as parse_state
 use Rattle.expr_parser.proofs.Runs.{one_more}
-use Rattle.expr_parser.proofs.parser.Parser.group.Goals as goal
+use Rattle.expr_parser.proofs.parser.FrameParser.group.Goals as goal
 
 pub returns-in-Some-Inside : goal.returns-in-Some-Inside
 returns-in-Some-Inside c =

@@ -1,6 +1,6 @@
 use Rattle.std.proofs.Common.{bytes_eq, option_map, ap, ◌∙◌}
 use Rattle.expr_functions.proofs.Among.{beside_key}
-use Rattle.expr_functions.proofs.functions.found.Goals as goal
+use Rattle.expr_functions.proofs.functions.builtin_in.Goals as goal
 
 pub returns : goal.returns
 returns c =

@@ -1,7 +1,7 @@
 use Rattle.std.proofs.Common.{◌≡◌, vec_len}
 use Rattle.expr_frames.specs.Nodes.{settle}
 use Rattle.expr_parser.specs.Reading.{stack}
-use Rattle.expr_parser.proofs.parser.Parser.settle.Given as goal
+use Rattle.expr_parser.proofs.parser.FrameParser.settle.Given as goal
 
 abbrev pub invariant-loop-open : goal.invariant-loop-open
 invariant-loop-open l =
