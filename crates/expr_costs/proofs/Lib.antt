@@ -2,6 +2,5 @@ mod Charging
 mod Inside
 mod Keeping
 mod Places
-pub mod Plain
 mod Reducing
 mod Weighed

@@ -26,10 +26,6 @@ error_kind MemoryError = memory
 abbrev pub OnlyMemory : {A : Type 0} → Result A Error → Type 0
 OnlyMemory result = IfErr result (λ e. e ≡ MemoryError)
 
--- No pattern that fails to build refuses a call.
-abbrev pub RefusesNoPattern : {A : Type 0} → Result A Error → Type 0
-RefusesNoPattern result = IfErr result (λ e. error_kind e ≢ pattern)
-
 -- A call is refused with a kind of which this holds, or for want of memory.
 abbrev pub RefusesWith : {A : Type 0} → Result A Error → (ErrorKind → Type 0) → Type 0
 RefusesWith result said = IfErr result (λ e. error_kind e ≢ memory → said (error_kind e))

@@ -10,6 +10,7 @@ mod names;
 mod stores;
 mod turns;
 
-pub use conditions::known_if;
+pub use acts::texts;
+pub use conditions::{known_if, passed_unless, passing_on};
 pub use kept::KeptMachine;
-pub use machine::{Machine, execute, run};
+pub use machine::{Machine, block_of, execute, run};

@@ -80,7 +80,7 @@ returns-in-Name g c =
     let was : MeterView = ghosts.metered c.args.carried.now.budget in
     let is : MeterView = ghosts.metered c.push_name.new.budget in
     let key : c.deref.result.now ≡ T c.in-Name.name = c.deref.ensures ∙ ap string_bytes c.get-in-Name.ensures in
-    subst (λ r. Turns world (costs_in world.host) (f x) now old was r new is) (sym c.after_step.ensures) (
+    subst (λ r. Turns world (costs_in world.host) (f x) now old was r new is) (sym c.passing_on.ensures) (
     subst (λ o. Turns world (costs_in world.host) o now old was (passing_none c.push_name.result) new is) (sym (ap f c.in-Name.is)) (
     subst (λ k. Turns world (costs_in world.host) (look k) now old was (passing_none c.push_name.result) new is) key (c.push_name.ensures.turns now)
     )
