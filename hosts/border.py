@@ -1,6 +1,7 @@
 #!/usr/bin/env python3
 """Compares what the hosts write of the border with the engine's sources: what may be asked, how calls end, kinds and limits by
-their numbers, the limits for strangers, and where the parts of structs lie. Prints what differs, and ends with 1 then."""
+their numbers, the limits for strangers, and where the parts of structs lie; and whether the tests in C call each function of
+expr.h. Prints what differs, and ends with 1 then."""
 import os
 import re
 import sys
@@ -162,9 +163,19 @@ for name, title in {"program": "Handle", "place": "Place", "answer": "Answer", "
     in_python = within(python, f"class _{title}(ctypes.Structure):\n    _fields_ = [", "]\n")
     listed = re.findall(r'\("(\w+)", ctypes\.(\w+)\)', in_python)
     listed = listed or [(field, "c_int64") for field in re.findall(r'"(\w+)"', in_python)]
-    same(f"_{title} of expr.py", [(field, IN_PYTHON.get(kind, kind)) for field, kind in listed], fields_of(header, f"expr_{name}"))
+    listed = [(field, IN_PYTHON.get(kind, kind)) for field, kind in listed]
+    same(f"_{title} of expr.py", listed, fields_of(header, f"expr_{name}"))
+
+# --- the tests in C ---
+functions = re.findall(r"(?m)^(?:expr_\w+ \*?|const char \*|void )(expr_\w+)\(", header)
+for tests in (("test", "limits"), ("refused",)):
+    text = "".join(read(f"hosts/c/{it}.c") for it in tests)
+    left_out = [it for it in functions if f"{it}(" not in text]
+    if left_out:
+        differs += left_out
+        print(f"border: {' and '.join(f'{it}.c' for it in tests)} call no {', '.join(left_out)}")
 
 if not differs:
     print(f"border: ok, {len(asks)} asks, {len(kinds)} kinds, {len(endings)} endings, {len(limits)} limits, "
-          f"{len(fields)} parts of a call")
+          f"{len(fields)} parts of a call, {len(functions)} functions")
 sys.exit(bool(differs))
