@@ -171,9 +171,12 @@ expr_status expr_names(expr_engine *engine, expr_program program, size_t *count,
     c->program = (handle){program.place, program.number};
     expr_status status = asked(engine);
     if (status != EXPR_OK) return status;
-    if (count) *count = (size_t)c->number;
-    if (names) *names = whole(engine, SAID);
-    return names && !*names ? EXPR_MEMORY : EXPR_OK;
+    size_t found = (size_t)c->number;
+    const char *said = names ? whole(engine, SAID) : "";
+    if (!said) return EXPR_MEMORY;
+    if (count) *count = found;
+    if (names) *names = said;
+    return EXPR_OK;
 }
 
 expr_status expr_drop_program(expr_engine *engine, expr_program program) {
