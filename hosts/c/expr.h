@@ -11,7 +11,8 @@
  *     expr_run(engine, rule, EXPR_NO_ENVIRONMENT, order, &answer);      answer.kind is EXPR_BOOL, answer.number 1
  *     expr_close(engine);
  *
- * Link with `pkg-config --cflags --libs expr`, or with libexpr.a alone: it needs the C library and nothing else.
+ * Link with `pkg-config --cflags --libs expr` and find libexpr.so when it runs, or with libexpr.a alone: it needs the C library
+ * and nothing else. docs/HOSTS.md has the lines.
  *
  * Engines. An engine keeps programs, contexts and environments, the last answer and the last message. It belongs to the
  * thread that opened it, since it isn't proved that one may go to another: one engine a thread, and no call while another
