@@ -11,7 +11,7 @@ use Rattle.expr_records.specs.Outcomes.{saturated_count, is_kept, is_refused, on
 use Rattle.expr_records.specs.Sifted.{JudgedLines, LineComesTo, Settles, Sifts, StopsAfter, kept_in, lines_in, output_of, refused_in}
 use Rattle.expr_records.specs.LineSteps.{IsNextLine}
 use Rattle.expr_records.specs.declared.line_buffer.LineBuffer.{LineBuffer}
-use Rattle.expr_records.specs.declared.outcome.Outcome.{Outcome}
+use Rattle.expr_records.specs.declared.outcome.LineOutcome.{LineOutcome}
 use Rattle.expr_records.specs.declared.sieve.StreamEnd.TheVariants.{Whole, Stopped, Unread, Unwritten}
 use Rattle.expr_records.specs.declared.tally.Tally.{Tally}
 
@@ -28,7 +28,7 @@ StopsSo false false refused = ⊥
 StopsSo true true refused = refused ≡ 0
 StopsSo true false refused = refused ≡ 1
 
-pub record Sifting (judged : List ℕ → Outcome → Type 0) (bound : ℕ) (stops goes_on : Bool) (stream now : Option (List ℕ)) (out_old out_new : Option (List ℕ)) (old new : Tally) : Type 0 where
+pub record Sifting (judged : List ℕ → LineOutcome → Type 0) (bound : ℕ) (stops goes_on : Bool) (stream now : Option (List ℕ)) (out_old out_new : Option (List ℕ)) (old new : Tally) : Type 0 where
   pub came : JudgedLines
   pub each : AllByRecursion (λ p. LineComesTo bound judged p.0 p.1) came
   pub read : ReadTo stream now (lines_in came)
@@ -57,23 +57,23 @@ read_front None b lines p = tt
 read_front (Some xs) None lines p = absurd p
 read_front (Some xs) (Some ys) lines p = (lines_of ys, sym p)
 
-each_more : (P : List ℕ × Outcome → Type 0) (came : JudgedLines) (p : List ℕ × Outcome) → AllByRecursion P came → P p → AllByRecursion P (came ++ p ∷ [])
+each_more : (P : List ℕ × LineOutcome → Type 0) (came : JudgedLines) (p : List ℕ × LineOutcome) → AllByRecursion P came → P p → AllByRecursion P (came ++ p ∷ [])
 each_more P [] p all one = (one, tt)
 each_more P (q ∷ came) p all one = (all.0, each_more P came p all.1 one)
 
-lines_more : (came : JudgedLines) (line : List ℕ) (outcome : Outcome) → lines_in (came ++ (line, outcome) ∷ []) ≡ lines_in came ++ line ∷ []
+lines_more : (came : JudgedLines) (line : List ℕ) (outcome : LineOutcome) → lines_in (came ++ (line, outcome) ∷ []) ≡ lines_in came ++ line ∷ []
 lines_more [] line outcome = refl
 lines_more (q ∷ came) line outcome = ap (λ l. q.0 ∷ l) (lines_more came line outcome)
 
-output_more : (came : JudgedLines) (line : List ℕ) (outcome : Outcome) → output_of (came ++ (line, outcome) ∷ []) ≡ output_of came ++ line_output line outcome
+output_more : (came : JudgedLines) (line : List ℕ) (outcome : LineOutcome) → output_of (came ++ (line, outcome) ∷ []) ≡ output_of came ++ line_output line outcome
 output_more [] line outcome = append-nil (line_output line outcome)
 output_more (q ∷ came) line outcome =
     ap (λ l. line_output q.0 q.1 ++ l) (output_more came line outcome) ∙ sym (append_assoc (line_output q.0 q.1) (output_of came) (line_output line outcome))
 
-kept_more : (came : JudgedLines) (line : List ℕ) (outcome : Outcome) → kept_in (came ++ (line, outcome) ∷ []) ≡ kept_in came + one_if (is_kept outcome)
+kept_more : (came : JudgedLines) (line : List ℕ) (outcome : LineOutcome) → kept_in (came ++ (line, outcome) ∷ []) ≡ kept_in came + one_if (is_kept outcome)
 kept_more came line outcome = sum_by_push (λ p. one_if (is_kept p.1)) came (line, outcome)
 
-refused_more : (came : JudgedLines) (line : List ℕ) (outcome : Outcome) → refused_in (came ++ (line, outcome) ∷ []) ≡ refused_in came + one_if (is_refused outcome)
+refused_more : (came : JudgedLines) (line : List ℕ) (outcome : LineOutcome) → refused_in (came ++ (line, outcome) ∷ []) ≡ refused_in came + one_if (is_refused outcome)
 refused_more came line outcome = sum_by_push (λ p. one_if (is_refused p.1)) came (line, outcome)
 
 capped_more : (a b c k more one : ℕ) → b ≡ saturated_count (a + k) → c ≡ saturated_count (b + one) → more ≡ k + one → c ≡ saturated_count (a + more)
@@ -85,13 +85,13 @@ stop_at true false n more p e = omega (arith, p, e)
 stop_at true true n more p e = omega (arith, p, e)
 
 -- what a line came to, by a judge and a manner that are the same
-pub settles_as : {J : Type 0} (judged : J → List ℕ → Outcome → Type 0) (i j : J) (line : LineBuffer) (stops stops' : Bool) (out_old out_new : Option (List ℕ)) (old new : Tally) (goes goes' : Bool) → i ≡ j → stops ≡ stops' → goes ≡ goes'
+pub settles_as : {J : Type 0} (judged : J → List ℕ → LineOutcome → Type 0) (i j : J) (line : LineBuffer) (stops stops' : Bool) (out_old out_new : Option (List ℕ)) (old new : Tally) (goes goes' : Bool) → i ≡ j → stops ≡ stops' → goes ≡ goes'
     → Settles (judged i) line stops out_old out_new old new goes → Settles (judged j) line stops' out_old out_new old new goes'
 settles_as judged i j line stops stops' out_old out_new old new goes goes' p q r s =
     subst (λ x. Settles (judged x) line stops' out_old out_new old new goes') p
     (subst (λ x. Settles (judged i) line x out_old out_new old new goes') q (subst (λ x. Settles (judged i) line stops out_old out_new old new x) r s))
 
-module _ (judged : List ℕ → Outcome → Type 0) (bound : ℕ) (stops : Bool) (stream : Option (List ℕ)) (out_old : Option (List ℕ)) (old : Tally) where
+module _ (judged : List ℕ → LineOutcome → Type 0) (bound : ℕ) (stops : Bool) (stream : Option (List ℕ)) (out_old : Option (List ℕ)) (old : Tally) where
   pub sifts_none : Sifting judged bound stops true stream stream out_old out_old old old
   sifts_none = record {
     came = [];
