@@ -1,8 +1,9 @@
 -- What a line may come to by an expression.
 use Rattle.std.specs.Prelude.{◌≡◌, ◌≢◌, ℕ, Bool, true, false, not, List, Option, None, Some, Ok, Err, option_map, ◌⊎◌}
+use Rattle.expr.specs.Contexts.{NamedValues}
 use Rattle.expr_encoding.specs.Writing.{json_text}
 use Rattle.expr_records.specs.Lines.{is_blank, text_of}
-use Rattle.expr_records.specs.Records.{IsRecord, MayRefuseText, NamedValues}
+use Rattle.expr_records.specs.Records.{IsRecord, MayRefuseText}
 use Rattle.expr_records.specs.declared.outcome.LineOutcome.{LineOutcome}
 use Rattle.expr_records.specs.declared.outcome.LineOutcome.TheVariants.{Blank, Dropped, Kept, Counted, Rewritten, Refused}
 use Rattle.expr_records.specs.declared.outcome.Refusal.{Refusal}

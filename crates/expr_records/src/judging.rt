@@ -1,6 +1,7 @@
 //! What a line comes to by an expression.
 ghost use Rattle.std.specs.Prelude.{◌≡◌, ℕ, List};
-ghost use Rattle.expr_records.specs.RecordCode.{IsCodeOf, code_of, may_answer};
+ghost use Rattle.expr.specs.KeptCodes.{kept_blocks};
+ghost use Rattle.expr_records.specs.RecordCode.{IsCodeOf, may_answer};
 ghost use Rattle.expr_records.specs.Judged.{ComesOfRecord, IsOutcomeOf, is_sought, same};
 
 use crate::outcome::{LineOutcome, Refusal};
@@ -57,7 +58,7 @@ fn record_outcome<H: Functions>(
     query: &mut Query<H>,
     members: Members<'_>,
 ) -> LineOutcome
-    ensures comes { (text : List ℕ) → IsCodeOf text (code_of query.old.machine.code.now)
+    ensures comes { (text : List ℕ) → IsCodeOf text (kept_blocks query.old.machine.code.now)
         → ComesOfRecord query.old.purpose
         (may_answer (H.host query.old.host.now) query.old.names.now text members.entry) result }
     ensures same { query.new ≡ query.old }
@@ -70,10 +71,11 @@ fn record_outcome<H: Functions>(
 
 impl<'h, H: Functions> Judge for Query<'h, H> {
     ghost use Rattle.std.specs.Prelude.{List, ℕ};
-    ghost use Rattle.expr_records.specs.RecordCode.{IsCodeOf, code_of, may_answer};
+    ghost use Rattle.expr.specs.KeptCodes.{kept_blocks};
+    ghost use Rattle.expr_records.specs.RecordCode.{IsCodeOf, may_answer};
     ghost use Rattle.expr_records.specs.Judged.{MayCome};
 
-    ghost judged = { λ q line outcome. (text : List ℕ) → IsCodeOf text (code_of q.machine.code.now)
+    ghost judged = { λ q line outcome. (text : List ℕ) → IsCodeOf text (kept_blocks q.machine.code.now)
         → MayCome q.purpose (may_answer (H.host q.host.now) q.names.now text) line outcome };
 
     /// A mark at the line's front is passed over, and a line of spaces, tabs and carriage returns alone has no record.

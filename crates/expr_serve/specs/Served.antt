@@ -1,20 +1,18 @@
 -- What the program may answer to its words.
 use Rattle.std.specs.Prelude.{◌≡◌, ℕ, List, [], ◌∷◌, Result, Ok}
+use Rattle.expr.specs.Contexts.{NamedValues, context_of}
 use Rattle.expr.specs.Host.{no_host}
 use Rattle.expr.specs.World.{world_of}
 use Rattle.expr.specs.Texts.{MayAnswerWithin}
 use Rattle.expr_value.specs.Answers.{Answer, Then}
 use Rattle.expr_error.specs.ErrorKind.{ErrorKind}
-use Rattle.expr_value.specs.Names.{find, put}
+use Rattle.expr_value.specs.Names.{put}
 use Rattle.expr_value.specs.declared.value.Value.{Value}
 use Rattle.expr_serve.specs.Words.{name_of, code_of}
 
-abbrev pub NamedValues : Type 0
-NamedValues = List (List ℕ × Value)
-
 -- what a text may answer where these names have these values; its tree may be no higher than 500
 abbrev pub MayGive : NamedValues → List ℕ → Answer → Type 0
-MayGive pairs code answer = MayAnswerWithin 500 code (world_of no_host (record { value_of = λ name. find name pairs; map = pairs })) answer
+MayGive pairs code answer = MayAnswerWithin 500 code (world_of no_host (context_of pairs)) answer
 
 -- the names that bindings give values to, from left to right, each by itself, after those that have one; or the first refusal
 abbrev pub MayBind : List (List ℕ) → NamedValues → Result NamedValues ErrorKind → Type 0
