@@ -19,7 +19,8 @@ pub record AnswersText (world : World) (text : List ℕ) (result : Result Value 
   pub independent : Returns result (MayAnswerWhereAgreed text world)
   -- a syntax fault that no function of the host answers is at the text's first fault, where the text may be cut
   pub place : IsOwnFault text world.host → IsPlaced text result
-  pub boundary : IsOwnFault text world.host → (place : ℕ) → result ≡ Err (PestError place) → IsCharBoundary text place
+  pub boundary : IsOwnFault text world.host → (place : ℕ) → result ≡ Err (PestError place)
+      → IsCharBoundary text place
   -- what a value prints as evaluates to that value: nil, booleans, integers above the least, texts, arrays, and maps whose keys
   -- are words, nested at will
   pub reads_back : (v : Value) → IsTrue (is_readable v) → text ≡ text_of v → ReturnsExactly result (Ok v)

@@ -20,4 +20,5 @@ pub record IsOperation (n : Node) : Type 0 where
 pub record IsOtherForm (n : Node) : Type 0 where
   pub no_literal : (v : Value) → n ≢ node.Value v
   pub no_name : (key : String Global) → n ≢ node.Ident key
-  pub no_operation : (operator : Operator) (left right : Box Node Global) (kept : CompiledRegex) → n ≢ node.Operation operator left right kept
+  pub no_operation : (operator : Operator) (left right : Box Node Global) (kept : CompiledRegex)
+      → n ≢ node.Operation operator left right kept
