@@ -26,4 +26,5 @@ pub record IsLineColumn (text : List ℕ) (place : ℕ) (spot : LineColumn) : Ty
   pub is_left : IsLastLine (take place text) left
   pub line : spot.line ≡ count_by (λ b. b == 10) (take place text) + 1
   pub column : spot.column ≡ length (chars left) + 1
-  pub shown : string_bytes spot.shown ≡ left ++ first_line (drop place text) ++ 10 ∷ [] ++ repeat (length (chars left)) (32 ∷ []) ++ 94 ∷ []
+  pub shown : string_bytes spot.shown
+      ≡ left ++ first_line (drop place text) ++ 10 ∷ [] ++ repeat (length (chars left)) (32 ∷ []) ++ 94 ∷ []
