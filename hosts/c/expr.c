@@ -1,40 +1,19 @@
 /* The calls of expr.h over the three of the engine. What this file owes the engine is written where it owes it. */
-#include "expr.h"
+#include "border.h"
 #include <stdlib.h>
 #include <string.h>
 
-/* As `Call` of crates/expr_engine/src/call.rt; a slice is a pointer, which is never null, and a length. */
-typedef struct { size_t place; uint64_t number; } handle;
-typedef struct {
-    uint32_t ask, status, kind, fraction;
-    handle program, context, environment;
-    int64_t number;
-    size_t place, line, column, length;
-    const uint8_t *name;
-    size_t name_length;
-    const uint8_t *text;
-    size_t text_length;
-    uint8_t *room;
-    size_t room_length;
-} call;
-_Static_assert(sizeof(call) == 152, "as in call.rt");
-_Static_assert(offsetof(call, number) == 64 && offsetof(call, name) == 104 && offsetof(call, room) == 136,
-               "as in call.rt");
-
-size_t expr_c_size(void);
-/* at: room for expr_c_size() bytes, at a multiple of 16. */
-void expr_c_open(void *at);
-/* at: where expr_c_open made an engine, not given back, in no other call; call: valid, its slices apart from one another. */
-void expr_c_call(void *at, call *call);
-
-/* As `Ask` of call.rt. */
-enum ask {
-    COMPILE, NAMES, RUN, CONTEXT, CONTEXT_OF, SET, PUSH, ARRAY, MAP, UNBUILD, LOOK, DOWN, UP, KEY, SHOWN, TEXT, JSON, SAID,
-    ENVIRONMENT, FIXED_ZONE, ZONE_RULE, NOW, DROP_PROGRAM, DROP_CONTEXT, DROP_ENVIRONMENT, CLEAR, NAME, ANSWER, REFUSE,
-    WAITING_CALL, LIMIT, UNLIMITED
-};
-/* As `Kind` of kind.rt, behind those of expr_kind. */
-enum { KIND_JSON = EXPR_KEYED_MAP + 1, KIND_BUILT, KIND_LOOKED };
+/* What callers hand in and read, as hosts/python/expr.py has it too. */
+_Static_assert(sizeof(expr_program) == 16 && offsetof(expr_program, number) == 8, "as in expr.py");
+_Static_assert(sizeof(expr_context) == 16 && offsetof(expr_context, number) == 8, "as in expr.py");
+_Static_assert(sizeof(expr_environment) == 16 && offsetof(expr_environment, number) == 8, "as in expr.py");
+_Static_assert(sizeof(expr_place) == 24 && offsetof(expr_place, byte) == 0 && offsetof(expr_place, line) == 8 &&
+               offsetof(expr_place, column) == 16, "as in expr.py");
+_Static_assert(sizeof(expr_answer) == 24 && offsetof(expr_answer, kind) == 0 && offsetof(expr_answer, fraction) == 4 &&
+               offsetof(expr_answer, number) == 8 && offsetof(expr_answer, text) == 16, "as in expr.py");
+_Static_assert(sizeof(expr_limits) == 40 && offsetof(expr_limits, height) == 0 && offsetof(expr_limits, patterns) == 8 &&
+               offsetof(expr_limits, steps) == 16 && offsetof(expr_limits, depth) == 24 &&
+               offsetof(expr_limits, size) == 32, "as in expr.py");
 
 struct expr_engine {
     void *inside;
@@ -192,9 +171,12 @@ expr_status expr_names(expr_engine *engine, expr_program program, size_t *count,
     c->program = (handle){program.place, program.number};
     expr_status status = asked(engine);
     if (status != EXPR_OK) return status;
-    if (count) *count = (size_t)c->number;
-    if (names) *names = whole(engine, SAID);
-    return names && !*names ? EXPR_MEMORY : EXPR_OK;
+    size_t found = (size_t)c->number;
+    const char *said = names ? whole(engine, SAID) : "";
+    if (!said) return EXPR_MEMORY;
+    if (count) *count = found;
+    if (names) *names = said;
+    return EXPR_OK;
 }
 
 expr_status expr_drop_program(expr_engine *engine, expr_program program) {

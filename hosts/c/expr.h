@@ -11,14 +11,16 @@
  *     expr_run(engine, rule, EXPR_NO_ENVIRONMENT, order, &answer);      answer.kind is EXPR_BOOL, answer.number 1
  *     expr_close(engine);
  *
- * Link with `pkg-config --cflags --libs expr`, or with libexpr.a alone: it needs the C library and nothing else.
+ * Link with `pkg-config --cflags --libs expr` and find libexpr.so when it runs, or with libexpr.a alone: it needs the C library
+ * and nothing else. docs/HOSTS.md has the lines.
  *
  * Engines. An engine keeps programs, contexts and environments, the last answer and the last message. It belongs to the
  * thread that opened it, since it isn't proved that one may go to another: one engine a thread, and no call while another
  * call on it runs. Engines have nothing in common.
  *
  * Handles. Programs, contexts and environments are named by handles. No handle is given twice, so one that was let go of,
- * or that was never given, is EXPR_UNKNOWN, and nothing changes. Handles are plain data: copy them as you like.
+ * or that was never given, is EXPR_UNKNOWN, and nothing changes but that what was being built is let go of. Handles are plain
+ * data: copy them as you like.
  *
  * What a host must get right. The pointer to the engine: after expr_close it is as dead as a pointer after free. That a
  * text has as many bytes as its length says. That a pointer for an answer may be written to. All else may be anything:
@@ -110,9 +112,9 @@ typedef struct { size_t byte, line, column; } expr_place;
 
 /* What is told of a value. `number` is an integer, a boolean (0 or 1), the nanoseconds of a duration, the second of a
  * moment since 1970 began, a month from 1 or a day of the week from 0, which is Sunday, or how many bytes, items or pairs
- * there are. `fraction` has the nanoseconds of a moment past its second. `text` has the bytes of a string, of bytes, or
- * of a zone's name, and is null for any other value. It is there until the next call on the engine, with a zero byte
- * behind it. */
+ * there are; of nil and of a zone it is 0. `fraction` has the nanoseconds of a moment past its second. `text` has the bytes of a
+ * string, of bytes, or of a zone's name, and is null for any other value. It is there until the next call on the engine,
+ * with a zero byte behind it. */
 typedef struct {
     expr_kind kind;
     uint32_t fraction;
@@ -136,10 +138,11 @@ typedef struct {
 expr_engine *expr_open(void);
 /* Frees the engine and all that it keeps. Null is passed over. */
 void expr_close(expr_engine *engine);
-/* Lets go of all programs, contexts and environments, and of the answer. The limits stay. */
+/* Lets go of all programs, contexts and environments, of the answer, of what was being built, and of the run that waits for a
+ * reply. The limits stay. */
 expr_status expr_clear(expr_engine *engine);
-/* Why the last call was refused: a line, or for EXPR_SYNTAX the line of the text and a caret under the place, on two. It
- * is there until the next call on the engine. Never null. */
+/* Why the last call was refused: a line, or for EXPR_SYNTAX the line of the text and a caret under the place, on two. After
+ * a call that is done it is whatever was said last. It is there until the next call on the engine. Never null. */
 const char *expr_message(expr_engine *engine);
 /* A word or two for a status. */
 const char *expr_status_word(expr_status status);
@@ -167,8 +170,9 @@ expr_status expr_set_unlimited(expr_engine *engine);
  * limit, `program` is a handle that finds nothing. */
 expr_status expr_compile(expr_engine *engine, const char *text, size_t length, expr_program *program, expr_place *place);
 /* The names that a program asks for, each on a line, and how many they are. The text is there until the next call on the
- * engine. Both pointers may be null. */
+ * engine; where the call is refused it is empty, and there are 0. Both pointers may be null. */
 expr_status expr_names(expr_engine *engine, expr_program program, size_t *count, const char **names);
+/* Lets go of a program: its handle finds nothing from now on. */
 expr_status expr_drop_program(expr_engine *engine, expr_program program);
 
 /* --- contexts: names and their values --- */
@@ -179,6 +183,7 @@ expr_status expr_context_new(expr_engine *engine, expr_context *context);
 expr_status expr_context_json(expr_engine *engine, const char *json, size_t length, expr_context *context);
 /* A context with the names of the map that was built last (see expr_push_nil). */
 expr_status expr_context_built(expr_engine *engine, expr_context *context);
+/* Lets go of a context: its handle finds nothing from now on. */
 expr_status expr_drop_context(expr_engine *engine, expr_context context);
 
 /* Each puts a value under a name, in place of an earlier one. The length of a name comes behind it. */
@@ -228,8 +233,10 @@ expr_status expr_push_weekday(expr_engine *engine, unsigned day);
 expr_status expr_push_json(expr_engine *engine, const char *json, size_t length);
 /* A copy of the part of the answer that is looked at (see expr_down). */
 expr_status expr_push_looked(expr_engine *engine);
+/* An array of the last `count` values that were pushed, in their order, takes their place. */
 expr_status expr_make_array(expr_engine *engine, size_t count);
-/* Keys that are all strings make a map by names, others a map by scalars. A repeated key takes its last value. */
+/* A map of the last `count` pairs that were pushed, each a key and then its value, takes their place. Keys that are all strings
+ * make a map by names, others a map by scalars. A repeated key takes its last value. */
 expr_status expr_make_map(expr_engine *engine, size_t count);
 /* Lets go of what was built. */
 expr_status expr_unbuild(expr_engine *engine);
@@ -279,6 +286,7 @@ expr_status expr_add_zone_rule(expr_engine *engine, expr_environment environment
                                const char *rule, size_t length);
 /* Sets the moment that `now()` answers. */
 expr_status expr_set_now(expr_engine *engine, expr_environment environment, int64_t second, uint32_t fraction);
+/* Lets go of an environment: its handle finds nothing from now on. */
 expr_status expr_drop_environment(expr_engine *engine, expr_environment environment);
 
 /* --- functions of the host ---

@@ -1,6 +1,6 @@
 /* Random texts, handles, limits and calls of the border: fuzz COUNT SEED. Prints how each call ended, and fails on an ending
  * that must not be. */
-#include "expr.h"
+#include "border.h"
 #include <stdio.h>
 #include <stdlib.h>
 #include <string.h>
@@ -196,25 +196,6 @@ static void look_any(void) {
     bytes += said;
     if (expr_json(engine, &said)) bytes += said;
 }
-
-/* The border behind expr.h, as expr.c has it. */
-typedef struct { size_t place; uint64_t number; } handle;
-typedef struct {
-    uint32_t ask, status, kind, fraction;
-    handle program, context, environment;
-    int64_t number;
-    size_t place, line, column, length;
-    const uint8_t *name;
-    size_t name_length;
-    const uint8_t *text;
-    size_t text_length;
-    uint8_t *room;
-    size_t room_length;
-} call;
-size_t expr_c_size(void);
-void expr_c_open(void *at);
-void expr_c_call(void *at, call *call);
-enum { CLEAR = 25, LIMIT = 30, UNLIMITED };
 
 /* One call of the border, whose numbers are forged: what is asked, kinds, handles, and the limits among them. */
 static void forge_any(void *forged) {

@@ -40,6 +40,32 @@ static void stop(expr_engine *engine, const char *text, expr_status limit) {
     expr_message(engine);
 }
 
+/* A value of each kind under a name. */
+static void set_each(expr_engine *engine, expr_context context) {
+    ok(expr_set_nil(engine, context, "n", EXPR_Z));
+    ok(expr_set_bool(engine, context, "b", EXPR_Z, 1));
+    ok(expr_set_integer(engine, context, "i", EXPR_Z, 7));
+    ok(expr_set_string(engine, context, "s", EXPR_Z, "some text", EXPR_Z));
+    ok(expr_set_bytes(engine, context, "y", EXPR_Z, "\xff\0", 2));
+    ok(expr_set_duration(engine, context, "d", EXPR_Z, -1));
+    ok(expr_set_datetime(engine, context, "t", EXPR_Z, 1, 2));
+    ok(expr_set_json(engine, context, "j", EXPR_Z, "{\"a\": [1, \"a text of a record\"]}", EXPR_Z));
+}
+
+/* A context without names, and one of a map that is built of values of each kind. */
+static void contexts(expr_engine *engine) {
+    expr_context context;
+    if (ok(expr_context_new(engine, &context)) && expr_drop_context(engine, context) != EXPR_OK) FAIL("drop");
+    int all = ok(expr_push_string(engine, "all", EXPR_Z)) && ok(expr_push_nil(engine)) && ok(expr_push_bool(engine, 0)) &&
+              ok(expr_push_bytes(engine, "some bytes", 10)) && ok(expr_push_duration(engine, 9)) &&
+              ok(expr_push_datetime(engine, 1, 2)) && ok(expr_push_month(engine, 3)) && ok(expr_push_weekday(engine, 4)) &&
+              ok(expr_push_json(engine, "[2, {\"b\": \"text\"}]", EXPR_Z)) && ok(expr_push_looked(engine)) &&
+              ok(expr_make_array(engine, 9)) && ok(expr_make_map(engine, 1)) && ok(expr_context_built(engine, &context));
+    if (all && expr_drop_context(engine, context) != EXPR_OK) FAIL("drop");
+    ok(expr_push_integer(engine, 1));
+    if (expr_unbuild(engine) != EXPR_OK || expr_make_array(engine, 1) != EXPR_MISUSE) FAIL("something stays built");
+}
+
 static void build(expr_engine *engine, expr_context context) {
     int all = ok(expr_push_string(engine, "a text that is longer than a word", EXPR_Z)) && ok(expr_push_integer(engine, 3)) &&
               ok(expr_make_array(engine, 2)) && ok(expr_push_string(engine, "k", 1)) && ok(expr_push_nil(engine)) &&
@@ -48,7 +74,7 @@ static void build(expr_engine *engine, expr_context context) {
     if (!all && expr_make_array(engine, 1) != EXPR_MISUSE) FAIL("something stays built");
 }
 
-/* A run with two calls that the host answers. */
+/* A run with two calls that the host answers, and one whose first call it refuses. */
 static void reply(expr_engine *engine, expr_environment host) {
     expr_program program;
     const char *name, *text = "map([\"a long text of a record\", \"b\"], {f(#) + \"!\"})";
@@ -59,7 +85,24 @@ static void reply(expr_engine *engine, expr_environment host) {
         status = expr_reply(engine, NULL);
     }
     if (status != EXPR_ASKS && ok(status)) expr_shown(engine, NULL);
+    status = expr_run(engine, program, host, EXPR_NO_CONTEXT, NULL);
+    if (status == EXPR_ASKS) status = expr_refuse(engine, "there is no such article", EXPR_Z, NULL);
+    if (status != EXPR_EVALUATION) ok(status == EXPR_OK ? EXPR_MISUSE : status);
+    expr_message(engine);
     expr_drop_program(engine, program);
+}
+
+/* Looks about in the value of `built`, if it is there. */
+static void look(expr_engine *engine, expr_context context) {
+    expr_answer answer;
+    if (ok(expr_look(engine, &answer)) && answer.kind == EXPR_ARRAY && ok(expr_down(engine, 1, &answer))) {
+        ok(expr_key(engine, 0, &answer));
+        ok(expr_set_looked(engine, context, "looked", EXPR_Z));
+        ok(expr_up(engine, &answer));
+    }
+    expr_shown(engine, NULL);
+    expr_text(engine, NULL);
+    expr_json(engine, NULL);
 }
 
 /* All kinds of work; the parts that are refused are passed over. */
@@ -70,6 +113,7 @@ static void work(expr_engine *engine) {
     expr_answer answer;
     expr_limits limits = {20, 5000, 5000, 5, 400};
     size_t count;
+    const char *names;
     const char *text = "map(filter(xs, # > 1), {\"n\": #, \"t\": string(#) + \"!\"})[0].t matches \"[0-9]+!\" ? built ?? 1 : 2";
     if (expr_set_limits(engine, &limits) != EXPR_OK) FAIL("limits take no memory");
     int has_rule = ok(expr_compile(engine, text, EXPR_Z, &rule, NULL));
@@ -78,17 +122,16 @@ static void work(expr_engine *engine) {
                    ok(expr_add_zone_rule(engine, host, "There", EXPR_Z, "EST5EDT,M3.2.0,M11.1.0", EXPR_Z)) &&
                    ok(expr_set_now(engine, host, 5, 6));
     if (has_context) {
-        ok(expr_set_string(engine, context, "s", EXPR_Z, "some text", EXPR_Z));
-        ok(expr_set_datetime(engine, context, "t", EXPR_Z, 1, 2));
+        set_each(engine, context);
         build(engine, context);
     }
+    contexts(engine);
     if (has_host) reply(engine, host);
-    if (has_rule) ok(expr_names(engine, rule, &count, NULL));
-    if (has_rule && has_context && has_host && ok(expr_run(engine, rule, host, context, &answer))) {
-        if (answer.kind == EXPR_ARRAY && ok(expr_down(engine, 0, &answer))) ok(expr_up(engine, &answer));
-        expr_shown(engine, NULL);
-        expr_json(engine, NULL);
+    if (has_rule) {
+        int is_done = ok(expr_names(engine, rule, &count, &names));
+        if (count != (is_done ? 2 : 0) || strcmp(names, is_done ? "built\nxs" : "")) FAIL("names");
     }
+    if (has_rule && has_context && has_host && ok(expr_run(engine, rule, host, context, &answer))) look(engine, context);
     ok(expr_eval(engine, "repeat(\"long\", 100)", EXPR_Z, EXPR_NO_ENVIRONMENT, EXPR_NO_CONTEXT, &answer));
     stop(engine, "map(1..300, {string(#) + \"!\"})", EXPR_LIMIT_SIZE);
     stop(engine, "reduce(1..9, [#acc], 0)", EXPR_LIMIT_DEPTH);
@@ -97,6 +140,8 @@ static void work(expr_engine *engine) {
     stop(engine, "[[[[[[[[[[[[[[[[[[[[[[[1]]]]]]]]]]]]]]]]]]]]]]]", EXPR_LIMIT_HEIGHT);
     if (has_rule && expr_drop_program(engine, rule) != EXPR_OK) FAIL("drop");
     if (has_context && expr_drop_context(engine, context) != EXPR_OK) FAIL("drop");
+    if (has_host && expr_drop_environment(engine, host) != EXPR_OK) FAIL("drop");
+    if (expr_set_unlimited(engine) != EXPR_OK || expr_clear(engine) != EXPR_OK) FAIL("what takes no memory");
 }
 
 int main(int count, char **words) {

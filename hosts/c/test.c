@@ -47,6 +47,46 @@ static int texts(expr_engine *engine) {
     return 0;
 }
 
+/* Whether what stands under a name is this value, byte for byte. */
+static int is(expr_engine *engine, expr_context context, const char *name, expr_answer wanted) {
+    expr_answer found;
+    if (expr_eval(engine, name, EXPR_Z, EXPR_NO_ENVIRONMENT, context, &found) != EXPR_OK) return 0;
+    if (found.kind != wanted.kind || found.number != wanted.number || found.fraction != wanted.fraction) return 0;
+    return wanted.text ? !memcmp(found.text, wanted.text, (size_t)wanted.number + 1) : !found.text;
+}
+
+/* What is put under a name is what the name stands for, until another is put there. */
+static int named(expr_engine *engine) {
+    static const expr_answer nil = {EXPR_NIL, 0, 0, NULL}, yes = {EXPR_BOOL, 0, 1, NULL}, no = {EXPR_BOOL, 0, 0, NULL};
+    static const expr_answer integer = {EXPR_INTEGER, 0, INT64_MIN, NULL}, text = {EXPR_STRING, 0, 4, "a\0\xc3\xa9"};
+    static const expr_answer bytes = {EXPR_BYTES, 0, 3, "\0\xff\n"}, hour = {EXPR_DURATION, 0, -3600000000001, NULL};
+    static const expr_answer moment = {EXPR_DATETIME, 999999999, -2, NULL}, pair = {EXPR_ARRAY, 0, 2, NULL};
+    expr_context context;
+    expr_answer answer;
+    CHECK(expr_context_new(engine, &context) == EXPR_OK);
+    CHECK(expr_set_string(engine, context, "x", EXPR_Z, text.text, 4) == EXPR_OK && is(engine, context, "x", text));
+    CHECK(expr_set_nil(engine, context, "x", EXPR_Z) == EXPR_OK && is(engine, context, "x", nil));
+    CHECK(expr_set_bool(engine, context, "x", EXPR_Z, -8) == EXPR_OK && is(engine, context, "x", yes));
+    CHECK(expr_set_bool(engine, context, "xyz", 1, 0) == EXPR_OK && is(engine, context, "x", no));
+    CHECK(expr_set_integer(engine, context, "x", EXPR_Z, INT64_MIN) == EXPR_OK && is(engine, context, "x", integer));
+    CHECK(expr_set_bytes(engine, context, "x", EXPR_Z, bytes.text, 3) == EXPR_OK && is(engine, context, "x", bytes));
+    CHECK(expr_set_duration(engine, context, "x", EXPR_Z, hour.number) == EXPR_OK && is(engine, context, "x", hour));
+    CHECK(expr_set_datetime(engine, context, "x", EXPR_Z, -2, 999999999) == EXPR_OK && is(engine, context, "x", moment));
+    CHECK(expr_set_looked(engine, context, "y", EXPR_Z) == EXPR_OK && is(engine, context, "y", moment));
+    CHECK(expr_push_looked(engine) == EXPR_OK && expr_push_nil(engine) == EXPR_OK && expr_make_array(engine, 2) == EXPR_OK);
+    CHECK(expr_set_built(engine, context, "x", EXPR_Z) == EXPR_OK && is(engine, context, "x", pair));
+    CHECK(expr_eval(engine, "x[0] == y and x[1] == nil", EXPR_Z, EXPR_NO_ENVIRONMENT, context, &answer) == EXPR_OK);
+    CHECK(answer.number == 1);
+    CHECK(expr_set_json(engine, context, "y", EXPR_Z, "[{}, 7]", 7) == EXPR_OK && is(engine, context, "y", pair));
+    /* what is refused leaves what stands there */
+    CHECK(expr_set_string(engine, context, "x", EXPR_Z, "\xff", 1) == EXPR_MISUSE);
+    CHECK(expr_set_datetime(engine, context, "x", EXPR_Z, 0, 1000000000) == EXPR_MISUSE);
+    CHECK(expr_set_nil(engine, context, "\xff", 1) == EXPR_MISUSE && is(engine, context, "x", pair));
+    CHECK(expr_drop_context(engine, context) == EXPR_OK && expr_drop_context(engine, context) == EXPR_UNKNOWN);
+    CHECK(expr_set_bool(engine, context, "x", EXPR_Z, 1) == EXPR_UNKNOWN);
+    return 0;
+}
+
 static int built(expr_engine *engine) {
     expr_context context;
     expr_answer answer;
@@ -82,6 +122,8 @@ static int built(expr_engine *engine) {
     CHECK(expr_push_month(engine, 13) == EXPR_MISUSE && expr_push_weekday(engine, 7) == EXPR_MISUSE);
     CHECK(expr_push_string(engine, "\xff", 1) == EXPR_MISUSE && expr_push_json(engine, "1.5", 3) == EXPR_EVALUATION);
     CHECK(expr_push_integer(engine, 1) == EXPR_OK && expr_context_built(engine, &context) == EXPR_EVALUATION);
+    CHECK(expr_push_integer(engine, 1) == EXPR_OK && expr_unbuild(engine) == EXPR_OK && expr_unbuild(engine) == EXPR_OK);
+    CHECK(expr_make_array(engine, 1) == EXPR_MISUSE);
     return 0;
 }
 
@@ -243,8 +285,8 @@ static int waiting(expr_engine *engine) {
 int main(void) {
     expr_engine *engine = expr_open();
     CHECK(engine);
-    int failed = programs(engine) || texts(engine) || built(engine) || refusals(engine) || environments(engine) ||
-                 functions(engine) || waiting(engine);
+    int failed = programs(engine) || texts(engine) || named(engine) || built(engine) || refusals(engine) ||
+                 environments(engine) || functions(engine) || waiting(engine);
     expr_close(engine);
     expr_close(NULL);
     if (!failed) printf("test: ok\n");

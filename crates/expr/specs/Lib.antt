@@ -1,5 +1,7 @@
 pub mod Bracketed
+pub mod Contexts
 pub mod Hosted
+pub mod KeptCodes
 pub mod Limited
 pub mod LineColumns
 pub mod Parsers

@@ -78,15 +78,20 @@ fn put_limited(alloc: Global, context: &Context, limits: &Limits, page: &mut Pag
     Ok(())
 }
 
+/// Puts the place of the `c` of a text of two lines.
+fn put_place(alloc: Global, page: &mut Page) -> Result<()> {
+    let at = line_column_of(alloc, "a\nb c", 4)?;
+    page.put_named("line_column_of", "");
+    page.put_made(format!(in alloc; "line {}, column {}\n{}", at.line, at.column, at.shown));
+    Ok(())
+}
+
 fn put_texts(alloc: Global, context: &Context, page: &mut Page) -> Result<()> {
     let limits = Limits::for_strangers();
     put_limited_texts(alloc, context, &limits, page);
     put_limited(alloc, context, &limits, page)?;
     page.put_call("eval", eval(alloc, "a * 10", context));
-    let spot = line_column_of(alloc, "a\nb c", 4)?;
-    let is_there = spot.line == 2 && spot.column == 3 && spot.shown.as_str() == "b c\n  ^";
-    page.put_fact("line_column_of", is_there);
-    Ok(())
+    put_place(alloc, page)
 }
 
 /// Puts what the calls answer, where `a` is 2.

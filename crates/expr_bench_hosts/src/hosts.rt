@@ -29,11 +29,15 @@ fn number(call: ExprCall) -> Result<Value> {
     })
 }
 
-/// Names of functions that sum their arguments, the second of which then counts them, and the third of which is a built-in's.
-const SUMS: &[&str] = &["add", "n", "len"];
-
-/// Names of functions that count their arguments, the second of which is a built-in's.
-const NUMBERS: &[&str] = &["n", "map"];
+/// Names of functions in turn, and whether each counts its arguments or sums them. `n` sums them until it counts them, and
+/// `len` and `map` are names of built-ins.
+const FUNCTIONS: &[(&str, bool)] = &[
+    ("add", false),
+    ("n", false),
+    ("len", false),
+    ("n", true),
+    ("map", true),
+];
 
 /// Puts the environment's call for nodes of a node's kind, and what it answers.
 fn put_node(alloc: Global, host: &Environment, node: &Node, page: &mut Page) {
@@ -71,11 +75,14 @@ fn put_node(alloc: Global, host: &Environment, node: &Node, page: &mut Page) {
 fn host_of_functions(alloc: Global) -> Result<Environment> {
     let calls = Cell::new(0_i64);
     let mut host = Environment::new(alloc);
-    for name in SUMS {
-        host.add_function(name, Box::new(alloc, |call: ExprCall| sum(call))?)?;
-    }
-    for name in NUMBERS {
-        host.add_function(name, Box::new(alloc, |call: ExprCall| number(call))?)?;
+    for (name, counts) in FUNCTIONS {
+        let counts = *counts;
+        host.add_function(
+            name,
+            Box::new(alloc, move |call: ExprCall| {
+                if counts { number(call) } else { sum(call) }
+            })?,
+        )?;
     }
     host.add_function(
         "p",

@@ -72,6 +72,14 @@ fn show_node(node: &Node, page: &mut Page) {
             }
         }
         Node::Unary { operator, node } => show_behind(sign(*operator), node, page),
+        _ => show_composed(node, page),
+    }
+}
+
+/// An operation, a postfix or a conditional.
+#[cycle(shown)]
+fn show_composed(node: &Node, page: &mut Page) {
+    match node {
         Node::Operation {
             operator,
             left,
@@ -103,6 +111,7 @@ fn show_node(node: &Node, page: &mut Page) {
             page.put(" ");
             show_block(alternative, page);
         }
+        _ => page.put("!!no such node"),
     }
 }
 

@@ -6,26 +6,26 @@ use expr_tree::node::{Node, Pattern};
 use expr_value::{Error, Key, KeyedMap, Result, Value, ValueMap};
 use std::mem::size_of;
 
-/// Bytes of a type, and how many they may be at most.
-const SIZES: &[(&str, usize, usize)] = &[
-    ("Value", size_of::<Value>(), 32),
-    ("Key", size_of::<Key>(), 32),
-    ("ValueMap", size_of::<ValueMap>(), 16),
-    ("KeyedMap", size_of::<KeyedMap>(), 16),
-    ("Context", size_of::<Context>(), 16),
-    ("Error", size_of::<Error>(), 40),
-    ("Result<Value>", size_of::<Result<Value>>(), 48),
-    ("Node", size_of::<Node>(), 72),
+/// Types, and the bytes of each.
+const SIZES: &[(&str, usize)] = &[
+    ("Value", size_of::<Value>()),
+    ("Key", size_of::<Key>()),
+    ("ValueMap", size_of::<ValueMap>()),
+    ("KeyedMap", size_of::<KeyedMap>()),
+    ("Context", size_of::<Context>()),
+    ("Error", size_of::<Error>()),
+    ("Result<Value>", size_of::<Result<Value>>()),
+    ("Node", size_of::<Node>()),
     (
         "Instruction that lends",
         size_of::<Instruction<&'static Value, &'static String, &'static Pattern>>(),
-        32,
     ),
 ];
 
-/// Puts the types, and whether each is as small as it should be.
+/// Puts the types, and how many bytes each takes.
 pub fn put_sizes(page: &mut Page) {
-    for (name, bytes, most) in SIZES {
-        page.put_fact(name, bytes <= most);
+    for (name, bytes) in SIZES {
+        page.put_named(name, "");
+        page.put_made(bytes.to_string(page.allocator()));
     }
 }

@@ -164,15 +164,14 @@ fn put_made_contexts(alloc: Global, page: &mut Page) -> Result<()> {
     Ok(())
 }
 
-/// Puts copies of the instant 0.
+/// Puts a copy of the instant 0, and how far from it the moment is that is 5 nanoseconds later.
 fn put_moment(alloc: Global, moment: &DateTimeValue, page: &mut Page) -> Result<()> {
     let copy = Value::datetime(alloc, moment.clone()?);
     page.put_call("DateTimeValue::clone", copy);
-    let apart = match moment.clone()?.checked_add_signed(5) {
-        Some(later) => later.checked_difference(moment),
-        None => None,
-    };
-    page.put_fact("checked_difference", apart == Some(5));
+    if let Some(later) = moment.clone()?.checked_add_signed(5) {
+        let apart = later.checked_difference(moment).unwrap_or(0);
+        page.put_call("checked_difference", Ok(Value::Integer(apart)));
+    }
     Ok(())
 }
 

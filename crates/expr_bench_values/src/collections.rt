@@ -48,8 +48,9 @@ fn put_keys(alloc: Global, page: &mut Page) -> Result<()> {
         page.put_made(format!(in alloc; "{key:?}={value};"));
     }
     page.put_made(format!(in alloc;
-        "{map:?} {} {} {} {}\n",
-        map.keys().len() == map.values().len(),
+        "{map:?} {} {} {} {} {}\n",
+        map.keys().len(),
+        map.values().len(),
         map.get_index(1).is_some(),
         map.get_by_key(&Key::Integer(2)).is_some(),
         map.get(&Value::Integer(2)).is_some(),

@@ -91,17 +91,23 @@ fn leaf(alloc: Global, dice: &mut Dice) -> Result<Value> {
     }
 }
 
+/// Some items and up to two leaves more.
+fn push_leaves(
+    alloc: Global,
+    dice: &mut Dice,
+    mut items: Result<Vec<Value>>,
+) -> Result<Vec<Value>> {
+    for _ in 0..dice.next() % 3 {
+        items = push_item(items, leaf(alloc, dice));
+    }
+    items
+}
+
 /// A list of up to two leaves, a value and as many leaves again.
 fn list(alloc: Global, dice: &mut Dice, inside: Result<Value>) -> Result<Value> {
-    let mut items = no_items(alloc);
-    for _ in 0..dice.next() % 3 {
-        items = push_item(items, leaf(alloc, dice));
-    }
-    items = push_item(items, inside);
-    for _ in 0..dice.next() % 3 {
-        items = push_item(items, leaf(alloc, dice));
-    }
-    array(items)
+    let items = push_leaves(alloc, dice, no_items(alloc));
+    let items = push_item(items, inside);
+    array(push_leaves(alloc, dice, items))
 }
 
 /// A map of up to three leaves and a value.

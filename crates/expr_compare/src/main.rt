@@ -2,8 +2,8 @@
 //!
 //! Its words are `PART TURNS CODE [NAME=CODE]..`. PART is `compile`, `bounded` (the same within limits), `lower` (which compiles
 //! and lowers), `machine` (of code in a machine that is kept), `execute` (of code that is kept), `limited` (the same within
-//! limits) or `run` (of a program that is kept). The answer of CODE goes to standard output, and the nanoseconds of all turns to standard error. The status is 1 where
-//! the words aren't such, or a CODE has no value.
+//! limits) or `run` (of a program that is kept). The answer of CODE goes to standard output, and the nanoseconds of all turns to
+//! standard error. The status is 1 where the words aren't such, or a CODE has no value.
 //!
 //! For `bin/hostile` its words are `hostile LIMITS CODE [NAME=CODE]..`, where LIMITS is `strangers`, or numbers
 //! `STEPS,SIZE,DEPTH,PATTERNS,HEIGHT`, and the CODE `-` is read from standard input. It evaluates CODE within those limits, and
@@ -66,6 +66,32 @@ fn context_of(alloc: Global, words: &[String]) -> Result<Context> {
     Ok(names)
 }
 
+/// Makes a call so many times, or until one is refused.
+fn repeat<F: FnMut() -> Result<()>>(turns: u64, mut call: F) -> Result<()>
+    requires { F.IsAlwaysCallable call }
+{
+    for _ in 0..turns {
+        call()?;
+    }
+    Ok(())
+}
+
+/// Executes the code of a program within limits so many times, and lets go of what each turn answers.
+fn turn_limited(alloc: Global, turns: u64, program: &Program, names: &Context) -> Result<()> {
+    let code = Code::lower(alloc, program)?;
+    let limits = Limits::for_strangers();
+    let provider: &dyn ContextProvider = names;
+    let machine = Machine {
+        alloc,
+        host: &NoFunctions,
+        provider,
+    };
+    repeat(turns, || {
+        let _ = execute_limited(&machine, &code, &limits)?;
+        Ok(())
+    })
+}
+
 /// Does a part so many times, and lets go of what each turn makes.
 fn turn(
     alloc: Global,
@@ -76,56 +102,43 @@ fn turn(
     names: &Context,
 ) -> Result<()> {
     match part {
-        Stage::Compile => {
-            for _ in 0..turns {
-                let _ = compile(alloc, text)?;
-            }
-        }
+        Stage::Compile => repeat(turns, || {
+            let _ = compile(alloc, text)?;
+            Ok(())
+        }),
         Stage::Bounded => {
             let limits = Limits::for_strangers();
-            for _ in 0..turns {
+            repeat(turns, || {
                 let _ = compile_bounded(alloc, text, limits.height, limits.patterns)?;
-            }
+                Ok(())
+            })
         }
-        Stage::Lower => {
-            for _ in 0..turns {
-                let program = compile(alloc, text)?;
-                let _ = Code::lower(alloc, &program)?;
-            }
-        }
+        Stage::Lower => repeat(turns, || {
+            let compiled = compile(alloc, text)?;
+            let _ = Code::lower(alloc, &compiled)?;
+            Ok(())
+        }),
         Stage::Machine => {
             let code = Code::lower(alloc, program)?;
             let mut machine = KeptMachine::new(alloc, &code);
-            for _ in 0..turns {
+            repeat(turns, || {
                 let _ = machine.execute(&NoFunctions, names)?;
-            }
+                Ok(())
+            })
         }
         Stage::Execute => {
             let code = Code::lower(alloc, program)?;
-            for _ in 0..turns {
+            repeat(turns, || {
                 let _ = execute(alloc, &code, names)?;
-            }
+                Ok(())
+            })
         }
-        Stage::Limited => {
-            let code = Code::lower(alloc, program)?;
-            let limits = Limits::for_strangers();
-            let provider: &dyn ContextProvider = names;
-            let machine = Machine {
-                alloc,
-                host: &NoFunctions,
-                provider,
-            };
-            for _ in 0..turns {
-                let _ = execute_limited(&machine, &code, &limits)?;
-            }
-        }
-        Stage::Run => {
-            for _ in 0..turns {
-                let _ = run(alloc, program, names)?;
-            }
-        }
+        Stage::Limited => turn_limited(alloc, turns, program, names),
+        Stage::Run => repeat(turns, || {
+            let _ = run(alloc, program, names)?;
+            Ok(())
+        }),
     }
-    Ok(())
 }
 
 /// The name of a limit.

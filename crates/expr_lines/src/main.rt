@@ -11,7 +11,7 @@ use expr_records::{
 };
 use jiff::Timestamp;
 use options::Options;
-use progress::{Meter, ProgressReader};
+use progress::{Progress, ProgressReader};
 use reports::{tell_bad_name, tell_refused_text, tell_unusable};
 use std::alloc::{AllocError, Global};
 use std::io::{self, BufReader, BufWriter, ErrorKind, IsTerminal, Read, Stderr, Write};
@@ -170,24 +170,24 @@ fn sift_named<W: Write, E: Write>(
 ) -> StreamEnd {
     let alloc = rt.alloc();
     if name == "-" {
-        let stream = ProgressReader::new(rt.stdin(), rt, meter_of(rt, options, 0));
+        let stream = ProgressReader::new(rt.stdin(), rt, progress_of(rt, options, 0));
         return sift_stream(alloc, name, stream, sieve);
     }
     match fs::open(rt, name) {
         Ok(file) => {
             let length = file.metadata().map_or(0, |data| data.len());
-            let stream = ProgressReader::new(file, rt, meter_of(rt, options, length));
+            let stream = ProgressReader::new(file, rt, progress_of(rt, options, length));
             sift_stream(alloc, name, stream, sieve)
         }
         Err(error) => StreamEnd::Unread(error),
     }
 }
 
-/// A meter of a stream of some length, if one is asked for and standard error is a terminal.
-fn meter_of(rt: &HostRuntime, options: &Options, length: u64) -> Option<Meter<Stderr>> {
+/// The progress of a stream of some length, if it is to be told and standard error is a terminal.
+fn progress_of(rt: &HostRuntime, options: &Options, length: u64) -> Option<Progress<Stderr>> {
     let err = rt.stderr();
     if options.tells && err.is_terminal() {
-        Some(Meter::new(rt, length, err))
+        Some(Progress::new(rt, length, err))
     } else {
         None
     }

@@ -34,57 +34,67 @@ pub struct Options<'a> {
     pub tells: bool,
 }
 
-/// The options that say what is done with the records.
-fn with_purposes<'a>(alloc: Global, command: Command<'a>) -> Result<Command<'a>, AllocError> {
-    let map = Arg::new(alloc, "map")
-        .short('m')
-        .long("map")
+/// An option without a value, by its name or its letter.
+fn flag<'a>(alloc: Global, name: &'a str, letter: char, help: &'a str) -> Arg<'a> {
+    Arg::new(alloc, name)
+        .short(letter)
+        .long(name)
         .action(ArgAction::SetTrue)
-        .conflicts_with("count")?
-        .conflicts_with("invert")?
-        .help("Write the expression's answer about each record, as a line of JSON");
-    let count = Arg::new(alloc, "count")
-        .short('c')
-        .long("count")
-        .action(ArgAction::SetTrue)
-        .help("Write how many records there are for which the expression is true");
-    let invert = Arg::new(alloc, "invert")
-        .short('v')
-        .long("invert")
-        .action(ArgAction::SetTrue)
-        .help("Keep or count the records for which the expression is false");
-    command.arg(map)?.arg(count)?.arg(invert)
+        .help(help)
 }
 
-/// The options that say how the work goes.
-fn with_manners<'a>(alloc: Global, command: Command<'a>) -> Result<Command<'a>, AllocError> {
-    let name = Arg::new(alloc, "name")
+/// The option that has records rewritten.
+fn map_option<'a>(alloc: Global) -> Result<Arg<'a>, AllocError> {
+    let help = "Write the expression's answer about each record, as a line of JSON";
+    flag(alloc, "map", 'm', help)
+        .conflicts_with("count")?
+        .conflicts_with("invert")
+}
+
+/// The options that say what is done with the records.
+fn with_purposes<'a>(alloc: Global, command: Command<'a>) -> Result<Command<'a>, AllocError> {
+    let map = map_option(alloc)?;
+    let count = "Write how many records there are for which the expression is true";
+    let invert = "Keep or count the records for which the expression is false";
+    command
+        .arg(map)?
+        .arg(flag(alloc, "count", 'c', count))?
+        .arg(flag(alloc, "invert", 'v', invert))
+}
+
+/// The option whose values are the words `NAME=CODE`.
+fn name_option<'a>(alloc: Global) -> Arg<'a> {
+    Arg::new(alloc, "name")
         .short('n')
         .long("name")
         .value_name("NAME=CODE")
         .action(ArgAction::Append)
-        .help("Put the value of CODE under NAME, before the records' members");
-    let fail_fast = Arg::new(alloc, "fail-fast")
-        .short('f')
-        .long("fail-fast")
-        .action(ArgAction::SetTrue)
-        .help("End at the first record that is refused");
-    let bound = Arg::new(alloc, "max-line")
+        .help("Put the value of CODE under NAME, before the records' members")
+}
+
+/// The option that bounds the lines.
+fn bound_option<'a>(alloc: Global) -> Arg<'a> {
+    Arg::new(alloc, "max-line")
         .long("max-line")
         .value_name("BYTES")
         .value_parser(value_parser!(u32))
         .default_value("64000000")
-        .help("Refuse records of longer lines");
-    let progress = Arg::new(alloc, "progress")
-        .short('p')
-        .long("progress")
-        .action(ArgAction::SetTrue)
-        .help("Tell how far the work is, where standard error is a terminal");
-    command.arg(name)?.arg(fail_fast)?.arg(bound)?.arg(progress)
+        .help("Refuse records of longer lines")
 }
 
-/// The command line.
-fn command<'a>(alloc: Global) -> Result<Command<'a>, AllocError> {
+/// The options that say how the work goes.
+fn with_manners<'a>(alloc: Global, command: Command<'a>) -> Result<Command<'a>, AllocError> {
+    let fail_fast = "End at the first record that is refused";
+    let progress = "Tell how far the work is, where standard error is a terminal";
+    command
+        .arg(name_option(alloc))?
+        .arg(flag(alloc, "fail-fast", 'f', fail_fast))?
+        .arg(bound_option(alloc))?
+        .arg(flag(alloc, "progress", 'p', progress))
+}
+
+/// The words that are no options.
+fn with_operands<'a>(alloc: Global, command: Command<'a>) -> Result<Command<'a>, AllocError> {
     let expression = Arg::new(alloc, "EXPRESSION")
         .required(true)
         .help("What is asked about each record");
@@ -92,11 +102,15 @@ fn command<'a>(alloc: Global) -> Result<Command<'a>, AllocError> {
         .num_args(0..)
         .action(ArgAction::Append)
         .help("Files of records; - or none is standard input");
+    command.arg(expression)?.arg(files)
+}
+
+/// The command line.
+fn command<'a>(alloc: Global) -> Result<Command<'a>, AllocError> {
     let command = Command::new(alloc, "expr_lines")
         .about(ABOUT)
-        .after_help(NOTES)
-        .arg(expression)?
-        .arg(files)?;
+        .after_help(NOTES);
+    let command = with_operands(alloc, command)?;
     with_manners(alloc, with_purposes(alloc, command)?)
 }
 

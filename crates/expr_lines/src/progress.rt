@@ -8,12 +8,12 @@ use std::rt::Clock;
 pub struct ProgressReader<'k, T, E, K> {
     inner: T,
     clock: &'k K,
-    meter: Option<Meter<E>>,
+    progress: Option<Progress<E>>,
 }
 
 /// What was read of a stream.
 #[derive(Drop)]
-pub struct Meter<E> {
+pub struct Progress<E> {
     /// Where it is told.
     err: E,
     /// When the reading began, in whole seconds.
@@ -26,11 +26,11 @@ pub struct Meter<E> {
     length: u64,
 }
 
-impl<E: Write> Meter<E> {
-    /// A meter of a stream of which nothing was read yet.
-    pub fn new<K: Clock>(clock: &K, length: u64, err: E) -> Meter<E> {
+impl<E: Write> Progress<E> {
+    /// That of a stream of which nothing was read yet.
+    pub fn new<K: Clock>(clock: &K, length: u64, err: E) -> Progress<E> {
         let start = clock.monotonic().map_or(0, |time| time.as_secs());
-        Meter {
+        Progress {
             err,
             start,
             told: 0,
@@ -77,12 +77,16 @@ impl<E: Write> Meter<E> {
 }
 
 impl<'k, T, E, K> ProgressReader<'k, T, E, K> {
-    /// A stream with a meter, or without one.
-    pub fn new(inner: T, clock: &'k K, meter: Option<Meter<E>>) -> ProgressReader<'k, T, E, K> {
+    /// A stream whose progress is told, or isn't.
+    pub fn new(
+        inner: T,
+        clock: &'k K,
+        progress: Option<Progress<E>>,
+    ) -> ProgressReader<'k, T, E, K> {
         ProgressReader {
             inner,
             clock,
-            meter,
+            progress,
         }
     }
 }
@@ -90,8 +94,8 @@ impl<'k, T, E, K> ProgressReader<'k, T, E, K> {
 impl<'k, T: Read, E: Write, K: Clock> Read for ProgressReader<'k, T, E, K> {
     fn read(&mut self, buf: &mut [u8]) -> io::Result<usize> {
         let count = self.inner.read(buf)?;
-        if let Some(meter) = &mut self.meter {
-            meter.note(self.clock, &buf[..count]);
+        if let Some(progress) = &mut self.progress {
+            progress.note(self.clock, &buf[..count]);
         }
         Ok(count)
     }

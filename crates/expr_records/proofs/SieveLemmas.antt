@@ -2,17 +2,16 @@
 use Rattle.std.proofs.Common.{◌≡◌, ℕ, ◌+◌, Bool, true, false, not, ◌&&◌, List, [], ◌∷◌, ◌++◌, refl, sym, ap, subst, ◌∙◌, arith, append_assoc, append-nil}
 use Rattle.std.specs.Prelude.{Option, None, Some, IfSome}
 use Rattle.std.specs.List.{AllByRecursion}
-use Rattle.std.specs.Io.KnownBytes.{Appends, IsAtEnd}
-use Rattle.std.proofs.KnownBytes.{Appends-nil, Appends-trans}
+use Rattle.std.specs.Io.KnownBytes.{Appends}
+use Rattle.std.proofs.KnownBytes.{Appends-trans}
 use Rattle.std.proofs.lemmas.List.Sums.{sum_by_push}
-use Rattle.std.specs.declared.io.Error.{Error}
 use Rattle.expr_records.specs.Lines.{lines_of, TakesLine}
 use Rattle.expr_records.specs.Outcomes.{saturated_count, is_kept, is_refused, one_if, line_output}
 use Rattle.expr_records.specs.Sifted.{JudgedLines, LineComesTo, Settles, Sifts, StopsAfter, kept_in, lines_in, output_of, refused_in}
 use Rattle.expr_records.specs.LineSteps.{IsNextLine}
 use Rattle.expr_records.specs.declared.line_buffer.LineBuffer.{LineBuffer}
-use Rattle.expr_records.specs.declared.outcome.Outcome.{Outcome}
-use Rattle.expr_records.specs.declared.sieve.StreamEnd.TheVariants.{Whole, Stopped, Unread, Unwritten}
+use Rattle.expr_records.specs.declared.outcome.LineOutcome.{LineOutcome}
+use Rattle.expr_records.specs.declared.sieve.StreamEnd.TheVariants.{Stopped}
 use Rattle.expr_records.specs.declared.tally.Tally.{Tally}
 
 -- known bytes lose these lines
@@ -28,7 +27,7 @@ StopsSo false false refused = ⊥
 StopsSo true true refused = refused ≡ 0
 StopsSo true false refused = refused ≡ 1
 
-pub record Sifting (judged : List ℕ → Outcome → Type 0) (bound : ℕ) (stops goes_on : Bool) (stream now : Option (List ℕ)) (out_old out_new : Option (List ℕ)) (old new : Tally) : Type 0 where
+pub record Sifting (judged : List ℕ → LineOutcome → Type 0) (bound : ℕ) (stops goes_on : Bool) (stream now : Option (List ℕ)) (out_old out_new : Option (List ℕ)) (old new : Tally) : Type 0 where
   pub came : JudgedLines
   pub each : AllByRecursion (λ p. LineComesTo bound judged p.0 p.1) came
   pub read : ReadTo stream now (lines_in came)
@@ -37,43 +36,34 @@ pub record Sifting (judged : List ℕ → Outcome → Type 0) (bound : ℕ) (sto
   pub refused : new.refused ≡ saturated_count (old.refused + refused_in came)
   pub stop : StopsSo stops goes_on (refused_in came)
 
-read_none : (stream : Option (List ℕ)) → ReadTo stream stream []
-read_none None = tt
-read_none (Some xs) = refl
-
 read_more : (a b c : Option (List ℕ)) (lines : List (List ℕ)) (line : List ℕ) → ReadTo a b lines → TakesLine line b c → ReadTo a c (lines ++ line ∷ [])
 read_more None b c lines line p q = tt
 read_more (Some xs) None c lines line p q = absurd p
 read_more (Some xs) (Some ys) None lines line p q = absurd q
 read_more (Some xs) (Some ys) (Some zs) lines line p q = p ∙ ap (λ l. lines ++ l) q ∙ sym (append_assoc lines (line ∷ []) (lines_of zs))
 
-read_whole : (a b : Option (List ℕ)) (lines : List (List ℕ)) → ReadTo a b lines → IsAtEnd b → IfSome a (λ bytes. lines ≡ lines_of bytes)
-read_whole None b lines p e = tt
-read_whole (Some xs) None lines p e = absurd p
-read_whole (Some xs) (Some ys) lines p e = sym (p ∙ ap (λ l. lines ++ lines_of l) e ∙ append-nil lines)
-
 read_front : (a b : Option (List ℕ)) (lines : List (List ℕ)) → ReadTo a b lines → IfSome a (λ bytes. (rest : List (List ℕ)) × (lines ++ rest ≡ lines_of bytes))
 read_front None b lines p = tt
 read_front (Some xs) None lines p = absurd p
 read_front (Some xs) (Some ys) lines p = (lines_of ys, sym p)
 
-each_more : (P : List ℕ × Outcome → Type 0) (came : JudgedLines) (p : List ℕ × Outcome) → AllByRecursion P came → P p → AllByRecursion P (came ++ p ∷ [])
+each_more : (P : List ℕ × LineOutcome → Type 0) (came : JudgedLines) (p : List ℕ × LineOutcome) → AllByRecursion P came → P p → AllByRecursion P (came ++ p ∷ [])
 each_more P [] p all one = (one, tt)
 each_more P (q ∷ came) p all one = (all.0, each_more P came p all.1 one)
 
-lines_more : (came : JudgedLines) (line : List ℕ) (outcome : Outcome) → lines_in (came ++ (line, outcome) ∷ []) ≡ lines_in came ++ line ∷ []
+lines_more : (came : JudgedLines) (line : List ℕ) (outcome : LineOutcome) → lines_in (came ++ (line, outcome) ∷ []) ≡ lines_in came ++ line ∷ []
 lines_more [] line outcome = refl
 lines_more (q ∷ came) line outcome = ap (λ l. q.0 ∷ l) (lines_more came line outcome)
 
-output_more : (came : JudgedLines) (line : List ℕ) (outcome : Outcome) → output_of (came ++ (line, outcome) ∷ []) ≡ output_of came ++ line_output line outcome
+output_more : (came : JudgedLines) (line : List ℕ) (outcome : LineOutcome) → output_of (came ++ (line, outcome) ∷ []) ≡ output_of came ++ line_output line outcome
 output_more [] line outcome = append-nil (line_output line outcome)
 output_more (q ∷ came) line outcome =
     ap (λ l. line_output q.0 q.1 ++ l) (output_more came line outcome) ∙ sym (append_assoc (line_output q.0 q.1) (output_of came) (line_output line outcome))
 
-kept_more : (came : JudgedLines) (line : List ℕ) (outcome : Outcome) → kept_in (came ++ (line, outcome) ∷ []) ≡ kept_in came + one_if (is_kept outcome)
+kept_more : (came : JudgedLines) (line : List ℕ) (outcome : LineOutcome) → kept_in (came ++ (line, outcome) ∷ []) ≡ kept_in came + one_if (is_kept outcome)
 kept_more came line outcome = sum_by_push (λ p. one_if (is_kept p.1)) came (line, outcome)
 
-refused_more : (came : JudgedLines) (line : List ℕ) (outcome : Outcome) → refused_in (came ++ (line, outcome) ∷ []) ≡ refused_in came + one_if (is_refused outcome)
+refused_more : (came : JudgedLines) (line : List ℕ) (outcome : LineOutcome) → refused_in (came ++ (line, outcome) ∷ []) ≡ refused_in came + one_if (is_refused outcome)
 refused_more came line outcome = sum_by_push (λ p. one_if (is_refused p.1)) came (line, outcome)
 
 capped_more : (a b c k more one : ℕ) → b ≡ saturated_count (a + k) → c ≡ saturated_count (b + one) → more ≡ k + one → c ≡ saturated_count (a + more)
@@ -85,28 +75,13 @@ stop_at true false n more p e = omega (arith, p, e)
 stop_at true true n more p e = omega (arith, p, e)
 
 -- what a line came to, by a judge and a manner that are the same
-pub settles_as : {J : Type 0} (judged : J → List ℕ → Outcome → Type 0) (i j : J) (line : LineBuffer) (stops stops' : Bool) (out_old out_new : Option (List ℕ)) (old new : Tally) (goes goes' : Bool) → i ≡ j → stops ≡ stops' → goes ≡ goes'
+pub settles_as : {J : Type 0} (judged : J → List ℕ → LineOutcome → Type 0) (i j : J) (line : LineBuffer) (stops stops' : Bool) (out_old out_new : Option (List ℕ)) (old new : Tally) (goes goes' : Bool) → i ≡ j → stops ≡ stops' → goes ≡ goes'
     → Settles (judged i) line stops out_old out_new old new goes → Settles (judged j) line stops' out_old out_new old new goes'
 settles_as judged i j line stops stops' out_old out_new old new goes goes' p q r s =
     subst (λ x. Settles (judged x) line stops' out_old out_new old new goes') p
     (subst (λ x. Settles (judged i) line x out_old out_new old new goes') q (subst (λ x. Settles (judged i) line stops out_old out_new old new x) r s))
 
-module _ (judged : List ℕ → Outcome → Type 0) (bound : ℕ) (stops : Bool) (stream : Option (List ℕ)) (out_old : Option (List ℕ)) (old : Tally) where
-  pub sifts_none : Sifting judged bound stops true stream stream out_old out_old old old
-  sifts_none = record {
-    came = [];
-    each = tt;
-    read = read_none stream;
-    output = Appends-nil out_old;
-    kept = omega (arith, old.small.0);
-    refused = omega (arith, old.small.1);
-    stop = none_yet stops;
-  }
-    where
-      none_yet : (stops : Bool) → StopsSo stops true 0
-      none_yet false = tt
-      none_yet true = refl
-
+module _ (judged : List ℕ → LineOutcome → Type 0) (bound : ℕ) (stops : Bool) (stream : Option (List ℕ)) (out_old : Option (List ℕ)) (old : Tally) where
   pub sifts_more : (now next : Option (List ℕ)) (out_mid out_new : Option (List ℕ)) (mid new : Tally) (line : LineBuffer) (goes_on : Bool) → line.bound ≡ bound
       → Sifting judged bound stops true stream now out_old out_mid old mid → IsNextLine true now next line → Settles judged line stops out_mid out_new mid new goes_on
       → Sifting judged bound stops goes_on stream next out_old out_new old new
@@ -121,30 +96,9 @@ module _ (judged : List ℕ → Outcome → Type 0) (bound : ℕ) (stops : Bool)
   }
 
   module _ (now : Option (List ℕ)) (out_new : Option (List ℕ)) (new : Tally) where
-    pub sifts_whole : Sifting judged bound stops true stream now out_old out_new old new → IsAtEnd now → Sifts judged bound stops stream out_old out_new old new Whole
-    sifts_whole s e = record { came = s.came; each = s.each; read = read_whole stream now _ s.read e; output = s.output; kept = s.kept; refused = s.refused; stop = at_whole stops _ s.stop }
-      where
-        at_whole : (stops : Bool) (n : ℕ) → StopsSo stops true n → StopsAfter stops Whole n
-        at_whole false n p = tt
-        at_whole true n p = p
-
     pub sifts_stopped : Sifting judged bound stops false stream now out_old out_new old new → Sifts judged bound stops stream out_old out_new old new Stopped
     sifts_stopped s = record { came = s.came; each = s.each; read = read_front stream now _ s.read; output = s.output; kept = s.kept; refused = s.refused; stop = at_stop stops _ s.stop }
       where
         at_stop : (stops : Bool) (n : ℕ) → StopsSo stops false n → StopsAfter stops Stopped n
         at_stop false n p = p
         at_stop true n p = p
-
-    pub sifts_unread : (error : Error) → Sifting judged bound stops true stream now out_old out_new old new → Sifts judged bound stops stream out_old out_new old new (Unread error)
-    sifts_unread error s = record { came = s.came; each = s.each; read = read_front stream now _ s.read; output = s.output; kept = s.kept; refused = s.refused; stop = at_unread stops _ s.stop }
-      where
-        at_unread : (stops : Bool) (n : ℕ) → StopsSo stops true n → StopsAfter stops (Unread error) n
-        at_unread false n p = tt
-        at_unread true n p = p
-
-    pub sifts_unwritten : (error : Error) (out_last : Option (List ℕ)) → Sifting judged bound stops true stream now out_old out_new old new → Sifts judged bound stops stream out_old out_last old new (Unwritten error)
-    sifts_unwritten error out_last s = record { came = s.came; each = s.each; read = read_front stream now _ s.read; output = tt; kept = s.kept; refused = s.refused; stop = at_unwritten stops _ s.stop }
-      where
-        at_unwritten : (stops : Bool) (n : ℕ) → StopsSo stops true n → StopsAfter stops (Unwritten error) n
-        at_unwritten false n p = tt
-        at_unwritten true n p = p

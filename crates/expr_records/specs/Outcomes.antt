@@ -1,10 +1,10 @@
 -- What is written of lines, and how they count.
 use Rattle.std.specs.Prelude.{ℕ, ◌-◌, ◌^◌, min, Bool, true, false, List, [], ◌∷◌, ◌++◌, if◌then◌else◌}
-use Rattle.expr_records.specs.declared.outcome.Outcome.{Outcome}
-use Rattle.expr_records.specs.declared.outcome.Outcome.TheVariants.{Blank, Dropped, Kept, Counted, Rewritten, Refused}
+use Rattle.expr_records.specs.declared.outcome.LineOutcome.{LineOutcome}
+use Rattle.expr_records.specs.declared.outcome.LineOutcome.TheVariants.{Blank, Dropped, Kept, Counted, Rewritten, Refused}
 
 -- what is written of a line: the line as it is, or the JSON that it becomes, and a line feed
-abbrev pub line_output : List ℕ → Outcome → List ℕ
+abbrev pub line_output : List ℕ → LineOutcome → List ℕ
 line_output line Blank = []
 line_output line Dropped = []
 line_output line Kept = line ++ 10 ∷ []
@@ -12,7 +12,7 @@ line_output line Counted = []
 line_output line (Rewritten text) = text ++ 10 ∷ []
 line_output line (Refused refusal) = []
 
-abbrev pub is_kept : Outcome → Bool
+abbrev pub is_kept : LineOutcome → Bool
 is_kept Blank = false
 is_kept Dropped = false
 is_kept Kept = true
@@ -20,7 +20,7 @@ is_kept Counted = true
 is_kept (Rewritten text) = true
 is_kept (Refused refusal) = false
 
-abbrev pub is_refused : Outcome → Bool
+abbrev pub is_refused : LineOutcome → Bool
 is_refused Blank = false
 is_refused Dropped = false
 is_refused Kept = false

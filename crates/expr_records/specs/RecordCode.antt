@@ -1,25 +1,15 @@
 -- What an expression may answer of a record.
-use Rattle.std.specs.Prelude.{ℕ, List, [], String}
-use Rattle.std.specs.declared.alloc.Global.{Global}
-use Rattle.std.specs.declared.boxed.Box.{Box}
+use Rattle.std.specs.Prelude.{ℕ, List, []}
+use Rattle.expr.specs.Contexts.{NamedValues, context_of}
 use Rattle.expr.specs.Texts.{MayAnswerWithin}
 use Rattle.expr_code.specs.Codes.{IsCode}
 use Rattle.expr_code.specs.Machine.{Op}
-use Rattle.expr_lowering.specs.Blocks.{blocks_of}
-use Rattle.expr_lowering.specs.Owned.{own_text, own_value}
-use Rattle.expr_lowering.specs.declared.code.Code.{Code}
 use Rattle.expr_meaning.specs.Host.{Host}
 use Rattle.expr_meaning.specs.World.{world_of}
-use Rattle.expr_records.specs.Records.{NamedValues, record_context}
+use Rattle.expr_records.specs.Records.{record_context}
 use Rattle.expr_syntax.specs.Texts.{IsProgramWithin}
 use Rattle.expr_tree.specs.Term.{Block}
 use Rattle.expr_value.specs.Answers.{Answer}
-use Rattle.expr_value.specs.Names.{find}
-use Rattle.expr_value.specs.declared.value.Value.{Value}
-
--- the blocks of a code that is kept
-abbrev pub code_of : {P : Type 0} → Code (Box Value Global) (Box (String Global) Global) P → List (List Op)
-code_of code = blocks_of own_value own_text code
 
 -- the code is one of the program of a tree of the text, no higher than 500
 abbrev pub IsCodeOf : List ℕ → List (List Op) → Type 0
@@ -31,4 +21,4 @@ may_answer host names text members answer = MayAnswerWithin 500 text (world_of h
 
 -- what the code of a name may answer, among no names
 abbrev pub may_name : Host → List ℕ → Answer → Type 0
-may_name host code answer = MayAnswerWithin 500 code (world_of host (record { value_of = λ name. find name []; map = [] })) answer
+may_name host code answer = MayAnswerWithin 500 code (world_of host (context_of [])) answer

@@ -1,5 +1,6 @@
 -- Records, and the names that they lend.
 use Rattle.std.specs.Prelude.{◌≡◌, ◌≢◌, ℕ, List, Option, None, Some, IsUtf8, option_and_then}
+use Rattle.expr.specs.Contexts.{NamedValues}
 use Rattle.expr_encoding.specs.Reading.{json_value}
 use Rattle.expr_records.specs.declared.outcome.Refusal.{Refusal}
 use Rattle.expr_records.specs.declared.outcome.Refusal.TheVariants.{TooLong, NoMemory, NotText, NotJson, NotObject, Expression, NotBoolean, NotWritable}
@@ -8,9 +9,6 @@ use Rattle.expr_error.specs.ErrorKind.{error_kind, memory}
 use Rattle.expr_value.specs.Names.{find}
 use Rattle.expr_value.specs.Values.{map_of}
 use Rattle.expr_value.specs.declared.value.Value.{Value}
-
-abbrev pub NamedValues : Type 0
-NamedValues = List (List ℕ × Value)
 
 -- the first of two values that is there
 abbrev pub or_else : Option Value → Option Value → Option Value

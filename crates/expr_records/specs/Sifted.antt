@@ -6,8 +6,8 @@ use Rattle.expr_records.specs.LineBuffers.{Holds}
 use Rattle.expr_records.specs.Lines.{lines_of}
 use Rattle.expr_records.specs.Outcomes.{saturated_count, is_kept, is_refused, one_if, line_output}
 use Rattle.expr_records.specs.declared.line_buffer.LineBuffer.{LineBuffer}
-use Rattle.expr_records.specs.declared.outcome.Outcome.{Outcome}
-use Rattle.expr_records.specs.declared.outcome.Outcome.TheVariants.{Refused}
+use Rattle.expr_records.specs.declared.outcome.LineOutcome.{LineOutcome}
+use Rattle.expr_records.specs.declared.outcome.LineOutcome.TheVariants.{Refused}
 use Rattle.expr_records.specs.declared.outcome.Refusal.{Refusal}
 use Rattle.expr_records.specs.declared.outcome.Refusal.TheVariants.{TooLong, NoMemory, NotText, NotJson, NotObject, Expression, NotBoolean, NotWritable}
 use Rattle.expr_records.specs.declared.sieve.StreamEnd.{StreamEnd}
@@ -26,12 +26,12 @@ IsUnjudged bound line NotBoolean = ⊥
 IsUnjudged bound line (NotWritable error) = ⊥
 
 -- what a line comes to: what the judge says, or the refusal of one that isn't judged
-abbrev pub LineComesTo : ℕ → (List ℕ → Outcome → Type 0) → List ℕ → Outcome → Type 0
+abbrev pub LineComesTo : ℕ → (List ℕ → LineOutcome → Type 0) → List ℕ → LineOutcome → Type 0
 LineComesTo bound judged line outcome = judged line outcome ⊎ ((refusal : Refusal) × (outcome ≡ Refused refusal) × IsUnjudged bound line refusal)
 
 -- lines, each with what it came to
 abbrev pub JudgedLines : Type 0
-JudgedLines = List (List ℕ × Outcome)
+JudgedLines = List (List ℕ × LineOutcome)
 
 abbrev pub lines_in : JudgedLines → List (List ℕ)
 lines_in came = map (λ p. p.0) came
@@ -71,7 +71,7 @@ StopsAfter true (Unread error) refused = refused ≡ 0
 StopsAfter true (Unwritten error) refused = refused ≡ 0
 
 -- Each line that was read came to what it may, and the output has what that leaves, in their order.
-pub record Sifts (judged : List ℕ → Outcome → Type 0) (bound : ℕ) (stops : Bool) (stream : Option (List ℕ)) (out_old out_new : Option (List ℕ)) (old new : Tally) (ended : StreamEnd) : Type 0 where
+pub record Sifts (judged : List ℕ → LineOutcome → Type 0) (bound : ℕ) (stops : Bool) (stream : Option (List ℕ)) (out_old out_new : Option (List ℕ)) (old new : Tally) (ended : StreamEnd) : Type 0 where
   pub came : JudgedLines
   pub each : AllByRecursion (λ p. LineComesTo bound judged p.0 p.1) came
   pub read : IfSome stream (λ bytes. AreRead ended (lines_in came) (lines_of bytes))
@@ -81,8 +81,8 @@ pub record Sifts (judged : List ℕ → Outcome → Type 0) (bound : ℕ) (stops
   pub stop : StopsAfter stops ended (refused_in came)
 
 -- One line came to what it may, and the output has what that leaves.
-pub record Settles (judged : List ℕ → Outcome → Type 0) (line : LineBuffer) (stops : Bool) (out_old out_new : Option (List ℕ)) (old new : Tally) (goes_on : Bool) : Type 0 where
-  pub outcome : Outcome
+pub record Settles (judged : List ℕ → LineOutcome → Type 0) (line : LineBuffer) (stops : Bool) (out_old out_new : Option (List ℕ)) (old new : Tally) (goes_on : Bool) : Type 0 where
+  pub outcome : LineOutcome
   pub comes : (bytes : List ℕ) → Holds line bytes → LineComesTo line.bound judged bytes outcome
   pub output : (bytes : List ℕ) → Holds line bytes → Appends out_old out_new (line_output bytes outcome)
   pub kept : new.kept ≡ saturated_count (old.kept + one_if (is_kept outcome))

@@ -1,9 +1,10 @@
 //! What a line comes to by an expression.
 ghost use Rattle.std.specs.Prelude.{◌≡◌, ℕ, List};
-ghost use Rattle.expr_records.specs.RecordCode.{IsCodeOf, code_of, may_answer};
+ghost use Rattle.expr.specs.KeptCodes.{kept_blocks};
+ghost use Rattle.expr_records.specs.RecordCode.{IsCodeOf, may_answer};
 ghost use Rattle.expr_records.specs.Judged.{ComesOfRecord, IsOutcomeOf, is_sought, same};
 
-use crate::outcome::{Outcome, Refusal};
+use crate::outcome::{LineOutcome, Refusal};
 use crate::query::{Purpose, Query};
 use crate::record::{is_blank, record_of, text_of};
 use crate::sieve::Judge;
@@ -30,23 +31,23 @@ fn is_sought(wanted: bool, answer: &Value) -> Option<bool>
 }
 
 /// What a record comes to whose answer is this.
-fn outcome_of(alloc: Global, purpose: Purpose, answer: &Value) -> Outcome
+fn outcome_of(alloc: Global, purpose: Purpose, answer: &Value) -> LineOutcome
     ensures { IsOutcomeOf purpose answer.now result }
 {
     match purpose {
         Purpose::Keep(wanted) => match is_sought(wanted, answer) {
-            Some(true) => Outcome::Kept,
-            Some(false) => Outcome::Dropped,
-            None => Outcome::Refused(Refusal::NotBoolean),
+            Some(true) => LineOutcome::Kept,
+            Some(false) => LineOutcome::Dropped,
+            None => LineOutcome::Refused(Refusal::NotBoolean),
         },
         Purpose::Count(wanted) => match is_sought(wanted, answer) {
-            Some(true) => Outcome::Counted,
-            Some(false) => Outcome::Dropped,
-            None => Outcome::Refused(Refusal::NotBoolean),
+            Some(true) => LineOutcome::Counted,
+            Some(false) => LineOutcome::Dropped,
+            None => LineOutcome::Refused(Refusal::NotBoolean),
         },
         Purpose::Rewrite => match to_json(alloc, answer) {
-            Ok(text) => Outcome::Rewritten(text),
-            Err(error) => Outcome::Refused(Refusal::NotWritable(error)),
+            Ok(text) => LineOutcome::Rewritten(text),
+            Err(error) => LineOutcome::Refused(Refusal::NotWritable(error)),
         },
     }
 }
@@ -56,35 +57,36 @@ fn record_outcome<H: Functions>(
     alloc: Global,
     query: &mut Query<H>,
     members: Members<'_>,
-) -> Outcome
-    ensures comes { (text : List ℕ) → IsCodeOf text (code_of query.old.machine.code.now)
+) -> LineOutcome
+    ensures comes { (text : List ℕ) → IsCodeOf text (kept_blocks query.old.machine.code.now)
         → ComesOfRecord query.old.purpose
         (may_answer (H.host query.old.host.now) query.old.names.now text members.entry) result }
     ensures same { query.new ≡ query.old }
 {
     match query.answer(members) {
         Ok(answer) => outcome_of(alloc, query.purpose, &answer),
-        Err(error) => Outcome::Refused(Refusal::Expression(error)),
+        Err(error) => LineOutcome::Refused(Refusal::Expression(error)),
     }
 }
 
 impl<'h, H: Functions> Judge for Query<'h, H> {
     ghost use Rattle.std.specs.Prelude.{List, ℕ};
-    ghost use Rattle.expr_records.specs.RecordCode.{IsCodeOf, code_of, may_answer};
+    ghost use Rattle.expr.specs.KeptCodes.{kept_blocks};
+    ghost use Rattle.expr_records.specs.RecordCode.{IsCodeOf, may_answer};
     ghost use Rattle.expr_records.specs.Judged.{MayCome};
 
-    ghost judged = { λ q line outcome. (text : List ℕ) → IsCodeOf text (code_of q.machine.code.now)
+    ghost judged = { λ q line outcome. (text : List ℕ) → IsCodeOf text (kept_blocks q.machine.code.now)
         → MayCome q.purpose (may_answer (H.host q.host.now) q.names.now text) line outcome };
 
     /// A mark at the line's front is passed over, and a line of spaces, tabs and carriage returns alone has no record.
-    fn judge(&mut self, alloc: Global, reader: &mut JsonReader, line: &[u8]) -> Outcome {
+    fn judge(&mut self, alloc: Global, reader: &mut JsonReader, line: &[u8]) -> LineOutcome {
         let text = text_of(line);
         if is_blank(text) {
-            return Outcome::Blank;
+            return LineOutcome::Blank;
         }
         match record_of(alloc, reader, text) {
             Ok(members) => record_outcome(alloc, self, members),
-            Err(refusal) => Outcome::Refused(refusal),
+            Err(refusal) => LineOutcome::Refused(refusal),
         }
     }
 }

@@ -15,7 +15,7 @@ pub use expr_encoding::JsonReader;
 pub use line_buffer::{LineBuffer, LineState};
 pub use lines::next_line;
 pub use names::bind;
-pub use outcome::{Outcome, Refusal};
+pub use outcome::{LineOutcome, Refusal};
 pub use query::{Purpose, Query, code_of_text};
 pub use record::{Record, record_of};
 pub use sieve::{Judge, Sieve, StreamEnd};

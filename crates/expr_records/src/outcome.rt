@@ -28,7 +28,7 @@ pub enum Refusal {
 
 /// What a line comes to.
 #[derive(Drop)]
-pub enum Outcome {
+pub enum LineOutcome {
     /// There is no record in it.
     Blank,
     /// The expression says that it isn't kept.
@@ -43,14 +43,14 @@ pub enum Outcome {
     Refused(Refusal),
 }
 
-impl Outcome {
+impl LineOutcome {
     /// Whether it counts as kept: it is kept, counted or rewritten.
     pub fn is_kept(&self) -> bool
         ensures { result ≡ is_kept self.now }
     {
         match self {
-            Outcome::Kept | Outcome::Counted | Outcome::Rewritten(_) => true,
-            Outcome::Blank | Outcome::Dropped | Outcome::Refused(_) => false,
+            LineOutcome::Kept | LineOutcome::Counted | LineOutcome::Rewritten(_) => true,
+            LineOutcome::Blank | LineOutcome::Dropped | LineOutcome::Refused(_) => false,
         }
     }
 
@@ -58,7 +58,7 @@ impl Outcome {
     pub fn is_refused(&self) -> bool
         ensures { result ≡ is_refused self.now }
     {
-        matches!(self, Outcome::Refused(_))
+        matches!(self, LineOutcome::Refused(_))
     }
 }
 

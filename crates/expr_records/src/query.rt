@@ -1,7 +1,8 @@
 //! An expression that is ready to be asked about records.
 ghost use Rattle.std.specs.Prelude.{◌≡◌, ◌≢◌, ◌↔◌, ℕ, List, Err, IfOk, IsTrue};
+ghost use Rattle.expr.specs.KeptCodes.{kept_blocks};
 ghost use Rattle.expr.specs.Texts.{IsRefusedWithin};
-ghost use Rattle.expr_records.specs.RecordCode.{IsCodeOf, code_of, may_answer};
+ghost use Rattle.expr_records.specs.RecordCode.{IsCodeOf, may_answer};
 ghost use Rattle.expr_syntax.specs.Texts.{IsPlaced};
 ghost use Rattle.expr_value.specs.Answers.{Returns};
 ghost use Rattle.expr_error.specs.ErrorKind.{RefusesWith};
@@ -47,7 +48,7 @@ pub const HEIGHT: usize = 500;
 ///
 /// What [`compile_within`] refuses of a text whose tree may be no higher than 500.
 pub fn code_of_text(alloc: Global, text: &str) -> Result<KeptCode>
-    ensures code { IfOk result (λ code. IsCodeOf text.now (code_of code)) }
+    ensures code { IfOk result (λ code. IsCodeOf text.now (kept_blocks code)) }
     ensures refused { RefusesWith result
         (λ k. IsRefusedWithin 500 text.now (Err k)) }
     ensures place { IsPlaced text.now result }
@@ -96,7 +97,7 @@ impl<'h, H: Functions> Query<'h, H> {
     ///
     /// The first refusal in the order of evaluation: `ExprError`, or `MemoryError` where a growth is refused.
     pub fn answer(&mut self, members: Members<'_>) -> Result<Value>
-        ensures answer { (text : List ℕ) → IsCodeOf text (code_of self.old.machine.code.now)
+        ensures answer { (text : List ℕ) → IsCodeOf text (kept_blocks self.old.machine.code.now)
             → Returns result (may_answer (H.host self.old.host.now) self.old.names.now text members.entry) }
         ensures same { self.new ≡ self.old }
     {

@@ -7,7 +7,7 @@ ghost use Rattle.expr_records.specs.Sifted.{LineComesTo, Settles, Sifts};
 
 use crate::line_buffer::{LineBuffer, LineState};
 use crate::lines::next_line;
-use crate::outcome::{Outcome, Refusal};
+use crate::outcome::{LineOutcome, Refusal};
 use crate::tally::Tally;
 use expr_encoding::JsonReader;
 use std::alloc::Global;
@@ -16,13 +16,13 @@ use std::io::{self, BufRead, ErrorKind, Write};
 /// What says of a line what it comes to.
 pub trait Judge {
     ghost use Rattle.std.specs.Prelude.{List, ℕ};
-    ghost use Rattle.expr_records.specs.declared.outcome.Outcome.{Outcome as Result};
+    ghost use Rattle.expr_records.specs.declared.outcome.LineOutcome.{LineOutcome as Result};
 
     /// What a line may come to.
     ghost judged: { Self → List ℕ → Result → Type 0 };
 
     /// What a line, without its line feed, comes to. What reads JSON is lent, so that its memory is used again.
-    fn judge(&mut self, alloc: Global, reader: &mut JsonReader, line: &[u8]) -> Outcome
+    fn judge(&mut self, alloc: Global, reader: &mut JsonReader, line: &[u8]) -> LineOutcome
         ensures judged { judged self.old line.now result }
         ensures same { self.new ≡ self.old };
 }
@@ -54,20 +54,23 @@ pub struct Sieve<J, W, E> {
 }
 
 /// Writes what is left of a line that came to this.
-fn put<W: Write>(out: &mut W, line: &[u8], outcome: &Outcome) -> io::Result<()>
+fn put<W: Write>(out: &mut W, line: &[u8], outcome: &LineOutcome) -> io::Result<()>
     ensures { OnOk result (Appends (W.contents out.old) (W.contents out.new)
         (line_output line.now outcome.now)) }
 {
     match outcome {
-        Outcome::Kept => {
+        LineOutcome::Kept => {
             out.write_all(line)?;
             out.write_all(b"\n")
         }
-        Outcome::Rewritten(text) => {
+        LineOutcome::Rewritten(text) => {
             out.write_all(text.as_str().as_bytes())?;
             out.write_all(b"\n")
         }
-        Outcome::Blank | Outcome::Dropped | Outcome::Counted | Outcome::Refused(_) => Ok(()),
+        LineOutcome::Blank
+        | LineOutcome::Dropped
+        | LineOutcome::Counted
+        | LineOutcome::Refused(_) => Ok(()),
     }
 }
 
@@ -78,7 +81,7 @@ fn outcome_of_line<J: Judge, W: Write>(
     reader: &mut JsonReader,
     held: &LineBuffer,
     out: &mut W,
-) -> (Outcome, io::Result<()>)
+) -> (LineOutcome, io::Result<()>)
     ensures comes { (line : List ℕ) → Holds held.now line
         → LineComesTo held.now.bound (J.judged judge.old) line result.0 }
     ensures output { OnOk result.1 ((line : List ℕ) → Holds held.now line
@@ -92,8 +95,8 @@ fn outcome_of_line<J: Judge, W: Write>(
             let written = put(out, line, &outcome);
             (outcome, written)
         }
-        LineState::TooLong => (Outcome::Refused(Refusal::TooLong), Ok(())),
-        LineState::NoMemory => (Outcome::Refused(Refusal::NoMemory), Ok(())),
+        LineState::TooLong => (LineOutcome::Refused(Refusal::TooLong), Ok(())),
+        LineState::NoMemory => (LineOutcome::Refused(Refusal::NoMemory), Ok(())),
     }
 }
 
@@ -117,7 +120,7 @@ impl<J: Judge, W: Write, E: Write> Sieve<J, W, E> {
         );
         written?;
         self.tally.add(&outcome);
-        if let Outcome::Refused(refusal) = &outcome {
+        if let LineOutcome::Refused(refusal) = &outcome {
             let _ = writeln!(self.err, "{name}:{number}: {refusal}");
         }
         Ok(!(self.stops && outcome.is_refused()))

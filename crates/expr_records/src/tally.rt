@@ -2,7 +2,7 @@
 ghost use Rattle.std.specs.Prelude.{◌≡◌, ◌+◌, ◌^◌, ◌<◌, ◌==◌, ◌&&◌, nat_lt, if◌then◌else◌};
 ghost use Rattle.expr_records.specs.Outcomes.{saturated_count, one_if, is_kept, is_refused};
 
-use crate::outcome::Outcome;
+use crate::outcome::LineOutcome;
 
 /// How many records came to what, up to 2^64 - 1 of each.
 #[derive(Clone, Copy, Debug, PartialEq, Eq)]
@@ -33,7 +33,7 @@ impl Tally {
     }
 
     /// Counts what a line came to.
-    pub fn add(&mut self, outcome: &Outcome)
+    pub fn add(&mut self, outcome: &LineOutcome)
         ensures kept { self.new.kept ≡ saturated_count (self.old.kept + one_if (is_kept outcome.now)) }
         ensures refused { self.new.refused
             ≡ saturated_count (self.old.refused + one_if (is_refused outcome.now)) }

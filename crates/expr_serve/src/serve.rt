@@ -5,7 +5,7 @@ ghost use Rattle.std.specs.List.{list_all};
 ghost use Rattle.expr.specs.Host.{no_host};
 ghost use Rattle.expr.specs.World.{world_of};
 ghost use Rattle.expr.specs.Texts.{MayAnswerWithin};
-ghost use Rattle.expr_serve.specs.Served.{MayBind, MayGive, MayPrint, MayServe};
+ghost use Rattle.expr_serve.specs.Served.{MayAnswerUnder, MayBind, MayPrint, MayServe};
 ghost use Rattle.expr_serve.specs.Words.{code_of, is_binding, is_call, name_of, word_for};
 ghost use Rattle.expr_value.specs.Answers.{Returns};
 ghost use Rattle.expr_error.specs.ErrorKind.{error_kind, literal, memory, RefusesWith, IsOfKind};
@@ -69,7 +69,7 @@ fn wide_limits() -> Limits
 
 /// The value of a code under some names.
 fn value_under(alloc: Global, code: &str, names: &Context) -> Result<Value>
-    ensures { Returns result (MayGive names.now code.now) }
+    ensures { Returns result (MayAnswerUnder names.now code.now) }
 {
     value_in(alloc, code, names)
 }
@@ -102,10 +102,10 @@ fn height_refusal(alloc: Global) -> Error
 
 /// Puts the value of a binding under its name. Its code is evaluated in an empty context.
 fn bind(alloc: Global, word: &str, context: &mut Context) -> Result<()>
-    ensures bound { OnOk result ((v : Value) × MayGive [] (code_of word.now) (Ok v)
+    ensures bound { OnOk result ((v : Value) × MayAnswerUnder [] (code_of word.now) (Ok v)
         × context.new ≡ put (name_of word.now) v context.old) }
     ensures refused { RefusesWith result
-        (λ k. MayGive [] (code_of word.now) (Err k)) }
+        (λ k. MayAnswerUnder [] (code_of word.now) (Err k)) }
 {
     let (name, code) = parts(word);
     let value = value_under(alloc, code, &Context::new(alloc))?;

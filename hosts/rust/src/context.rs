@@ -15,7 +15,7 @@ pub struct Context {
 }
 
 impl Context {
-    /// Puts a value under a name.
+    /// Puts a value under a name. A run in this context is refused while a [`Value::Timezone`] is in it.
     pub fn insert<K: Into<String>, V: Into<Value>>(&mut self, key: K, value: V) {
         let (key, value) = (key.into(), value.into());
         if !self.copies.is_empty() {

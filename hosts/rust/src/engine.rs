@@ -237,7 +237,10 @@ impl Session<'_> {
                 }
                 self.make(Ask::Map, pairs.len())
             }
-            scalar => self.push_scalar(asked_with(scalar)),
+            scalar => {
+                let asked = self.handed_in(scalar)?;
+                self.push_scalar(asked)
+            }
         }
     }
 
@@ -248,6 +251,14 @@ impl Session<'_> {
             self.push(item)?;
         }
         self.make(Ask::Map, map.len())
+    }
+
+    /// How a value is handed in that isn't an array or a map; a zone isn't.
+    fn handed_in<'v>(&mut self, value: &'v Value) -> Result<Asked<'v>> {
+        asked_with(value).inspect_err(|_| {
+            // As after what the engine refuses, nothing stays of what was being built.
+            let _ = self.ask(Ask::Unbuild, Asked::default());
+        })
     }
 
     fn push_scalar(&mut self, asked: Asked<'_>) -> Result<()> {
@@ -266,7 +277,7 @@ impl Session<'_> {
                 self.push(value)?;
                 Asked { kind: kind::BUILT, ..Asked::default() }
             }
-            scalar => asked_with(scalar),
+            scalar => self.handed_in(scalar)?,
         };
         self.ask(Ask::Set, Asked { context, name: name.as_bytes(), ..asked }).map(|_| ())
     }
@@ -345,12 +356,17 @@ fn limit_of(status: u32) -> Option<Limit> {
     ALL.get(status.checked_sub(LIMITS)? as usize).copied()
 }
 
-/// How a value is handed in that isn't an array or a map. A zone goes as its name, since the engine has its rules.
-fn asked_with(value: &Value) -> Asked<'_> {
+/// How a value is handed in that isn't an array or a map. A zone is refused: it is known here by its name alone, and the engine
+/// finds its rules where a text asks for them.
+fn asked_with(value: &Value) -> Result<Asked<'_>> {
     let (kind, number, fraction, text): (u32, i64, u32, &[u8]) = match value {
         Value::Bool(truth) => (kind::BOOL, i64::from(*truth), 0, b""),
         Value::Integer(number) => (kind::INTEGER, *number, 0, b""),
-        Value::String(text) | Value::Timezone(text) => (kind::STRING, 0, 0, text.as_bytes()),
+        Value::String(text) => (kind::STRING, 0, 0, text.as_bytes()),
+        Value::Timezone(name) => {
+            let why = format!("a zone can't be handed in: hand in the text {name:?}, and ask for timezone(..) of it");
+            return Err(Error::ExprError(why));
+        }
         Value::Bytes(bytes) => (kind::BYTES, 0, 0, bytes),
         Value::Duration(nanoseconds) => (kind::DURATION, *nanoseconds, 0, b""),
         Value::DateTime(moment) => (kind::DATETIME, moment.second(), moment.nanosecond(), b""),
@@ -358,5 +374,5 @@ fn asked_with(value: &Value) -> Asked<'_> {
         Value::Weekday(day) => (kind::WEEKDAY, i64::from(*day), 0, b""),
         Value::Nil | Value::Array(_) | Value::Map(_) | Value::KeyedMap(_) => (kind::NIL, 0, 0, b""),
     };
-    Asked { kind, number, fraction, text, ..Asked::default() }
+    Ok(Asked { kind, number, fraction, text, ..Asked::default() })
 }

@@ -1,5 +1,5 @@
-//! The three calls of the engine, as `crates/expr_c/src/lib.rt` and `crates/expr_engine/src/call.rt` have them. Nothing
-//! compares the declarations but the assertion below and the tests.
+//! The three calls of the engine, as `crates/expr_c/src/lib.rt` and `crates/expr_engine/src/call.rt` have them. Where the parts
+//! of a call lie is asserted below, and `hosts/border.py` compares that, and the numbers, with those sources.
 use std::ffi::c_void;
 use std::marker::PhantomData;
 use std::mem::{offset_of, size_of, MaybeUninit};
@@ -64,12 +64,34 @@ struct Call<'a> {
     room: Room<'a>,
 }
 
-const _: () = assert!(
-    size_of::<Call>() == 152
-        && offset_of!(Call, number) == 64
-        && offset_of!(Call, name) == 104
-        && offset_of!(Call, room) == 136
-);
+macro_rules! lies_at {
+    ($($of:ty { $($field:ident: $place:literal),* $(,)? } $size:literal),* $(,)?) => {
+        $(const _: () = assert!(size_of::<$of>() == $size $(&& offset_of!($of, $field) == $place)*);)*
+    };
+}
+
+lies_at! {
+    Handle { place: 0, number: 8 } 16,
+    Slice<'static> { at: 0, length: 8 } 16,
+    Room<'static> { at: 0, length: 8 } 16,
+    Call<'static> {
+        ask: 0,
+        status: 4,
+        kind: 8,
+        fraction: 12,
+        program: 16,
+        context: 32,
+        environment: 48,
+        number: 64,
+        place: 72,
+        line: 80,
+        column: 88,
+        length: 96,
+        name: 104,
+        text: 120,
+        room: 136,
+    } 152,
+}
 
 /// What may be asked, as `Ask` of call.rt.
 #[derive(Clone, Copy, Debug)]

@@ -56,7 +56,7 @@ pub enum Value {
     DateTime(DateTimeValue),
     /// Nanoseconds.
     Duration(i64),
-    /// A zone, by its name.
+    /// A zone, by its name. It is what programs answer and calls are made with; a run is refused to which one is handed in.
     Timezone(String),
     /// From 1.
     Month(u32),

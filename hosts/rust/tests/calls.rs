@@ -52,6 +52,36 @@ fn moments_come_and_go() {
 }
 
 #[test]
+fn zones_come_and_do_not_go() {
+    let mut env = Environment::new();
+    env.add_fixed_zone("Asia/Kolkata", 19_800).unwrap();
+    env.set_now(1_709_373_600, 0);
+    let zone = env.eval("timezone('Asia/Kolkata')", &Context::default()).unwrap();
+    assert_eq!(zone, Value::Timezone("Asia/Kolkata".into()));
+    fn is_refused(answer: expr::Result<Value>) {
+        assert!(matches!(&answer, Err(Error::ExprError(why)) if why.contains("zone")), "{answer:?}");
+    }
+    let nested = value!([1, {"zone": zone.clone()}]);
+    for value in [&zone, &nested, &Value::KeyedMap(vec![(zone.clone(), Value::Nil)])] {
+        let mut context = Context::from_iter([("x", value.clone())]);
+        is_refused(eval("1", &context));
+        is_refused(env.eval("x", &context));
+        context.insert("x", "Asia/Kolkata");
+        assert_eq!(env.eval("now().In(timezone(x)).Hour()", &context), Ok(Value::Integer(15)));
+        // nothing stays of what was being built, and a context that an engine has is refused as well
+        context.insert("x", value.clone());
+        is_refused(env.eval("x", &context));
+        context.insert("x", value!([2]));
+        assert_eq!(env.eval("x", &context), Ok(value!([2])));
+    }
+    let mut calls = Environment::new();
+    calls.add_function("zone", move |_| Ok(zone.clone()));
+    calls.add_function("name", |call| Ok(call.args[0].to_string().into()));
+    is_refused(calls.eval("[7, zone()]", &Context::default()));
+    assert_eq!(calls.eval("name(timezone('UTC'))", &Context::default()), Ok(value!("UTC")));
+}
+
+#[test]
 fn refusals_say_where_and_why() {
     let Err(Error::PestError(place)) = compile("1 +\n  \"é\" * * 2") else {
         panic!("no fault");

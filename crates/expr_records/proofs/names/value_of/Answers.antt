@@ -1,9 +1,9 @@
 use Rattle.std.proofs.Common.{inl, subst}
+use Rattle.expr.specs.Contexts.{context_of}
 use Rattle.expr_meaning.specs.Allows.{AllowsBlock}
 use Rattle.expr_tree.specs.TermOf.{program_term}
 use Rattle.expr_value.proofs.Answered.{Returns-under}
 use Rattle.expr_value.specs.Answers.{Returns}
-use Rattle.expr_value.specs.Names.{find}
 use Rattle.expr_records.proofs.names.value_of.Goals as goal
 use Rattle.expr_meaning.specs.World.{world_of}
 
@@ -12,4 +12,4 @@ returns g c =
     let host = g.H.Functions.host c.args.host.now in
     let block = program_term c.in_ok-program.program in
     Returns-under c.answer_program.result _ _ (λ a p. inl (block, c.in_ok-program.ensures.answer, p))
-    (subst (λ pairs. Returns c.answer_program.result (AllowsBlock (world_of host (record { value_of = λ name. find name pairs; map = pairs })) block)) c.new.ensures c.answer_program.ensures.answer)
+    (subst (λ pairs. Returns c.answer_program.result (AllowsBlock (world_of host (context_of pairs)) block)) c.new.ensures c.answer_program.ensures.answer)

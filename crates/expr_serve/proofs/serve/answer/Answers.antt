@@ -1,5 +1,5 @@
 use Rattle.std.proofs.Common.{map, string_bytes, Ok}
-use Rattle.expr_serve.specs.Served.{MayGive, MayServe}
+use Rattle.expr_serve.specs.Served.{MayAnswerUnder, MayServe}
 use Rattle.expr_value.proofs.Answered.{Returns-under}
 use Rattle.expr_serve.proofs.serve.answer.Goals as goal
 
@@ -7,6 +7,6 @@ pub returns : goal.returns
 returns c =
     let context = c.in_ok-context.context in
     let code = c.args.code.now in
-    Returns-under c.value_under.result (MayGive context code) (MayServe code (map string_bytes c.args.bindings.now)) (
+    Returns-under c.value_under.result (MayAnswerUnder context code) (MayServe code (map string_bytes c.args.bindings.now)) (
     λ a p. (Ok context, c.in_ok-context.ensures, p)
     ) c.value_under.ensures

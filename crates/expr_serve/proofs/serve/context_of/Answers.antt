@@ -1,6 +1,6 @@
 use Rattle.std.proofs.Common.{◌≡◌, ◌+◌, [], ◌∷◌, map, drop, string_bytes, Ok, Err, ap, subst, sym, refl, ◌∙◌}
 use Rattle.std.proofs.lemmas.List.{drop_more}
-use Rattle.expr_serve.specs.Served.{MayBind, MayGive}
+use Rattle.expr_serve.specs.Served.{MayAnswerUnder, MayBind}
 use Rattle.expr_serve.specs.Words.{name_of, code_of}
 use Rattle.expr_value.proofs.Answered.{Returns-passed}
 use Rattle.expr_error.specs.ErrorKind.{error_kind}
@@ -18,7 +18,7 @@ returns-in_err-bind c =
     λ m. c.loop-word.invariant (Err (error_kind e)) (
     subst (λ ws. MayBind (map string_bytes ws) c.loop-word.context (Err (error_kind e))) (sym at) (
       Err (error_kind e),
-      subst (λ text. MayGive [] (code_of text) (Err (error_kind e))) c.as_str.ensures.value (c.in_err-bind.ensures.refused m),
+      subst (λ text. MayAnswerUnder [] (code_of text) (Err (error_kind e))) c.as_str.ensures.value (c.in_err-bind.ensures.refused m),
       refl,
     )
     )
@@ -37,7 +37,7 @@ loop-word-preserved c =
     λ given p. c.loop-word.invariant given (
     subst (λ ws. MayBind (map string_bytes ws) c.loop-word.context given) (sym at) (
       Ok value,
-      subst (λ text. MayGive [] (code_of text) (Ok value)) c.as_str.ensures.value given_to.1,
+      subst (λ text. MayAnswerUnder [] (code_of text) (Ok value)) c.as_str.ensures.value given_to.1,
       subst (λ pairs. MayBind (map string_bytes (drop (i + 1) words)) pairs given) pairs p,
     )
     )

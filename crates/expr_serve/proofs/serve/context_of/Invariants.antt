@@ -1,5 +1,6 @@
 use Rattle.std.proofs.Common.{[], map, string_bytes, drop, Result}
-use Rattle.expr_serve.specs.Served.{MayBind, NamedValues}
+use Rattle.expr.specs.Contexts.{NamedValues}
+use Rattle.expr_serve.specs.Served.{MayBind}
 use Rattle.expr_error.specs.ErrorKind.{ErrorKind}
 use Rattle.expr_serve.proofs.serve.context_of.Given as goal
 

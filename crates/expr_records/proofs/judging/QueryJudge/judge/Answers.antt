@@ -4,7 +4,7 @@ use Rattle.expr_records.specs.RecordCode.{may_answer}
 use Rattle.expr_records.specs.Judged.{ComesBy}
 use Rattle.expr_records.specs.Lines.{is_blank, is_space, text_of}
 use Rattle.expr_records.specs.Records.{IsRecord, MayRefuseText}
-use Rattle.expr_records.specs.declared.outcome.Outcome.TheVariants.{Refused}
+use Rattle.expr_records.specs.declared.outcome.LineOutcome.TheVariants.{Refused}
 use Rattle.expr_records.proofs.judging.QueryJudge.judge.Goals as goal
 
 pub returns-in-Ok-clause-judged : goal.returns-in-Ok-clause-judged

@@ -1,0 +1,62 @@
+/* The three calls of the engine, as crates/expr_c and crates/expr_engine/src/call.rt have them. expr.h stands on these; a host
+ * in another language may use them in its place. hosts/border.py compares all that is written here with those sources. */
+#ifndef EXPR_BORDER_H
+#define EXPR_BORDER_H
+#include "expr.h"
+
+/* As `Handle` of crates/expr_handles/src/lib.rt. */
+typedef struct { size_t place; uint64_t number; } handle;
+
+/* As `Call` of call.rt; a slice is a pointer, which is never null, and a length. */
+typedef struct {
+    uint32_t ask, status, kind, fraction;
+    handle program, context, environment;
+    int64_t number;
+    size_t place, line, column, length;
+    const uint8_t *name;
+    size_t name_length;
+    const uint8_t *text;
+    size_t text_length;
+    uint8_t *room;
+    size_t room_length;
+} call;
+
+#define AT(of, field, place) _Static_assert(offsetof(of, field) == (place), "as in the engine: " #field)
+_Static_assert(sizeof(handle) == 16 && sizeof(call) == 152, "as in the engine");
+AT(handle, place, 0);
+AT(handle, number, 8);
+AT(call, ask, 0);
+AT(call, status, 4);
+AT(call, kind, 8);
+AT(call, fraction, 12);
+AT(call, program, 16);
+AT(call, context, 32);
+AT(call, environment, 48);
+AT(call, number, 64);
+AT(call, place, 72);
+AT(call, line, 80);
+AT(call, column, 88);
+AT(call, length, 96);
+AT(call, name, 104);
+AT(call, name_length, 112);
+AT(call, text, 120);
+AT(call, text_length, 128);
+AT(call, room, 136);
+AT(call, room_length, 144);
+#undef AT
+
+size_t expr_c_size(void);
+/* at: room for expr_c_size() bytes, at a multiple of 16. */
+void expr_c_open(void *at);
+/* at: where expr_c_open made an engine, not given back, in no other call; call: valid, its slices apart from one another. */
+void expr_c_call(void *at, call *call);
+
+/* As `Ask` of call.rt. */
+enum ask {
+    COMPILE, NAMES, RUN, CONTEXT, CONTEXT_OF, SET, PUSH, ARRAY, MAP, UNBUILD, LOOK, DOWN, UP, KEY, SHOWN, TEXT, JSON, SAID,
+    ENVIRONMENT, FIXED_ZONE, ZONE_RULE, NOW, DROP_PROGRAM, DROP_CONTEXT, DROP_ENVIRONMENT, CLEAR, NAME, ANSWER, REFUSE,
+    WAITING_CALL, LIMIT, UNLIMITED
+};
+/* As `Kind` of crates/expr_exchange/src/kind.rt, behind those of expr_kind. */
+enum { KIND_JSON = EXPR_KEYED_MAP + 1, KIND_BUILT, KIND_LOOKED };
+#endif
