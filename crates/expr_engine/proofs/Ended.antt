@@ -80,20 +80,13 @@ pub turns_on : (ask : Ask) (old : Engine) (call : Call) (done : Result (Unit {0}
 turns_on ask old call done mid new t w a =
     subst (λ (x : WaitingRun). Turns ask old call done x (part_of new.answer)) (sym w) (subst (λ (x : ValueCursor). Turns ask old call done mid.waits (part_of x)) (sym a) t)
 
--- a refusal of the language ends otherwise than done, and otherwise than by a handle that finds nothing
+-- a refusal of the language ends otherwise than done
 not_done : (fault : ErrorKind) → number_of (ends_by fault) ≡ 0 → ⊥
 not_done syntax e = omega arith
 not_done literal e = omega arith
 not_done evaluation e = omega arith
 not_done pattern e = omega arith
 not_done memory e = omega arith
-
-not_unknown : (fault : ErrorKind) → number_of (ends_by fault) ≡ 6 → ⊥
-not_unknown syntax e = omega arith
-not_unknown literal e = omega arith
-not_unknown evaluation e = omega arith
-not_unknown pattern e = omega arith
-not_unknown memory e = omega arith
 
 -- nor does a stop at a limit
 not_done_at : (limit : Limit) → number_of (ends_at limit) ≡ 0 → ⊥
@@ -103,13 +96,6 @@ not_done_at Steps e = omega arith
 not_done_at Depth e = omega arith
 not_done_at Size e = omega arith
 
-not_unknown_at : (limit : Limit) → number_of (ends_at limit) ≡ 6 → ⊥
-not_unknown_at Height e = omega arith
-not_unknown_at Patterns e = omega arith
-not_unknown_at Steps e = omega arith
-not_unknown_at Depth e = omega arith
-not_unknown_at Size e = omega arith
-
 never_done : (refused : HostError) (number : ℕ) → (number ≡ number_of (status_of refused)) ⊎ (number ≡ 5) → number ≡ 0 → ⊥
 never_done (Language error) number (inl e) z = not_done (error_kind error) (sym e ∙ z)
 never_done Unknown number (inl e) z = omega arith
@@ -118,20 +104,6 @@ never_done Asks number (inl e) z = omega arith
 never_done Differs number (inl e) z = omega arith
 never_done (Stopped limit) number (inl e) z = not_done_at limit (sym e ∙ z)
 never_done refused number (inr e) z = omega arith
-
--- only a handle that finds nothing ends by this number
-pub unknown_by : (status : Status) (refused : HostError) (number : ℕ) → (status ≡ status_of refused) ⊎ (status ≡ ends.Memory) → number ≡ number_of status → number ≡ 6 → refused ≡ Unknown
-unknown_by status Unknown number s n z = refl
-unknown_by status (Language error) number (inl e) n z = absurd (not_unknown (error_kind error) (sym (ap (λ s. number_of s) e) ∙ sym n ∙ z))
-unknown_by status Misuse number (inl e) n z = let k : number_of status ≡ 7 = ap (λ s. number_of s) e in absurd (omega (arith, k, n, z))
-unknown_by status Asks number (inl e) n z = let k : number_of status ≡ 8 = ap (λ s. number_of s) e in absurd (omega (arith, k, n, z))
-unknown_by status Differs number (inl e) n z = let k : number_of status ≡ 9 = ap (λ s. number_of s) e in absurd (omega (arith, k, n, z))
-unknown_by status (Stopped limit) number (inl e) n z = absurd (not_unknown_at limit (sym (ap (λ s. number_of s) e) ∙ sym n ∙ z))
-unknown_by status (Language error) number (inr e) n z = let k : number_of status ≡ 5 = ap (λ s. number_of s) e in absurd (omega (arith, k, n, z))
-unknown_by status Misuse number (inr e) n z = let k : number_of status ≡ 5 = ap (λ s. number_of s) e in absurd (omega (arith, k, n, z))
-unknown_by status Asks number (inr e) n z = let k : number_of status ≡ 5 = ap (λ s. number_of s) e in absurd (omega (arith, k, n, z))
-unknown_by status Differs number (inr e) n z = let k : number_of status ≡ 5 = ap (λ s. number_of s) e in absurd (omega (arith, k, n, z))
-unknown_by status (Stopped limit) number (inr e) n z = let k : number_of status ≡ 5 = ap (λ s. number_of s) e in absurd (omega (arith, k, n, z))
 
 -- what holds where a call is done, or refused, by the number of its ending
 pub done_by : {A P : Type 0} (done : Result A HostError) (number : ℕ) → OnOk done P → EndsCall done number → number ≡ 0 → P

@@ -6,7 +6,7 @@ use Rattle.std.specs.declared.alloc.Global.{Global}
 use Rattle.expr_encoding.specs.Optional.{value_or_refusal}
 use Rattle.expr_encoding.specs.Reading.{json_value}
 use Rattle.expr_encoding.specs.Writing.{json_text}
-use Rattle.expr_engine.specs.Engines.{MayAnswer, run_inputs, waiting_inputs}
+use Rattle.expr_engine.specs.Engines.{KeepsAll, KeepsRest, MayAnswer, run_inputs, waiting_inputs}
 use Rattle.expr_engine.specs.Adding.{AddsNothing, BecomesByRule, BecomesFixed, BecomesNow, GainsName}
 use Rattle.expr_engine.specs.Limiting.{IsProgramBy, limits_asked}
 use Rattle.expr_engine.specs.declared.call.Ask.{Ask}
@@ -74,17 +74,11 @@ pub record Changes {T : Type 0} (Becomes : T → T → Type 0) (old new : Handle
   pub kept : IsSomeAnd (thing_at new handle) (Becomes was)
   pub others : KeepsOthers handle old new
 
--- Programs, contexts and environments are the same.
-pub record KeepsAll (old new : Engine) : Type 0 where
-  pub rules : new.rules ≡ old.rules
-  pub contexts : new.contexts ≡ old.contexts
-  pub environments : new.environments ≡ old.environments
-
 pub record Compiles (old new : Engine) (call : Call) (reply : CallResult) : Type 0 where
   pub rules : Adds (λ rule. IsProgramBy old.limits call.text.now (program_term rule.program)) old.rules new.rules reply.program
   pub contexts : new.contexts ≡ old.contexts
   pub environments : new.environments ≡ old.environments
-  pub answer : new.answer ≡ old.answer
+  pub rest : KeepsRest old new
 
 -- These are a program's names, each on a line, and how many they are.
 pub record AreSaid (b : Block) (text : List ℕ) (count : ℕ) : Type 0 where
@@ -96,7 +90,7 @@ pub record AreSaid (b : Block) (text : List ℕ) (count : ℕ) : Type 0 where
 -- The program's names are said, each on a line, and counted.
 pub record SaysNames (old new : Engine) (call : Call) (reply : CallResult) : Type 0 where
   pub keeps : KeepsAll old new
-  pub answer : new.answer ≡ old.answer
+  pub rest : KeepsRest old new
   pub count : ℕ
   pub said : IsSomeAnd (thing_at old.rules call.program) (λ rule. AreSaid (program_term rule.program) (string_bytes new.said) count)
   pub number : pos count ≤ℤ pos 9223372036854775807 → reply.number ≡ pos count
@@ -135,7 +129,7 @@ pub record AddsContext (old new : Engine) (reply : CallResult) : Type 0 where
   pub contexts : Adds (λ names. names ≡ []) old.contexts new.contexts reply.context
   pub rules : new.rules ≡ old.rules
   pub environments : new.environments ≡ old.environments
-  pub answer : new.answer ≡ old.answer
+  pub rest : KeepsRest old new
 
 -- The value that was built last became a context.
 pub record AddsBuiltContext (old new : Engine) (reply : CallResult) : Type 0 where
@@ -144,7 +138,7 @@ pub record AddsBuiltContext (old new : Engine) (reply : CallResult) : Type 0 whe
   pub contexts : Adds (λ names. map_of last ≡ Some names) old.contexts new.contexts reply.context
   pub rules : new.rules ≡ old.rules
   pub environments : new.environments ≡ old.environments
-  pub answer : new.answer ≡ old.answer
+  pub rest : KeepsRest old new
 
 -- The value is the one that a call hands in, of which what was built has the rest.
 abbrev pub HandsIn : Kind → Engine → Engine → Call → Value → Type 0
@@ -160,7 +154,7 @@ pub record Sets (old new : Engine) (call : Call) : Type 0 where
   pub contexts : Changes (λ was is. is ≡ put call.name.now value was) old.contexts new.contexts call.context
   pub rules : new.rules ≡ old.rules
   pub environments : new.environments ≡ old.environments
-  pub answer : new.answer ≡ old.answer
+  pub rest : KeepsRest old new
 
 -- The value that is handed in stands behind what was built.
 pub record Pushes (old new : Engine) (call : Call) : Type 0 where
@@ -169,29 +163,29 @@ pub record Pushes (old new : Engine) (call : Call) : Type 0 where
   pub handed : IsSomeAnd (kind_numbered call.kind) (λ kind. HandsIn kind old left call value)
   pub stands : values_of new.built ≡ values_of left.built ++ value ∷ []
   pub keeps : KeepsAll old new
-  pub answer : new.answer ≡ old.answer
+  pub rest : KeepsRest old new
 
 pub record MakesArray (old new : Engine) (call : Call) : Type 0 where
   pub built : TakesPlace call.number (values_of old.built) values.Array (values_of new.built)
   pub keeps : KeepsAll old new
-  pub answer : new.answer ≡ old.answer
+  pub rest : KeepsRest old new
 
 -- The map of the last pairs takes their place.
 pub record MakesMap (old new : Engine) (call : Call) : Type 0 where
   pub built : BecomesMap (call.number +ℤ call.number) (values_of old.built) (values_of new.built)
   pub keeps : KeepsAll old new
-  pub answer : new.answer ≡ old.answer
+  pub rest : KeepsRest old new
 
 -- What was built is let go of, all of it.
 pub record Unbuilds (old new : Engine) : Type 0 where
   pub built : values_of new.built ≡ []
   pub keeps : KeepsAll old new
-  pub answer : new.answer ≡ old.answer
+  pub rest : KeepsRest old new
 
 -- Of the value that is looked at is told, after a look down or up.
 pub record Looks (old new : Engine) (reply : CallResult) : Type 0 where
   pub keeps : KeepsAll old new
-  pub answer : new.answer ≡ old.answer
+  pub rest : KeepsRest old new
   pub told : Tells (part_of new.answer) reply
 
 pub record LooksIn (old new : Engine) (call : Call) (reply : CallResult) : Type 0 where
@@ -210,7 +204,7 @@ key_said key = unwrap_or (string_of key) (text_of key)
 
 pub record SaysKey (old new : Engine) (call : Call) (reply : CallResult) : Type 0 where
   pub keeps : KeepsAll old new
-  pub answer : new.answer ≡ old.answer
+  pub rest : KeepsRest old new
   pub key : Value
   pub is : at_number call.number (key_at (part_of old.answer)) ≡ Some key
   pub told : Tells key reply
@@ -219,21 +213,21 @@ pub record SaysKey (old new : Engine) (call : Call) (reply : CallResult) : Type 
 -- A text is said of the value that is looked at.
 pub record SaysText (Is : Value → List ℕ → Type 0) (old new : Engine) : Type 0 where
   pub keeps : KeepsAll old new
-  pub answer : new.answer ≡ old.answer
+  pub rest : KeepsRest old new
   pub text : Is (part_of old.answer) (string_bytes new.said)
 
 pub record AddsEnvironment (old new : Engine) (reply : CallResult) : Type 0 where
   pub environments : Adds AddsNothing old.environments new.environments reply.environment
   pub rules : new.rules ≡ old.rules
   pub contexts : new.contexts ≡ old.contexts
-  pub answer : new.answer ≡ old.answer
+  pub rest : KeepsRest old new
 
 -- An environment is such now, and every other is what it was.
 pub record ChangesEnvironment (Becomes : Additions → Additions → Type 0) (old new : Engine) (call : Call) : Type 0 where
   pub environments : Changes Becomes old.environments new.environments call.environment
   pub rules : new.rules ≡ old.rules
   pub contexts : new.contexts ≡ old.contexts
-  pub answer : new.answer ≡ old.answer
+  pub rest : KeepsRest old new
 
 abbrev pub AddsFixedZone : Engine → Engine → Call → Type 0
 AddsFixedZone old new call = ChangesEnvironment (BecomesFixed call.name.now call.number) old new call
@@ -251,19 +245,19 @@ pub record DropsProgram (old new : Engine) (call : Call) : Type 0 where
   pub rules : LetsGo old.rules new.rules call.program
   pub contexts : new.contexts ≡ old.contexts
   pub environments : new.environments ≡ old.environments
-  pub answer : new.answer ≡ old.answer
+  pub rest : KeepsRest old new
 
 pub record DropsContext (old new : Engine) (call : Call) : Type 0 where
   pub contexts : LetsGo old.contexts new.contexts call.context
   pub rules : new.rules ≡ old.rules
   pub environments : new.environments ≡ old.environments
-  pub answer : new.answer ≡ old.answer
+  pub rest : KeepsRest old new
 
 pub record DropsEnvironment (old new : Engine) (call : Call) : Type 0 where
   pub environments : LetsGo old.environments new.environments call.environment
   pub rules : new.rules ≡ old.rules
   pub contexts : new.contexts ≡ old.contexts
-  pub answer : new.answer ≡ old.answer
+  pub rest : KeepsRest old new
 
 pub record ForgetsAll (old new : Engine) : Type 0 where
   pub rules : (handle : Handle) → thing_at new.rules handle ≡ None

@@ -8,7 +8,9 @@ use Rattle.expr_engine.specs.Runs.{MayGive, NamedValues, context_of, host_with, 
 use Rattle.expr_engine.specs.declared.additions.Additions.{Additions}
 use Rattle.expr_engine.specs.declared.engine.Engine.{Engine}
 use Rattle.expr_engine.specs.declared.rule.Rule.{Rule}
+use Rattle.expr_engine.specs.declared.waiting_run.WaitingRun.{WaitingRun}
 use Rattle.expr_exchange.specs.Cursor.{SameLook}
+use Rattle.expr_exchange.specs.declared.cursor.ValueCursor.{ValueCursor}
 use Rattle.expr_exchange.specs.declared.host_error.HostError.{HostError}
 use Rattle.expr_exchange.specs.declared.host_error.HostError.TheVariants.{Language, Unknown, Misuse, Asks, Differs, Stopped}
 use Rattle.expr_handles.specs.HandleMap.{SameThings, thing_at, next_number}
@@ -92,6 +94,32 @@ CompileRefuses limits text Misuse = IsUtf8 text → ⊥
 CompileRefuses limits text Asks = ⊥
 CompileRefuses limits text Differs = ⊥
 CompileRefuses limits text (Stopped limit) = Passes limits text limit × IsUtf8 text
+
+-- what handles find
+pub record Kept : Type 0 where
+  pub rules : HandleMap Rule
+  pub contexts : HandleMap NamedValues
+  pub environments : HandleMap Additions
+
+abbrev pub kept_of : Engine → Kept
+kept_of engine = record { rules = engine.rules; contexts = engine.contexts; environments = engine.environments }
+
+-- Programs, contexts and environments are the same.
+abbrev pub KeepsAll : Engine → Engine → Type 0
+KeepsAll old new = kept_of new ≡ kept_of old
+
+-- how an engine stands beside that and beside what is built and said
+pub record Standing : Type 0 where
+  pub answer : ValueCursor
+  pub waits : WaitingRun
+  pub limits : Option Limits
+
+abbrev pub standing_of : Engine → Standing
+standing_of engine = record { answer = engine.answer; waits = engine.waits; limits = engine.limits }
+
+-- What is looked at, the run that waits and the limits are the same.
+abbrev pub KeepsRest : Engine → Engine → Type 0
+KeepsRest old new = standing_of new ≡ standing_of old
 
 -- Every handle finds an environment with the zones, the moment and the names that it found.
 pub record SameAdditions (old new : HandleMap Additions) : Type 0 where

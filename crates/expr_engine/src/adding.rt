@@ -1,7 +1,7 @@
 //! Asks about environments.
 ghost use Rattle.std.specs.Prelude.{◌≡◌, None, ◌≢◌, IfErr, Err, OnErr, OnOk};
 ghost use Rattle.expr_engine.specs.Effects.{AddsEnvironment, AddsFixedZone, AddsName, AddsZoneByRule, SetsNow, call_result};
-ghost use Rattle.expr_engine.specs.Engines.{NumbersRise, SameAdditions};
+ghost use Rattle.expr_engine.specs.Engines.{KeepsRest, NumbersRise, SameAdditions};
 ghost use Rattle.expr_handles.specs.HandleMap.{thing_at, next_number};
 
 use crate::additions::Additions;
@@ -19,9 +19,7 @@ pub fn add_environment(engine: &mut Engine, call: &mut Call<'_>) -> Result<(), H
     ensures numbers { NumbersRise engine.old engine.new }
     ensures rules { engine.new.rules ≡ engine.old.rules }
     ensures contexts { engine.new.contexts ≡ engine.old.contexts }
-    ensures answer { engine.new.answer ≡ engine.old.answer }
-    ensures waits { engine.new.waits ≡ engine.old.waits }
-    ensures limits { engine.new.limits ≡ engine.old.limits }
+    ensures standing { KeepsRest engine.old engine.new }
 {
     call.environment = engine.environments.put(Additions::new(engine.alloc))?;
     Ok(())
@@ -38,9 +36,7 @@ pub fn zone_by_seconds(engine: &mut Engine, call: &Call<'_>) -> Result<(), HostE
     ensures next { next_number engine.new.environments ≡ next_number engine.old.environments }
     ensures rules { engine.new.rules ≡ engine.old.rules }
     ensures contexts { engine.new.contexts ≡ engine.old.contexts }
-    ensures answer { engine.new.answer ≡ engine.old.answer }
-    ensures waits { engine.new.waits ≡ engine.old.waits }
-    ensures limits { engine.new.limits ≡ engine.old.limits }
+    ensures standing { KeepsRest engine.old engine.new }
 {
     engine.knows_environment(call.environment)?;
     engine.add_zone(call.environment, utf8(call.name)?, call.number, None)
@@ -57,9 +53,7 @@ pub fn zone_by_rule(engine: &mut Engine, call: &Call<'_>) -> Result<(), HostErro
     ensures next { next_number engine.new.environments ≡ next_number engine.old.environments }
     ensures rules { engine.new.rules ≡ engine.old.rules }
     ensures contexts { engine.new.contexts ≡ engine.old.contexts }
-    ensures answer { engine.new.answer ≡ engine.old.answer }
-    ensures waits { engine.new.waits ≡ engine.old.waits }
-    ensures limits { engine.new.limits ≡ engine.old.limits }
+    ensures standing { KeepsRest engine.old engine.new }
 {
     engine.knows_environment(call.environment)?;
     let rule = utf8(call.text)?;
@@ -77,9 +71,7 @@ pub fn set_now(engine: &mut Engine, call: &Call<'_>) -> Result<(), HostError>
     ensures next { next_number engine.new.environments ≡ next_number engine.old.environments }
     ensures rules { engine.new.rules ≡ engine.old.rules }
     ensures contexts { engine.new.contexts ≡ engine.old.contexts }
-    ensures answer { engine.new.answer ≡ engine.old.answer }
-    ensures waits { engine.new.waits ≡ engine.old.waits }
-    ensures limits { engine.new.limits ≡ engine.old.limits }
+    ensures standing { KeepsRest engine.old engine.new }
 {
     engine.knows_environment(call.environment)?;
     let now = moment_of(call.number, call.fraction)?;
@@ -97,9 +89,7 @@ pub fn add_name(engine: &mut Engine, call: &Call<'_>) -> Result<(), HostError>
     ensures next { next_number engine.new.environments ≡ next_number engine.old.environments }
     ensures rules { engine.new.rules ≡ engine.old.rules }
     ensures contexts { engine.new.contexts ≡ engine.old.contexts }
-    ensures answer { engine.new.answer ≡ engine.old.answer }
-    ensures waits { engine.new.waits ≡ engine.old.waits }
-    ensures limits { engine.new.limits ≡ engine.old.limits }
+    ensures standing { KeepsRest engine.old engine.new }
 {
     engine.knows_environment(call.environment)?;
     engine.add_name(call.environment, utf8(call.name)?)

@@ -1,6 +1,7 @@
 //! Values that a call hands in.
 ghost use Rattle.std.specs.Prelude.{◌≡◌, ◌≢◌, IfErr, IfOk, IsSomeAnd, OnOk};
 ghost use Rattle.expr_engine.specs.Effects.{HandsIn, MakesArray, MakesMap, Pushes, Unbuilds};
+ghost use Rattle.expr_engine.specs.Engines.{KeepsAll, KeepsRest};
 ghost use Rattle.expr_exchange.specs.Kinds.{kind_numbered};
 
 use crate::call::Call;
@@ -18,9 +19,7 @@ pub fn handed_in(engine: &mut Engine, call: &Call<'_>) -> Result<Value, HostErro
     ensures rules { engine.new.rules ≡ engine.old.rules }
     ensures contexts { engine.new.contexts ≡ engine.old.contexts }
     ensures environments { engine.new.environments ≡ engine.old.environments }
-    ensures answer { engine.new.answer ≡ engine.old.answer }
-    ensures waits { engine.new.waits ≡ engine.old.waits }
-    ensures limits { engine.new.limits ≡ engine.old.limits }
+    ensures standing { KeepsRest engine.old engine.new }
 {
     match Kind::from_number(call.kind) {
         Some(Kind::Built) => engine.built.pop(),
@@ -35,12 +34,8 @@ pub fn handed_in(engine: &mut Engine, call: &Call<'_>) -> Result<Value, HostErro
 pub fn push(engine: &mut Engine, call: &Call<'_>) -> Result<(), HostError>
     ensures done { OnOk result (Pushes engine.old engine.new call.now) }
     ensures found { IfErr result (λ e. e ≢ HostError.Unknown) }
-    ensures rules { engine.new.rules ≡ engine.old.rules }
-    ensures contexts { engine.new.contexts ≡ engine.old.contexts }
-    ensures environments { engine.new.environments ≡ engine.old.environments }
-    ensures answer { engine.new.answer ≡ engine.old.answer }
-    ensures waits { engine.new.waits ≡ engine.old.waits }
-    ensures limits { engine.new.limits ≡ engine.old.limits }
+    ensures kept { KeepsAll engine.old engine.new }
+    ensures standing { KeepsRest engine.old engine.new }
 {
     let value = handed_in(engine, call)?;
     engine.built.push(value)
@@ -50,12 +45,8 @@ pub fn push(engine: &mut Engine, call: &Call<'_>) -> Result<(), HostError>
 pub fn make_array(engine: &mut Engine, call: &Call<'_>) -> Result<(), HostError>
     ensures done { OnOk result (MakesArray engine.old engine.new call.now) }
     ensures found { IfErr result (λ e. e ≢ HostError.Unknown) }
-    ensures rules { engine.new.rules ≡ engine.old.rules }
-    ensures contexts { engine.new.contexts ≡ engine.old.contexts }
-    ensures environments { engine.new.environments ≡ engine.old.environments }
-    ensures answer { engine.new.answer ≡ engine.old.answer }
-    ensures waits { engine.new.waits ≡ engine.old.waits }
-    ensures limits { engine.new.limits ≡ engine.old.limits }
+    ensures kept { KeepsAll engine.old engine.new }
+    ensures standing { KeepsRest engine.old engine.new }
 {
     engine.built.array(call.number)
 }
@@ -64,12 +55,8 @@ pub fn make_array(engine: &mut Engine, call: &Call<'_>) -> Result<(), HostError>
 pub fn make_map(engine: &mut Engine, call: &Call<'_>) -> Result<(), HostError>
     ensures done { OnOk result (MakesMap engine.old engine.new call.now) }
     ensures found { IfErr result (λ e. e ≢ HostError.Unknown) }
-    ensures rules { engine.new.rules ≡ engine.old.rules }
-    ensures contexts { engine.new.contexts ≡ engine.old.contexts }
-    ensures environments { engine.new.environments ≡ engine.old.environments }
-    ensures answer { engine.new.answer ≡ engine.old.answer }
-    ensures waits { engine.new.waits ≡ engine.old.waits }
-    ensures limits { engine.new.limits ≡ engine.old.limits }
+    ensures kept { KeepsAll engine.old engine.new }
+    ensures standing { KeepsRest engine.old engine.new }
 {
     engine.built.map(call.number)
 }
@@ -78,12 +65,8 @@ pub fn make_map(engine: &mut Engine, call: &Call<'_>) -> Result<(), HostError>
 pub fn unbuild(engine: &mut Engine) -> Result<(), HostError>
     ensures done { OnOk result (Unbuilds engine.old engine.new) }
     ensures found { IfErr result (λ e. e ≢ HostError.Unknown) }
-    ensures rules { engine.new.rules ≡ engine.old.rules }
-    ensures contexts { engine.new.contexts ≡ engine.old.contexts }
-    ensures environments { engine.new.environments ≡ engine.old.environments }
-    ensures answer { engine.new.answer ≡ engine.old.answer }
-    ensures waits { engine.new.waits ≡ engine.old.waits }
-    ensures limits { engine.new.limits ≡ engine.old.limits }
+    ensures kept { KeepsAll engine.old engine.new }
+    ensures standing { KeepsRest engine.old engine.new }
 {
     engine.built.clear();
     Ok(())

@@ -1,16 +1,16 @@
 //! An engine: programs, contexts and environments under handles, what is built, the last answer, what was said last, and the
 //! run that waits for a host's reply.
-ghost use Rattle.std.specs.Prelude.{◌≡◌, ◌≢◌, ◌≤ℤ◌, [], pos, codes, length, string_bytes, IfOk, IfErr, OnOk, OnErr, IfSome, IsSome, IsOk, IsNone, IsSomeAnd, MatchOption, Err, None, Some, ◌⊎◌};
+ghost use Rattle.std.specs.Prelude.{◌≡◌, ◌≢◌, [], string_bytes, IfOk, IfErr, OnOk, OnErr, IfSome, IsSome, IsOk, IsNone, MatchOption, Err, None, Some, ◌⊎◌};
 ghost use Rattle.std.specs.Option.{option_copied};
 ghost use Rattle.expr_engine.specs.Adding.{BecomesByRule, BecomesFixed, BecomesNow, GainsName};
-ghost use Rattle.expr_engine.specs.Effects.{Adds, AreSaid, Changes, IsStale};
-ghost use Rattle.expr_engine.specs.Engines.{IsPlacedRefusal, MayAnswer, MayEnd, NumbersRise, RefusesText, SameAdditions, additions_at, run_inputs, waiting_inputs, names_at};
+ghost use Rattle.expr_engine.specs.Effects.{Adds, AreSaid, Changes, ForgetsAll, IsStale};
+ghost use Rattle.expr_engine.specs.Engines.{IsPlacedRefusal, KeepsAll, KeepsRest, MayAnswer, MayEnd, NumbersRise, RefusesText, SameAdditions, additions_at, run_inputs, waiting_inputs, names_at};
 ghost use Rattle.expr_engine.specs.Faults.{IsNotedAt, fault_byte, refused_byte};
-ghost use Rattle.expr_engine.specs.Limiting.{IsProgramBy, for_strangers};
+ghost use Rattle.expr_engine.specs.Limiting.{IsProgramBy};
+ghost use Rattle.expr_engine.specs.Promised.{IsNew};
 ghost use Rattle.expr_engine.specs.Runs.{pairs_of};
 ghost use Rattle.expr_engine.specs.Served.{RunServes, SaysLimit};
 ghost use Rattle.expr_engine.specs.Turns.{IsNewRun, IsRefusal, IsSameRun, PassesOn, RunGoesOn, WaitsIfAsks};
-ghost use Rattle.expr_exchange.specs.Builder.{values_of};
 ghost use Rattle.expr_exchange.specs.Cursor.{part_of, way_of};
 ghost use Rattle.expr_exchange.specs.Refusals.{ReturnsToHost};
 ghost use Rattle.expr_handles.specs.HandleMap.{SameThings, thing_at, next_number};
@@ -61,13 +61,7 @@ pub struct TextPlace {
 impl Engine {
     /// An engine that keeps nothing, with the limits for strangers. It takes no memory.
     pub fn new(alloc: Global) -> Engine
-        ensures rules { (handle : Handle) → thing_at result.rules handle ≡ None }
-        ensures contexts { (handle : Handle) → thing_at result.contexts handle ≡ None }
-        ensures environments { (handle : Handle) → thing_at result.environments handle ≡ None }
-        ensures built { values_of result.built ≡ [] }
-        ensures part { part_of result.answer ≡ Value.Nil }
-        ensures waits { waiting_call_of result.waits.stops ≡ None }
-        ensures limits { result.limits ≡ Some for_strangers }
+        ensures { IsNew result }
     {
         Engine {
             alloc,
@@ -92,9 +86,7 @@ impl Engine {
         ensures next { OnErr result (next_number self.new.rules ≡ next_number self.old.rules) }
         ensures contexts { self.new.contexts ≡ self.old.contexts }
         ensures environments { self.new.environments ≡ self.old.environments }
-        ensures answer { self.new.answer ≡ self.old.answer }
-        ensures waits { self.new.waits ≡ self.old.waits }
-        ensures limits { self.new.limits ≡ self.old.limits }
+        ensures standing { KeepsRest self.old self.new }
     {
         match Rule::compile(self.alloc, text, self.limits)? {
             Outcome::Answered(rule) => Ok(self.rules.put(rule)?),
@@ -191,9 +183,7 @@ impl Engine {
             (λ q. IsNewRun q program environment context result self.new.waits) }
         ensures way { OnOk result (way_of self.new.answer ≡ []) }
         ensures err { OnErr result (self.new.answer ≡ self.old.answer) }
-        ensures rules { self.new.rules ≡ self.old.rules }
-        ensures contexts { self.new.contexts ≡ self.old.contexts }
-        ensures environments { self.new.environments ≡ self.old.environments }
+        ensures kept { KeepsAll self.old self.new }
         ensures limits { self.new.limits ≡ self.old.limits }
     {
         self.knows_run(program, environment, context)?;
@@ -227,14 +217,12 @@ impl Engine {
 
     /// Keeps what a run answers.
     fn keep(&mut self, answer: Result<Value, HostError>) -> Result<(), HostError>
-        ensures kept { PassesOn answer result (part_of self.new.answer) }
+        ensures passed { PassesOn answer result (part_of self.new.answer) }
         ensures way { OnOk result (way_of self.new.answer ≡ []) }
         ensures err { OnErr result (self.new.answer ≡ self.old.answer) }
         ensures waits { self.new.waits ≡ self.old.waits }
         ensures limits { self.new.limits ≡ self.old.limits }
-        ensures rules { self.new.rules ≡ self.old.rules }
-        ensures contexts { self.new.contexts ≡ self.old.contexts }
-        ensures environments { self.new.environments ≡ self.old.environments }
+        ensures kept { KeepsAll self.old self.new }
     {
         self.answer.keep(answer?);
         Ok(())
@@ -265,9 +253,7 @@ impl Engine {
             → IfErr result (λ e. e ≢ HostError.Unknown) }
         ensures way { OnOk result (way_of self.new.answer ≡ []) }
         ensures err { OnErr result (self.new.answer ≡ self.old.answer) }
-        ensures rules { self.new.rules ≡ self.old.rules }
-        ensures contexts { self.new.contexts ≡ self.old.contexts }
-        ensures environments { self.new.environments ≡ self.old.environments }
+        ensures kept { KeepsAll self.old self.new }
         ensures limits { self.new.limits ≡ self.old.limits }
     {
         self.waits.stops.answer(value)?;
@@ -283,9 +269,7 @@ impl Engine {
             → IfErr result (λ e. e ≢ HostError.Unknown) }
         ensures way { OnOk result (way_of self.new.answer ≡ []) }
         ensures err { OnErr result (self.new.answer ≡ self.old.answer) }
-        ensures rules { self.new.rules ≡ self.old.rules }
-        ensures contexts { self.new.contexts ≡ self.old.contexts }
-        ensures environments { self.new.environments ≡ self.old.environments }
+        ensures kept { KeepsAll self.old self.new }
         ensures limits { self.new.limits ≡ self.old.limits }
     {
         self.waits.stops.refuse(text)?;
@@ -304,9 +288,7 @@ impl Engine {
         ensures run { IsSameRun self.old.waits self.new.waits }
         ensures way { OnOk result (way_of self.new.answer ≡ []) }
         ensures err { OnErr result (self.new.answer ≡ self.old.answer) }
-        ensures rules { self.new.rules ≡ self.old.rules }
-        ensures contexts { self.new.contexts ≡ self.old.contexts }
-        ensures environments { self.new.environments ≡ self.old.environments }
+        ensures kept { KeepsAll self.old self.new }
         ensures limits { self.new.limits ≡ self.old.limits }
     {
         let mut stops = std::mem::replace(&mut self.waits.stops, Stops::new(self.alloc));
@@ -348,10 +330,8 @@ impl Engine {
         ensures next { next_number self.new.contexts ≡ next_number self.old.contexts }
         ensures rules { self.new.rules ≡ self.old.rules }
         ensures environments { self.new.environments ≡ self.old.environments }
-        ensures answer { self.new.answer ≡ self.old.answer }
         ensures built { self.new.built ≡ self.old.built }
-        ensures waits { self.new.waits ≡ self.old.waits }
-        ensures limits { self.new.limits ≡ self.old.limits }
+        ensures standing { KeepsRest self.old self.new }
     {
         self.knows_context(context)?;
         let name = String::from_str(self.alloc, name)?;
@@ -382,9 +362,7 @@ impl Engine {
         ensures next { next_number self.new.environments ≡ next_number self.old.environments }
         ensures rules { self.new.rules ≡ self.old.rules }
         ensures contexts { self.new.contexts ≡ self.old.contexts }
-        ensures answer { self.new.answer ≡ self.old.answer }
-        ensures waits { self.new.waits ≡ self.old.waits }
-        ensures limits { self.new.limits ≡ self.old.limits }
+        ensures standing { KeepsRest self.old self.new }
     {
         let mut host = Additions::new(self.alloc);
         if !self.environments.swap(environment, &mut host) {
@@ -405,9 +383,7 @@ impl Engine {
         ensures next { next_number self.new.environments ≡ next_number self.old.environments }
         ensures rules { self.new.rules ≡ self.old.rules }
         ensures contexts { self.new.contexts ≡ self.old.contexts }
-        ensures answer { self.new.answer ≡ self.old.answer }
-        ensures waits { self.new.waits ≡ self.old.waits }
-        ensures limits { self.new.limits ≡ self.old.limits }
+        ensures standing { KeepsRest self.old self.new }
     {
         let mut host = Additions::new(self.alloc);
         if !self.environments.swap(environment, &mut host) {
@@ -428,9 +404,7 @@ impl Engine {
         ensures next { next_number self.new.environments ≡ next_number self.old.environments }
         ensures rules { self.new.rules ≡ self.old.rules }
         ensures contexts { self.new.contexts ≡ self.old.contexts }
-        ensures answer { self.new.answer ≡ self.old.answer }
-        ensures waits { self.new.waits ≡ self.old.waits }
-        ensures limits { self.new.limits ≡ self.old.limits }
+        ensures standing { KeepsRest self.old self.new }
     {
         let mut host = Additions::new(self.alloc);
         if !self.environments.swap(environment, &mut host) {
@@ -444,14 +418,9 @@ impl Engine {
     /// Lets go of all that is kept, and of its memory. Handles that were given find nothing, and are not given again. The
     /// limits stay: they are no thing that is kept.
     pub fn clear(&mut self)
-        ensures rules { (handle : Handle) → thing_at self.new.rules handle ≡ None }
-        ensures contexts { (handle : Handle) → thing_at self.new.contexts handle ≡ None }
-        ensures environments { (handle : Handle) → thing_at self.new.environments handle ≡ None }
+        ensures done { ForgetsAll self.old self.new }
         ensures numbers { NumbersRise self.old self.new }
-        ensures built { values_of self.new.built ≡ [] }
-        ensures part { part_of self.new.answer ≡ Value.Nil }
         ensures waits { waiting_call_of self.new.waits.stops ≡ None }
-        ensures limits { self.new.limits ≡ self.old.limits }
     {
         let alloc = self.alloc;
         self.rules.clear(alloc);
@@ -465,13 +434,9 @@ impl Engine {
 
     /// Notes what is said of a refusal, and where a text is refused.
     pub fn note(&mut self, refused: &HostError, text: &[u8]) -> Result<Option<TextPlace>, Error>
-        ensures rules { self.new.rules ≡ self.old.rules }
-        ensures contexts { self.new.contexts ≡ self.old.contexts }
-        ensures environments { self.new.environments ≡ self.old.environments }
-        ensures answer { self.new.answer ≡ self.old.answer }
+        ensures kept { KeepsAll self.old self.new }
         ensures built { self.new.built ≡ self.old.built }
-        ensures waits { self.new.waits ≡ self.old.waits }
-        ensures limits { self.new.limits ≡ self.old.limits }
+        ensures standing { KeepsRest self.old self.new }
         ensures noted { IfOk result (IsNotedAt (refused_byte refused.now) text.now) }
         ensures unknown { refused.now ≡ HostError.Unknown → IsOk result }
         ensures misuse { refused.now ≡ HostError.Misuse → IsOk result }
@@ -492,13 +457,9 @@ impl Engine {
 
     /// Notes what is said of a refusal of the language, and where a text is refused.
     fn note_error(&mut self, error: &Error, text: &[u8]) -> Result<Option<TextPlace>, Error>
-        ensures rules { self.new.rules ≡ self.old.rules }
-        ensures contexts { self.new.contexts ≡ self.old.contexts }
-        ensures environments { self.new.environments ≡ self.old.environments }
-        ensures answer { self.new.answer ≡ self.old.answer }
+        ensures kept { KeepsAll self.old self.new }
         ensures built { self.new.built ≡ self.old.built }
-        ensures waits { self.new.waits ≡ self.old.waits }
-        ensures limits { self.new.limits ≡ self.old.limits }
+        ensures standing { KeepsRest self.old self.new }
         ensures noted { IfOk result (IsNotedAt (fault_byte error.now) text.now) }
     {
         match fault_of(error) {
@@ -512,13 +473,9 @@ impl Engine {
 
     /// Notes where a text is refused, and says the line with a caret under that place.
     fn note_fault(&mut self, byte: usize, text: &[u8]) -> Result<Option<TextPlace>, Error>
-        ensures rules { self.new.rules ≡ self.old.rules }
-        ensures contexts { self.new.contexts ≡ self.old.contexts }
-        ensures environments { self.new.environments ≡ self.old.environments }
-        ensures answer { self.new.answer ≡ self.old.answer }
+        ensures kept { KeepsAll self.old self.new }
         ensures built { self.new.built ≡ self.old.built }
-        ensures waits { self.new.waits ≡ self.old.waits }
-        ensures limits { self.new.limits ≡ self.old.limits }
+        ensures standing { KeepsRest self.old self.new }
         ensures noted { IfOk result (IsNotedAt (Some byte) text.now) }
     {
         let Ok(text) = std::str::from_utf8(text) else {

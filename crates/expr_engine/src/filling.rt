@@ -1,7 +1,7 @@
 //! Asks about contexts.
 ghost use Rattle.std.specs.Prelude.{◌≡◌, None, Err, ◌≢◌, IfErr, OnErr, OnOk};
 ghost use Rattle.expr_engine.specs.Effects.{AddsBuiltContext, AddsContext, Sets, call_result};
-ghost use Rattle.expr_engine.specs.Engines.{NumbersRise};
+ghost use Rattle.expr_engine.specs.Engines.{KeepsRest, NumbersRise};
 ghost use Rattle.expr_handles.specs.HandleMap.{SameThings, thing_at, next_number};
 
 use crate::building::handed_in;
@@ -19,9 +19,7 @@ pub fn new_context(engine: &mut Engine, call: &mut Call<'_>) -> Result<(), HostE
     ensures numbers { NumbersRise engine.old engine.new }
     ensures rules { engine.new.rules ≡ engine.old.rules }
     ensures environments { engine.new.environments ≡ engine.old.environments }
-    ensures answer { engine.new.answer ≡ engine.old.answer }
-    ensures waits { engine.new.waits ≡ engine.old.waits }
-    ensures limits { engine.new.limits ≡ engine.old.limits }
+    ensures standing { KeepsRest engine.old engine.new }
 {
     call.context = engine.contexts.put(Context::new(engine.alloc))?;
     Ok(())
@@ -35,9 +33,7 @@ pub fn built_context(engine: &mut Engine, call: &mut Call<'_>) -> Result<(), Hos
     ensures numbers { NumbersRise engine.old engine.new }
     ensures rules { engine.new.rules ≡ engine.old.rules }
     ensures environments { engine.new.environments ≡ engine.old.environments }
-    ensures answer { engine.new.answer ≡ engine.old.answer }
-    ensures waits { engine.new.waits ≡ engine.old.waits }
-    ensures limits { engine.new.limits ≡ engine.old.limits }
+    ensures standing { KeepsRest engine.old engine.new }
 {
     let context = engine.built.context()?;
     call.context = engine.contexts.put(context)?;
@@ -53,9 +49,7 @@ pub fn set(engine: &mut Engine, call: &Call<'_>) -> Result<(), HostError>
     ensures next { next_number engine.new.contexts ≡ next_number engine.old.contexts }
     ensures rules { engine.new.rules ≡ engine.old.rules }
     ensures environments { engine.new.environments ≡ engine.old.environments }
-    ensures answer { engine.new.answer ≡ engine.old.answer }
-    ensures waits { engine.new.waits ≡ engine.old.waits }
-    ensures limits { engine.new.limits ≡ engine.old.limits }
+    ensures standing { KeepsRest engine.old engine.new }
 {
     engine.knows_context(call.context)?;
     let name = utf8(call.name)?;

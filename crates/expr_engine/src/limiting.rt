@@ -1,6 +1,7 @@
 //! Asks about limits.
 ghost use Rattle.std.specs.Prelude.{◌≡◌, ◌≢◌, Err, IfErr, MatchOption, None, Ok, OnOk, Some};
 ghost use Rattle.expr_engine.specs.Effects.{LetsGoOfLimits, SetsLimit};
+ghost use Rattle.expr_engine.specs.Engines.{KeepsAll};
 ghost use Rattle.expr_engine.specs.Limiting.{limits_asked, with_limit};
 
 use crate::call::Call;
@@ -15,9 +16,7 @@ pub fn set_limit(engine: &mut Engine, call: &Call<'_>) -> Result<(), HostError>
         ((result ≡ Err HostError.Misuse) × (engine.new.limits ≡ engine.old.limits))
         (λ limits. (result ≡ Ok tt) × (engine.new.limits ≡ Some limits)) }
     ensures found { IfErr result (λ e. e ≢ HostError.Unknown) }
-    ensures rules { engine.new.rules ≡ engine.old.rules }
-    ensures contexts { engine.new.contexts ≡ engine.old.contexts }
-    ensures environments { engine.new.environments ≡ engine.old.environments }
+    ensures kept { KeepsAll engine.old engine.new }
     ensures answer { engine.new.answer ≡ engine.old.answer }
     ensures waits { engine.new.waits ≡ engine.old.waits }
 {
@@ -66,9 +65,7 @@ pub fn let_go_of_limits(engine: &mut Engine) -> Result<(), HostError>
     ensures ok { result ≡ Ok tt }
     ensures found { IfErr result (λ e. e ≢ HostError.Unknown) }
     ensures none { engine.new.limits ≡ None }
-    ensures rules { engine.new.rules ≡ engine.old.rules }
-    ensures contexts { engine.new.contexts ≡ engine.old.contexts }
-    ensures environments { engine.new.environments ≡ engine.old.environments }
+    ensures kept { KeepsAll engine.old engine.new }
     ensures answer { engine.new.answer ≡ engine.old.answer }
     ensures waits { engine.new.waits ≡ engine.old.waits }
 {

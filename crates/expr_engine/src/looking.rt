@@ -3,7 +3,8 @@ ghost use Rattle.std.specs.Prelude.{◌≡◌, ◌≢◌, IfErr, IfOk, Ok, OnErr
 ghost use Rattle.expr_encoding.specs.Optional.{value_or_refusal};
 ghost use Rattle.expr_encoding.specs.Writing.{json_text};
 ghost use Rattle.expr_engine.specs.Effects.{Looks, LooksIn, LooksOut, SaysKey, SaysText, Tells, key_said, call_result};
-ghost use Rattle.expr_exchange.specs.Cursor.{SameLook, part_of};
+ghost use Rattle.expr_engine.specs.Engines.{KeepsAll, KeepsRest};
+ghost use Rattle.expr_exchange.specs.Cursor.{SameLook};
 ghost use Rattle.expr_value.specs.Strings.{string_text};
 ghost use Rattle.expr_value.specs.Values.{text_of};
 
@@ -27,13 +28,9 @@ pub fn describe(value: &Value, call: &mut Call<'_>)
 /// Looks at the same value again.
 pub fn look(engine: &mut Engine, call: &mut Call<'_>) -> Result<(), HostError>
     ensures done { OnOk result (Looks engine.old engine.new (call_result call.new)) }
-    ensures answer { engine.new.answer ≡ engine.old.answer }
     ensures found { IfErr result (λ e. e ≢ HostError.Unknown) }
-    ensures rules { engine.new.rules ≡ engine.old.rules }
-    ensures contexts { engine.new.contexts ≡ engine.old.contexts }
-    ensures environments { engine.new.environments ≡ engine.old.environments }
-    ensures waits { engine.new.waits ≡ engine.old.waits }
-    ensures limits { engine.new.limits ≡ engine.old.limits }
+    ensures kept { KeepsAll engine.old engine.new }
+    ensures standing { KeepsRest engine.old engine.new }
 {
     describe(engine.answer.part(), call);
     Ok(())
@@ -44,9 +41,7 @@ pub fn look_down(engine: &mut Engine, call: &mut Call<'_>) -> Result<(), HostErr
     ensures done { OnOk result (LooksIn engine.old engine.new call.old (call_result call.new)) }
     ensures look { OnErr result (SameLook engine.old.answer engine.new.answer) }
     ensures found { IfErr result (λ e. e ≢ HostError.Unknown) }
-    ensures rules { engine.new.rules ≡ engine.old.rules }
-    ensures contexts { engine.new.contexts ≡ engine.old.contexts }
-    ensures environments { engine.new.environments ≡ engine.old.environments }
+    ensures kept { KeepsAll engine.old engine.new }
     ensures waits { engine.new.waits ≡ engine.old.waits }
     ensures limits { engine.new.limits ≡ engine.old.limits }
 {
@@ -60,9 +55,7 @@ pub fn look_up(engine: &mut Engine, call: &mut Call<'_>) -> Result<(), HostError
     ensures done { OnOk result (LooksOut engine.old engine.new (call_result call.new)) }
     ensures look { OnErr result (SameLook engine.old.answer engine.new.answer) }
     ensures found { IfErr result (λ e. e ≢ HostError.Unknown) }
-    ensures rules { engine.new.rules ≡ engine.old.rules }
-    ensures contexts { engine.new.contexts ≡ engine.old.contexts }
-    ensures environments { engine.new.environments ≡ engine.old.environments }
+    ensures kept { KeepsAll engine.old engine.new }
     ensures waits { engine.new.waits ≡ engine.old.waits }
     ensures limits { engine.new.limits ≡ engine.old.limits }
 {
@@ -74,13 +67,9 @@ pub fn look_up(engine: &mut Engine, call: &mut Call<'_>) -> Result<(), HostError
 /// Tells of a key of the map that is looked at, and says its text.
 pub fn show_key(engine: &mut Engine, call: &mut Call<'_>) -> Result<(), HostError>
     ensures done { OnOk result (SaysKey engine.old engine.new call.old (call_result call.new)) }
-    ensures answer { engine.new.answer ≡ engine.old.answer }
     ensures found { IfErr result (λ e. e ≢ HostError.Unknown) }
-    ensures rules { engine.new.rules ≡ engine.old.rules }
-    ensures contexts { engine.new.contexts ≡ engine.old.contexts }
-    ensures environments { engine.new.environments ≡ engine.old.environments }
-    ensures waits { engine.new.waits ≡ engine.old.waits }
-    ensures limits { engine.new.limits ≡ engine.old.limits }
+    ensures kept { KeepsAll engine.old engine.new }
+    ensures standing { KeepsRest engine.old engine.new }
 {
     let key = key_of(engine.alloc, engine.answer.part(), call.number)?;
     describe(&key, call);
@@ -101,13 +90,9 @@ fn key_text(alloc: Global, key: &Value) -> expr::Result<String>
 /// Says what the value prints as.
 pub fn say_shown(engine: &mut Engine) -> Result<(), HostError>
     ensures done { OnOk result (SaysText (λ v text. text ≡ text_of v) engine.old engine.new) }
-    ensures answer { engine.new.answer ≡ engine.old.answer }
     ensures found { IfErr result (λ e. e ≢ HostError.Unknown) }
-    ensures rules { engine.new.rules ≡ engine.old.rules }
-    ensures contexts { engine.new.contexts ≡ engine.old.contexts }
-    ensures environments { engine.new.environments ≡ engine.old.environments }
-    ensures waits { engine.new.waits ≡ engine.old.waits }
-    ensures limits { engine.new.limits ≡ engine.old.limits }
+    ensures kept { KeepsAll engine.old engine.new }
+    ensures standing { KeepsRest engine.old engine.new }
 {
     engine.said = engine.answer.part().to_string(engine.alloc)?;
     Ok(())
@@ -116,13 +101,9 @@ pub fn say_shown(engine: &mut Engine) -> Result<(), HostError>
 /// Says what the built-in `string` gives of the value.
 pub fn say_text(engine: &mut Engine) -> Result<(), HostError>
     ensures done { OnOk result (SaysText (λ v text. text ≡ string_text v) engine.old engine.new) }
-    ensures answer { engine.new.answer ≡ engine.old.answer }
     ensures found { IfErr result (λ e. e ≢ HostError.Unknown) }
-    ensures rules { engine.new.rules ≡ engine.old.rules }
-    ensures contexts { engine.new.contexts ≡ engine.old.contexts }
-    ensures environments { engine.new.environments ≡ engine.old.environments }
-    ensures waits { engine.new.waits ≡ engine.old.waits }
-    ensures limits { engine.new.limits ≡ engine.old.limits }
+    ensures kept { KeepsAll engine.old engine.new }
+    ensures standing { KeepsRest engine.old engine.new }
 {
     engine.said = engine.answer.part().string_text(engine.alloc)?;
     Ok(())
@@ -132,13 +113,9 @@ pub fn say_text(engine: &mut Engine) -> Result<(), HostError>
 pub fn say_json(engine: &mut Engine) -> Result<(), HostError>
     ensures done { OnOk result
         (SaysText (λ v text. value_or_refusal (json_text v) ≡ Ok text) engine.old engine.new) }
-    ensures answer { engine.new.answer ≡ engine.old.answer }
     ensures found { IfErr result (λ e. e ≢ HostError.Unknown) }
-    ensures rules { engine.new.rules ≡ engine.old.rules }
-    ensures contexts { engine.new.contexts ≡ engine.old.contexts }
-    ensures environments { engine.new.environments ≡ engine.old.environments }
-    ensures waits { engine.new.waits ≡ engine.old.waits }
-    ensures limits { engine.new.limits ≡ engine.old.limits }
+    ensures kept { KeepsAll engine.old engine.new }
+    ensures standing { KeepsRest engine.old engine.new }
 {
     engine.said = to_json(engine.alloc, engine.answer.part())?.into_string();
     Ok(())

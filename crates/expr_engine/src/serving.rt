@@ -1,14 +1,11 @@
 //! The one call: an engine does what it is asked to.
-ghost use Rattle.std.specs.Prelude.{◌≡◌, ◌≢◌, ◌⊎◌, [], length, Err, IfErr, IfSome, MatchOption, Ok, OnErr, OnOk, Some};
-ghost use Rattle.expr_engine.specs.Asks.{ask_of, shows_of};
-ghost use Rattle.expr_engine.specs.Effects.{Does, IsMissing, call_result};
-ghost use Rattle.expr_engine.specs.Engines.{CompileRefuses, Leaves, NumbersRise, run_inputs};
-ghost use Rattle.expr_engine.specs.Faults.{AnswersText, IsAt, place_of, refused_byte};
-ghost use Rattle.expr_engine.specs.Limiting.{LimitsBy};
-ghost use Rattle.expr_engine.specs.Served.{AnswersNumber, EndsCall, RunServes, number_of, text_shown};
-ghost use Rattle.expr_engine.specs.Turns.{Turns, TurnsBy};
+ghost use Rattle.std.specs.Prelude.{◌≡◌, ◌⊎◌, [], length, Err, IfErr, IfSome, OnErr, OnOk};
+ghost use Rattle.expr_engine.specs.Effects.{call_result};
+ghost use Rattle.expr_engine.specs.Engines.{KeepsAll, KeepsRest};
+ghost use Rattle.expr_engine.specs.Faults.{IsAt, place_of, refused_byte};
+ghost use Rattle.expr_engine.specs.Promised.{Acts, IsServed};
+ghost use Rattle.expr_engine.specs.Served.{EndsCall, number_of, text_shown};
 ghost use Rattle.expr_exchange.specs.Builder.{values_of};
-ghost use Rattle.expr_exchange.specs.Cursor.{part_of};
 ghost use Rattle.expr_exchange.specs.Refusals.{status_of};
 
 use crate::adding::{add_environment, add_name, set_now, zone_by_rule, zone_by_seconds};
@@ -26,37 +23,7 @@ use expr_exchange::{HostError, Status, bytes_of};
 /// Does what a call asks for. Whatever stands in the call, it returns. What is refused leaves all that is kept and what is
 /// looked at as it was, and lets go of what was built.
 pub fn serve(engine: &mut Engine, call: &mut Call<'_>)
-    // What is done, is done to what the call's handles find, and to nothing else.
-    ensures done { call.new.status ≡ 0 → MatchOption (ask_of call.old.ask) ⊥
-        (λ ask. Does ask engine.old engine.new call.old (call_result call.new)) }
-    // A text is refused, or stops at a limit, since it deserves that; where it has no tree, the place of its first fault is
-    // answered.
-    ensures text { ask_of call.old.ask ≡ Some Ask.Compile
-        → AnswersText engine.old.limits call.old.text.now call.new.status (place_of call.new) }
-    // A run answers what the program's meaning allows in the environment and the context of the handles, or one of them
-    // finds nothing.
-    ensures run { ask_of call.old.ask ≡ Some Ask.Run → MatchOption
-        (run_inputs engine.old call.old.program call.old.environment call.old.context) (call.new.status ≡ 6)
-        (λ q. AnswersNumber q [] call.new.status (part_of engine.new.answer)) }
-    // The run that waits for the host's reply: one that was begun, or that goes on with the reply, or the same.
-    ensures turns { MatchOption (ask_of call.old.ask) (engine.new.waits ≡ engine.old.waits)
-        (λ ask. TurnsBy ask engine.old call.old call.new.status engine.new.waits
-        (part_of engine.new.answer)) }
-    // The limits are those before, but where a call sets one or lets go of all.
-    ensures limits { MatchOption (ask_of call.old.ask) (engine.new.limits ≡ engine.old.limits)
-        (λ ask. LimitsBy ask engine.old.limits call.old (call.new.status ≡ 0) (call.new.status ≡ 7)
-        engine.new.limits) }
-    ensures refused { call.new.status ≢ 0 → Leaves engine.old engine.new }
-    ensures built { call.new.status ≢ 0 → values_of engine.new.built ≡ [] }
-    // A handle that is out of date, or was never given, is UNKNOWN, and nothing else is.
-    ensures unknown { MatchOption (ask_of call.old.ask) (call.new.status ≡ 7)
-        (λ ask. IsMissing ask engine.old call.old → call.new.status ≡ 6) }
-    ensures known { call.new.status ≡ 6 → MatchOption (ask_of call.old.ask) ⊥
-        (λ ask. IsMissing ask engine.old call.old) }
-    // No handle is given twice.
-    ensures numbers { NumbersRise engine.old engine.new }
-    ensures shown { call.new.status ≡ 0 → MatchOption (ask_of call.old.ask) ⊥
-        (λ ask. call.new.length ≡ length (text_shown (shows_of ask) engine.new)) }
+    ensures { IsServed engine.old engine.new call.old call.new }
 {
     match Ask::from_number(call.ask) {
         Some(ask) => {
@@ -69,19 +36,7 @@ pub fn serve(engine: &mut Engine, call: &mut Call<'_>)
 
 /// Does what a call asks for.
 fn act(engine: &mut Engine, call: &mut Call<'_>, ask: Ask) -> Result<(), HostError>
-    ensures done { OnOk result (Does ask engine.old engine.new call.old (call_result call.new)) }
-    ensures why { ask ≡ Ask.Compile → IfErr result (CompileRefuses engine.old.limits call.old.text.now) }
-    ensures text { ask ≡ Ask.Compile → call.new.text.now ≡ call.old.text.now }
-    ensures run { ask ≡ Ask.Run → MatchOption
-        (run_inputs engine.old call.old.program call.old.environment call.old.context)
-        (result ≡ Err HostError.Unknown) (λ q. RunServes q [] result (part_of engine.new.answer)) }
-    ensures turns { Turns ask engine.old call.old result engine.new.waits (part_of engine.new.answer) }
-    ensures limits { LimitsBy ask engine.old.limits call.old (result ≡ Ok tt) (result ≡ Err HostError.Misuse)
-        engine.new.limits }
-    ensures refused { OnErr result (Leaves engine.old engine.new) }
-    ensures unknown { IsMissing ask engine.old call.old → result ≡ Err HostError.Unknown }
-    ensures known { result ≡ Err HostError.Unknown → IsMissing ask engine.old call.old }
-    ensures numbers { NumbersRise engine.old engine.new }
+    ensures { Acts ask engine.old engine.new call.old call.new result }
 {
     match ask {
         Ask::Compile => compile(engine, call),
@@ -122,12 +77,8 @@ fn act(engine: &mut Engine, call: &mut Call<'_>, ask: Ask) -> Result<(), HostErr
 /// Says how a call ended, and shows its text.
 fn finish(engine: &mut Engine, call: &mut Call<'_>, shows: Shows, done: Result<(), HostError>)
     ensures same { OnOk done (engine.new ≡ engine.old) }
-    ensures answer { engine.new.answer ≡ engine.old.answer }
-    ensures rules { engine.new.rules ≡ engine.old.rules }
-    ensures contexts { engine.new.contexts ≡ engine.old.contexts }
-    ensures environments { engine.new.environments ≡ engine.old.environments }
-    ensures waits { engine.new.waits ≡ engine.old.waits }
-    ensures limits { engine.new.limits ≡ engine.old.limits }
+    ensures kept { KeepsAll engine.old engine.new }
+    ensures standing { KeepsRest engine.old engine.new }
     ensures built { OnErr done (values_of engine.new.built ≡ []) }
     ensures reply { call_result call.new ≡ call_result call.old }
     ensures ended { EndsCall done call.new.status }
@@ -196,12 +147,8 @@ fn number(status: Status) -> u32
 
 /// Lets go of what was built, notes what is said, and answers how the call ended.
 fn refuse(engine: &mut Engine, refused: &HostError, call: &mut Call<'_>) -> Status
-    ensures rules { engine.new.rules ≡ engine.old.rules }
-    ensures contexts { engine.new.contexts ≡ engine.old.contexts }
-    ensures environments { engine.new.environments ≡ engine.old.environments }
-    ensures answer { engine.new.answer ≡ engine.old.answer }
-    ensures waits { engine.new.waits ≡ engine.old.waits }
-    ensures limits { engine.new.limits ≡ engine.old.limits }
+    ensures kept { KeepsAll engine.old engine.new }
+    ensures standing { KeepsRest engine.old engine.new }
     ensures built { values_of engine.new.built ≡ [] }
     ensures reply { call_result call.new ≡ call_result call.old }
     ensures status { (result ≡ status_of refused.now) ⊎ (result ≡ Status.Memory) }

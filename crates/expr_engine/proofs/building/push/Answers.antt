@@ -1,5 +1,12 @@
 use Rattle.expr_engine.proofs.Told.{then_so}
+use Rattle.expr_engine.proofs.Unchanged.{keeps_all}
 use Rattle.expr_engine.proofs.building.push.Goals as goal
+
+pub returns-in_err-value-clause-kept : goal.returns-in_err-value-clause-kept
+returns-in_err-value-clause-kept c = keeps_all c.args.engine.now c.handed_in.new.engine c.in_err-value.ensures.rules c.in_err-value.ensures.contexts c.in_err-value.ensures.environments
+
+pub returns-clause-kept : goal.returns-clause-kept
+returns-clause-kept c = keeps_all c.args.engine.now c.handed_in.new.engine c.in_ok-value.ensures.rules c.in_ok-value.ensures.contexts c.in_ok-value.ensures.environments
 
 pub returns-clause-done : goal.returns-clause-done
 returns-clause-done c = then_so c.push.result c.push.ensures.ok (λ s. record {
@@ -7,6 +14,6 @@ returns-clause-done c = then_so c.push.result c.push.ensures.ok (λ s. record {
   left = c.handed_in.new.engine;
   handed = c.in_ok-value.ensures.value;
   stands = s;
-  keeps = record { rules = c.in_ok-value.ensures.rules; contexts = c.in_ok-value.ensures.contexts; environments = c.in_ok-value.ensures.environments };
-  answer = c.in_ok-value.ensures.answer;
+  keeps = returns-clause-kept c;
+  rest = c.in_ok-value.ensures.standing;
 })

@@ -15,5 +15,5 @@ returns-clause-done c = then_so c.set.result c.set.ensures.set (λ changes. reco
       (subst (λ old. Changes (λ was is. is ≡ put c.in_ok-name.name.now c.in_ok-value.value was) old c.set.new.self.contexts c.args.call.now.context) c.in_ok-value.ensures.contexts changes);
   rules = c.set.ensures.rules ∙ c.in_ok-value.ensures.rules;
   environments = c.set.ensures.environments ∙ c.in_ok-value.ensures.environments;
-  answer = c.set.ensures.answer ∙ c.in_ok-value.ensures.answer;
+  rest = c.set.ensures.standing ∙ c.in_ok-value.ensures.standing;
 })

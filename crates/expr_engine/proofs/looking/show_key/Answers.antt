@@ -6,8 +6,8 @@ use Rattle.expr_engine.proofs.looking.show_key.Goals as goal
 
 pub returns-clause-done : goal.returns-clause-done
 returns-clause-done c = record {
-  keeps = record { rules = refl; contexts = refl; environments = refl };
-  answer = refl;
+  keeps = refl;
+  rest = refl;
   key = c.in_ok-key.key;
   is =
       let fits : SFits w64 c.args.call.now.number = search rules in

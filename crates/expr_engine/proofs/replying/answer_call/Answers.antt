@@ -54,7 +54,7 @@ returns-clause-done c =
     let old = c.args.engine.now in
     let new = c.reply.new.self in
     record {
-      keeps = record { rules = c.reply.ensures.rules; contexts = c.reply.ensures.contexts; environments = c.reply.ensures.environments };
+      keeps = c.reply.ensures.kept;
       answer =
           ended_so Is (waiting_inputs old) old.waits new.waits (part_of new.answer)
           (c.in_ok-reply.ensures.replied c.in_ok-knows_waiting.ensures.waits c.in_ok-knows_waiting.ensures.found);

@@ -47,7 +47,7 @@ returns-clause-done c =
     let old = c.args.engine.now in
     let new = c.refuse.new.self in
     record {
-      keeps = record { rules = c.refuse.ensures.rules; contexts = c.refuse.ensures.contexts; environments = c.refuse.ensures.environments };
+      keeps = c.refuse.ensures.kept;
       answer =
           ended_so (IsRefusal c.in_ok-text.text.now) (waiting_inputs old) old.waits new.waits (part_of new.answer)
           (c.in_ok-refuse.ensures.replied c.in_ok-knows_waiting.ensures.waits c.in_ok-knows_waiting.ensures.found);
