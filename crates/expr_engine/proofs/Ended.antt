@@ -63,10 +63,8 @@ answers_by q given (Err (Language error)) value number r (inl e) = record { stat
 answers_by q given (Err (Language error)) value number r (inr e) = record { status = ends.Memory; is = e; says = tt }
 answers_by q given (Err Unknown) value number r e = absurd r
 answers_by q given (Err Misuse) value number r e = absurd r
-answers_by q given (Err Asks) value number r (inl e) = record { status = ends.Asks; is = e; says = tt }
-answers_by q given (Err Asks) value number r (inr e) = record { status = ends.Memory; is = e; says = tt }
-answers_by q given (Err Differs) value number r (inl e) = record { status = ends.Differs; is = e; says = tt }
-answers_by q given (Err Differs) value number r (inr e) = record { status = ends.Memory; is = e; says = tt }
+answers_by q given (Err Asks) value number r e = record { status = ends.Asks; is = e; says = tt }
+answers_by q given (Err Differs) value number r e = record { status = ends.Differs; is = e; says = tt }
 answers_by q given (Err (Stopped limit)) value number r (inl e) = record { status = ends_at limit; is = e; says = said_at q given value limit r }
 answers_by q given (Err (Stopped limit)) value number r (inr e) = record { status = ends.Memory; is = e; says = tt }
 
@@ -96,19 +94,32 @@ not_done_at Steps e = omega arith
 not_done_at Depth e = omega arith
 not_done_at Size e = omega arith
 
-never_done : (refused : HostError) (number : ℕ) → (number ≡ number_of (status_of refused)) ⊎ (number ≡ 5) → number ≡ 0 → ⊥
-never_done (Language error) number (inl e) z = not_done (error_kind error) (sym e ∙ z)
-never_done Unknown number (inl e) z = omega arith
-never_done Misuse number (inl e) z = omega arith
-never_done Asks number (inl e) z = omega arith
-never_done Differs number (inl e) z = omega arith
-never_done (Stopped limit) number (inl e) z = not_done_at limit (sym e ∙ z)
-never_done refused number (inr e) z = omega arith
+never_done : (A : Type 0) (refused : HostError) (number : ℕ) → EndsCall {A = A} (Err refused) number → number ≡ 0 → ⊥
+never_done A (Language error) number (inl e) z = not_done (error_kind error) (sym e ∙ z)
+never_done A (Language error) number (inr e) z = omega arith
+never_done A Unknown number e z = omega arith
+never_done A Misuse number e z = omega arith
+never_done A Asks number e z = omega arith
+never_done A Differs number e z = omega arith
+never_done A (Stopped limit) number (inl e) z = not_done_at limit (sym e ∙ z)
+never_done A (Stopped limit) number (inr e) z = omega arith
+
+-- a call that is refused ends by its status, or by that of memory where the refusal has a message
+pub ends_call : (refused : HostError) (status : Status) (number : ℕ) → (status ≡ status_of refused) ⊎ (status ≡ ends.Memory) → (refused ≡ Unknown → status ≡ ends.Unknown) → (refused ≡ Misuse → status ≡ ends.Misuse)
+    → (refused ≡ Asks → status ≡ ends.Asks) → (refused ≡ Differs → status ≡ ends.Differs) → number ≡ number_of status → EndsCall {A = Unit {0}} (Err refused) number
+ends_call (Language error) status number (inl s) u m a d n = inl (n ∙ ap (λ (x : Status). number_of x) s)
+ends_call (Language error) status number (inr s) u m a d n = inr (n ∙ ap (λ (x : Status). number_of x) s)
+ends_call Unknown status number s u m a d n = n ∙ ap (λ (x : Status). number_of x) (u refl)
+ends_call Misuse status number s u m a d n = n ∙ ap (λ (x : Status). number_of x) (m refl)
+ends_call Asks status number s u m a d n = n ∙ ap (λ (x : Status). number_of x) (a refl)
+ends_call Differs status number s u m a d n = n ∙ ap (λ (x : Status). number_of x) (d refl)
+ends_call (Stopped limit) status number (inl s) u m a d n = inl (n ∙ ap (λ (x : Status). number_of x) s)
+ends_call (Stopped limit) status number (inr s) u m a d n = inr (n ∙ ap (λ (x : Status). number_of x) s)
 
 -- what holds where a call is done, or refused, by the number of its ending
 pub done_by : {A P : Type 0} (done : Result A HostError) (number : ℕ) → OnOk done P → EndsCall done number → number ≡ 0 → P
 done_by (Ok shown) number p e z = p
-done_by (Err refused) number p e z = absurd (never_done refused number e z)
+done_by {A} (Err refused) number p e z = absurd (never_done A refused number e z)
 
 pub refused_by : {A P : Type 0} (done : Result A HostError) (number : ℕ) → OnErr done P → EndsCall done number → number ≢ 0 → P
 refused_by (Ok shown) number p e n = absurd (n e)

@@ -32,7 +32,7 @@ placed_on byte text mid new status number (inr m) same n = inr (n ∙ ap (λ (s 
 -- a text is refused what it deserves, and is told where
 pub answers_text : {A : Type 0} (limits : Option Limits) (text : List ℕ) (done : Result A HostError) (number : ℕ) (place : TextPlace) → IfErr done (CompileRefuses limits text) → EndsCall done number → IfErr done (λ refused. IsAt (refused_byte refused) text place ⊎ (number ≡ 5)) → AnswersText limits text number place
 answers_text limits text (Ok v) number place r e stands = record { status = ends.Done; is = e; says = tt }
-answers_text limits text (Err refused) number place r (inr e) stands = record { status = ends.Memory; is = e; says = tt }
+answers_text limits text (Err (Language error)) number place r (inr e) stands = record { status = ends.Memory; is = e; says = tt }
 answers_text limits text (Err (Language (PestError byte))) number place (why, (in_text, first), utf8) (inl e) (inl stands) =
     let spot = stands utf8 in
     record {
@@ -45,10 +45,11 @@ answers_text limits text (Err (Language (ParseError message))) number place (why
 answers_text limits text (Err (Language (ExprError message))) number place (why, placed, utf8) (inl e) stands = absurd (why (search rules))
 answers_text limits text (Err (Language (RegexError error))) number place (why, placed, utf8) (inl e) stands = absurd (why (search rules))
 answers_text limits text (Err (Language MemoryError)) number place r (inl e) stands = record { status = ends.Memory; is = e; says = tt }
-answers_text limits text (Err Unknown) number place r (inl e) stands = absurd r
-answers_text limits text (Err Misuse) number place r (inl e) stands = record { status = ends.Misuse; is = e; says = r }
-answers_text limits text (Err Asks) number place r (inl e) stands = absurd r
-answers_text limits text (Err Differs) number place r (inl e) stands = absurd r
+answers_text limits text (Err Unknown) number place r e stands = absurd r
+answers_text limits text (Err Misuse) number place r e stands = record { status = ends.Misuse; is = e; says = r }
+answers_text limits text (Err Asks) number place r e stands = absurd r
+answers_text limits text (Err Differs) number place r e stands = absurd r
+answers_text limits text (Err (Stopped limit)) number place r (inr e) stands = record { status = ends.Memory; is = e; says = tt }
 answers_text limits text (Err (Stopped Height)) number place (passed, utf8) (inl e) stands = record { status = ends.Height; is = e; says = passed }
 answers_text limits text (Err (Stopped Patterns)) number place (passed, utf8) (inl e) stands = record { status = ends.Patterns; is = e; says = passed }
 answers_text (Some limits) text (Err (Stopped Steps)) number place (passed, utf8) (inl e) stands = absurd passed

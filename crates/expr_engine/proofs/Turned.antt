@@ -1,16 +1,22 @@
 -- Runs that begin, and runs that go on with a reply.
 use Rattle.std.proofs.Common.{◌≡◌, ◌≢◌, ◌⊎◌, ◌∙◌, ◌∷◌, ◌++◌, List, [], Option, None, Some, IsSome, IsErrAnd, IsSomeAnd, MatchOption, Result, Ok, Err, IfErr, IsOk, OnOk, inl, inr, ap, rules, refl, subst, sym}
 use Rattle.std.proofs.lemmas.Bool.{false≢true}
-use Rattle.expr_engine.specs.Engines.{RunInputs, MayAnswer, MayEnd}
+use Rattle.std.specs.Option.{option_and_then, option_map}
+use Rattle.expr_engine.specs.Engines.{RunInputs, MayAnswer, MayEnd, additions_at, names_at, run_inputs}
+use Rattle.expr_engine.specs.Runs.{NamedValues, named_by}
 use Rattle.expr_engine.specs.Served.{RunServes}
 use Rattle.expr_engine.specs.Turns.{GoesOn, IsAnswer, IsNewRun, IsSameRun, PassesOn, RunGoesOn, WaitsIfAsks}
+use Rattle.expr_engine.specs.declared.additions.Additions.{Additions}
+use Rattle.expr_engine.specs.declared.engine.Engine.{Engine}
+use Rattle.expr_engine.specs.declared.rule.Rule.{Rule}
 use Rattle.expr_engine.specs.declared.waiting_run.WaitingRun.{WaitingRun}
 use Rattle.expr_exchange.specs.Refusals.{ReturnsToHost}
 use Rattle.expr_exchange.specs.declared.host_error.HostError.{HostError}
 use Rattle.expr_exchange.specs.declared.host_error.HostError.TheVariants.{Language, Unknown, Misuse, Asks, Differs, Stopped}
+use Rattle.expr_handles.specs.HandleMap.{thing_at}
 use Rattle.expr_handles.specs.declared.Handle.{Handle}
 use Rattle.expr_meter.specs.Counting.{stops}
-use Rattle.expr_stops.specs.Stops.{IsReplied, IsSame, waiting_call_of, replies_of}
+use Rattle.expr_stops.specs.Stops.{IsOther, IsReplied, IsSame, waiting_call_of, replies_of}
 use Rattle.expr_stops.specs.declared.replies.CallReply.{CallReply}
 use Rattle.expr_stops.specs.declared.replies.Reply.{Reply}
 use Rattle.expr_stops.specs.declared.replies.Reply.TheVariants as reply
@@ -19,6 +25,26 @@ use Rattle.expr_stops.specs.declared.stops.Stops.{Stops}
 use Rattle.expr_error.specs.ErrorKind.{ErrorKind, error_kind, syntax, literal, evaluation, pattern, memory}
 use Rattle.expr_error.specs.declared.error.Error.{Error}
 use Rattle.expr_value.specs.declared.value.Value.{Value}
+
+-- what a run finds under three handles
+abbrev inputs_in : Engine → Rule → Option Additions → NamedValues → RunInputs
+inputs_in engine rule added names = record { rule = rule; added = added; names = names; limits = engine.limits }
+
+pub found_so : (engine : Engine) (program environment context : Handle) (rule : Rule) (added : Option Additions) (names : NamedValues) → Some rule ≡ thing_at engine.rules program → additions_at engine environment ≡ Some added → names_at engine context ≡ Some names
+    → run_inputs engine program environment context ≡ Some (inputs_in engine rule added names)
+found_so engine program environment context rule added names r a n =
+    ap (λ (o : Option Rule). option_and_then (λ (rule : Rule). option_and_then (λ (added : Option Additions). option_map (λ (names : NamedValues). inputs_in engine rule added names) (names_at engine context)) (additions_at engine environment)) o) (sym r)
+    ∙ ap (λ (o : Option (Option Additions)). option_and_then (λ (added : Option Additions). option_map (λ (names : NamedValues). inputs_in engine rule added names) (names_at engine context)) o) a
+    ∙ ap (λ (o : Option NamedValues). option_map (λ (names : NamedValues). inputs_in engine rule added names) o) n
+
+-- a run that differs came to another call than the one that was replied to
+pub differs_so : {stop : Stop} (engine : Engine) (program environment context : Handle) (rule : Rule) (added : Option Additions) (names : NamedValues) (given : List CallReply) (waits : Option Stop) (r : Result Value HostError)
+    → Some rule ≡ thing_at engine.rules program → additions_at engine environment ≡ Some added → names_at engine context ≡ Some names → r ≡ Err Differs → waits ≡ None → IsOther (named_by added) given stop
+    → MatchOption (run_inputs engine program environment context) (r ≡ Err Unknown) (λ q. WaitsIfAsks q given r waits)
+differs_so {stop} engine program environment context rule added names given waits r found a n is none other =
+    let stands : WaitsIfAsks {A = Value} (inputs_in engine rule added names) given (Err Differs) waits = (none, record { stop = stop; other = other }) in
+    subst (λ (o : Option RunInputs). MatchOption o (r ≡ Err Unknown) (λ q. WaitsIfAsks q given r waits)) (sym (found_so engine program environment context rule added names found a n))
+    (subst (λ (d : Result Value HostError). WaitsIfAsks (inputs_in engine rule added names) given d waits) (sym is) stands)
 
 -- what a run gives is kept, or passed on
 runs_kept : (q : RunInputs) (given : List CallReply) (answer : Result Value HostError) (done : Result (Unit {0}) HostError) (value : Value)

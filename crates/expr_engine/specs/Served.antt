@@ -71,10 +71,15 @@ pub record AnswersNumber (q : RunInputs) (given : List CallReply) (number : ℕ)
   pub is : number ≡ number_of status
   pub says : Says q given status value
 
--- A call that ended so has this number, or memory was refused for its message.
+-- A call that ended so has this number, or memory was refused for its message, if it has one.
 abbrev pub EndsCall : {A : Type 0} → Result A HostError → ℕ → Type 0
 EndsCall (Ok shown) number = number ≡ 0
-EndsCall (Err refused) number = (number ≡ number_of (status_of refused)) ⊎ (number ≡ 5)
+EndsCall (Err (Language error)) number = (number ≡ number_of (status_of (Language error))) ⊎ (number ≡ 5)
+EndsCall (Err Unknown) number = number ≡ 6
+EndsCall (Err Misuse) number = number ≡ 7
+EndsCall (Err Asks) number = number ≡ 8
+EndsCall (Err Differs) number = number ≡ 9
+EndsCall (Err (Stopped limit)) number = (number ≡ number_of (status_of (Stopped limit))) ⊎ (number ≡ 5)
 
 -- the text that an engine shows
 abbrev pub text_shown : Shows → Engine → List ℕ

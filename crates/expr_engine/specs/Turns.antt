@@ -1,5 +1,5 @@
 -- How the run stands that waits for a host's reply.
-use Rattle.std.specs.Prelude.{◌≡◌, ◌⊎◌, ℕ, List, [], ◌∷◌, ◌++◌, Option, None, Some, IsSomeAnd, MatchOption, Result, Ok, Err, string_bytes}
+use Rattle.std.specs.Prelude.{◌≡◌, ◌⊎◌, ℕ, Bool, List, [], ◌∷◌, ◌++◌, Option, None, Some, IsSomeAnd, MatchOption, Result, Ok, Err, string_bytes}
 use Rattle.expr_engine.specs.Engines.{RunInputs, run_inputs, waiting_inputs}
 use Rattle.expr_engine.specs.Runs.{named_by}
 use Rattle.expr_engine.specs.Served.{EndsCall, RunServes}
@@ -12,7 +12,7 @@ use Rattle.expr_exchange.specs.Builder.{values_of}
 use Rattle.expr_exchange.specs.declared.host_error.HostError.{HostError}
 use Rattle.expr_exchange.specs.declared.host_error.HostError.TheVariants.{Language, Unknown, Misuse, Asks, Differs, Stopped}
 use Rattle.expr_handles.specs.declared.Handle.{Handle}
-use Rattle.expr_stops.specs.Stops.{IsNext, IsSame, waiting_call_of, replies_of}
+use Rattle.expr_stops.specs.Stops.{IsNext, IsOther, IsSame, waiting_call_of, replies_of}
 use Rattle.expr_stops.specs.declared.replies.CallReply.{CallReply}
 use Rattle.expr_stops.specs.declared.replies.Reply.{Reply}
 use Rattle.expr_stops.specs.declared.replies.Reply.TheVariants as reply
@@ -20,14 +20,19 @@ use Rattle.expr_stops.specs.declared.replay.Stop.{Stop}
 use Rattle.expr_error.specs.ErrorKind.{error_kind, memory}
 use Rattle.expr_value.specs.declared.value.Value.{Value}
 
--- A run that asks waits for the reply to its next call, and any other waits for nothing.
+-- A run came to a call of a registered name at whose place another was replied to.
+pub record ComesToOther (named : List ℕ → Bool) (given : List CallReply) : Type 0 where
+  pub stop : Stop
+  pub other : IsOther named given stop
+
+-- A run that asks waits for the reply to its next call, and any other waits for nothing. One that differs came to another call.
 abbrev pub WaitsIfAsks : {A : Type 0} → RunInputs → List CallReply → Result A HostError → Option Stop → Type 0
 WaitsIfAsks q given (Ok v) waits = waits ≡ None
 WaitsIfAsks q given (Err (Language error)) waits = waits ≡ None
 WaitsIfAsks q given (Err Unknown) waits = waits ≡ None
 WaitsIfAsks q given (Err Misuse) waits = waits ≡ None
 WaitsIfAsks q given (Err Asks) waits = IsSomeAnd waits (IsNext (named_by q.added) given)
-WaitsIfAsks q given (Err Differs) waits = waits ≡ None
+WaitsIfAsks q given (Err Differs) waits = (waits ≡ None) × ComesToOther (named_by q.added) given
 WaitsIfAsks q given (Err (Stopped limit)) waits = waits ≡ None
 
 -- A run's answer is looked at, and a refusal is passed on.

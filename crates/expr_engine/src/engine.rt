@@ -440,6 +440,8 @@ impl Engine {
         ensures noted { IfOk result (IsNotedAt (refused_byte refused.now) text.now) }
         ensures unknown { refused.now ≡ HostError.Unknown → IsOk result }
         ensures misuse { refused.now ≡ HostError.Misuse → IsOk result }
+        ensures asks { refused.now ≡ HostError.Asks → IsOk result }
+        ensures differs { refused.now ≡ HostError.Differs → IsOk result }
         ensures limit { OnOk result (SaysLimit refused.now (string_bytes self.new.said)) }
     {
         self.said = String::new(self.alloc);

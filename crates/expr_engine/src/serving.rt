@@ -156,6 +156,8 @@ fn refuse(engine: &mut Engine, refused: &HostError, call: &mut Call<'_>) -> Stat
         ⊎ (result ≡ Status.Memory) }
     ensures unknown { refused.now ≡ HostError.Unknown → result ≡ Status.Unknown }
     ensures misuse { refused.now ≡ HostError.Misuse → result ≡ Status.Misuse }
+    ensures asks { refused.now ≡ HostError.Asks → result ≡ Status.Asks }
+    ensures differs { refused.now ≡ HostError.Differs → result ≡ Status.Differs }
 {
     engine.built.clear();
     match engine.note(refused, call.text) {
