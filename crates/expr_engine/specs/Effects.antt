@@ -79,6 +79,7 @@ pub record Compiles (old new : Engine) (call : Call) (reply : CallResult) : Type
   pub contexts : new.contexts ≡ old.contexts
   pub environments : new.environments ≡ old.environments
   pub rest : KeepsRest old new
+  pub built : new.built ≡ old.built
 
 -- These are a program's names, each on a line, and how many they are.
 pub record AreSaid (b : Block) (text : List ℕ) (count : ℕ) : Type 0 where
@@ -94,6 +95,7 @@ pub record SaysNames (old new : Engine) (call : Call) (reply : CallResult) : Typ
   pub count : ℕ
   pub said : IsSomeAnd (thing_at old.rules call.program) (λ rule. AreSaid (program_term rule.program) (string_bytes new.said) count)
   pub number : pos count ≤ℤ pos 9223372036854775807 → reply.number ≡ pos count
+  pub built : new.built ≡ old.built
 
 -- Of the value its kind, its number and its fraction are told.
 pub record Tells (v : Value) (reply : CallResult) : Type 0 where
@@ -107,10 +109,17 @@ pub record RunsOnce (old new : Engine) (call : Call) (reply : CallResult) : Type
   pub answer : IsSomeAnd (run_inputs old call.program call.environment call.context) (λ q. MayAnswer q [] (Ok (part_of new.answer)))
   pub way : way_of new.answer ≡ []
   pub told : Tells (part_of new.answer) reply
+  pub built : new.built ≡ old.built
+
+-- The last value was taken.
+pub record TakesLast (old new : List Value) : Type 0 where
+  pub last : Value
+  pub stood : old ≡ new ++ last ∷ []
 
 -- The run that waited came to its end. Its answer is kept, and looked at as a whole.
-pub record EndsRun (old new : Engine) (reply : CallResult) : Type 0 where
+pub record EndsRun (Built : List Value → List Value → Type 0) (old new : Engine) (reply : CallResult) : Type 0 where
   pub keeps : KeepsAll old new
+  pub built : Built (values_of old.built) (values_of new.built)
   pub answer : IsSomeAnd (waiting_inputs old) (λ q. MayAnswer q (replies_of new.waits.stops) (Ok (part_of new.answer)))
   pub way : way_of new.answer ≡ []
   pub told : Tells (part_of new.answer) reply
@@ -124,12 +133,14 @@ pub record LooksAtCall (old new : Engine) (reply : CallResult) : Type 0 where
   pub way : way_of new.answer ≡ []
   pub name : string_bytes new.said ≡ string_bytes stop.call.ident
   pub told : Tells (part_of new.answer) reply
+  pub built : new.built ≡ old.built
 
 pub record AddsContext (old new : Engine) (reply : CallResult) : Type 0 where
   pub contexts : Adds (λ names. names ≡ []) old.contexts new.contexts reply.context
   pub rules : new.rules ≡ old.rules
   pub environments : new.environments ≡ old.environments
   pub rest : KeepsRest old new
+  pub built : new.built ≡ old.built
 
 -- The value that was built last became a context.
 pub record AddsBuiltContext (old new : Engine) (reply : CallResult) : Type 0 where
@@ -187,16 +198,19 @@ pub record Looks (old new : Engine) (reply : CallResult) : Type 0 where
   pub keeps : KeepsAll old new
   pub rest : KeepsRest old new
   pub told : Tells (part_of new.answer) reply
+  pub built : new.built ≡ old.built
 
 pub record LooksIn (old new : Engine) (call : Call) (reply : CallResult) : Type 0 where
   pub keeps : KeepsAll old new
   pub down : LooksDown call.number old.answer new.answer
   pub told : Tells (part_of new.answer) reply
+  pub built : new.built ≡ old.built
 
 pub record LooksOut (old new : Engine) (reply : CallResult) : Type 0 where
   pub keeps : KeepsAll old new
   pub up : LooksUp old.answer new.answer
   pub told : Tells (part_of new.answer) reply
+  pub built : new.built ≡ old.built
 
 -- The text of a key is the string, or what the key prints as.
 abbrev pub key_said : Value → List ℕ
@@ -209,18 +223,21 @@ pub record SaysKey (old new : Engine) (call : Call) (reply : CallResult) : Type 
   pub is : at_number call.number (key_at (part_of old.answer)) ≡ Some key
   pub told : Tells key reply
   pub text : string_bytes new.said ≡ key_said key
+  pub built : new.built ≡ old.built
 
 -- A text is said of the value that is looked at.
 pub record SaysText (Is : Value → List ℕ → Type 0) (old new : Engine) : Type 0 where
   pub keeps : KeepsAll old new
   pub rest : KeepsRest old new
   pub text : Is (part_of old.answer) (string_bytes new.said)
+  pub built : new.built ≡ old.built
 
 pub record AddsEnvironment (old new : Engine) (reply : CallResult) : Type 0 where
   pub environments : Adds AddsNothing old.environments new.environments reply.environment
   pub rules : new.rules ≡ old.rules
   pub contexts : new.contexts ≡ old.contexts
   pub rest : KeepsRest old new
+  pub built : new.built ≡ old.built
 
 -- An environment is such now, and every other is what it was.
 pub record ChangesEnvironment (Becomes : Additions → Additions → Type 0) (old new : Engine) (call : Call) : Type 0 where
@@ -228,6 +245,7 @@ pub record ChangesEnvironment (Becomes : Additions → Additions → Type 0) (ol
   pub rules : new.rules ≡ old.rules
   pub contexts : new.contexts ≡ old.contexts
   pub rest : KeepsRest old new
+  pub built : new.built ≡ old.built
 
 abbrev pub AddsFixedZone : Engine → Engine → Call → Type 0
 AddsFixedZone old new call = ChangesEnvironment (BecomesFixed call.name.now call.number) old new call
@@ -246,18 +264,21 @@ pub record DropsProgram (old new : Engine) (call : Call) : Type 0 where
   pub contexts : new.contexts ≡ old.contexts
   pub environments : new.environments ≡ old.environments
   pub rest : KeepsRest old new
+  pub built : new.built ≡ old.built
 
 pub record DropsContext (old new : Engine) (call : Call) : Type 0 where
   pub contexts : LetsGo old.contexts new.contexts call.context
   pub rules : new.rules ≡ old.rules
   pub environments : new.environments ≡ old.environments
   pub rest : KeepsRest old new
+  pub built : new.built ≡ old.built
 
 pub record DropsEnvironment (old new : Engine) (call : Call) : Type 0 where
   pub environments : LetsGo old.environments new.environments call.environment
   pub rules : new.rules ≡ old.rules
   pub contexts : new.contexts ≡ old.contexts
   pub rest : KeepsRest old new
+  pub built : new.built ≡ old.built
 
 pub record ForgetsAll (old new : Engine) : Type 0 where
   pub rules : (handle : Handle) → thing_at new.rules handle ≡ None
@@ -272,12 +293,14 @@ pub record SetsLimit (old new : Engine) (call : Call) : Type 0 where
   pub limits : IsSomeAnd (limits_asked old.limits call.kind call.number) (λ limits. new.limits ≡ Some limits)
   pub keeps : KeepsAll old new
   pub answer : new.answer ≡ old.answer
+  pub built : new.built ≡ old.built
 
 -- There are no limits.
 pub record LetsGoOfLimits (old new : Engine) : Type 0 where
   pub limits : new.limits ≡ None
   pub keeps : KeepsAll old new
   pub answer : new.answer ≡ old.answer
+  pub built : new.built ≡ old.built
 
 -- what a call has done that is done
 abbrev pub Does : Ask → Engine → Engine → Call → CallResult → Type 0
@@ -308,8 +331,8 @@ Does is.DropContext old new call reply = DropsContext old new call
 Does is.DropEnvironment old new call reply = DropsEnvironment old new call
 Does is.Clear old new call reply = ForgetsAll old new
 Does is.Name old new call reply = AddsName old new call
-Does is.Answer old new call reply = EndsRun old new reply
-Does is.Refuse old new call reply = EndsRun old new reply
+Does is.Answer old new call reply = EndsRun TakesLast old new reply
+Does is.Refuse old new call reply = EndsRun (λ was is. is ≡ was) old new reply
 Does is.WaitingCall old new call reply = LooksAtCall old new reply
 Does is.Limit old new call reply = SetsLimit old new call
 Does is.Unlimited old new call reply = LetsGoOfLimits old new

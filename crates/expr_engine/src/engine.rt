@@ -86,6 +86,7 @@ impl Engine {
         ensures next { OnErr result (next_number self.new.rules ≡ next_number self.old.rules) }
         ensures contexts { self.new.contexts ≡ self.old.contexts }
         ensures environments { self.new.environments ≡ self.old.environments }
+        ensures built { self.new.built ≡ self.old.built }
         ensures standing { KeepsRest self.old self.new }
     {
         match Rule::compile(self.alloc, text, self.limits)? {
@@ -184,6 +185,7 @@ impl Engine {
         ensures way { OnOk result (way_of self.new.answer ≡ []) }
         ensures err { OnErr result (self.new.answer ≡ self.old.answer) }
         ensures kept { KeepsAll self.old self.new }
+        ensures built { self.new.built ≡ self.old.built }
         ensures limits { self.new.limits ≡ self.old.limits }
     {
         self.knows_run(program, environment, context)?;
@@ -223,6 +225,7 @@ impl Engine {
         ensures waits { self.new.waits ≡ self.old.waits }
         ensures limits { self.new.limits ≡ self.old.limits }
         ensures kept { KeepsAll self.old self.new }
+        ensures built { self.new.built ≡ self.old.built }
     {
         self.answer.keep(answer?);
         Ok(())
@@ -254,6 +257,7 @@ impl Engine {
         ensures way { OnOk result (way_of self.new.answer ≡ []) }
         ensures err { OnErr result (self.new.answer ≡ self.old.answer) }
         ensures kept { KeepsAll self.old self.new }
+        ensures built { self.new.built ≡ self.old.built }
         ensures limits { self.new.limits ≡ self.old.limits }
     {
         self.waits.stops.answer(value)?;
@@ -270,6 +274,7 @@ impl Engine {
         ensures way { OnOk result (way_of self.new.answer ≡ []) }
         ensures err { OnErr result (self.new.answer ≡ self.old.answer) }
         ensures kept { KeepsAll self.old self.new }
+        ensures built { self.new.built ≡ self.old.built }
         ensures limits { self.new.limits ≡ self.old.limits }
     {
         self.waits.stops.refuse(text)?;
@@ -289,6 +294,7 @@ impl Engine {
         ensures way { OnOk result (way_of self.new.answer ≡ []) }
         ensures err { OnErr result (self.new.answer ≡ self.old.answer) }
         ensures kept { KeepsAll self.old self.new }
+        ensures built { self.new.built ≡ self.old.built }
         ensures limits { self.new.limits ≡ self.old.limits }
     {
         let mut stops = std::mem::replace(&mut self.waits.stops, Stops::new(self.alloc));
@@ -362,6 +368,7 @@ impl Engine {
         ensures next { next_number self.new.environments ≡ next_number self.old.environments }
         ensures rules { self.new.rules ≡ self.old.rules }
         ensures contexts { self.new.contexts ≡ self.old.contexts }
+        ensures built { self.new.built ≡ self.old.built }
         ensures standing { KeepsRest self.old self.new }
     {
         let mut host = Additions::new(self.alloc);
@@ -383,6 +390,7 @@ impl Engine {
         ensures next { next_number self.new.environments ≡ next_number self.old.environments }
         ensures rules { self.new.rules ≡ self.old.rules }
         ensures contexts { self.new.contexts ≡ self.old.contexts }
+        ensures built { self.new.built ≡ self.old.built }
         ensures standing { KeepsRest self.old self.new }
     {
         let mut host = Additions::new(self.alloc);
@@ -404,6 +412,7 @@ impl Engine {
         ensures next { next_number self.new.environments ≡ next_number self.old.environments }
         ensures rules { self.new.rules ≡ self.old.rules }
         ensures contexts { self.new.contexts ≡ self.old.contexts }
+        ensures built { self.new.built ≡ self.old.built }
         ensures standing { KeepsRest self.old self.new }
     {
         let mut host = Additions::new(self.alloc);

@@ -1,6 +1,6 @@
 //! Asks about the call that waits for a host's reply.
 ghost use Rattle.std.specs.Prelude.{◌≡◌, ◌≢◌, IfErr, OnErr, OnOk};
-ghost use Rattle.expr_engine.specs.Effects.{EndsRun, IsStale, LooksAtCall, call_result};
+ghost use Rattle.expr_engine.specs.Effects.{EndsRun, IsStale, LooksAtCall, TakesLast, call_result};
 ghost use Rattle.expr_engine.specs.Engines.{KeepsAll, waiting_inputs};
 ghost use Rattle.expr_engine.specs.Turns.{IsAnswer, IsRefusal, RunGoesOn};
 ghost use Rattle.expr_exchange.specs.Builder.{values_of};
@@ -15,7 +15,7 @@ use expr_exchange::HostError;
 
 /// Answers the call that waits with the value that was built last, and goes on with its run.
 pub fn answer_call(engine: &mut Engine, call: &mut Call<'_>) -> Result<(), HostError>
-    ensures done { OnOk result (EndsRun engine.old engine.new (call_result call.new)) }
+    ensures done { OnOk result (EndsRun TakesLast engine.old engine.new (call_result call.new)) }
     ensures turns { RunGoesOn (IsAnswer (values_of engine.old.built))
         (waiting_inputs engine.old) engine.old.waits
         engine.new.waits result (part_of engine.new.answer) }
@@ -34,7 +34,8 @@ pub fn answer_call(engine: &mut Engine, call: &mut Call<'_>) -> Result<(), HostE
 
 /// Refuses the call that waits with a text, and goes on with its run.
 pub fn refuse_call(engine: &mut Engine, call: &mut Call<'_>) -> Result<(), HostError>
-    ensures done { OnOk result (EndsRun engine.old engine.new (call_result call.new)) }
+    ensures done { OnOk result
+        (EndsRun (λ was is. is ≡ was) engine.old engine.new (call_result call.new)) }
     ensures turns { RunGoesOn (IsRefusal call.old.text.now) (waiting_inputs engine.old) engine.old.waits
         engine.new.waits result (part_of engine.new.answer) }
     ensures unknown { IsStale engine.old → result ≡ Err HostError.Unknown }

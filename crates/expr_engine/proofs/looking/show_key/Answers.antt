@@ -15,4 +15,5 @@ returns-clause-done c = record {
       (subst (λ n. at_number n (key_at c.part.result.now) ≡ Some c.in_ok-key.key) (to_z-of_z w64 c.args.call.now.number fits) c.in_ok-key.ensures.ok);
   told = c.describe.ensures;
   text = search rules;
+  built = refl;
 }

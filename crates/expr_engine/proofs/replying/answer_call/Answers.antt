@@ -1,10 +1,11 @@
-use Rattle.std.proofs.Common.{◌≡◌, Ok, Err, inr, refl, subst}
+use Rattle.std.proofs.Common.{◌≡◌, ◌∙◌, ◌++◌, ◌∷◌, [], Ok, Err, ap, inr, refl, subst, sym}
 use Rattle.expr_engine.specs.Effects.{Tells, call_result}
 use Rattle.expr_engine.specs.Engines.{waiting_inputs}
 use Rattle.expr_engine.specs.Turns.{IsAnswer}
 use Rattle.expr_engine.proofs.Turned.{built_last, ended_so, left_waiting, passed_on, replies_so}
 use Rattle.expr_exchange.specs.Builder.{values_of}
 use Rattle.expr_exchange.specs.Cursor.{part_of}
+use Rattle.expr_exchange.specs.declared.builder.ValueBuilder.{ValueBuilder}
 use Rattle.expr_stops.specs.declared.replies.Reply.{Reply}
 use Rattle.expr_stops.specs.declared.replies.Reply.TheVariants as reply
 use Rattle.expr_engine.proofs.replying.answer_call.Goals as goal
@@ -55,6 +56,10 @@ returns-clause-done c =
     let new = c.reply.new.self in
     record {
       keeps = c.reply.ensures.kept;
+      built = record {
+        last = c.in_ok-value.value;
+        stood = c.in_ok-value.ensures.ok ∙ ap (λ (left : ValueBuilder). values_of left ++ c.in_ok-value.value ∷ []) (sym c.reply.ensures.built);
+      };
       answer =
           ended_so Is (waiting_inputs old) old.waits new.waits (part_of new.answer)
           (c.in_ok-reply.ensures.replied c.in_ok-knows_waiting.ensures.waits c.in_ok-knows_waiting.ensures.found);

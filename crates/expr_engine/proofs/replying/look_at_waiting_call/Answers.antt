@@ -27,4 +27,5 @@ returns-clause-done c =
       way = c.keep.ensures.way;
       name = name;
       told = subst (λ v. Tells v (call_result c.describe.new.call)) c.part.ensures c.describe.ensures;
+      built = refl;
     }

@@ -1,9 +1,11 @@
-use Rattle.std.proofs.Common.{ℕ, List, Ok, Err, inr, refl, subst}
+use Rattle.std.proofs.Common.{ℕ, List, Ok, Err, ap, inr, refl, subst}
 use Rattle.expr_engine.specs.Effects.{Tells, call_result}
 use Rattle.expr_engine.specs.Engines.{waiting_inputs}
 use Rattle.expr_engine.specs.Turns.{IsRefusal, RunGoesOn}
 use Rattle.expr_engine.proofs.Turned.{ended_so, left_waiting, passed_on}
+use Rattle.expr_exchange.specs.Builder.{values_of}
 use Rattle.expr_exchange.specs.Cursor.{part_of}
+use Rattle.expr_exchange.specs.declared.builder.ValueBuilder.{ValueBuilder}
 use Rattle.expr_engine.proofs.replying.refuse_call.Goals as goal
 
 pub returns-in_err-knows_waiting-clause-turns : goal.returns-in_err-knows_waiting-clause-turns
@@ -48,6 +50,7 @@ returns-clause-done c =
     let new = c.refuse.new.self in
     record {
       keeps = c.refuse.ensures.kept;
+      built = ap (λ (left : ValueBuilder). values_of left) c.refuse.ensures.built;
       answer =
           ended_so (IsRefusal c.in_ok-text.text.now) (waiting_inputs old) old.waits new.waits (part_of new.answer)
           (c.in_ok-refuse.ensures.replied c.in_ok-knows_waiting.ensures.waits c.in_ok-knows_waiting.ensures.found);
