@@ -1,10 +1,11 @@
 -- What a call does that is asked for.
-use Rattle.std.proofs.Common.{◌≡◌, [], Option, None, MatchOption, Result, Ok, Err, OnErr, OnOk, ap, arith, subst, sym}
+use Rattle.std.proofs.Common.{◌≡◌, [], Option, None, MatchOption, Result, Ok, Err, OnErr, OnOk, ap, arith, string_bytes, subst, sym}
 use Rattle.expr_engine.specs.Asks.{ask_of}
 use Rattle.expr_engine.specs.Effects.{Does, IsMissing, call_result}
 use Rattle.expr_engine.specs.Engines.{KeepsAll, KeepsRest, Leaves, NumbersRise}
 use Rattle.expr_engine.specs.Limiting.{LimitsBy}
 use Rattle.expr_engine.specs.Promised.{Acts, Gives, IsServed}
+use Rattle.expr_engine.specs.Served.{ShowsText}
 use Rattle.expr_engine.specs.Turns.{Turns, TurnsBy}
 use Rattle.expr_engine.specs.declared.call.Ask.{Ask}
 use Rattle.expr_engine.specs.declared.call.Call.{Call}
@@ -21,12 +22,12 @@ asked {ask} {other} {old} {new} {call} {answered} {done} is a = subst (λ (x : A
 
 pub acts : {ask : Ask} {old new : Engine} {call answered : Call} {done : Result (Unit {0}) HostError}
     → OnOk done (Does ask old new call (call_result answered)) → Gives ask old call answered done (part_of new.answer) → Turns ask old call done new.waits (part_of new.answer) → LimitsBy ask old.limits call (done ≡ Ok tt) (done ≡ Err Misuse) new.limits
-    → OnErr done (Leaves old new) → (IsMissing ask old call → done ≡ Err Unknown) → (done ≡ Err Unknown → IsMissing ask old call) → NumbersRise old new → Acts ask old new call answered done
-acts d g t l r u k n = record { does = d; gives = g; turns = t; limits = l; refused = r; unknown = u; known = k; numbers = n }
+    → OnErr done (Leaves old new) → (IsMissing ask old call → done ≡ Err Unknown) → (done ≡ Err Unknown → IsMissing ask old call) → NumbersRise old new → answered.room.now ≡ call.room.now → Acts ask old new call answered done
+acts d g t l r u k n o = record { does = d; gives = g; turns = t; limits = l; refused = r; unknown = u; known = k; numbers = n; room = o }
 
 -- a number that asks for nothing is misused
-pub served_nothing : (old new : Engine) (call answered : Call) → ask_of call.ask ≡ None → answered.status ≡ 7 → KeepsAll old new → KeepsRest old new → values_of new.built ≡ [] → IsServed old new call answered
-served_nothing old new call answered none seven k s b = record {
+pub served_nothing : (old new : Engine) (call answered : Call) → ask_of call.ask ≡ None → answered.status ≡ 7 → KeepsAll old new → KeepsRest old new → values_of new.built ≡ [] → ShowsText (string_bytes new.said) call.room.now answered → IsServed old new call answered
+served_nothing old new call answered none seven k s b said = record {
   done = λ z. absurd (omega (arith, z, seven));
   text = λ is. let no : ⊥ = cc (is, none) in absurd no;
   run = λ is. let no : ⊥ = cc (is, none) in absurd no;
@@ -38,4 +39,5 @@ served_nothing old new call answered none seven k s b = record {
   known = λ z. absurd (omega (arith, z, seven));
   numbers = numbers_kept old new k;
   shown = λ z. absurd (omega (arith, z, seven));
+  said = λ n. said;
 }

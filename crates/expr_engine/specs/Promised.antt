@@ -1,11 +1,11 @@
 -- What is promised of an engine and of a call, in one word each.
-use Rattle.std.specs.Prelude.{◌≡◌, ◌≢◌, [], None, Some, MatchOption, Result, Ok, Err, IfErr, OnErr, OnOk, length}
+use Rattle.std.specs.Prelude.{◌≡◌, ◌≢◌, [], None, Some, MatchOption, Result, Ok, Err, IfErr, OnErr, OnOk, string_bytes}
 use Rattle.expr_engine.specs.Asks.{ask_of, shows_of}
 use Rattle.expr_engine.specs.Effects.{Does, IsMissing, call_result}
 use Rattle.expr_engine.specs.Engines.{CompileRefuses, Leaves, NumbersRise, run_inputs}
 use Rattle.expr_engine.specs.Faults.{AnswersText, place_of}
 use Rattle.expr_engine.specs.Limiting.{LimitsBy, for_strangers}
-use Rattle.expr_engine.specs.Served.{AnswersNumber, RunServes, text_shown}
+use Rattle.expr_engine.specs.Served.{AnswersNumber, RunServes, ShowsText, text_shown}
 use Rattle.expr_engine.specs.Turns.{Turns, TurnsBy}
 use Rattle.expr_engine.specs.declared.call.Ask.{Ask}
 use Rattle.expr_engine.specs.declared.call.Ask.TheVariants as is
@@ -47,6 +47,7 @@ pub record Acts (ask : Ask) (old new : Engine) (call answered : Call) (done : Re
   pub unknown : IsMissing ask old call → done ≡ Err Unknown
   pub known : done ≡ Err Unknown → IsMissing ask old call
   pub numbers : NumbersRise old new
+  pub room : answered.room.now ≡ call.room.now
 
 -- What `serve` promises of the engine before and after, and of the call as it was asked and as it was answered.
 pub record IsServed (old new : Engine) (call answered : Call) : Type 0 where
@@ -69,4 +70,7 @@ pub record IsServed (old new : Engine) (call answered : Call) : Type 0 where
   pub known : answered.status ≡ 6 → MatchOption (ask_of call.ask) ⊥ (λ ask. IsMissing ask old call)
   -- No handle is given twice.
   pub numbers : NumbersRise old new
-  pub shown : answered.status ≡ 0 → MatchOption (ask_of call.ask) ⊥ (λ ask. answered.length ≡ length (text_shown (shows_of ask) new))
+  -- The text that a call shows, or the message of its refusal, is in the host's room as far as that goes.
+  pub shown : answered.status ≡ 0
+      → MatchOption (ask_of call.ask) ⊥ (λ ask. ShowsText (text_shown (shows_of ask) new) call.room.now answered)
+  pub said : answered.status ≢ 0 → ShowsText (string_bytes new.said) call.room.now answered

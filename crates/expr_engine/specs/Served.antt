@@ -1,6 +1,7 @@
 -- What a call answers.
-use Rattle.std.specs.Prelude.{◌≡◌, ◌≢◌, ◌⊎◌, ℕ, List, [], Result, Ok, Err, string_bytes}
+use Rattle.std.specs.Prelude.{◌≡◌, ◌≢◌, ◌⊎◌, ◌++◌, ℕ, List, [], Result, Ok, Err, drop, length, min, string_bytes, take}
 use Rattle.expr_engine.specs.Engines.{RunInputs, MayAnswer, MayEnd}
+use Rattle.expr_engine.specs.declared.call.Call.{Call}
 use Rattle.expr_engine.specs.declared.call.Shows.{Shows}
 use Rattle.expr_engine.specs.declared.call.Shows.TheVariants as shows
 use Rattle.expr_engine.specs.declared.engine.Engine.{Engine}
@@ -86,6 +87,15 @@ abbrev pub text_shown : Shows → Engine → List ℕ
 text_shown shows.Nothing engine = []
 text_shown shows.Said engine = string_bytes engine.said
 text_shown shows.Value engine = bytes_in (part_of engine.answer)
+
+-- a room after a text was written into it: as much of the text as it holds, and what it had behind that
+abbrev pub text_in_room : List ℕ → List ℕ → List ℕ
+text_in_room text room = take (min (length text) (length room)) text ++ drop (min (length text) (length room)) room
+
+-- A call answers how long a text is, and has it in its room.
+pub record ShowsText (text room : List ℕ) (answered : Call) : Type 0 where
+  pub count : answered.length ≡ length text
+  pub written : answered.room.now ≡ text_in_room text room
 
 -- A limit that was passed is said in words.
 abbrev pub SaysLimit : HostError → List ℕ → Type 0

@@ -20,6 +20,7 @@ pub fn add_environment(engine: &mut Engine, call: &mut Call<'_>) -> Result<(), H
     ensures rules { engine.new.rules ≡ engine.old.rules }
     ensures contexts { engine.new.contexts ≡ engine.old.contexts }
     ensures standing { KeepsRest engine.old engine.new }
+    ensures room { call.new.room.now ≡ call.old.room.now }
 {
     call.environment = engine.environments.put(Additions::new(engine.alloc))?;
     Ok(())

@@ -20,6 +20,7 @@ pub fn new_context(engine: &mut Engine, call: &mut Call<'_>) -> Result<(), HostE
     ensures rules { engine.new.rules ≡ engine.old.rules }
     ensures environments { engine.new.environments ≡ engine.old.environments }
     ensures standing { KeepsRest engine.old engine.new }
+    ensures room { call.new.room.now ≡ call.old.room.now }
 {
     call.context = engine.contexts.put(Context::new(engine.alloc))?;
     Ok(())
@@ -34,6 +35,7 @@ pub fn built_context(engine: &mut Engine, call: &mut Call<'_>) -> Result<(), Hos
     ensures rules { engine.new.rules ≡ engine.old.rules }
     ensures environments { engine.new.environments ≡ engine.old.environments }
     ensures standing { KeepsRest engine.old engine.new }
+    ensures room { call.new.room.now ≡ call.old.room.now }
 {
     let context = engine.built.context()?;
     call.context = engine.contexts.put(context)?;

@@ -17,7 +17,8 @@ use std::alloc::Global;
 
 /// Tells of a value.
 pub fn describe(value: &Value, call: &mut Call<'_>)
-    ensures { Tells value.now (call_result call.new) }
+    ensures told { Tells value.now (call_result call.new) }
+    ensures room { call.new.room.now ≡ call.old.room.now }
 {
     let told = summary_of(value);
     call.kind = told.kind.number();
@@ -31,6 +32,7 @@ pub fn look(engine: &mut Engine, call: &mut Call<'_>) -> Result<(), HostError>
     ensures found { IfErr result (λ e. e ≢ HostError.Unknown) }
     ensures kept { KeepsAll engine.old engine.new }
     ensures standing { KeepsRest engine.old engine.new }
+    ensures room { call.new.room.now ≡ call.old.room.now }
 {
     describe(engine.answer.part(), call);
     Ok(())
@@ -44,6 +46,7 @@ pub fn look_down(engine: &mut Engine, call: &mut Call<'_>) -> Result<(), HostErr
     ensures kept { KeepsAll engine.old engine.new }
     ensures waits { engine.new.waits ≡ engine.old.waits }
     ensures limits { engine.new.limits ≡ engine.old.limits }
+    ensures room { call.new.room.now ≡ call.old.room.now }
 {
     engine.answer.go_down(call.number)?;
     describe(engine.answer.part(), call);
@@ -58,6 +61,7 @@ pub fn look_up(engine: &mut Engine, call: &mut Call<'_>) -> Result<(), HostError
     ensures kept { KeepsAll engine.old engine.new }
     ensures waits { engine.new.waits ≡ engine.old.waits }
     ensures limits { engine.new.limits ≡ engine.old.limits }
+    ensures room { call.new.room.now ≡ call.old.room.now }
 {
     engine.answer.go_up()?;
     describe(engine.answer.part(), call);
@@ -70,6 +74,7 @@ pub fn show_key(engine: &mut Engine, call: &mut Call<'_>) -> Result<(), HostErro
     ensures found { IfErr result (λ e. e ≢ HostError.Unknown) }
     ensures kept { KeepsAll engine.old engine.new }
     ensures standing { KeepsRest engine.old engine.new }
+    ensures room { call.new.room.now ≡ call.old.room.now }
 {
     let key = key_of(engine.alloc, engine.answer.part(), call.number)?;
     describe(&key, call);

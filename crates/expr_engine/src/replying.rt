@@ -24,6 +24,7 @@ pub fn answer_call(engine: &mut Engine, call: &mut Call<'_>) -> Result<(), HostE
     ensures answer { OnErr result (engine.new.answer ≡ engine.old.answer) }
     ensures kept { KeepsAll engine.old engine.new }
     ensures limits { engine.new.limits ≡ engine.old.limits }
+    ensures room { call.new.room.now ≡ call.old.room.now }
 {
     engine.knows_waiting()?;
     let value = engine.built.pop()?;
@@ -43,6 +44,7 @@ pub fn refuse_call(engine: &mut Engine, call: &mut Call<'_>) -> Result<(), HostE
     ensures answer { OnErr result (engine.new.answer ≡ engine.old.answer) }
     ensures kept { KeepsAll engine.old engine.new }
     ensures limits { engine.new.limits ≡ engine.old.limits }
+    ensures room { call.new.room.now ≡ call.old.room.now }
 {
     engine.knows_waiting()?;
     let text = utf8(call.text)?;
@@ -59,6 +61,7 @@ pub fn look_at_waiting_call(engine: &mut Engine, call: &mut Call<'_>) -> Result<
     ensures waits { engine.new.waits ≡ engine.old.waits }
     ensures kept { KeepsAll engine.old engine.new }
     ensures limits { engine.new.limits ≡ engine.old.limits }
+    ensures room { call.new.room.now ≡ call.old.room.now }
 {
     let Some(stop) = engine.waits.stops.waiting_call() else {
         return Err(HostError::Misuse);

@@ -22,6 +22,7 @@ pub fn compile(engine: &mut Engine, call: &mut Call<'_>) -> Result<(), HostError
     ensures contexts { engine.new.contexts ≡ engine.old.contexts }
     ensures environments { engine.new.environments ≡ engine.old.environments }
     ensures standing { KeepsRest engine.old engine.new }
+    ensures room { call.new.room.now ≡ call.old.room.now }
 {
     let text = utf8(call.text)?;
     call.program = engine.compile(text)?;
@@ -35,6 +36,7 @@ pub fn names(engine: &mut Engine, call: &mut Call<'_>) -> Result<(), HostError>
     ensures known { result ≡ Err HostError.Unknown → thing_at engine.old.rules call.old.program ≡ None }
     ensures kept { KeepsAll engine.old engine.new }
     ensures standing { KeepsRest engine.old engine.new }
+    ensures room { call.new.room.now ≡ call.old.room.now }
 {
     let (names, count) = engine.names(call.program)?;
     call.number = i64::try_from(count).unwrap_or(0);
@@ -57,6 +59,7 @@ pub fn run(engine: &mut Engine, call: &mut Call<'_>) -> Result<(), HostError>
         call.old.context result engine.new.waits) }
     ensures kept { KeepsAll engine.old engine.new }
     ensures limits { engine.new.limits ≡ engine.old.limits }
+    ensures room { call.new.room.now ≡ call.old.room.now }
 {
     engine.run(call.program, call.environment, call.context)?;
     describe(engine.answer.part(), call);

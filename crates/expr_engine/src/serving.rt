@@ -1,10 +1,10 @@
 //! The one call: an engine does what it is asked to.
-ghost use Rattle.std.specs.Prelude.{◌≡◌, ◌⊎◌, [], length, Err, IfErr, IfSome, OnErr, OnOk};
+ghost use Rattle.std.specs.Prelude.{◌≡◌, ◌⊎◌, [], Err, IfErr, IfSome, OnErr, OnOk, string_bytes};
 ghost use Rattle.expr_engine.specs.Effects.{call_result};
 ghost use Rattle.expr_engine.specs.Engines.{KeepsAll, KeepsRest};
 ghost use Rattle.expr_engine.specs.Faults.{IsAt, place_of, refused_byte};
 ghost use Rattle.expr_engine.specs.Promised.{Acts, IsServed};
-ghost use Rattle.expr_engine.specs.Served.{EndsCall, number_of, text_shown};
+ghost use Rattle.expr_engine.specs.Served.{EndsCall, ShowsText, number_of, text_in_room, text_shown};
 ghost use Rattle.expr_exchange.specs.Builder.{values_of};
 ghost use Rattle.expr_exchange.specs.Refusals.{status_of};
 
@@ -87,7 +87,8 @@ fn finish(engine: &mut Engine, call: &mut Call<'_>, shows: Shows, done: Result<(
     ensures unknown { done ≡ Err HostError.Unknown → call.new.status ≡ 6 }
     ensures known { call.new.status ≡ 6 → done ≡ Err HostError.Unknown }
     ensures misuse { done ≡ Err HostError.Misuse → call.new.status ≡ 7 }
-    ensures length { OnOk done (call.new.length ≡ length (text_shown shows engine.new)) }
+    ensures shown { OnOk done (ShowsText (text_shown shows engine.new) call.old.room.now call.new) }
+    ensures said { OnErr done (ShowsText (string_bytes engine.new.said) call.old.room.now call.new) }
 {
     match done {
         Ok(()) => answer(engine, call, Status::Done, shows),
@@ -103,7 +104,7 @@ fn answer(engine: &Engine, call: &mut Call<'_>, status: Status, shows: Shows)
     ensures reply { call_result call.new ≡ call_result call.old }
     ensures place { place_of call.new ≡ place_of call.old }
     ensures status { call.new.status ≡ number_of status }
-    ensures length { call.new.length ≡ length (text_shown shows engine.now) }
+    ensures shown { ShowsText (text_shown shows engine.now) call.old.room.now call.new }
 {
     call.status = number(status);
     let text = shown_bytes(engine, shows);
@@ -151,6 +152,7 @@ fn refuse(engine: &mut Engine, refused: &HostError, call: &mut Call<'_>) -> Stat
     ensures standing { KeepsRest engine.old engine.new }
     ensures built { values_of engine.new.built ≡ [] }
     ensures reply { call_result call.new ≡ call_result call.old }
+    ensures room { call.new.room.now ≡ call.old.room.now }
     ensures status { (result ≡ status_of refused.now) ⊎ (result ≡ Status.Memory) }
     ensures placed { IsAt (refused_byte refused.now) call.old.text.now (place_of call.new)
         ⊎ (result ≡ Status.Memory) }
@@ -172,6 +174,7 @@ fn refuse(engine: &mut Engine, refused: &HostError, call: &mut Call<'_>) -> Stat
 /// Writes down where a text is refused, if it is known.
 fn mark(call: &mut Call<'_>, noted: Option<TextPlace>)
     ensures reply { call_result call.new ≡ call_result call.old }
+    ensures room { call.new.room.now ≡ call.old.room.now }
     ensures place { IfSome noted (λ place. place_of call.new ≡ place) }
 {
     match noted {
@@ -185,8 +188,9 @@ fn mark(call: &mut Call<'_>, noted: Option<TextPlace>)
 }
 
 /// Writes bytes into room as far as it goes.
-fn copy_into(from: &[u8], room: &mut [u8]) {
-    for (to, byte) in room.iter_mut().zip(from.iter()) {
-        *to = *byte;
-    }
+fn copy_into(from: &[u8], room: &mut [u8])
+    ensures { room.new ≡ text_in_room from.now room.old }
+{
+    let n = from.len().min(room.len());
+    room[..n].copy_from_slice(&from[..n]);
 }

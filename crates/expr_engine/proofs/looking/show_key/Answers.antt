@@ -13,7 +13,7 @@ returns-clause-done c = record {
       let fits : SFits w64 c.args.call.now.number = search rules in
       subst (λ v. at_number c.args.call.now.number (key_at v) ≡ Some c.in_ok-key.key) c.part.ensures
       (subst (λ n. at_number n (key_at c.part.result.now) ≡ Some c.in_ok-key.key) (to_z-of_z w64 c.args.call.now.number fits) c.in_ok-key.ensures.ok);
-  told = c.describe.ensures;
+  told = c.describe.ensures.told;
   text = search rules;
   built = refl;
 }

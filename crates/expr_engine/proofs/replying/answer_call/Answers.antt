@@ -64,5 +64,5 @@ returns-clause-done c =
           ended_so Is (waiting_inputs old) old.waits new.waits (part_of new.answer)
           (c.in_ok-reply.ensures.replied c.in_ok-knows_waiting.ensures.waits c.in_ok-knows_waiting.ensures.found);
       way = c.in_ok-reply.ensures.way;
-      told = subst (λ v. Tells v (call_result c.describe.new.call)) c.part.ensures c.describe.ensures;
+      told = subst (λ v. Tells v (call_result c.describe.new.call)) c.part.ensures c.describe.ensures.told;
     }

@@ -26,6 +26,6 @@ returns-clause-done c =
       arguments = arguments;
       way = c.keep.ensures.way;
       name = name;
-      told = subst (λ v. Tells v (call_result c.describe.new.call)) c.part.ensures c.describe.ensures;
+      told = subst (λ v. Tells v (call_result c.describe.new.call)) c.part.ensures c.describe.ensures.told;
       built = refl;
     }

@@ -1,11 +1,11 @@
-use Rattle.std.proofs.Common.{◌≡◌, [], MatchOption, ap, length, refl, subst, sym}
+use Rattle.std.proofs.Common.{◌≡◌, ℕ, List, [], MatchOption, ap, refl, string_bytes, subst, sym}
 use Rattle.expr_engine.specs.Asks.{ask_of, shows_of}
 use Rattle.expr_engine.specs.Effects.{Does, IsMissing, call_result}
 use Rattle.expr_engine.specs.Engines.{run_inputs}
 use Rattle.expr_engine.specs.Faults.{place_of}
 use Rattle.expr_engine.specs.Limiting.{LimitsBy}
 use Rattle.expr_engine.specs.Promised.{Gives}
-use Rattle.expr_engine.specs.Served.{AnswersNumber, text_shown}
+use Rattle.expr_engine.specs.Served.{AnswersNumber, ShowsText, text_shown}
 use Rattle.expr_engine.specs.Turns.{TurnsBy}
 use Rattle.expr_engine.specs.declared.call.Ask.{Ask}
 use Rattle.expr_engine.specs.declared.call.Ask.TheVariants as is
@@ -57,11 +57,13 @@ returns-in-Some c =
       known = λ e. asked_for ⊥ (ask_of call.ask) ask (λ ask. IsMissing ask old call) same (acts.known (ends.known e));
       numbers = rise_after old mid new acts.numbers ends.kept;
       shown = λ z.
-          asked_for ⊥ (ask_of call.ask) ask (λ ask. answered.length ≡ length (text_shown (shows_of ask) new)) same
-          (subst (λ s. answered.length ≡ length (text_shown s new)) c.shows.ensures (done_by result answered.status ends.length ends.ended z));
+          asked_for ⊥ (ask_of call.ask) ask (λ ask. ShowsText (text_shown (shows_of ask) new) call.room.now answered) same
+          (subst (λ s. ShowsText (text_shown s new) call.room.now answered) c.shows.ensures
+          (subst (λ (room : List ℕ). ShowsText (text_shown c.shows.result new) room answered) acts.room (done_by result answered.status ends.shown ends.ended z)));
+      said = λ n. subst (λ (room : List ℕ). ShowsText (string_bytes new.said) room answered) acts.room (refused_by result answered.status ends.said ends.ended n);
     }
 
 pub returns-in-None : goal.returns-in-None
 returns-in-None c =
     let ends = c.finish-in-None.ensures in
-    served_nothing c.args.engine.now c.finish-in-None.new.engine c.args.call.now c.finish-in-None.new.call (sym c.in-None.ensures) (ends.misuse refl) ends.kept ends.standing ends.built
+    served_nothing c.args.engine.now c.finish-in-None.new.engine c.args.call.now c.finish-in-None.new.call (sym c.in-None.ensures) (ends.misuse refl) ends.kept ends.standing ends.built ends.said
