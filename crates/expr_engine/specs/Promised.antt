@@ -5,6 +5,7 @@ use Rattle.expr_engine.specs.Effects.{Does, IsMissing, call_result}
 use Rattle.expr_engine.specs.Engines.{CompileRefuses, Leaves, NumbersRise, run_inputs}
 use Rattle.expr_engine.specs.Faults.{AnswersText, place_of}
 use Rattle.expr_engine.specs.Limiting.{LimitsBy, for_strangers}
+use Rattle.expr_engine.specs.Reasons.{EndsWithReason, MayRefuse}
 use Rattle.expr_engine.specs.Served.{AnswersNumber, RunServes, ShowsText, text_shown}
 use Rattle.expr_engine.specs.Turns.{Turns, TurnsBy}
 use Rattle.expr_engine.specs.declared.call.Ask.{Ask}
@@ -44,6 +45,7 @@ pub record Acts (ask : Ask) (old new : Engine) (call answered : Call) (done : Re
   pub turns : Turns ask old call done new.waits (part_of new.answer)
   pub limits : LimitsBy ask old.limits call (done ≡ Ok tt) (done ≡ Err Misuse) new.limits
   pub refused : OnErr done (Leaves old new)
+  pub why : IfErr done (MayRefuse ask old call)
   pub unknown : IsMissing ask old call → done ≡ Err Unknown
   pub known : done ≡ Err Unknown → IsMissing ask old call
   pub numbers : NumbersRise old new
@@ -64,6 +66,8 @@ pub record IsServed (old new : Engine) (call answered : Call) : Type 0 where
   pub limits : MatchOption (ask_of call.ask) (new.limits ≡ old.limits)
       (λ ask. LimitsBy ask old.limits call (answered.status ≡ 0) (answered.status ≡ 7) new.limits)
   pub refused : answered.status ≢ 0 → Leaves old new
+  -- A call is refused for a reason that it may have. A number that asks for nothing is MISUSE.
+  pub why : MatchOption (ask_of call.ask) (answered.status ≡ 7) (λ ask. EndsWithReason ask old call answered.status)
   pub built : answered.status ≢ 0 → values_of new.built ≡ []
   -- A handle that is out of date, or was never given, is UNKNOWN, and nothing else is.
   pub unknown : MatchOption (ask_of call.ask) (answered.status ≡ 7) (λ ask. IsMissing ask old call → answered.status ≡ 6)

@@ -2,6 +2,7 @@
 ghost use Rattle.std.specs.Prelude.{◌≡◌, None, ◌≢◌, IfErr, Err, OnErr, OnOk};
 ghost use Rattle.expr_engine.specs.Effects.{AddsEnvironment, AddsFixedZone, AddsName, AddsZoneByRule, SetsNow, call_result};
 ghost use Rattle.expr_engine.specs.Engines.{KeepsRest, NumbersRise, SameAdditions};
+ghost use Rattle.expr_exchange.specs.Refusals.{IsNoStop};
 ghost use Rattle.expr_handles.specs.HandleMap.{thing_at, next_number};
 
 use crate::additions::Additions;
@@ -21,6 +22,7 @@ pub fn add_environment(engine: &mut Engine, call: &mut Call<'_>) -> Result<(), H
     ensures contexts { engine.new.contexts ≡ engine.old.contexts }
     ensures standing { KeepsRest engine.old engine.new }
     ensures room { call.new.room.now ≡ call.old.room.now }
+    ensures ends { IfErr result IsNoStop }
 {
     call.environment = engine.environments.put(Additions::new(engine.alloc))?;
     Ok(())
@@ -38,6 +40,7 @@ pub fn zone_by_seconds(engine: &mut Engine, call: &Call<'_>) -> Result<(), HostE
     ensures rules { engine.new.rules ≡ engine.old.rules }
     ensures contexts { engine.new.contexts ≡ engine.old.contexts }
     ensures standing { KeepsRest engine.old engine.new }
+    ensures ends { IfErr result IsNoStop }
 {
     engine.knows_environment(call.environment)?;
     engine.add_zone(call.environment, utf8(call.name)?, call.number, None)
@@ -55,6 +58,7 @@ pub fn zone_by_rule(engine: &mut Engine, call: &Call<'_>) -> Result<(), HostErro
     ensures rules { engine.new.rules ≡ engine.old.rules }
     ensures contexts { engine.new.contexts ≡ engine.old.contexts }
     ensures standing { KeepsRest engine.old engine.new }
+    ensures ends { IfErr result IsNoStop }
 {
     engine.knows_environment(call.environment)?;
     let rule = utf8(call.text)?;
@@ -73,6 +77,7 @@ pub fn set_now(engine: &mut Engine, call: &Call<'_>) -> Result<(), HostError>
     ensures rules { engine.new.rules ≡ engine.old.rules }
     ensures contexts { engine.new.contexts ≡ engine.old.contexts }
     ensures standing { KeepsRest engine.old engine.new }
+    ensures ends { IfErr result IsNoStop }
 {
     engine.knows_environment(call.environment)?;
     let now = moment_of(call.number, call.fraction)?;
@@ -91,6 +96,7 @@ pub fn add_name(engine: &mut Engine, call: &Call<'_>) -> Result<(), HostError>
     ensures rules { engine.new.rules ≡ engine.old.rules }
     ensures contexts { engine.new.contexts ≡ engine.old.contexts }
     ensures standing { KeepsRest engine.old engine.new }
+    ensures ends { IfErr result IsNoStop }
 {
     engine.knows_environment(call.environment)?;
     engine.add_name(call.environment, utf8(call.name)?)

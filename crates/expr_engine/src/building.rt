@@ -3,6 +3,7 @@ ghost use Rattle.std.specs.Prelude.{◌≡◌, ◌≢◌, IfErr, IfOk, IsSomeAnd
 ghost use Rattle.expr_engine.specs.Effects.{HandsIn, MakesArray, MakesMap, Pushes, Unbuilds};
 ghost use Rattle.expr_engine.specs.Engines.{KeepsAll, KeepsRest};
 ghost use Rattle.expr_exchange.specs.Kinds.{kind_numbered};
+ghost use Rattle.expr_exchange.specs.Refusals.{IsNoStop};
 
 use crate::call::Call;
 use crate::engine::Engine;
@@ -20,6 +21,7 @@ pub fn handed_in(engine: &mut Engine, call: &Call<'_>) -> Result<Value, HostErro
     ensures contexts { engine.new.contexts ≡ engine.old.contexts }
     ensures environments { engine.new.environments ≡ engine.old.environments }
     ensures standing { KeepsRest engine.old engine.new }
+    ensures ends { IfErr result IsNoStop }
 {
     match Kind::from_number(call.kind) {
         Some(Kind::Built) => engine.built.pop(),
@@ -36,6 +38,7 @@ pub fn push(engine: &mut Engine, call: &Call<'_>) -> Result<(), HostError>
     ensures found { IfErr result (λ e. e ≢ HostError.Unknown) }
     ensures kept { KeepsAll engine.old engine.new }
     ensures standing { KeepsRest engine.old engine.new }
+    ensures ends { IfErr result IsNoStop }
 {
     let value = handed_in(engine, call)?;
     engine.built.push(value)
@@ -47,6 +50,7 @@ pub fn make_array(engine: &mut Engine, call: &Call<'_>) -> Result<(), HostError>
     ensures found { IfErr result (λ e. e ≢ HostError.Unknown) }
     ensures kept { KeepsAll engine.old engine.new }
     ensures standing { KeepsRest engine.old engine.new }
+    ensures ends { IfErr result IsNoStop }
 {
     engine.built.array(call.number)
 }
@@ -57,6 +61,7 @@ pub fn make_map(engine: &mut Engine, call: &Call<'_>) -> Result<(), HostError>
     ensures found { IfErr result (λ e. e ≢ HostError.Unknown) }
     ensures kept { KeepsAll engine.old engine.new }
     ensures standing { KeepsRest engine.old engine.new }
+    ensures ends { IfErr result IsNoStop }
 {
     engine.built.map(call.number)
 }
@@ -67,6 +72,7 @@ pub fn unbuild(engine: &mut Engine) -> Result<(), HostError>
     ensures found { IfErr result (λ e. e ≢ HostError.Unknown) }
     ensures kept { KeepsAll engine.old engine.new }
     ensures standing { KeepsRest engine.old engine.new }
+    ensures ends { IfErr result IsNoStop }
 {
     engine.built.clear();
     Ok(())

@@ -12,7 +12,7 @@ ghost use Rattle.expr_engine.specs.Runs.{pairs_of};
 ghost use Rattle.expr_engine.specs.Served.{RunServes, SaysLimit};
 ghost use Rattle.expr_engine.specs.Turns.{IsNewRun, IsRefusal, IsSameRun, PassesOn, RunGoesOn, WaitsIfAsks};
 ghost use Rattle.expr_exchange.specs.Cursor.{part_of, way_of};
-ghost use Rattle.expr_exchange.specs.Refusals.{ReturnsToHost};
+ghost use Rattle.expr_exchange.specs.Refusals.{IsNoStop, ReturnsToHost};
 ghost use Rattle.expr_handles.specs.HandleMap.{SameThings, thing_at, next_number};
 ghost use Rattle.expr_handles.specs.declared.Handle.{Handle};
 ghost use Rattle.expr_meter.specs.Counting.{stops as stops_at};
@@ -101,6 +101,7 @@ impl Engine {
             (λ rule. IfOk result (λ p. AreSaid (program_term rule.program) (string_bytes p.0) p.1)) }
         ensures unknown { thing_at self.now.rules program ≡ None → result ≡ Err HostError.Unknown }
         ensures known { result ≡ Err HostError.Unknown → thing_at self.now.rules program ≡ None }
+        ensures ends { IfErr result IsNoStop }
     {
         match self.rules.get(program) {
             Some(rule) => Ok(rule.names(self.alloc)?),
@@ -306,8 +307,9 @@ impl Engine {
 
     /// Refuses a handle that finds no context.
     pub fn knows_context(&self, context: Handle) -> Result<(), HostError>
-        ensures { MatchOption (thing_at self.now.contexts context) (result ≡ Err HostError.Unknown)
+        ensures found { MatchOption (thing_at self.now.contexts context) (result ≡ Err HostError.Unknown)
             (λ _. IsOk result) }
+        ensures ends { IfErr result IsNoStop }
     {
         match self.contexts.get(context) {
             Some(_) => Ok(()),
@@ -317,8 +319,9 @@ impl Engine {
 
     /// Refuses a handle that finds no environment.
     pub fn knows_environment(&self, environment: Handle) -> Result<(), HostError>
-        ensures { MatchOption (thing_at self.now.environments environment) (result ≡ Err HostError.Unknown)
+        ensures found { MatchOption (thing_at self.now.environments environment) (result ≡ Err HostError.Unknown)
             (λ _. IsOk result) }
+        ensures ends { IfErr result IsNoStop }
     {
         match self.environments.get(environment) {
             Some(_) => Ok(()),
@@ -338,6 +341,7 @@ impl Engine {
         ensures environments { self.new.environments ≡ self.old.environments }
         ensures built { self.new.built ≡ self.old.built }
         ensures standing { KeepsRest self.old self.new }
+        ensures ends { IfErr result IsNoStop }
     {
         self.knows_context(context)?;
         let name = String::from_str(self.alloc, name)?;
@@ -370,6 +374,7 @@ impl Engine {
         ensures contexts { self.new.contexts ≡ self.old.contexts }
         ensures built { self.new.built ≡ self.old.built }
         ensures standing { KeepsRest self.old self.new }
+        ensures ends { IfErr result IsNoStop }
     {
         let mut host = Additions::new(self.alloc);
         if !self.environments.swap(environment, &mut host) {
@@ -392,6 +397,7 @@ impl Engine {
         ensures contexts { self.new.contexts ≡ self.old.contexts }
         ensures built { self.new.built ≡ self.old.built }
         ensures standing { KeepsRest self.old self.new }
+        ensures ends { IfErr result IsNoStop }
     {
         let mut host = Additions::new(self.alloc);
         if !self.environments.swap(environment, &mut host) {
@@ -414,6 +420,7 @@ impl Engine {
         ensures contexts { self.new.contexts ≡ self.old.contexts }
         ensures built { self.new.built ≡ self.old.built }
         ensures standing { KeepsRest self.old self.new }
+        ensures ends { IfErr result IsNoStop }
     {
         let mut host = Additions::new(self.alloc);
         if !self.environments.swap(environment, &mut host) {

@@ -2,6 +2,7 @@
 ghost use Rattle.std.specs.Prelude.{◌≡◌, None, Err, ◌≢◌, IfErr, OnErr, OnOk};
 ghost use Rattle.expr_engine.specs.Effects.{AddsBuiltContext, AddsContext, Sets, call_result};
 ghost use Rattle.expr_engine.specs.Engines.{KeepsRest, NumbersRise};
+ghost use Rattle.expr_exchange.specs.Refusals.{IsNoStop};
 ghost use Rattle.expr_handles.specs.HandleMap.{SameThings, thing_at, next_number};
 
 use crate::building::handed_in;
@@ -21,6 +22,7 @@ pub fn new_context(engine: &mut Engine, call: &mut Call<'_>) -> Result<(), HostE
     ensures environments { engine.new.environments ≡ engine.old.environments }
     ensures standing { KeepsRest engine.old engine.new }
     ensures room { call.new.room.now ≡ call.old.room.now }
+    ensures ends { IfErr result IsNoStop }
 {
     call.context = engine.contexts.put(Context::new(engine.alloc))?;
     Ok(())
@@ -36,6 +38,7 @@ pub fn built_context(engine: &mut Engine, call: &mut Call<'_>) -> Result<(), Hos
     ensures environments { engine.new.environments ≡ engine.old.environments }
     ensures standing { KeepsRest engine.old engine.new }
     ensures room { call.new.room.now ≡ call.old.room.now }
+    ensures ends { IfErr result IsNoStop }
 {
     let context = engine.built.context()?;
     call.context = engine.contexts.put(context)?;
@@ -52,6 +55,7 @@ pub fn set(engine: &mut Engine, call: &Call<'_>) -> Result<(), HostError>
     ensures rules { engine.new.rules ≡ engine.old.rules }
     ensures environments { engine.new.environments ≡ engine.old.environments }
     ensures standing { KeepsRest engine.old engine.new }
+    ensures ends { IfErr result IsNoStop }
 {
     engine.knows_context(call.context)?;
     let name = utf8(call.name)?;

@@ -5,6 +5,7 @@ ghost use Rattle.expr_encoding.specs.Writing.{json_text};
 ghost use Rattle.expr_engine.specs.Effects.{Looks, LooksIn, LooksOut, SaysKey, SaysText, Tells, key_said, call_result};
 ghost use Rattle.expr_engine.specs.Engines.{KeepsAll, KeepsRest};
 ghost use Rattle.expr_exchange.specs.Cursor.{SameLook};
+ghost use Rattle.expr_exchange.specs.Refusals.{IsNoStop};
 ghost use Rattle.expr_value.specs.Strings.{string_text};
 ghost use Rattle.expr_value.specs.Values.{text_of};
 
@@ -33,6 +34,7 @@ pub fn look(engine: &mut Engine, call: &mut Call<'_>) -> Result<(), HostError>
     ensures kept { KeepsAll engine.old engine.new }
     ensures standing { KeepsRest engine.old engine.new }
     ensures room { call.new.room.now ≡ call.old.room.now }
+    ensures ends { IfErr result IsNoStop }
 {
     describe(engine.answer.part(), call);
     Ok(())
@@ -47,6 +49,7 @@ pub fn look_down(engine: &mut Engine, call: &mut Call<'_>) -> Result<(), HostErr
     ensures waits { engine.new.waits ≡ engine.old.waits }
     ensures limits { engine.new.limits ≡ engine.old.limits }
     ensures room { call.new.room.now ≡ call.old.room.now }
+    ensures ends { IfErr result IsNoStop }
 {
     engine.answer.go_down(call.number)?;
     describe(engine.answer.part(), call);
@@ -62,6 +65,7 @@ pub fn look_up(engine: &mut Engine, call: &mut Call<'_>) -> Result<(), HostError
     ensures waits { engine.new.waits ≡ engine.old.waits }
     ensures limits { engine.new.limits ≡ engine.old.limits }
     ensures room { call.new.room.now ≡ call.old.room.now }
+    ensures ends { IfErr result IsNoStop }
 {
     engine.answer.go_up()?;
     describe(engine.answer.part(), call);
@@ -75,6 +79,7 @@ pub fn show_key(engine: &mut Engine, call: &mut Call<'_>) -> Result<(), HostErro
     ensures kept { KeepsAll engine.old engine.new }
     ensures standing { KeepsRest engine.old engine.new }
     ensures room { call.new.room.now ≡ call.old.room.now }
+    ensures ends { IfErr result IsNoStop }
 {
     let key = key_of(engine.alloc, engine.answer.part(), call.number)?;
     describe(&key, call);
@@ -98,6 +103,7 @@ pub fn say_shown(engine: &mut Engine) -> Result<(), HostError>
     ensures found { IfErr result (λ e. e ≢ HostError.Unknown) }
     ensures kept { KeepsAll engine.old engine.new }
     ensures standing { KeepsRest engine.old engine.new }
+    ensures ends { IfErr result IsNoStop }
 {
     engine.said = engine.answer.part().to_string(engine.alloc)?;
     Ok(())
@@ -109,6 +115,7 @@ pub fn say_text(engine: &mut Engine) -> Result<(), HostError>
     ensures found { IfErr result (λ e. e ≢ HostError.Unknown) }
     ensures kept { KeepsAll engine.old engine.new }
     ensures standing { KeepsRest engine.old engine.new }
+    ensures ends { IfErr result IsNoStop }
 {
     engine.said = engine.answer.part().string_text(engine.alloc)?;
     Ok(())
@@ -121,6 +128,7 @@ pub fn say_json(engine: &mut Engine) -> Result<(), HostError>
     ensures found { IfErr result (λ e. e ≢ HostError.Unknown) }
     ensures kept { KeepsAll engine.old engine.new }
     ensures standing { KeepsRest engine.old engine.new }
+    ensures ends { IfErr result IsNoStop }
 {
     engine.said = to_json(engine.alloc, engine.answer.part())?.into_string();
     Ok(())

@@ -5,6 +5,7 @@ ghost use Rattle.expr_engine.specs.Engines.{KeepsAll, waiting_inputs};
 ghost use Rattle.expr_engine.specs.Turns.{IsAnswer, IsRefusal, RunGoesOn};
 ghost use Rattle.expr_exchange.specs.Builder.{values_of};
 ghost use Rattle.expr_exchange.specs.Cursor.{part_of};
+ghost use Rattle.expr_exchange.specs.Refusals.{IsNoStop};
 
 use crate::call::Call;
 use crate::engine::Engine;
@@ -62,6 +63,7 @@ pub fn look_at_waiting_call(engine: &mut Engine, call: &mut Call<'_>) -> Result<
     ensures kept { KeepsAll engine.old engine.new }
     ensures limits { engine.new.limits ≡ engine.old.limits }
     ensures room { call.new.room.now ≡ call.old.room.now }
+    ensures ends { IfErr result IsNoStop }
 {
     let Some(stop) = engine.waits.stops.waiting_call() else {
         return Err(HostError::Misuse);

@@ -42,6 +42,10 @@ ReturnsToHost (Err Asks) allowed passed = Unit {0}
 ReturnsToHost (Err Differs) allowed passed = Unit {0}
 ReturnsToHost (Err (Stopped limit)) allowed passed = passed limit
 
+-- A refusal that is no run's and no limit's.
+abbrev pub IsNoStop : HostError → Type 0
+IsNoStop refused = (refused ≢ Asks) × (refused ≢ Differs) × ((limit : Limit) → refused ≢ Stopped limit)
+
 -- A refusal for want of memory.
 abbrev pub IsForMemory : HostError → Type 0
 IsForMemory (Language error) = error_kind error ≡ memory

@@ -5,6 +5,7 @@ use Rattle.expr_engine.specs.Engines.{run_inputs}
 use Rattle.expr_engine.specs.Faults.{place_of}
 use Rattle.expr_engine.specs.Limiting.{LimitsBy}
 use Rattle.expr_engine.specs.Promised.{Gives}
+use Rattle.expr_engine.specs.Reasons.{EndsWithReason}
 use Rattle.expr_engine.specs.Served.{AnswersNumber, ShowsText, text_shown}
 use Rattle.expr_engine.specs.Turns.{TurnsBy}
 use Rattle.expr_engine.specs.declared.call.Ask.{Ask}
@@ -50,6 +51,9 @@ returns-in-Some c =
           asked_for (new.limits ≡ old.limits) (ask_of call.ask) ask (λ ask. LimitsBy ask old.limits call (answered.status ≡ 0) (answered.status ≡ 7) new.limits) same
           (limits_by ask old.limits call result answered.status mid.limits new.limits ends.ended ends.misuse acts.limits (ap limits_in ends.standing));
       refused = λ n. leaves_after old mid new (refused_by result answered.status acts.refused ends.ended n) ends.kept (ap answer_in ends.standing);
+      why =
+          asked_for (answered.status ≡ 7) (ask_of call.ask) ask (λ ask. EndsWithReason ask old call answered.status) same
+          (record { done = result; ends = ends.ended; why = acts.why });
       built = λ n. refused_by result answered.status ends.built ends.ended n;
       unknown =
           asked_for (answered.status ≡ 7) (ask_of call.ask) ask (λ ask. IsMissing ask old call → answered.status ≡ 6) same
