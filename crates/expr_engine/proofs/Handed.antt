@@ -1,35 +1,12 @@
 -- Values that are handed in by a number or a text.
-use Rattle.std.proofs.Common.{◌≡◌, ◌∙◌, ◌++◌, ◌∷◌, [], Option, None, Some, IsSomeAnd, ap, subst, sym}
+use Rattle.std.proofs.Common.{◌≡◌, ◌∙◌, ◌++◌, ◌∷◌, [], Option, None, Some, IsSomeAnd, ap, sym}
 use Rattle.expr_engine.specs.Effects.{HandsIn}
 use Rattle.expr_engine.specs.declared.call.Call.{Call}
 use Rattle.expr_engine.specs.declared.engine.Engine.{Engine}
 use Rattle.expr_exchange.specs.Builder.{values_of}
-use Rattle.expr_exchange.specs.Scalars.{IsScalar}
 use Rattle.expr_exchange.specs.declared.kind.Kind.{Kind}
 use Rattle.expr_exchange.specs.declared.kind.Kind.TheVariants as is
 use Rattle.expr_value.specs.declared.value.Value.{Value}
-
--- what is a scalar of a kind is handed in as one: it is none of the kinds that are handed in otherwise
-pub hands_scalar : (kind : Kind) (old new : Engine) (call : Call) (v : Value) → IsScalar kind call.number call.fraction call.text.now v → new.built ≡ old.built → HandsIn kind old new call v
-hands_scalar is.Nil old new call v s b = (s, b)
-hands_scalar is.Bool old new call v s b = (s, b)
-hands_scalar is.Integer old new call v s b = (s, b)
-hands_scalar is.String old new call v s b = (s, b)
-hands_scalar is.Bytes old new call v s b = (s, b)
-hands_scalar is.Duration old new call v s b = (s, b)
-hands_scalar is.DateTime old new call v s b = (s, b)
-hands_scalar is.Month old new call v s b = (s, b)
-hands_scalar is.Weekday old new call v s b = (s, b)
-hands_scalar is.Timezone old new call v s b = absurd s
-hands_scalar is.Array old new call v s b = absurd s
-hands_scalar is.Map old new call v s b = absurd s
-hands_scalar is.KeyedMap old new call v s b = absurd s
-hands_scalar is.Json old new call v s b = absurd s
-hands_scalar is.Built old new call v s b = absurd s
-hands_scalar is.Looked old new call v s b = absurd s
-
-pub hands_in : (o : Option Kind) (kind : Kind) (old new : Engine) (call : Call) (v : Value) → o ≡ Some kind → HandsIn kind old new call v → IsSomeAnd o (λ kind. HandsIn kind old new call v)
-hands_in o kind old new call v is h = subst (λ (x : Option Kind). IsSomeAnd x (λ kind. HandsIn kind old new call v)) (sym is) h
 
 -- what was handed in was so too where what was built is the same after
 handed_at : (kind : Kind) (old mid new : Engine) (call : Call) (v : Value) → HandsIn kind old mid call v → new.built ≡ mid.built → HandsIn kind old new call v

@@ -5,7 +5,7 @@ use Rattle.std.specs.Option.{option_and_then, option_map}
 use Rattle.expr_engine.specs.Engines.{RunInputs, MayAnswer, MayEnd, additions_at, names_at, run_inputs}
 use Rattle.expr_engine.specs.Runs.{NamedValues, named_by}
 use Rattle.expr_engine.specs.Served.{RunServes}
-use Rattle.expr_engine.specs.Turns.{GoesOn, IsAnswer, IsNewRun, IsSameRun, PassesOn, RunGoesOn, WaitsIfAsks}
+use Rattle.expr_engine.specs.Turns.{GoesOn, IsAnswer, IsSameRun, PassesOn, RunGoesOn, WaitsIfAsks}
 use Rattle.expr_engine.specs.declared.additions.Additions.{Additions}
 use Rattle.expr_engine.specs.declared.engine.Engine.{Engine}
 use Rattle.expr_engine.specs.declared.rule.Rule.{Rule}
@@ -16,14 +16,12 @@ use Rattle.expr_exchange.specs.declared.host_error.HostError.TheVariants.{Langua
 use Rattle.expr_handles.specs.HandleMap.{thing_at}
 use Rattle.expr_handles.specs.declared.Handle.{Handle}
 use Rattle.expr_meter.specs.Counting.{stops}
-use Rattle.expr_stops.specs.Stops.{IsOther, IsReplied, IsSame, waiting_call_of, replies_of}
+use Rattle.expr_stops.specs.Stops.{IsOther, IsReplied, waiting_call_of, replies_of}
 use Rattle.expr_stops.specs.declared.replies.CallReply.{CallReply}
 use Rattle.expr_stops.specs.declared.replies.Reply.{Reply}
 use Rattle.expr_stops.specs.declared.replies.Reply.TheVariants as reply
 use Rattle.expr_stops.specs.declared.replay.Stop.{Stop}
 use Rattle.expr_stops.specs.declared.stops.Stops.{Stops}
-use Rattle.expr_error.specs.ErrorKind.{ErrorKind, error_kind, syntax, literal, evaluation, pattern, memory}
-use Rattle.expr_error.specs.declared.error.Error.{Error}
 use Rattle.expr_value.specs.declared.value.Value.{Value}
 
 -- what a run finds under three handles
@@ -98,19 +96,6 @@ stood_as o was is now after answer done value same kept m k none =
     (subst (λ (s : Stops). MatchOption o (done ≡ Err Unknown) (λ q. WaitsIfAsks q (replies_of s) done (waiting_call_of now))) same
     (stood o (replies_of is) answer done value (waiting_call_of now) (m (subst (λ (s : Stops). waiting_call_of s ≡ None) (sym same) none)) k))
 
--- a run that was begun
-pub begun : (o : Option RunInputs) (program environment context : Handle) (known done : Result (Unit {0}) HostError) (old new : WaitingRun) (given : List CallReply)
-    → MatchOption o (known ≡ Err Unknown) (λ _. IsOk known) → known ≡ Ok tt → new.program ≡ program → new.environment ≡ environment → new.context ≡ context → replies_of new.stops ≡ given → given ≡ []
-    → MatchOption o (done ≡ Err Unknown) (λ q. WaitsIfAsks q given done (waiting_call_of new.stops)) → MatchOption o (new ≡ old) (λ q. IsNewRun q program environment context done new)
-begun None program environment context known done old new given m k p e c g z s = let no : ⊥ = cc (m, k) in absurd no
-begun (Some q) program environment context known done old new given m k p e c g z s = record {
-  program = p;
-  environment = e;
-  context = c;
-  given = g ∙ z;
-  stands = subst (λ (x : List CallReply). WaitsIfAsks q x done (waiting_call_of new.stops)) z s;
-}
-
 -- a reply that was given, and the run that went on
 goes_on : (Is : Reply → Type 0) (q : RunInputs) (old : WaitingRun) (mid : Stops) (new : WaitingRun) (r : Reply) (done : Result (Unit {0}) HostError) (value : Value)
     → IsReplied old.stops mid r → Is r → IsSameRun old new → replies_of new.stops ≡ replies_of mid
@@ -142,35 +127,6 @@ pub replied_by : (Is : Reply → Type 0) (o : Option RunInputs) (old : WaitingRu
 replied_by Is None old mid new r done value some replied is run given runs stands = absurd (false≢true some)
 replied_by Is (Some q) old mid new r done value some replied is run given runs stands =
     by_ending Is q old new done value (goes_on Is q old mid new r done value replied is run given runs stands)
-
--- a refusal that is no other than for want of memory is one for want of memory
-is_memory : (fault : ErrorKind) → (fault ≢ memory → ⊥) → fault ≡ memory
-is_memory syntax h = absurd (h (search rules))
-is_memory literal h = absurd (h (search rules))
-is_memory evaluation h = absurd (h (search rules))
-is_memory pattern h = absurd (h (search rules))
-is_memory memory h = refl
-
-none_waits : (o : Option Stop) → IsSome o → o ≡ None → ⊥
-none_waits None some is = false≢true some
-none_waits (Some s) some is = cc is
-
--- a call that was not replied to for want of memory still waits
-pub still_waits : (Is : Reply → Type 0) (o : Option RunInputs) (old new : WaitingRun) (e : Error) (value : Value) → IsSome (waiting_call_of old.stops) → IsSameRun old new → IsSame old.stops new.stops
-    → (error_kind e ≢ memory → waiting_call_of old.stops ≡ None) → RunGoesOn Is o old new (Err (Language e)) value
-still_waits Is o old new e value some run same w =
-    inl (is_memory (error_kind e) (λ n. none_waits (waiting_call_of old.stops) some (w n)), record { run = run; stops = same })
-
-pub still_waits_by : (Is : Reply → Type 0) (o : Option RunInputs) (old new : WaitingRun) (r : Result (Unit {0}) HostError) (e : Error) (value : Value) → IsErrAnd r (λ x. x ≡ Language e) → IsSome (waiting_call_of old.stops) → IsSameRun old new → IsSame old.stops new.stops
-    → (error_kind e ≢ memory → waiting_call_of old.stops ≡ None) → RunGoesOn Is o old new r value
-still_waits_by Is o old new (Ok v) e value is some run same w = absurd is
-still_waits_by Is o old new (Err x) e value is some run same w =
-    subst (λ (y : HostError). RunGoesOn Is o old new (Err y) value) (sym is) (still_waits Is o old new e value some run same w)
-
--- a refusal of the language is none of a handle
-pub language_known : (r : Result (Unit {0}) HostError) (e : Error) → IsErrAnd r (λ x. x ≡ Language e) → IfErr r (λ x. x ≢ Unknown)
-language_known (Ok v) e is = tt
-language_known (Err x) e is = λ u. cc (is, u)
 
 -- a refusal is passed on
 pub passed_on : (Is : Reply → Type 0) (o : Option RunInputs) (old new : WaitingRun) (r : Result (Unit {0}) HostError) (e : HostError) (value : Value) → IsErrAnd r (λ x. x ≡ e) → RunGoesOn Is o old new (Err e) value → RunGoesOn Is o old new r value

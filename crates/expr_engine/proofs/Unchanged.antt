@@ -87,22 +87,6 @@ additions_by_exchange old mid new h spare was is m n w zones moment names = reco
   names = λ k name. told_at (λ a. named_at a name) old mid new h spare was is m n w (names name) k (is_same h k) refl;
 }
 
--- a thing was exchanged, and exchanged back as it was
-put_back : {T : Type 0} (o n : Option T) (spare was is : T) → n ≡ option_map (λ _. is) o → was ≡ unwrap_or o spare → is ≡ was → n ≡ o
-put_back None n spare was is e w z = e
-put_back (Some x) n spare was is e w z = e ∙ ap Some (z ∙ w)
-
-thing_by_exchange : {T : Type 0} (old mid new : HandleMap T) (h : Handle) (spare was is : T) → ((k : Handle) → thing_at mid k ≡ (if is_same h k then option_map (λ _. spare) (thing_at old k) else thing_at old k))
-    → ((k : Handle) → thing_at new k ≡ (if is_same h k then option_map (λ _. is) (thing_at mid k) else thing_at mid k)) → was ≡ unwrap_or (thing_at old h) spare → is ≡ was
-    → (k : Handle) (b : Bool) → is_same h k ≡ b → thing_at new k ≡ thing_at old k
-thing_by_exchange old mid new h spare was is m n w z k true e =
-    put_back (thing_at old k) (thing_at new k) spare was is (exchanged_twice (thing_at old k) (thing_at mid k) (thing_at new k) spare is (rw e at (m k)) (rw e at (n k))) (w ∙ ap (λ o. unwrap_or o spare) (sym (one_finds old h k e))) z
-thing_by_exchange old mid new h spare was is m n w z k false e = rw e at (n k) ∙ rw e at (m k)
-
-pub things_by_exchange : {T : Type 0} (old mid new : HandleMap T) (h : Handle) (spare was is : T) → ((k : Handle) → thing_at mid k ≡ (if is_same h k then option_map (λ _. spare) (thing_at old k) else thing_at old k))
-    → ((k : Handle) → thing_at new k ≡ (if is_same h k then option_map (λ _. is) (thing_at mid k) else thing_at mid k)) → was ≡ unwrap_or (thing_at old h) spare → is ≡ was → SameThings old new
-things_by_exchange old mid new h spare was is m n w z = λ k. thing_by_exchange old mid new h spare was is m n w z k (is_same h k) refl
-
 -- what holds, holds where a result is a refusal
 pub on_err : {A E P : Type 0} (r : Result A E) → P → OnErr r P
 on_err (Ok v) p = tt

@@ -1,4 +1,4 @@
-use Rattle.std.proofs.Common.{Ok, Err, ap, refl}
+use Rattle.std.proofs.Common.{ap, refl}
 use Rattle.expr_engine.specs.Engines.{Leaves}
 use Rattle.expr_engine.proofs.Acting.{acts, asked, no_reason}
 use Rattle.expr_engine.proofs.Ended.{always_ok, compile_never_unknown, never_unknown, ok_never_unknown}
