@@ -2,7 +2,7 @@
 use Rattle.std.proofs.Common.{◌≡◌, [], Option, None, MatchOption, Result, Ok, Err, OnErr, OnOk, IfErr, ap, arith, string_bytes, subst, sym}
 use Rattle.expr_engine.specs.Asks.{ask_of}
 use Rattle.expr_engine.specs.Effects.{Does, IsMissing, call_result}
-use Rattle.expr_engine.specs.Engines.{KeepsAll, KeepsRest, Leaves, NumbersRise}
+use Rattle.expr_engine.specs.Engines.{KeepsThings, KeepsRest, Leaves, NumbersRise}
 use Rattle.expr_engine.specs.Limiting.{LimitsBy}
 use Rattle.expr_engine.specs.Promised.{Acts, Gives, IsServed}
 use Rattle.expr_engine.specs.Reasons.{EndsWithReason, MayRefuse}
@@ -32,7 +32,7 @@ pub acts : {ask : Ask} {old new : Engine} {call answered : Call} {done : Result 
 acts d g t l r w u k n o = record { does = d; gives = g; turns = t; limits = l; refused = r; why = w; unknown = u; known = k; numbers = n; room = o }
 
 -- a number that asks for nothing is misused
-pub served_nothing : (old new : Engine) (call answered : Call) → ask_of call.ask ≡ None → answered.status ≡ 7 → KeepsAll old new → KeepsRest old new → values_of new.built ≡ [] → ShowsText (string_bytes new.said) call.room.now answered → IsServed old new call answered
+pub served_nothing : (old new : Engine) (call answered : Call) → ask_of call.ask ≡ None → answered.status ≡ 7 → KeepsThings old new → KeepsRest old new → values_of new.built ≡ [] → ShowsText (string_bytes new.said) call.room.now answered → IsServed old new call answered
 served_nothing old new call answered none seven k s b said = record {
   done = λ z. absurd (omega (arith, z, seven));
   text = λ is. let no : ⊥ = cc (is, none) in absurd no;

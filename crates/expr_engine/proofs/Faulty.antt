@@ -1,7 +1,7 @@
 -- Texts that are refused, and where.
 use Rattle.std.proofs.Common.{◌≡◌, ◌⊎◌, ◌∙◌, ℕ, List, Option, None, Some, Result, Ok, Err, IfErr, IfSome, OnOk, ap, arith, inl, inr, rules, subst, sym}
 use Rattle.expr_engine.specs.Engines.{CompileRefuses}
-use Rattle.expr_engine.specs.Faults.{AnswersText, IsAt, IsNotedAt, IsSpot, refused_byte}
+use Rattle.expr_engine.specs.Faults.{StatusSaysOfText, IsAt, IsNotedAt, IsSpot, refused_byte}
 use Rattle.expr_engine.specs.Served.{EndsCall, number_of}
 use Rattle.expr_engine.specs.declared.engine.TextPlace.{TextPlace}
 use Rattle.expr_error.specs.declared.error.Error.TheVariants.{PestError, ParseError, ExprError, RegexError, MemoryError}
@@ -30,7 +30,7 @@ placed_on byte text mid new status number (inl stands) same n = inl (subst (λ (
 placed_on byte text mid new status number (inr m) same n = inr (n ∙ ap (λ (s : Status). number_of s) m)
 
 -- a text is refused what it deserves, and is told where
-pub answers_text : {A : Type 0} (limits : Option Limits) (text : List ℕ) (done : Result A HostError) (number : ℕ) (place : TextPlace) → IfErr done (CompileRefuses limits text) → EndsCall done number → IfErr done (λ refused. IsAt (refused_byte refused) text place ⊎ (number ≡ 5)) → AnswersText limits text number place
+pub answers_text : {A : Type 0} (limits : Option Limits) (text : List ℕ) (done : Result A HostError) (number : ℕ) (place : TextPlace) → IfErr done (CompileRefuses limits text) → EndsCall done number → IfErr done (λ refused. IsAt (refused_byte refused) text place ⊎ (number ≡ 5)) → StatusSaysOfText limits text number place
 answers_text limits text (Ok v) number place r e stands = record { status = ends.Done; is = e; says = tt }
 answers_text limits text (Err (Language error)) number place r (inr e) stands = record { status = ends.Memory; is = e; says = tt }
 answers_text limits text (Err (Language (PestError byte))) number place (why, (in_text, first), utf8) (inl e) (inl stands) =
@@ -60,6 +60,6 @@ answers_text None text (Err (Stopped Depth)) number place (passed, utf8) (inl e)
 answers_text None text (Err (Stopped Size)) number place (passed, utf8) (inl e) stands = absurd passed
 
 -- the same where the call kept the text
-pub placed_in : {A : Type 0} (limits : Option Limits) (text kept : List ℕ) (done : Result A HostError) (number : ℕ) (place : TextPlace) → IfErr done (CompileRefuses limits text) → kept ≡ text → EndsCall done number → IfErr done (λ refused. IsAt (refused_byte refused) kept place ⊎ (number ≡ 5)) → AnswersText limits text number place
+pub placed_in : {A : Type 0} (limits : Option Limits) (text kept : List ℕ) (done : Result A HostError) (number : ℕ) (place : TextPlace) → IfErr done (CompileRefuses limits text) → kept ≡ text → EndsCall done number → IfErr done (λ refused. IsAt (refused_byte refused) kept place ⊎ (number ≡ 5)) → StatusSaysOfText limits text number place
 placed_in limits text kept done number place refuses same e stands =
     answers_text limits text done number place refuses e (subst (λ (t : List ℕ). IfErr done (λ refused. IsAt (refused_byte refused) t place ⊎ (number ≡ 5))) same stands)

@@ -2,10 +2,10 @@
 use Rattle.std.proofs.Common.{◌≡◌, ◌≢◌, ◌⊎◌, ◌∙◌, ◌∷◌, ◌++◌, List, [], Option, None, Some, IsSome, IsErrAnd, IsSomeAnd, MatchOption, Result, Ok, Err, IfErr, IsOk, OnOk, inl, inr, ap, rules, refl, subst, sym}
 use Rattle.std.proofs.lemmas.Bool.{false≢true}
 use Rattle.std.specs.Option.{option_and_then, option_map}
-use Rattle.expr_engine.specs.Engines.{RunInputs, MayAnswer, MayEnd, additions_at, names_at, run_inputs}
+use Rattle.expr_engine.specs.Engines.{RunInputs, RunMayAnswer, MayEnd, additions_at, names_at, run_inputs}
 use Rattle.expr_engine.specs.Runs.{NamedValues, named_by}
 use Rattle.expr_engine.specs.Served.{RunServes}
-use Rattle.expr_engine.specs.Turns.{GoesOn, IsAnswer, IsSameRun, PassesOn, RunGoesOn, WaitsIfAsks}
+use Rattle.expr_engine.specs.Turns.{GoesOnWith, IsAnswer, IsSameRun, PassesOn, RunGoesOn, WaitsIfAsks}
 use Rattle.expr_engine.specs.declared.additions.Additions.{Additions}
 use Rattle.expr_engine.specs.declared.engine.Engine.{Engine}
 use Rattle.expr_engine.specs.declared.rule.Rule.{Rule}
@@ -46,9 +46,9 @@ differs_so {stop} engine program environment context rule added names given wait
 
 -- what a run gives is kept, or passed on
 runs_kept : (q : RunInputs) (given : List CallReply) (answer : Result Value HostError) (done : Result (Unit {0}) HostError) (value : Value)
-    → ReturnsToHost answer (MayAnswer q given) (λ limit. MayEnd q given (stops limit)) → PassesOn answer done value → RunServes q given done value
+    → ReturnsToHost answer (RunMayAnswer q given) (λ limit. MayEnd q given (stops limit)) → PassesOn answer done value → RunServes q given done value
 runs_kept q given (Ok v) done value g k =
-    subst (λ (d : Result (Unit {0}) HostError). RunServes q given d value) (sym k.0) (subst (λ (x : Value). MayAnswer q given (Ok x)) (sym k.1) g)
+    subst (λ (d : Result (Unit {0}) HostError). RunServes q given d value) (sym k.0) (subst (λ (x : Value). RunMayAnswer q given (Ok x)) (sym k.1) g)
 runs_kept q given (Err (Language error)) done value g k = subst (λ (d : Result (Unit {0}) HostError). RunServes q given d value) (sym k) g
 runs_kept q given (Err Unknown) done value g k = absurd g
 runs_kept q given (Err Misuse) done value g k = absurd g
@@ -57,7 +57,7 @@ runs_kept q given (Err Differs) done value g k = subst (λ (d : Result (Unit {0}
 runs_kept q given (Err (Stopped limit)) done value g k = subst (λ (d : Result (Unit {0}) HostError). RunServes q given d value) (sym k) g
 
 pub went : (o : Option RunInputs) (given : List CallReply) (answer : Result Value HostError) (done : Result (Unit {0}) HostError) (value : Value)
-    → MatchOption o (answer ≡ Err Unknown) (λ q. ReturnsToHost answer (MayAnswer q given) (λ limit. MayEnd q given (stops limit))) → PassesOn answer done value
+    → MatchOption o (answer ≡ Err Unknown) (λ q. ReturnsToHost answer (RunMayAnswer q given) (λ limit. MayEnd q given (stops limit))) → PassesOn answer done value
     → MatchOption o (done ≡ Err Unknown) (λ q. RunServes q given done value)
 went None given (Ok v) done value m k = let no : ⊥ = cc m in absurd no
 went None given (Err e) done value m k = let same : e ≡ Unknown = cc m in k ∙ ap Err same
@@ -76,7 +76,7 @@ stands_kept q given (Err (Stopped limit)) done value waits s k = subst (λ (d : 
 
 -- the same of a run that was taken out of an engine
 pub went_as : (o : Option RunInputs) (was is : Stops) (answer : Result Value HostError) (done : Result (Unit {0}) HostError) (value : Value)
-    → is ≡ was → MatchOption o (answer ≡ Err Unknown) (λ q. ReturnsToHost answer (MayAnswer q (replies_of is)) (λ limit. MayEnd q (replies_of is) (stops limit))) → PassesOn answer done value
+    → is ≡ was → MatchOption o (answer ≡ Err Unknown) (λ q. ReturnsToHost answer (RunMayAnswer q (replies_of is)) (λ limit. MayEnd q (replies_of is) (stops limit))) → PassesOn answer done value
     → MatchOption o (done ≡ Err Unknown) (λ q. RunServes q (replies_of was) done value)
 went_as o was is answer done value same m k =
     subst (λ (s : Stops). MatchOption o (done ≡ Err Unknown) (λ q. RunServes q (replies_of s) done value)) same (went o (replies_of is) answer done value m k)
@@ -99,7 +99,7 @@ stood_as o was is now after answer done value same kept m k none =
 -- a reply that was given, and the run that went on
 goes_on : (Is : Reply → Type 0) (q : RunInputs) (old : WaitingRun) (mid : Stops) (new : WaitingRun) (r : Reply) (done : Result (Unit {0}) HostError) (value : Value)
     → IsReplied old.stops mid r → Is r → IsSameRun old new → replies_of new.stops ≡ replies_of mid
-    → RunServes q (replies_of mid) done value → WaitsIfAsks q (replies_of mid) done (waiting_call_of new.stops) → GoesOn Is q old new done value
+    → RunServes q (replies_of mid) done value → WaitsIfAsks q (replies_of mid) done (waiting_call_of new.stops) → GoesOnWith Is q old new done value
 goes_on Is q old mid new r done value replied is run given runs stands = record {
   stop = replied.stop;
   waited = replied.waited;
@@ -111,7 +111,7 @@ goes_on Is q old mid new r done value replied is run given runs stands = record 
   runs = subst (λ (x : List CallReply). RunServes q x done value) (sym given) runs;
 }
 
-by_ending : (Is : Reply → Type 0) (q : RunInputs) (old new : WaitingRun) (done : Result (Unit {0}) HostError) (value : Value) → GoesOn Is q old new done value → RunGoesOn Is (Some q) old new done value
+by_ending : (Is : Reply → Type 0) (q : RunInputs) (old new : WaitingRun) (done : Result (Unit {0}) HostError) (value : Value) → GoesOnWith Is q old new done value → RunGoesOn Is (Some q) old new done value
 by_ending Is q old new (Ok v) value g = g
 by_ending Is q old new (Err (Language error)) value g = inr g
 by_ending Is q old new (Err Unknown) value g = absurd g.runs
@@ -140,7 +140,7 @@ left_waiting Is o old new e value same (inr is) = subst (λ (x : HostError). Run
 
 -- a reply of one sort is one of another
 weaker : (Is Js : Reply → Type 0) → ((r : Reply) → Is r → Js r) → (o : Option RunInputs) (old new : WaitingRun) (done : Result (Unit {0}) HostError) (value : Value)
-    → IsSomeAnd o (λ q. GoesOn Is q old new done value) → IsSomeAnd o (λ q. GoesOn Js q old new done value)
+    → IsSomeAnd o (λ q. GoesOnWith Is q old new done value) → IsSomeAnd o (λ q. GoesOnWith Js q old new done value)
 weaker Is Js f None old new done value g = absurd g
 weaker Is Js f (Some q) old new done value g = record {
   stop = g.stop;
@@ -168,7 +168,7 @@ pub built_last : (values front : List Value) (v : Value) → values ≡ front ++
 built_last values front v stood r is = subst (λ (x : Reply). IsAnswer values x) (sym is) (record { front = front; stood = stood })
 
 -- what the run has come to that ended with an answer
-pub ended_so : (Is : Reply → Type 0) (o : Option RunInputs) (old new : WaitingRun) (value : Value) → RunGoesOn Is o old new (Ok tt) value → IsSomeAnd o (λ q. MayAnswer q (replies_of new.stops) (Ok value))
+pub ended_so : (Is : Reply → Type 0) (o : Option RunInputs) (old new : WaitingRun) (value : Value) → RunGoesOn Is o old new (Ok tt) value → IsSomeAnd o (λ q. RunMayAnswer q (replies_of new.stops) (Ok value))
 ended_so Is None old new value g = absurd g
 ended_so Is (Some q) old new value g = g.runs
 

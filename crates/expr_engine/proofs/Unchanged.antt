@@ -4,7 +4,7 @@ use Rattle.std.proofs.lemmas.Bool.{false≢true}
 use Rattle.std.proofs.lemmas.Grind.{common_steps}
 use Rattle.std.specs.Option.{unwrap_or}
 use Rattle.expr_engine.specs.Effects.{Changes}
-use Rattle.expr_engine.specs.Engines.{KeepsAll, KeepsRest, Kept, Leaves, NumbersRise, SameAdditions, SameKept, Standing}
+use Rattle.expr_engine.specs.Engines.{KeepsThings, KeepsRest, Kept, Leaves, NumbersRise, SameAdditions, SameKept, Standing}
 use Rattle.expr_engine.specs.Runs.{named_at, zone_at}
 use Rattle.expr_engine.specs.declared.additions.Additions.{Additions}
 use Rattle.expr_engine.specs.declared.engine.Engine.{Engine}
@@ -24,11 +24,11 @@ additions_by_things s = record {
 }
 
 -- what handles find is the same where all three are
-pub keeps_all : (old new : Engine) → new.rules ≡ old.rules → new.contexts ≡ old.contexts → new.environments ≡ old.environments → KeepsAll old new
+pub keeps_all : (old new : Engine) → new.rules ≡ old.rules → new.contexts ≡ old.contexts → new.environments ≡ old.environments → KeepsThings old new
 keeps_all old new r c e = λ i. record { rules = r i; contexts = c i; environments = e i }
 
 -- where all three are the same, or one finds the same things and the others are the same
-pub same_kept : (old new : Engine) → KeepsAll old new → SameKept old new
+pub same_kept : (old new : Engine) → KeepsThings old new → SameKept old new
 same_kept old new k = record {
   rules = λ h. ap (λ (x : Kept). thing_at x.rules h) k;
   contexts = λ h. ap (λ (x : Kept). thing_at x.contexts h) k;
@@ -137,7 +137,7 @@ changes_by_exchange Becomes old mid new h spare was is m n known w b = record {
 }
 
 -- what was left is left by what changes nothing of it after
-pub leaves_after : (old mid new : Engine) → Leaves old mid → KeepsAll mid new → new.answer ≡ mid.answer → Leaves old new
+pub leaves_after : (old mid new : Engine) → Leaves old mid → KeepsThings mid new → new.answer ≡ mid.answer → Leaves old new
 leaves_after old mid new l k a = record {
   kept = record {
     rules = λ h. ap (λ (x : Kept). thing_at x.rules h) k ∙ l.kept.rules h;
@@ -154,14 +154,14 @@ leaves_after old mid new l k a = record {
 as_far : (a b c : ℕ) → a ≤ b → c ≡ b → a ≤ c
 as_far a b c h e = omega arith
 
-pub rise_after : (old mid new : Engine) → NumbersRise old mid → KeepsAll mid new → NumbersRise old new
+pub rise_after : (old mid new : Engine) → NumbersRise old mid → KeepsThings mid new → NumbersRise old new
 rise_after old mid new n k = record {
   rules = as_far _ _ _ n.rules (ap (λ (x : Kept). next_number x.rules) k);
   contexts = as_far _ _ _ n.contexts (ap (λ (x : Kept). next_number x.contexts) k);
   environments = as_far _ _ _ n.environments (ap (λ (x : Kept). next_number x.environments) k);
 }
 
-pub numbers_kept : (old new : Engine) → KeepsAll old new → NumbersRise old new
+pub numbers_kept : (old new : Engine) → KeepsThings old new → NumbersRise old new
 numbers_kept old new k =
     numbers_same (ap (λ (x : Kept). next_number x.rules) k) (ap (λ (x : Kept). next_number x.contexts) k) (ap (λ (x : Kept). next_number x.environments) k)
 
@@ -175,7 +175,7 @@ pub numbers_by_environments : {old new : Engine} → new.rules ≡ old.rules →
 numbers_by_environments r c e = numbers_same (ap (λ k. next_number k) r) (ap (λ k. next_number k) c) e
 
 -- what a call leaves that is refused: all of it, or where one of the three finds the same things
-pub left_same : {A E : Type 0} (old new : Engine) (r : Result A E) → KeepsAll old new → KeepsRest old new → OnErr r (Leaves old new)
+pub left_same : {A E : Type 0} (old new : Engine) (r : Result A E) → KeepsThings old new → KeepsRest old new → OnErr r (Leaves old new)
 left_same old new (Ok v) k s = tt
 left_same old new (Err x) k s = leaves (same_kept old new k) (ap answer_in s)
 
@@ -191,10 +191,10 @@ pub left_environments : {A E : Type 0} (old new : Engine) (r : Result A E) → n
 left_environments old new (Ok v) k c t s = tt
 left_environments old new (Err x) k c t s = leaves (same_environments k c t) (ap answer_in s)
 
-pub left_look : {A E : Type 0} (old new : Engine) (r : Result A E) → KeepsAll old new → OnErr r (SameLook old.answer new.answer) → OnErr r (Leaves old new)
+pub left_look : {A E : Type 0} (old new : Engine) (r : Result A E) → KeepsThings old new → OnErr r (SameLook old.answer new.answer) → OnErr r (Leaves old new)
 left_look old new (Ok v) k l = tt
 left_look old new (Err x) k l = record { kept = same_kept old new k; look = l }
 
-pub left_answer : {A E : Type 0} (old new : Engine) (r : Result A E) → KeepsAll old new → OnErr r (new.answer ≡ old.answer) → OnErr r (Leaves old new)
+pub left_answer : {A E : Type 0} (old new : Engine) (r : Result A E) → KeepsThings old new → OnErr r (new.answer ≡ old.answer) → OnErr r (Leaves old new)
 left_answer old new (Ok v) k a = tt
 left_answer old new (Err x) k a = leaves (same_kept old new k) a

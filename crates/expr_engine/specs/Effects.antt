@@ -6,7 +6,7 @@ use Rattle.std.specs.declared.alloc.Global.{Global}
 use Rattle.expr_encoding.specs.Optional.{value_or_refusal}
 use Rattle.expr_encoding.specs.Reading.{json_value}
 use Rattle.expr_encoding.specs.Writing.{json_text}
-use Rattle.expr_engine.specs.Engines.{KeepsAll, KeepsRest, MayAnswer, run_inputs, waiting_inputs}
+use Rattle.expr_engine.specs.Engines.{KeepsThings, KeepsRest, RunMayAnswer, run_inputs, waiting_inputs}
 use Rattle.expr_engine.specs.Adding.{AddsNothing, BecomesByRule, BecomesFixed, BecomesNow, GainsName}
 use Rattle.expr_engine.specs.Limiting.{IsProgramBy, limits_asked}
 use Rattle.expr_engine.specs.declared.call.Ask.{Ask}
@@ -90,7 +90,7 @@ pub record AreSaid (b : Block) (text : List ℕ) (count : ℕ) : Type 0 where
 
 -- The program's names are said, each on a line, and counted.
 pub record SaysNames (old new : Engine) (call : Call) (reply : CallResult) : Type 0 where
-  pub keeps : KeepsAll old new
+  pub keeps : KeepsThings old new
   pub rest : KeepsRest old new
   pub count : ℕ
   pub said : IsSomeAnd (thing_at old.rules call.program) (λ rule. AreSaid (program_term rule.program) (string_bytes new.said) count)
@@ -105,8 +105,8 @@ pub record Tells (v : Value) (reply : CallResult) : Type 0 where
 
 -- The program's answer is kept, and looked at as a whole.
 pub record RunsOnce (old new : Engine) (call : Call) (reply : CallResult) : Type 0 where
-  pub keeps : KeepsAll old new
-  pub answer : IsSomeAnd (run_inputs old call.program call.environment call.context) (λ q. MayAnswer q [] (Ok (part_of new.answer)))
+  pub keeps : KeepsThings old new
+  pub answer : IsSomeAnd (run_inputs old call.program call.environment call.context) (λ q. RunMayAnswer q [] (Ok (part_of new.answer)))
   pub way : way_of new.answer ≡ []
   pub told : Tells (part_of new.answer) reply
   pub built : new.built ≡ old.built
@@ -118,15 +118,15 @@ pub record TakesLast (old new : List Value) : Type 0 where
 
 -- The run that waited came to its end. Its answer is kept, and looked at as a whole.
 pub record EndsRun (Built : List Value → List Value → Type 0) (old new : Engine) (reply : CallResult) : Type 0 where
-  pub keeps : KeepsAll old new
+  pub keeps : KeepsThings old new
   pub built : Built (values_of old.built) (values_of new.built)
-  pub answer : IsSomeAnd (waiting_inputs old) (λ q. MayAnswer q (replies_of new.waits.stops) (Ok (part_of new.answer)))
+  pub answer : IsSomeAnd (waiting_inputs old) (λ q. RunMayAnswer q (replies_of new.waits.stops) (Ok (part_of new.answer)))
   pub way : way_of new.answer ≡ []
   pub told : Tells (part_of new.answer) reply
 
 -- Copies of the arguments of the call that waits are looked at, and the name of its function is said.
 pub record LooksAtCall (old new : Engine) (reply : CallResult) : Type 0 where
-  pub keeps : KeepsAll old new
+  pub keeps : KeepsThings old new
   pub stop : Stop
   pub waits : waiting_call_of old.waits.stops ≡ Some stop
   pub arguments : part_of new.answer ≡ values.Array stop.call.args.items
@@ -168,46 +168,46 @@ pub record Sets (old new : Engine) (call : Call) : Type 0 where
   pub rest : KeepsRest old new
 
 -- The value that is handed in stands behind what was built.
-pub record Pushes (old new : Engine) (call : Call) : Type 0 where
+pub record PushesValue (old new : Engine) (call : Call) : Type 0 where
   pub value : Value
   pub left : Engine
   pub handed : IsSomeAnd (kind_numbered call.kind) (λ kind. HandsIn kind old left call value)
   pub stands : values_of new.built ≡ values_of left.built ++ value ∷ []
-  pub keeps : KeepsAll old new
+  pub keeps : KeepsThings old new
   pub rest : KeepsRest old new
 
 pub record MakesArray (old new : Engine) (call : Call) : Type 0 where
   pub built : TakesPlace call.number (values_of old.built) values.Array (values_of new.built)
-  pub keeps : KeepsAll old new
+  pub keeps : KeepsThings old new
   pub rest : KeepsRest old new
 
 -- The map of the last pairs takes their place.
 pub record MakesMap (old new : Engine) (call : Call) : Type 0 where
   pub built : BecomesMap (call.number +ℤ call.number) (values_of old.built) (values_of new.built)
-  pub keeps : KeepsAll old new
+  pub keeps : KeepsThings old new
   pub rest : KeepsRest old new
 
 -- What was built is let go of, all of it.
 pub record Unbuilds (old new : Engine) : Type 0 where
   pub built : values_of new.built ≡ []
-  pub keeps : KeepsAll old new
+  pub keeps : KeepsThings old new
   pub rest : KeepsRest old new
 
 -- Of the value that is looked at is told, after a look down or up.
 pub record Looks (old new : Engine) (reply : CallResult) : Type 0 where
-  pub keeps : KeepsAll old new
+  pub keeps : KeepsThings old new
   pub rest : KeepsRest old new
   pub told : Tells (part_of new.answer) reply
   pub built : new.built ≡ old.built
 
 pub record LooksIn (old new : Engine) (call : Call) (reply : CallResult) : Type 0 where
-  pub keeps : KeepsAll old new
+  pub keeps : KeepsThings old new
   pub down : LooksDown call.number old.answer new.answer
   pub told : Tells (part_of new.answer) reply
   pub built : new.built ≡ old.built
 
 pub record LooksOut (old new : Engine) (reply : CallResult) : Type 0 where
-  pub keeps : KeepsAll old new
+  pub keeps : KeepsThings old new
   pub up : LooksUp old.answer new.answer
   pub told : Tells (part_of new.answer) reply
   pub built : new.built ≡ old.built
@@ -217,7 +217,7 @@ abbrev pub key_said : Value → List ℕ
 key_said key = unwrap_or (string_of key) (text_of key)
 
 pub record SaysKey (old new : Engine) (call : Call) (reply : CallResult) : Type 0 where
-  pub keeps : KeepsAll old new
+  pub keeps : KeepsThings old new
   pub rest : KeepsRest old new
   pub key : Value
   pub is : at_number call.number (key_at (part_of old.answer)) ≡ Some key
@@ -227,7 +227,7 @@ pub record SaysKey (old new : Engine) (call : Call) (reply : CallResult) : Type 
 
 -- A text is said of the value that is looked at.
 pub record SaysText (Is : Value → List ℕ → Type 0) (old new : Engine) : Type 0 where
-  pub keeps : KeepsAll old new
+  pub keeps : KeepsThings old new
   pub rest : KeepsRest old new
   pub text : Is (part_of old.answer) (string_bytes new.said)
   pub built : new.built ≡ old.built
@@ -291,14 +291,14 @@ pub record ForgetsAll (old new : Engine) : Type 0 where
 -- One limit is the number that is given, and the others are what they were, or those for strangers where there were none.
 pub record SetsLimit (old new : Engine) (call : Call) : Type 0 where
   pub limits : IsSomeAnd (limits_asked old.limits call.kind call.number) (λ limits. new.limits ≡ Some limits)
-  pub keeps : KeepsAll old new
+  pub keeps : KeepsThings old new
   pub answer : new.answer ≡ old.answer
   pub built : new.built ≡ old.built
 
 -- There are no limits.
 pub record LetsGoOfLimits (old new : Engine) : Type 0 where
   pub limits : new.limits ≡ None
-  pub keeps : KeepsAll old new
+  pub keeps : KeepsThings old new
   pub answer : new.answer ≡ old.answer
   pub built : new.built ≡ old.built
 
@@ -310,7 +310,7 @@ Does is.Run old new call reply = RunsOnce old new call reply
 Does is.Context old new call reply = AddsContext old new reply
 Does is.ContextOf old new call reply = AddsBuiltContext old new reply
 Does is.Set old new call reply = Sets old new call
-Does is.Push old new call reply = Pushes old new call
+Does is.Push old new call reply = PushesValue old new call
 Does is.Array old new call reply = MakesArray old new call
 Does is.Map old new call reply = MakesMap old new call
 Does is.Unbuild old new call reply = Unbuilds old new

@@ -4,7 +4,7 @@ use Rattle.std.specs.Option.{option_and_then}
 use Rattle.expr.specs.Texts.{IsRefused}
 use Rattle.expr_engine.specs.Codes.{code_of}
 use Rattle.expr_engine.specs.Limiting.{Passes}
-use Rattle.expr_engine.specs.Runs.{MayGive, NamedValues, context_of, host_with, named_at, zone_at}
+use Rattle.expr_engine.specs.Runs.{MeaningAllows, NamedValues, context_of, host_with_replies, named_at, zone_at}
 use Rattle.expr_engine.specs.declared.additions.Additions.{Additions}
 use Rattle.expr_engine.specs.declared.engine.Engine.{Engine}
 use Rattle.expr_engine.specs.declared.rule.Rule.{Rule}
@@ -56,11 +56,11 @@ run_inputs engine program environment context =
 -- how a run of the program's code may end in that environment and that context, where calls of the host's functions answer what it replied, within the limits, if there
 -- are any
 abbrev pub MayEnd : RunInputs → List CallReply → Ending Room → Type 0
-MayEnd q given end = CodeComes q.limits (world_of (host_with q.added given) (context_of q.names)) (code_of q.rule.code) end
+MayEnd q given end = CodeComes q.limits (world_of (host_with_replies q.added given) (context_of q.names)) (code_of q.rule.code) end
 
 -- An answer of such a run: the program's meaning allows it too.
-pub record MayAnswer (q : RunInputs) (given : List CallReply) (answer : Answer) : Type 0 where
-  pub allowed : MayGive (world_of (host_with q.added given) (context_of q.names)) (program_term q.rule.program) answer
+pub record RunMayAnswer (q : RunInputs) (given : List CallReply) (answer : Answer) : Type 0 where
+  pub allowed : MeaningAllows (world_of (host_with_replies q.added given) (context_of q.names)) (program_term q.rule.program) answer
   pub left : Room
   pub ends : MayEnd q given (ending_of answer left)
 
@@ -105,8 +105,8 @@ abbrev pub kept_of : Engine → Kept
 kept_of engine = record { rules = engine.rules; contexts = engine.contexts; environments = engine.environments }
 
 -- Programs, contexts and environments are the same.
-abbrev pub KeepsAll : Engine → Engine → Type 0
-KeepsAll old new = kept_of new ≡ kept_of old
+abbrev pub KeepsThings : Engine → Engine → Type 0
+KeepsThings old new = kept_of new ≡ kept_of old
 
 -- how an engine stands beside that and beside what is built and said
 pub record Standing : Type 0 where

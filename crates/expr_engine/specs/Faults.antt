@@ -77,7 +77,7 @@ SaysOfText limits text place ends.Depth = ⊥
 SaysOfText limits text place ends.Size = ⊥
 
 -- the same of the number of an ending
-pub record AnswersText (limits : Option Limits) (text : List ℕ) (number : ℕ) (place : TextPlace) : Type 0 where
+pub record StatusSaysOfText (limits : Option Limits) (text : List ℕ) (number : ℕ) (place : TextPlace) : Type 0 where
   pub status : Status
   pub is : number ≡ number_of status
   pub says : SaysOfText limits text place status

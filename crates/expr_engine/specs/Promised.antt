@@ -3,7 +3,7 @@ use Rattle.std.specs.Prelude.{◌≡◌, ◌≢◌, [], None, Some, MatchOption,
 use Rattle.expr_engine.specs.Asks.{ask_of, shows_of}
 use Rattle.expr_engine.specs.Effects.{Does, IsMissing, call_result}
 use Rattle.expr_engine.specs.Engines.{CompileRefuses, Leaves, NumbersRise, run_inputs}
-use Rattle.expr_engine.specs.Faults.{AnswersText, place_of}
+use Rattle.expr_engine.specs.Faults.{StatusSaysOfText, place_of}
 use Rattle.expr_engine.specs.Limiting.{LimitsBy, for_strangers}
 use Rattle.expr_engine.specs.Reasons.{EndsWithReason, MayRefuse}
 use Rattle.expr_engine.specs.Served.{AnswersNumber, RunServes, ShowsText, text_shown}
@@ -56,7 +56,7 @@ pub record IsServed (old new : Engine) (call answered : Call) : Type 0 where
   -- What is done, is done to what the call's handles find, and to nothing else.
   pub done : answered.status ≡ 0 → MatchOption (ask_of call.ask) ⊥ (λ ask. Does ask old new call (call_result answered))
   -- A text is refused, or stops at a limit, since it deserves that; where it has no tree, the place of its first fault is answered.
-  pub text : ask_of call.ask ≡ Some is.Compile → AnswersText old.limits call.text.now answered.status (place_of answered)
+  pub text : ask_of call.ask ≡ Some is.Compile → StatusSaysOfText old.limits call.text.now answered.status (place_of answered)
   -- A run answers what the program's meaning allows in the environment and the context of the handles, or one of them finds nothing.
   pub run : ask_of call.ask ≡ Some is.Run
       → MatchOption (run_inputs old call.program call.environment call.context) (answered.status ≡ 6) (λ q. AnswersNumber q [] answered.status (part_of new.answer))

@@ -1,6 +1,6 @@
 -- What a call answers.
 use Rattle.std.specs.Prelude.{◌≡◌, ◌≢◌, ◌⊎◌, ◌++◌, ℕ, List, [], Result, Ok, Err, drop, length, min, string_bytes, take}
-use Rattle.expr_engine.specs.Engines.{RunInputs, MayAnswer, MayEnd}
+use Rattle.expr_engine.specs.Engines.{RunInputs, RunMayAnswer, MayEnd}
 use Rattle.expr_engine.specs.declared.call.Call.{Call}
 use Rattle.expr_engine.specs.declared.call.Shows.{Shows}
 use Rattle.expr_engine.specs.declared.call.Shows.TheVariants as shows
@@ -39,8 +39,8 @@ number_of ends.Size = 14
 
 -- A run that found all three, with these replies, gives the value that is then looked at, or a refusal, or it stops for a reply, or at a limit at which one may stop.
 abbrev pub RunServes : {A : Type 0} → RunInputs → List CallReply → Result A HostError → Value → Type 0
-RunServes q given (Ok shown) value = MayAnswer q given (Ok value)
-RunServes q given (Err (Language error)) value = error_kind error ≢ memory → MayAnswer q given (Err (error_kind error))
+RunServes q given (Ok shown) value = RunMayAnswer q given (Ok value)
+RunServes q given (Err (Language error)) value = error_kind error ≢ memory → RunMayAnswer q given (Err (error_kind error))
 RunServes q given (Err Unknown) value = ⊥
 RunServes q given (Err Misuse) value = ⊥
 RunServes q given (Err Asks) value = Unit {0}
@@ -50,11 +50,11 @@ RunServes q given (Err (Stopped limit)) value = MayEnd q given (stops limit)
 -- What the ending of such a run says: its value, or its kind of refusal, is one that the meaning allows and to which a run comes within the limits, or the limit is one
 -- at which a run may stop. The limits of texts are none.
 abbrev pub Says : RunInputs → List CallReply → Status → Value → Type 0
-Says q given ends.Done value = MayAnswer q given (Ok value)
-Says q given ends.Syntax value = MayAnswer q given (Err syntax)
-Says q given ends.Literal value = MayAnswer q given (Err literal)
-Says q given ends.Evaluation value = MayAnswer q given (Err evaluation)
-Says q given ends.Pattern value = MayAnswer q given (Err pattern)
+Says q given ends.Done value = RunMayAnswer q given (Ok value)
+Says q given ends.Syntax value = RunMayAnswer q given (Err syntax)
+Says q given ends.Literal value = RunMayAnswer q given (Err literal)
+Says q given ends.Evaluation value = RunMayAnswer q given (Err evaluation)
+Says q given ends.Pattern value = RunMayAnswer q given (Err pattern)
 Says q given ends.Memory value = Unit {0}
 Says q given ends.Unknown value = ⊥
 Says q given ends.Misuse value = ⊥

@@ -60,7 +60,7 @@ pub record IsSameWait (old new : WaitingRun) : Type 0 where
   pub stops : IsSame old.stops new.stops
 
 -- The call that waited has such a reply, behind all others, and its run went on.
-pub record GoesOn (Is : Reply → Type 0) (q : RunInputs) (old new : WaitingRun) (done : Result (Unit {0}) HostError) (value : Value) : Type 0 where
+pub record GoesOnWith (Is : Reply → Type 0) (q : RunInputs) (old new : WaitingRun) (done : Result (Unit {0}) HostError) (value : Value) : Type 0 where
   pub stop : Stop
   pub waited : waiting_call_of old.stops ≡ Some stop
   pub reply : Reply
@@ -72,14 +72,14 @@ pub record GoesOn (Is : Reply → Type 0) (q : RunInputs) (old new : WaitingRun)
 
 -- The same of what the run's handles find. Where memory is refused for the reply, or a handle finds nothing, or nothing stands for a reply, the call still waits.
 abbrev pub RunGoesOn : (Reply → Type 0) → Option RunInputs → WaitingRun → WaitingRun → Result (Unit {0}) HostError → Value → Type 0
-RunGoesOn Is o old new (Ok v) value = IsSomeAnd o (λ q. GoesOn Is q old new (Ok v) value)
+RunGoesOn Is o old new (Ok v) value = IsSomeAnd o (λ q. GoesOnWith Is q old new (Ok v) value)
 RunGoesOn Is o old new (Err (Language error)) value =
-    ((error_kind error ≡ memory) × IsSameWait old new) ⊎ IsSomeAnd o (λ q. GoesOn Is q old new (Err (Language error)) value)
+    ((error_kind error ≡ memory) × IsSameWait old new) ⊎ IsSomeAnd o (λ q. GoesOnWith Is q old new (Err (Language error)) value)
 RunGoesOn Is o old new (Err Unknown) value = new ≡ old
 RunGoesOn Is o old new (Err Misuse) value = new ≡ old
-RunGoesOn Is o old new (Err Asks) value = IsSomeAnd o (λ q. GoesOn Is q old new (Err Asks) value)
-RunGoesOn Is o old new (Err Differs) value = IsSomeAnd o (λ q. GoesOn Is q old new (Err Differs) value)
-RunGoesOn Is o old new (Err (Stopped limit)) value = IsSomeAnd o (λ q. GoesOn Is q old new (Err (Stopped limit)) value)
+RunGoesOn Is o old new (Err Asks) value = IsSomeAnd o (λ q. GoesOnWith Is q old new (Err Asks) value)
+RunGoesOn Is o old new (Err Differs) value = IsSomeAnd o (λ q. GoesOnWith Is q old new (Err Differs) value)
+RunGoesOn Is o old new (Err (Stopped limit)) value = IsSomeAnd o (λ q. GoesOnWith Is q old new (Err (Stopped limit)) value)
 
 -- The value was built last.
 pub record IsBuiltLast (values : List Value) (v : Value) : Type 0 where

@@ -1,7 +1,7 @@
 //! Values that a call hands in.
 ghost use Rattle.std.specs.Prelude.{◌≡◌, ◌≢◌, IfErr, IfOk, IsSomeAnd, OnOk};
-ghost use Rattle.expr_engine.specs.Effects.{HandsIn, MakesArray, MakesMap, Pushes, Unbuilds};
-ghost use Rattle.expr_engine.specs.Engines.{KeepsAll, KeepsRest};
+ghost use Rattle.expr_engine.specs.Effects.{HandsIn, MakesArray, MakesMap, PushesValue, Unbuilds};
+ghost use Rattle.expr_engine.specs.Engines.{KeepsThings, KeepsRest};
 ghost use Rattle.expr_exchange.specs.Kinds.{kind_numbered};
 ghost use Rattle.expr_exchange.specs.Refusals.{IsNoStop};
 
@@ -34,9 +34,9 @@ pub fn handed_in(engine: &mut Engine, call: &Call<'_>) -> Result<Value, HostErro
 
 /// Puts the value that is handed in behind those that were built.
 pub fn push(engine: &mut Engine, call: &Call<'_>) -> Result<(), HostError>
-    ensures done { OnOk result (Pushes engine.old engine.new call.now) }
+    ensures done { OnOk result (PushesValue engine.old engine.new call.now) }
     ensures found { IfErr result (λ e. e ≢ HostError.Unknown) }
-    ensures kept { KeepsAll engine.old engine.new }
+    ensures kept { KeepsThings engine.old engine.new }
     ensures standing { KeepsRest engine.old engine.new }
     ensures ends { IfErr result IsNoStop }
 {
@@ -48,7 +48,7 @@ pub fn push(engine: &mut Engine, call: &Call<'_>) -> Result<(), HostError>
 pub fn make_array(engine: &mut Engine, call: &Call<'_>) -> Result<(), HostError>
     ensures done { OnOk result (MakesArray engine.old engine.new call.now) }
     ensures found { IfErr result (λ e. e ≢ HostError.Unknown) }
-    ensures kept { KeepsAll engine.old engine.new }
+    ensures kept { KeepsThings engine.old engine.new }
     ensures standing { KeepsRest engine.old engine.new }
     ensures ends { IfErr result IsNoStop }
 {
@@ -59,7 +59,7 @@ pub fn make_array(engine: &mut Engine, call: &Call<'_>) -> Result<(), HostError>
 pub fn make_map(engine: &mut Engine, call: &Call<'_>) -> Result<(), HostError>
     ensures done { OnOk result (MakesMap engine.old engine.new call.now) }
     ensures found { IfErr result (λ e. e ≢ HostError.Unknown) }
-    ensures kept { KeepsAll engine.old engine.new }
+    ensures kept { KeepsThings engine.old engine.new }
     ensures standing { KeepsRest engine.old engine.new }
     ensures ends { IfErr result IsNoStop }
 {
@@ -70,7 +70,7 @@ pub fn make_map(engine: &mut Engine, call: &Call<'_>) -> Result<(), HostError>
 pub fn unbuild(engine: &mut Engine) -> Result<(), HostError>
     ensures done { OnOk result (Unbuilds engine.old engine.new) }
     ensures found { IfErr result (λ e. e ≢ HostError.Unknown) }
-    ensures kept { KeepsAll engine.old engine.new }
+    ensures kept { KeepsThings engine.old engine.new }
     ensures standing { KeepsRest engine.old engine.new }
     ensures ends { IfErr result IsNoStop }
 {

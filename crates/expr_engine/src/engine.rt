@@ -4,7 +4,7 @@ ghost use Rattle.std.specs.Prelude.{◌≡◌, ◌≢◌, [], string_bytes, IfOk
 ghost use Rattle.std.specs.Option.{option_copied};
 ghost use Rattle.expr_engine.specs.Adding.{BecomesByRule, BecomesFixed, BecomesNow, GainsName};
 ghost use Rattle.expr_engine.specs.Effects.{Adds, AreSaid, Changes, ForgetsAll, IsStale};
-ghost use Rattle.expr_engine.specs.Engines.{IsPlacedRefusal, KeepsAll, KeepsRest, MayAnswer, MayEnd, NumbersRise, RefusesText, SameAdditions, additions_at, run_inputs, waiting_inputs, names_at};
+ghost use Rattle.expr_engine.specs.Engines.{IsPlacedRefusal, KeepsThings, KeepsRest, RunMayAnswer, MayEnd, NumbersRise, RefusesText, SameAdditions, additions_at, run_inputs, waiting_inputs, names_at};
 ghost use Rattle.expr_engine.specs.Faults.{IsNotedAt, fault_byte, refused_byte};
 ghost use Rattle.expr_engine.specs.Limiting.{IsProgramBy};
 ghost use Rattle.expr_engine.specs.Promised.{IsNew};
@@ -150,7 +150,7 @@ impl Engine {
         context: Handle,
     ) -> Result<Value, HostError>
         ensures ended { MatchOption (run_inputs self.now program environment context)
-            (result ≡ Err HostError.Unknown) (λ q. ReturnsToHost result (MayAnswer q (replies_of stops.old))
+            (result ≡ Err HostError.Unknown) (λ q. ReturnsToHost result (RunMayAnswer q (replies_of stops.old))
             (λ limit. MayEnd q (replies_of stops.old) (stops_at limit))) }
         ensures stops { waiting_call_of stops.old ≡ None
             → MatchOption (run_inputs self.now program environment context)
@@ -185,7 +185,7 @@ impl Engine {
             (λ q. IsNewRun q program environment context result self.new.waits) }
         ensures way { OnOk result (way_of self.new.answer ≡ []) }
         ensures err { OnErr result (self.new.answer ≡ self.old.answer) }
-        ensures kept { KeepsAll self.old self.new }
+        ensures kept { KeepsThings self.old self.new }
         ensures built { self.new.built ≡ self.old.built }
         ensures limits { self.new.limits ≡ self.old.limits }
     {
@@ -225,7 +225,7 @@ impl Engine {
         ensures err { OnErr result (self.new.answer ≡ self.old.answer) }
         ensures waits { self.new.waits ≡ self.old.waits }
         ensures limits { self.new.limits ≡ self.old.limits }
-        ensures kept { KeepsAll self.old self.new }
+        ensures kept { KeepsThings self.old self.new }
         ensures built { self.new.built ≡ self.old.built }
     {
         self.answer.keep(answer?);
@@ -257,7 +257,7 @@ impl Engine {
             → IfErr result (λ e. e ≢ HostError.Unknown) }
         ensures way { OnOk result (way_of self.new.answer ≡ []) }
         ensures err { OnErr result (self.new.answer ≡ self.old.answer) }
-        ensures kept { KeepsAll self.old self.new }
+        ensures kept { KeepsThings self.old self.new }
         ensures built { self.new.built ≡ self.old.built }
         ensures limits { self.new.limits ≡ self.old.limits }
     {
@@ -274,7 +274,7 @@ impl Engine {
             → IfErr result (λ e. e ≢ HostError.Unknown) }
         ensures way { OnOk result (way_of self.new.answer ≡ []) }
         ensures err { OnErr result (self.new.answer ≡ self.old.answer) }
-        ensures kept { KeepsAll self.old self.new }
+        ensures kept { KeepsThings self.old self.new }
         ensures built { self.new.built ≡ self.old.built }
         ensures limits { self.new.limits ≡ self.old.limits }
     {
@@ -294,7 +294,7 @@ impl Engine {
         ensures run { IsSameRun self.old.waits self.new.waits }
         ensures way { OnOk result (way_of self.new.answer ≡ []) }
         ensures err { OnErr result (self.new.answer ≡ self.old.answer) }
-        ensures kept { KeepsAll self.old self.new }
+        ensures kept { KeepsThings self.old self.new }
         ensures built { self.new.built ≡ self.old.built }
         ensures limits { self.new.limits ≡ self.old.limits }
     {
@@ -450,7 +450,7 @@ impl Engine {
 
     /// Notes what is said of a refusal, and where a text is refused.
     pub fn note(&mut self, refused: &HostError, text: &[u8]) -> Result<Option<TextPlace>, Error>
-        ensures kept { KeepsAll self.old self.new }
+        ensures kept { KeepsThings self.old self.new }
         ensures built { self.new.built ≡ self.old.built }
         ensures standing { KeepsRest self.old self.new }
         ensures noted { IfOk result (IsNotedAt (refused_byte refused.now) text.now) }
@@ -475,7 +475,7 @@ impl Engine {
 
     /// Notes what is said of a refusal of the language, and where a text is refused.
     fn note_error(&mut self, error: &Error, text: &[u8]) -> Result<Option<TextPlace>, Error>
-        ensures kept { KeepsAll self.old self.new }
+        ensures kept { KeepsThings self.old self.new }
         ensures built { self.new.built ≡ self.old.built }
         ensures standing { KeepsRest self.old self.new }
         ensures noted { IfOk result (IsNotedAt (fault_byte error.now) text.now) }
@@ -491,7 +491,7 @@ impl Engine {
 
     /// Notes where a text is refused, and says the line with a caret under that place.
     fn note_fault(&mut self, byte: usize, text: &[u8]) -> Result<Option<TextPlace>, Error>
-        ensures kept { KeepsAll self.old self.new }
+        ensures kept { KeepsThings self.old self.new }
         ensures built { self.new.built ≡ self.old.built }
         ensures standing { KeepsRest self.old self.new }
         ensures noted { IfOk result (IsNotedAt (Some byte) text.now) }

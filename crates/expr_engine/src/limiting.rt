@@ -1,7 +1,7 @@
 //! Asks about limits.
 ghost use Rattle.std.specs.Prelude.{◌≡◌, ◌≢◌, Err, IfErr, MatchOption, None, Ok, OnOk, Some};
 ghost use Rattle.expr_engine.specs.Effects.{LetsGoOfLimits, SetsLimit};
-ghost use Rattle.expr_engine.specs.Engines.{KeepsAll};
+ghost use Rattle.expr_engine.specs.Engines.{KeepsThings};
 ghost use Rattle.expr_engine.specs.Limiting.{limits_asked, with_limit};
 ghost use Rattle.expr_exchange.specs.Refusals.{IsNoStop};
 
@@ -17,7 +17,7 @@ pub fn set_limit(engine: &mut Engine, call: &Call<'_>) -> Result<(), HostError>
         ((result ≡ Err HostError.Misuse) × (engine.new.limits ≡ engine.old.limits))
         (λ limits. (result ≡ Ok tt) × (engine.new.limits ≡ Some limits)) }
     ensures found { IfErr result (λ e. e ≢ HostError.Unknown) }
-    ensures kept { KeepsAll engine.old engine.new }
+    ensures kept { KeepsThings engine.old engine.new }
     ensures answer { engine.new.answer ≡ engine.old.answer }
     ensures waits { engine.new.waits ≡ engine.old.waits }
     ensures ends { IfErr result IsNoStop }
@@ -67,7 +67,7 @@ pub fn let_go_of_limits(engine: &mut Engine) -> Result<(), HostError>
     ensures ok { result ≡ Ok tt }
     ensures found { IfErr result (λ e. e ≢ HostError.Unknown) }
     ensures none { engine.new.limits ≡ None }
-    ensures kept { KeepsAll engine.old engine.new }
+    ensures kept { KeepsThings engine.old engine.new }
     ensures answer { engine.new.answer ≡ engine.old.answer }
     ensures waits { engine.new.waits ≡ engine.old.waits }
     ensures ends { IfErr result IsNoStop }

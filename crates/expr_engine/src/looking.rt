@@ -3,7 +3,7 @@ ghost use Rattle.std.specs.Prelude.{◌≡◌, ◌≢◌, IfErr, IfOk, Ok, OnErr
 ghost use Rattle.expr_encoding.specs.Optional.{value_or_refusal};
 ghost use Rattle.expr_encoding.specs.Writing.{json_text};
 ghost use Rattle.expr_engine.specs.Effects.{Looks, LooksIn, LooksOut, SaysKey, SaysText, Tells, key_said, call_result};
-ghost use Rattle.expr_engine.specs.Engines.{KeepsAll, KeepsRest};
+ghost use Rattle.expr_engine.specs.Engines.{KeepsThings, KeepsRest};
 ghost use Rattle.expr_exchange.specs.Cursor.{SameLook};
 ghost use Rattle.expr_exchange.specs.Refusals.{IsNoStop};
 ghost use Rattle.expr_value.specs.Strings.{string_text};
@@ -31,7 +31,7 @@ pub fn describe(value: &Value, call: &mut Call<'_>)
 pub fn look(engine: &mut Engine, call: &mut Call<'_>) -> Result<(), HostError>
     ensures done { OnOk result (Looks engine.old engine.new (call_result call.new)) }
     ensures found { IfErr result (λ e. e ≢ HostError.Unknown) }
-    ensures kept { KeepsAll engine.old engine.new }
+    ensures kept { KeepsThings engine.old engine.new }
     ensures standing { KeepsRest engine.old engine.new }
     ensures room { call.new.room.now ≡ call.old.room.now }
     ensures ends { IfErr result IsNoStop }
@@ -45,7 +45,7 @@ pub fn look_down(engine: &mut Engine, call: &mut Call<'_>) -> Result<(), HostErr
     ensures done { OnOk result (LooksIn engine.old engine.new call.old (call_result call.new)) }
     ensures look { OnErr result (SameLook engine.old.answer engine.new.answer) }
     ensures found { IfErr result (λ e. e ≢ HostError.Unknown) }
-    ensures kept { KeepsAll engine.old engine.new }
+    ensures kept { KeepsThings engine.old engine.new }
     ensures waits { engine.new.waits ≡ engine.old.waits }
     ensures limits { engine.new.limits ≡ engine.old.limits }
     ensures room { call.new.room.now ≡ call.old.room.now }
@@ -61,7 +61,7 @@ pub fn look_up(engine: &mut Engine, call: &mut Call<'_>) -> Result<(), HostError
     ensures done { OnOk result (LooksOut engine.old engine.new (call_result call.new)) }
     ensures look { OnErr result (SameLook engine.old.answer engine.new.answer) }
     ensures found { IfErr result (λ e. e ≢ HostError.Unknown) }
-    ensures kept { KeepsAll engine.old engine.new }
+    ensures kept { KeepsThings engine.old engine.new }
     ensures waits { engine.new.waits ≡ engine.old.waits }
     ensures limits { engine.new.limits ≡ engine.old.limits }
     ensures room { call.new.room.now ≡ call.old.room.now }
@@ -76,7 +76,7 @@ pub fn look_up(engine: &mut Engine, call: &mut Call<'_>) -> Result<(), HostError
 pub fn show_key(engine: &mut Engine, call: &mut Call<'_>) -> Result<(), HostError>
     ensures done { OnOk result (SaysKey engine.old engine.new call.old (call_result call.new)) }
     ensures found { IfErr result (λ e. e ≢ HostError.Unknown) }
-    ensures kept { KeepsAll engine.old engine.new }
+    ensures kept { KeepsThings engine.old engine.new }
     ensures standing { KeepsRest engine.old engine.new }
     ensures room { call.new.room.now ≡ call.old.room.now }
     ensures ends { IfErr result IsNoStop }
@@ -101,7 +101,7 @@ fn key_text(alloc: Global, key: &Value) -> expr::Result<String>
 pub fn say_shown(engine: &mut Engine) -> Result<(), HostError>
     ensures done { OnOk result (SaysText (λ v text. text ≡ text_of v) engine.old engine.new) }
     ensures found { IfErr result (λ e. e ≢ HostError.Unknown) }
-    ensures kept { KeepsAll engine.old engine.new }
+    ensures kept { KeepsThings engine.old engine.new }
     ensures standing { KeepsRest engine.old engine.new }
     ensures ends { IfErr result IsNoStop }
 {
@@ -113,7 +113,7 @@ pub fn say_shown(engine: &mut Engine) -> Result<(), HostError>
 pub fn say_text(engine: &mut Engine) -> Result<(), HostError>
     ensures done { OnOk result (SaysText (λ v text. text ≡ string_text v) engine.old engine.new) }
     ensures found { IfErr result (λ e. e ≢ HostError.Unknown) }
-    ensures kept { KeepsAll engine.old engine.new }
+    ensures kept { KeepsThings engine.old engine.new }
     ensures standing { KeepsRest engine.old engine.new }
     ensures ends { IfErr result IsNoStop }
 {
@@ -126,7 +126,7 @@ pub fn say_json(engine: &mut Engine) -> Result<(), HostError>
     ensures done { OnOk result
         (SaysText (λ v text. value_or_refusal (json_text v) ≡ Ok text) engine.old engine.new) }
     ensures found { IfErr result (λ e. e ≢ HostError.Unknown) }
-    ensures kept { KeepsAll engine.old engine.new }
+    ensures kept { KeepsThings engine.old engine.new }
     ensures standing { KeepsRest engine.old engine.new }
     ensures ends { IfErr result IsNoStop }
 {

@@ -1,7 +1,7 @@
 //! Asks about the call that waits for a host's reply.
 ghost use Rattle.std.specs.Prelude.{◌≡◌, ◌≢◌, IfErr, OnErr, OnOk};
 ghost use Rattle.expr_engine.specs.Effects.{EndsRun, IsStale, LooksAtCall, TakesLast, call_result};
-ghost use Rattle.expr_engine.specs.Engines.{KeepsAll, waiting_inputs};
+ghost use Rattle.expr_engine.specs.Engines.{KeepsThings, waiting_inputs};
 ghost use Rattle.expr_engine.specs.Turns.{IsAnswer, IsRefusal, RunGoesOn};
 ghost use Rattle.expr_exchange.specs.Builder.{values_of};
 ghost use Rattle.expr_exchange.specs.Cursor.{part_of};
@@ -23,7 +23,7 @@ pub fn answer_call(engine: &mut Engine, call: &mut Call<'_>) -> Result<(), HostE
     ensures unknown { IsStale engine.old → result ≡ Err HostError.Unknown }
     ensures known { result ≡ Err HostError.Unknown → IsStale engine.old }
     ensures answer { OnErr result (engine.new.answer ≡ engine.old.answer) }
-    ensures kept { KeepsAll engine.old engine.new }
+    ensures kept { KeepsThings engine.old engine.new }
     ensures limits { engine.new.limits ≡ engine.old.limits }
     ensures room { call.new.room.now ≡ call.old.room.now }
 {
@@ -43,7 +43,7 @@ pub fn refuse_call(engine: &mut Engine, call: &mut Call<'_>) -> Result<(), HostE
     ensures unknown { IsStale engine.old → result ≡ Err HostError.Unknown }
     ensures known { result ≡ Err HostError.Unknown → IsStale engine.old }
     ensures answer { OnErr result (engine.new.answer ≡ engine.old.answer) }
-    ensures kept { KeepsAll engine.old engine.new }
+    ensures kept { KeepsThings engine.old engine.new }
     ensures limits { engine.new.limits ≡ engine.old.limits }
     ensures room { call.new.room.now ≡ call.old.room.now }
 {
@@ -60,7 +60,7 @@ pub fn look_at_waiting_call(engine: &mut Engine, call: &mut Call<'_>) -> Result<
     ensures found { IfErr result (λ e. e ≢ HostError.Unknown) }
     ensures answer { OnErr result (engine.new.answer ≡ engine.old.answer) }
     ensures waits { engine.new.waits ≡ engine.old.waits }
-    ensures kept { KeepsAll engine.old engine.new }
+    ensures kept { KeepsThings engine.old engine.new }
     ensures limits { engine.new.limits ≡ engine.old.limits }
     ensures room { call.new.room.now ≡ call.old.room.now }
     ensures ends { IfErr result IsNoStop }

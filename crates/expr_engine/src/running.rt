@@ -1,7 +1,7 @@
 //! Asks about programs.
 ghost use Rattle.std.specs.Prelude.{◌≡◌, [], Err, None, IfErr, IfOk, IsUtf8, MatchOption, OnErr, OnOk};
 ghost use Rattle.expr_engine.specs.Effects.{Compiles, RunsOnce, SaysNames, call_result};
-ghost use Rattle.expr_engine.specs.Engines.{CompileRefuses, KeepsAll, KeepsRest, NumbersRise, run_inputs};
+ghost use Rattle.expr_engine.specs.Engines.{CompileRefuses, KeepsThings, KeepsRest, NumbersRise, run_inputs};
 ghost use Rattle.expr_engine.specs.Served.{RunServes};
 ghost use Rattle.expr_engine.specs.Turns.{IsNewRun};
 ghost use Rattle.expr_exchange.specs.Cursor.{part_of};
@@ -35,7 +35,7 @@ pub fn names(engine: &mut Engine, call: &mut Call<'_>) -> Result<(), HostError>
     ensures done { OnOk result (SaysNames engine.old engine.new call.old (call_result call.new)) }
     ensures unknown { thing_at engine.old.rules call.old.program ≡ None → result ≡ Err HostError.Unknown }
     ensures known { result ≡ Err HostError.Unknown → thing_at engine.old.rules call.old.program ≡ None }
-    ensures kept { KeepsAll engine.old engine.new }
+    ensures kept { KeepsThings engine.old engine.new }
     ensures standing { KeepsRest engine.old engine.new }
     ensures room { call.new.room.now ≡ call.old.room.now }
     ensures ends { IfErr result IsNoStop }
@@ -59,7 +59,7 @@ pub fn run(engine: &mut Engine, call: &mut Call<'_>) -> Result<(), HostError>
     ensures turns { MatchOption (run_inputs engine.old call.old.program call.old.environment call.old.context)
         (engine.new.waits ≡ engine.old.waits) (λ q. IsNewRun q call.old.program call.old.environment
         call.old.context result engine.new.waits) }
-    ensures kept { KeepsAll engine.old engine.new }
+    ensures kept { KeepsThings engine.old engine.new }
     ensures limits { engine.new.limits ≡ engine.old.limits }
     ensures room { call.new.room.now ≡ call.old.room.now }
 {

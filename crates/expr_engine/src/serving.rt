@@ -1,7 +1,7 @@
 //! The one call: an engine does what it is asked to.
 ghost use Rattle.std.specs.Prelude.{◌≡◌, ◌⊎◌, [], Err, IfErr, IfSome, OnErr, OnOk, string_bytes};
 ghost use Rattle.expr_engine.specs.Effects.{call_result};
-ghost use Rattle.expr_engine.specs.Engines.{KeepsAll, KeepsRest};
+ghost use Rattle.expr_engine.specs.Engines.{KeepsThings, KeepsRest};
 ghost use Rattle.expr_engine.specs.Faults.{IsAt, place_of, refused_byte};
 ghost use Rattle.expr_engine.specs.Promised.{Acts, IsServed};
 ghost use Rattle.expr_engine.specs.Served.{EndsCall, ShowsText, number_of, text_in_room, text_shown};
@@ -77,7 +77,7 @@ fn act(engine: &mut Engine, call: &mut Call<'_>, ask: Ask) -> Result<(), HostErr
 /// Says how a call ended, and shows its text.
 fn finish(engine: &mut Engine, call: &mut Call<'_>, shows: Shows, done: Result<(), HostError>)
     ensures same { OnOk done (engine.new ≡ engine.old) }
-    ensures kept { KeepsAll engine.old engine.new }
+    ensures kept { KeepsThings engine.old engine.new }
     ensures standing { KeepsRest engine.old engine.new }
     ensures built { OnErr done (values_of engine.new.built ≡ []) }
     ensures reply { call_result call.new ≡ call_result call.old }
@@ -148,7 +148,7 @@ fn number(status: Status) -> u32
 
 /// Lets go of what was built, notes what is said, and answers how the call ended.
 fn refuse(engine: &mut Engine, refused: &HostError, call: &mut Call<'_>) -> Status
-    ensures kept { KeepsAll engine.old engine.new }
+    ensures kept { KeepsThings engine.old engine.new }
     ensures standing { KeepsRest engine.old engine.new }
     ensures built { values_of engine.new.built ≡ [] }
     ensures reply { call_result call.new ≡ call_result call.old }
