@@ -150,7 +150,8 @@ impl Engine {
         context: Handle,
     ) -> Result<Value, HostError>
         ensures ended { MatchOption (run_inputs self.now program environment context)
-            (result ≡ Err HostError.Unknown) (λ q. ReturnsToHost result (RunMayAnswer q (replies_of stops.old))
+            (result ≡ Err HostError.Unknown)
+            (λ q. ReturnsToHost result (RunMayAnswer q (replies_of stops.old))
             (λ limit. MayEnd q (replies_of stops.old) (stops_at limit))) }
         ensures stops { waiting_call_of stops.old ≡ None
             → MatchOption (run_inputs self.now program environment context)
@@ -319,8 +320,8 @@ impl Engine {
 
     /// Refuses a handle that finds no environment.
     pub fn knows_environment(&self, environment: Handle) -> Result<(), HostError>
-        ensures found { MatchOption (thing_at self.now.environments environment) (result ≡ Err HostError.Unknown)
-            (λ _. IsOk result) }
+        ensures found { MatchOption (thing_at self.now.environments environment)
+            (result ≡ Err HostError.Unknown) (λ _. IsOk result) }
         ensures ends { IfErr result IsNoStop }
     {
         match self.environments.get(environment) {
@@ -499,12 +500,12 @@ impl Engine {
         let Ok(text) = std::str::from_utf8(text) else {
             return Ok(None);
         };
-        let spot = line_column_of(self.alloc, text, byte)?;
-        self.said = spot.shown;
+        let location = line_column_of(self.alloc, text, byte)?;
+        self.said = location.shown;
         Ok(Some(TextPlace {
             byte,
-            line: spot.line,
-            column: spot.column,
+            line: location.line,
+            column: location.column,
         }))
     }
 }
