@@ -13,7 +13,7 @@ use expr_encoding::from_json;
 use expr_exchange::{HostError, Kind, scalar_of};
 
 /// The value that a call hands in.
-pub fn handed_in(engine: &mut Engine, call: &Call<'_>) -> Result<Value, HostError>
+pub fn value_of_call(engine: &mut Engine, call: &Call<'_>) -> Result<Value, HostError>
     ensures value { IfOk result (λ v. IsSomeAnd (kind_numbered call.now.kind)
         (λ kind. HandsIn kind engine.old engine.new call.now v)) }
     ensures found { IfErr result (λ e. e ≢ HostError.Unknown) }
@@ -40,7 +40,7 @@ pub fn push(engine: &mut Engine, call: &Call<'_>) -> Result<(), HostError>
     ensures standing { KeepsRest engine.old engine.new }
     ensures ends { IfErr result IsNoStop }
 {
-    let value = handed_in(engine, call)?;
+    let value = value_of_call(engine, call)?;
     engine.built.push(value)
 }
 

@@ -5,7 +5,7 @@ ghost use Rattle.expr_engine.specs.Engines.{KeepsRest, NumbersRise};
 ghost use Rattle.expr_exchange.specs.Refusals.{IsNoStop};
 ghost use Rattle.expr_handles.specs.HandleMap.{SameThings, thing_at, next_number};
 
-use crate::building::handed_in;
+use crate::building::value_of_call;
 use crate::call::Call;
 use crate::engine::Engine;
 use crate::running::utf8;
@@ -59,6 +59,6 @@ pub fn set(engine: &mut Engine, call: &Call<'_>) -> Result<(), HostError>
 {
     engine.knows_context(call.context)?;
     let name = utf8(call.name)?;
-    let value = handed_in(engine, call)?;
+    let value = value_of_call(engine, call)?;
     engine.set(call.context, name, value)
 }

@@ -29,12 +29,12 @@ pub fn set_limit(engine: &mut Engine, call: &Call<'_>) -> Result<(), HostError>
         return Err(HostError::Misuse);
     };
     let limits = engine.limits.unwrap_or(Limits::for_strangers());
-    engine.limits = Some(changed(limits, limit, number));
+    engine.limits = Some(with_limit(limits, limit, number));
     Ok(())
 }
 
 /// Limits of which one is another number.
-fn changed(limits: Limits, limit: Limit, number: u64) -> Limits
+fn with_limit(limits: Limits, limit: Limit, number: u64) -> Limits
     ensures { result ≡ with_limit limit number limits }
 {
     match limit {

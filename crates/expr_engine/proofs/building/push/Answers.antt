@@ -3,15 +3,15 @@ use Rattle.expr_engine.proofs.Unchanged.{keeps_all}
 use Rattle.expr_engine.proofs.building.push.Goals as goal
 
 pub returns-in_err-value-clause-kept : goal.returns-in_err-value-clause-kept
-returns-in_err-value-clause-kept c = keeps_all c.args.engine.now c.handed_in.new.engine c.in_err-value.ensures.rules c.in_err-value.ensures.contexts c.in_err-value.ensures.environments
+returns-in_err-value-clause-kept c = keeps_all c.args.engine.now c.value_of_call.new.engine c.in_err-value.ensures.rules c.in_err-value.ensures.contexts c.in_err-value.ensures.environments
 
 pub returns-clause-kept : goal.returns-clause-kept
-returns-clause-kept c = keeps_all c.args.engine.now c.handed_in.new.engine c.in_ok-value.ensures.rules c.in_ok-value.ensures.contexts c.in_ok-value.ensures.environments
+returns-clause-kept c = keeps_all c.args.engine.now c.value_of_call.new.engine c.in_ok-value.ensures.rules c.in_ok-value.ensures.contexts c.in_ok-value.ensures.environments
 
 pub returns-clause-done : goal.returns-clause-done
 returns-clause-done c = then_so c.push.result c.push.ensures.ok (λ s. record {
   value = c.in_ok-value.value;
-  left = c.handed_in.new.engine;
+  left = c.value_of_call.new.engine;
   handed = c.in_ok-value.ensures.value;
   stands = s;
   keeps = returns-clause-kept c;
