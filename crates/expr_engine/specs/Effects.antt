@@ -75,7 +75,8 @@ pub record Changes {T : Type 0} (Becomes : T → T → Type 0) (old new : Handle
   pub others : KeepsOthers handle old new
 
 pub record Compiles (old new : Engine) (call : Call) (reply : CallResult) : Type 0 where
-  pub rules : Adds (λ rule. IsProgramBy old.limits call.text.now (program_term rule.program)) old.rules new.rules reply.program
+  pub rules : Adds (λ rule. IsProgramBy old.limits call.text.now (program_term rule.program))
+      old.rules new.rules reply.program
   pub contexts : new.contexts ≡ old.contexts
   pub environments : new.environments ≡ old.environments
   pub rest : KeepsRest old new
@@ -93,7 +94,8 @@ pub record SaysNames (old new : Engine) (call : Call) (reply : CallResult) : Typ
   pub keeps : KeepsThings old new
   pub rest : KeepsRest old new
   pub count : ℕ
-  pub said : IsSomeAnd (thing_at old.rules call.program) (λ rule. AreSaid (program_term rule.program) (string_bytes new.said) count)
+  pub said : IsSomeAnd (thing_at old.rules call.program)
+      (λ rule. AreSaid (program_term rule.program) (string_bytes new.said) count)
   pub number : pos count ≤ℤ pos 9223372036854775807 → reply.number ≡ pos count
   pub built : new.built ≡ old.built
 
@@ -106,7 +108,8 @@ pub record Tells (v : Value) (reply : CallResult) : Type 0 where
 -- The program's answer is kept, and looked at as a whole.
 pub record RunsOnce (old new : Engine) (call : Call) (reply : CallResult) : Type 0 where
   pub keeps : KeepsThings old new
-  pub answer : IsSomeAnd (run_inputs old call.program call.environment call.context) (λ q. RunMayAnswer q [] (Ok (part_of new.answer)))
+  pub answer : IsSomeAnd (run_inputs old call.program call.environment call.context)
+      (λ q. RunMayAnswer q [] (Ok (part_of new.answer)))
   pub way : way_of new.answer ≡ []
   pub told : Tells (part_of new.answer) reply
   pub built : new.built ≡ old.built
@@ -120,7 +123,8 @@ pub record TakesLast (old new : List Value) : Type 0 where
 pub record EndsRun (Built : List Value → List Value → Type 0) (old new : Engine) (reply : CallResult) : Type 0 where
   pub keeps : KeepsThings old new
   pub built : Built (values_of old.built) (values_of new.built)
-  pub answer : IsSomeAnd (waiting_inputs old) (λ q. RunMayAnswer q (replies_of new.waits.stops) (Ok (part_of new.answer)))
+  pub answer : IsSomeAnd (waiting_inputs old)
+      (λ q. RunMayAnswer q (replies_of new.waits.stops) (Ok (part_of new.answer)))
   pub way : way_of new.answer ≡ []
   pub told : Tells (part_of new.answer) reply
 
@@ -162,7 +166,8 @@ HandsIn kind old new call v = IsScalar kind call.number call.fraction call.text.
 pub record Sets (old new : Engine) (call : Call) : Type 0 where
   pub value : Value
   pub handed : IsSomeAnd (kind_numbered call.kind) (λ kind. HandsIn kind old new call value)
-  pub contexts : Changes (λ was is. is ≡ put call.name.now value was) old.contexts new.contexts call.context
+  pub contexts : Changes (λ was is. is ≡ put call.name.now value was)
+      old.contexts new.contexts call.context
   pub rules : new.rules ≡ old.rules
   pub environments : new.environments ≡ old.environments
   pub rest : KeepsRest old new
@@ -290,7 +295,8 @@ pub record ForgetsAll (old new : Engine) : Type 0 where
 
 -- One limit is the number that is given, and the others are what they were, or those for strangers where there were none.
 pub record SetsLimit (old new : Engine) (call : Call) : Type 0 where
-  pub limits : IsSomeAnd (limits_asked old.limits call.kind call.number) (λ limits. new.limits ≡ Some limits)
+  pub limits : IsSomeAnd (limits_asked old.limits call.kind call.number)
+      (λ limits. new.limits ≡ Some limits)
   pub keeps : KeepsThings old new
   pub answer : new.answer ≡ old.answer
   pub built : new.built ≡ old.built

@@ -60,7 +60,8 @@ MayEnd q given end = CodeComes q.limits (world_of (host_with_replies q.added giv
 
 -- An answer of such a run: the program's meaning allows it too.
 pub record RunMayAnswer (q : RunInputs) (given : List CallReply) (answer : Answer) : Type 0 where
-  pub allowed : MeaningAllows (world_of (host_with_replies q.added given) (context_of q.names)) (program_term q.rule.program) answer
+  pub allowed : MeaningAllows (world_of (host_with_replies q.added given) (context_of q.names))
+      (program_term q.rule.program) answer
   pub left : Room
   pub ends : MayEnd q given (ending_of answer left)
 
@@ -125,7 +126,8 @@ KeepsRest old new = standing_of new ≡ standing_of old
 pub record SameAdditions (old new : HandleMap Additions) : Type 0 where
   pub zones : (h : Handle) (name : List ℕ) → option_map (λ a. zone_at a name) (thing_at new h)
       ≡ option_map (λ a. zone_at a name) (thing_at old h)
-  pub moments : (h : Handle) → option_map (λ a. a.moment) (thing_at new h) ≡ option_map (λ a. a.moment) (thing_at old h)
+  pub moments : (h : Handle) → option_map (λ a. a.moment) (thing_at new h)
+      ≡ option_map (λ a. a.moment) (thing_at old h)
   pub names : (h : Handle) (name : List ℕ) → option_map (λ a. named_at a name) (thing_at new h)
       ≡ option_map (λ a. named_at a name) (thing_at old h)
 

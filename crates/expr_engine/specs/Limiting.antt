@@ -41,7 +41,8 @@ limits_asked limits kind (negsuc n) = None
 -- How a call leaves the limits: one sets a limit, or is misused, one lets go of all, and no other call changes them. How it ended is said by the caller.
 abbrev pub LimitsBy : Ask → Option Limits → Call → (Done Misused : Type 0) → Option Limits → Type 0
 LimitsBy is.Limit old call Done Misused new =
-    MatchOption (limits_asked old call.kind call.number) (Misused × (new ≡ old)) (λ limits. Done × (new ≡ Some limits))
+    MatchOption (limits_asked old call.kind call.number) (Misused × (new ≡ old))
+    (λ limits. Done × (new ≡ Some limits))
 LimitsBy is.Unlimited old call Done Misused new = Done × (new ≡ None)
 LimitsBy ask old call Done Misused new = new ≡ old
 

@@ -35,7 +35,8 @@ pub record IsNew (engine : Engine) : Type 0 where
 abbrev pub Gives : Ask → Engine → Call → Call → Result (Unit {0}) HostError → Value → Type 0
 Gives is.Compile old call answered done value = IfErr done (CompileRefuses old.limits call.text.now) × (answered.text.now ≡ call.text.now)
 Gives is.Run old call answered done value =
-    MatchOption (run_inputs old call.program call.environment call.context) (done ≡ Err Unknown) (λ q. RunServes q [] done value)
+    MatchOption (run_inputs old call.program call.environment call.context) (done ≡ Err Unknown)
+    (λ q. RunServes q [] done value)
 Gives ask old call answered done value = Unit {0}
 
 -- What is promised of a call before it is answered how it ended.
@@ -54,27 +55,34 @@ pub record Acts (ask : Ask) (old new : Engine) (call answered : Call) (done : Re
 -- What `serve` promises of the engine before and after, and of the call as it was asked and as it was answered.
 pub record IsServed (old new : Engine) (call answered : Call) : Type 0 where
   -- What is done, is done to what the call's handles find, and to nothing else.
-  pub done : answered.status ≡ 0 → MatchOption (ask_of call.ask) ⊥ (λ ask. Does ask old new call (call_result answered))
+  pub done : answered.status ≡ 0
+      → MatchOption (ask_of call.ask) ⊥ (λ ask. Does ask old new call (call_result answered))
   -- A text is refused, or stops at a limit, since it deserves that; where it has no tree, the place of its first fault is answered.
-  pub text : ask_of call.ask ≡ Some is.Compile → StatusSaysOfText old.limits call.text.now answered.status (place_of answered)
+  pub text : ask_of call.ask ≡ Some is.Compile
+      → StatusSaysOfText old.limits call.text.now answered.status (place_of answered)
   -- A run answers what the program's meaning allows in the environment and the context of the handles, or one of them finds nothing.
   pub run : ask_of call.ask ≡ Some is.Run
-      → MatchOption (run_inputs old call.program call.environment call.context) (answered.status ≡ 6) (λ q. AnswersNumber q [] answered.status (part_of new.answer))
+      → MatchOption (run_inputs old call.program call.environment call.context) (answered.status ≡ 6)
+      (λ q. AnswersNumber q [] answered.status (part_of new.answer))
   -- The run that waits for the host's reply: one that was begun, or that goes on with the reply, or the same.
-  pub turns : MatchOption (ask_of call.ask) (new.waits ≡ old.waits) (λ ask. TurnsBy ask old call answered.status new.waits (part_of new.answer))
+  pub turns : MatchOption (ask_of call.ask) (new.waits ≡ old.waits)
+      (λ ask. TurnsBy ask old call answered.status new.waits (part_of new.answer))
   -- The limits are those before, but where a call sets one or lets go of all.
   pub limits : MatchOption (ask_of call.ask) (new.limits ≡ old.limits)
       (λ ask. LimitsBy ask old.limits call (answered.status ≡ 0) (answered.status ≡ 7) new.limits)
   pub refused : answered.status ≢ 0 → Leaves old new
   -- A call is refused for a reason that it may have. A number that asks for nothing is MISUSE.
-  pub why : MatchOption (ask_of call.ask) (answered.status ≡ 7) (λ ask. EndsWithReason ask old call answered.status)
+  pub why : MatchOption (ask_of call.ask) (answered.status ≡ 7)
+      (λ ask. EndsWithReason ask old call answered.status)
   pub built : answered.status ≢ 0 → values_of new.built ≡ []
   -- A handle that is out of date, or was never given, is UNKNOWN, and nothing else is.
-  pub unknown : MatchOption (ask_of call.ask) (answered.status ≡ 7) (λ ask. IsMissing ask old call → answered.status ≡ 6)
+  pub unknown : MatchOption (ask_of call.ask) (answered.status ≡ 7)
+      (λ ask. IsMissing ask old call → answered.status ≡ 6)
   pub known : answered.status ≡ 6 → MatchOption (ask_of call.ask) ⊥ (λ ask. IsMissing ask old call)
   -- No handle is given twice.
   pub numbers : NumbersRise old new
   -- The text that a call shows, or the message of its refusal, is in the host's room as far as that goes.
   pub shown : answered.status ≡ 0
-      → MatchOption (ask_of call.ask) ⊥ (λ ask. ShowsText (text_shown (shows_of ask) new) call.room.now answered)
+      → MatchOption (ask_of call.ask) ⊥
+      (λ ask. ShowsText (text_shown (shows_of ask) new) call.room.now answered)
   pub said : answered.status ≢ 0 → ShowsText (string_bytes new.said) call.room.now answered

@@ -65,7 +65,8 @@ pub record GoesOnWith (Is : Reply → Type 0) (q : RunInputs) (old new : Waiting
   pub waited : waiting_call_of old.stops ≡ Some stop
   pub reply : Reply
   pub is : Is reply
-  pub given : replies_of new.stops ≡ replies_of old.stops ++ (record { call = stop.call; reply = reply } ∷ [])
+  pub given : replies_of new.stops
+      ≡ replies_of old.stops ++ (record { call = stop.call; reply = reply } ∷ [])
   pub run : IsSameRun old new
   pub stands : WaitsIfAsks q (replies_of new.stops) done (waiting_call_of new.stops)
   pub runs : RunServes q (replies_of new.stops) done value
@@ -74,7 +75,8 @@ pub record GoesOnWith (Is : Reply → Type 0) (q : RunInputs) (old new : Waiting
 abbrev pub RunGoesOn : (Reply → Type 0) → Option RunInputs → WaitingRun → WaitingRun → Result (Unit {0}) HostError → Value → Type 0
 RunGoesOn Is o old new (Ok v) value = IsSomeAnd o (λ q. GoesOnWith Is q old new (Ok v) value)
 RunGoesOn Is o old new (Err (Language error)) value =
-    ((error_kind error ≡ memory) × IsSameWait old new) ⊎ IsSomeAnd o (λ q. GoesOnWith Is q old new (Err (Language error)) value)
+    ((error_kind error ≡ memory) × IsSameWait old new)
+    ⊎ IsSomeAnd o (λ q. GoesOnWith Is q old new (Err (Language error)) value)
 RunGoesOn Is o old new (Err Unknown) value = new ≡ old
 RunGoesOn Is o old new (Err Misuse) value = new ≡ old
 RunGoesOn Is o old new (Err Asks) value = IsSomeAnd o (λ q. GoesOnWith Is q old new (Err Asks) value)
@@ -97,7 +99,8 @@ IsRefusal text (reply.Refusal message) = string_bytes message ≡ text
 -- How a call leaves the run that waits: calls that run nothing leave it as it is.
 abbrev pub Turns : Ask → Engine → Call → Result (Unit {0}) HostError → WaitingRun → Value → Type 0
 Turns is.Run old call done waits value =
-    MatchOption (run_inputs old call.program call.environment call.context) (waits ≡ old.waits) (λ q. IsNewRun q call.program call.environment call.context done waits)
+    MatchOption (run_inputs old call.program call.environment call.context) (waits ≡ old.waits)
+    (λ q. IsNewRun q call.program call.environment call.context done waits)
 Turns is.Answer old call done waits value = RunGoesOn (IsAnswer (values_of old.built)) (waiting_inputs old) old.waits waits done value
 Turns is.Refuse old call done waits value = RunGoesOn (IsRefusal call.text.now) (waiting_inputs old) old.waits waits done value
 Turns is.Clear old call done waits value = waiting_call_of waits.stops ≡ None
