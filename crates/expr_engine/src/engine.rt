@@ -110,6 +110,7 @@ impl Engine {
     }
 
     /// The names of a context, or none where there is no context.
+    #[inline(always)]
     fn names_of(&self, context: Handle) -> Result<LentNames<'_>, HostError>
         ensures found { IfOk result (λ lent. names_at self.now context
             ≡ Some (pairs_of (option_copied lent.names))) }
@@ -125,6 +126,7 @@ impl Engine {
     }
 
     /// What an environment adds, or nothing where there is no environment.
+    #[inline(always)]
     fn host_of(&self, environment: Handle) -> Result<LentHost<'_>, HostError>
         ensures found { IfOk result (λ lent. additions_at self.now environment
             ≡ Some (option_copied lent.added)) }
@@ -142,6 +144,7 @@ impl Engine {
 
     /// Runs a program within the limits, with the replies that a run has, up to its end or to its next call that the host
     /// answers itself.
+    #[inline(always)]
     fn turn(
         &self,
         stops: &mut Stops,
@@ -201,6 +204,7 @@ impl Engine {
     }
 
     /// Refuses handles of which one finds nothing.
+    #[inline(always)]
     fn knows_run(
         &self,
         program: Handle,
@@ -220,6 +224,7 @@ impl Engine {
     }
 
     /// Keeps what a run answers.
+    #[inline(always)]
     fn keep(&mut self, answer: Result<Value, HostError>) -> Result<(), HostError>
         ensures passed { PassesOn answer result (part_of self.new.answer) }
         ensures way { OnOk result (way_of self.new.answer ≡ []) }
@@ -284,6 +289,7 @@ impl Engine {
     }
 
     /// Goes on with the run that has a reply, and keeps what it answers.
+    #[inline(always)]
     fn go_on(&mut self) -> Result<(), HostError>
         ensures ended { MatchOption (waiting_inputs self.old) (result ≡ Err HostError.Unknown)
             (λ q. RunServes q (replies_of self.old.waits.stops) result (part_of self.new.answer)) }

@@ -17,6 +17,7 @@ use expr_exchange::{HostError, key_of, summary_of};
 use std::alloc::Global;
 
 /// Tells of a value.
+#[inline(always)]
 pub fn describe(value: &Value, call: &mut Call<'_>)
     ensures told { Tells value.now (call_result call.new) }
     ensures room { call.new.room.now ≡ call.old.room.now }

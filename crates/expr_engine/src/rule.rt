@@ -66,6 +66,7 @@ impl Rule {
     ///
     /// The first refusal in the order of evaluation: `ExprError`, `RegexError`, or `MemoryError` where a growth is refused.
     /// That a limit is passed is no error, but [`Outcome::Stopped`].
+    #[inline(always)]
     pub fn run<H: Functions>(
         &self,
         alloc: Global,
@@ -83,6 +84,7 @@ impl Rule {
 
     /// Runs the program within limits, with the replies that a run has, up to its end or to its next call that the host
     /// answers itself.
+    #[inline(always)]
     pub fn turn(
         &self,
         alloc: Global,

@@ -75,6 +75,7 @@ fn act(engine: &mut Engine, call: &mut Call<'_>, ask: Ask) -> Result<(), HostErr
 }
 
 /// Says how a call ended, and shows its text.
+#[inline(always)]
 fn finish(engine: &mut Engine, call: &mut Call<'_>, shows: Shows, done: Result<(), HostError>)
     ensures same { OnOk done (engine.new ≡ engine.old) }
     ensures kept { KeepsThings engine.old engine.new }
@@ -100,6 +101,7 @@ fn finish(engine: &mut Engine, call: &mut Call<'_>, shows: Shows, done: Result<(
 }
 
 /// Writes down how a call ended, and the text that is shown, as far as the room goes.
+#[inline(always)]
 fn answer(engine: &Engine, call: &mut Call<'_>, status: Status, shows: Shows)
     ensures reply { call_result call.new ≡ call_result call.old }
     ensures place { place_of call.new ≡ place_of call.old }
@@ -113,6 +115,7 @@ fn answer(engine: &Engine, call: &mut Call<'_>, status: Status, shows: Shows)
 }
 
 /// The text that is shown.
+#[inline(always)]
 fn shown_bytes(engine: &Engine, shows: Shows) -> &[u8]
     ensures { result.now ≡ text_shown shows engine.now }
 {
