@@ -1,11 +1,11 @@
 -- Runs that begin, and runs that go on with a reply.
-use Rattle.std.proofs.Common.{◌≡◌, ◌≢◌, ◌⊎◌, ◌∙◌, ◌∷◌, ◌++◌, List, [], Option, None, Some, IsSome, IsErrAnd, IsSomeAnd, MatchOption, Result, Ok, Err, IfErr, IsOk, OnOk, inl, inr, ap, rules, refl, subst, sym}
+use Rattle.std.proofs.Common.{Bool, true, false, ◌≡◌, ◌≢◌, ◌⊎◌, ◌∙◌, ◌∷◌, ◌++◌, List, [], Option, None, Some, IsSome, IsErrAnd, IsSomeAnd, MatchOption, Result, Ok, Err, IfErr, IsOk, OnOk, inl, inr, ap, rules, refl, subst, sym}
 use Rattle.std.proofs.lemmas.Bool.{false≢true}
 use Rattle.std.specs.Option.{option_and_then, option_map}
 use Rattle.expr_engine.specs.Engines.{RunInputs, RunMayAnswer, MayEnd, additions_at, names_at, run_inputs}
 use Rattle.expr_engine.specs.Runs.{NamedValues, named_by}
 use Rattle.expr_engine.specs.Served.{RunServes}
-use Rattle.expr_engine.specs.Turns.{GoesOnWith, IsAnswer, IsSameRun, PassesOn, RunGoesOn, WaitsIfAsks}
+use Rattle.expr_engine.specs.Turns.{GoesOnWith, IsAnswer, IsNewRun, IsSameRun, PassesOn, RunGoesOn, WaitsIfAsks, finds_nothing}
 use Rattle.expr_engine.specs.declared.additions.Additions.{Additions}
 use Rattle.expr_engine.specs.declared.engine.Engine.{Engine}
 use Rattle.expr_engine.specs.declared.rule.Rule.{Rule}
@@ -95,6 +95,34 @@ stood_as o was is now after answer done value same kept m k none =
     subst (λ (x : Stops). MatchOption o (done ≡ Err Unknown) (λ q. WaitsIfAsks q (replies_of was) done (waiting_call_of x))) (sym kept)
     (subst (λ (s : Stops). MatchOption o (done ≡ Err Unknown) (λ q. WaitsIfAsks q (replies_of s) done (waiting_call_of now))) same
     (stood o (replies_of is) answer done value (waiting_call_of now) (m (subst (λ (s : Stops). waiting_call_of s ≡ None) (sym same) none)) k))
+
+-- a run that is refused as where a handle finds nothing has such a handle, and one that isn't has none
+pub nothing_found : (o : Option RunInputs) (given : List CallReply) (answer : Result Value HostError)
+    → MatchOption o (answer ≡ Err Unknown) (λ q. ReturnsToHost answer (RunMayAnswer q given) (λ limit. MayEnd q given (stops limit))) → finds_nothing answer ≡ true → o ≡ None
+nothing_found None given answer m e = refl
+nothing_found (Some q) given (Ok v) m e = absurd (false≢true e)
+nothing_found (Some q) given (Err (Language error)) m e = absurd (false≢true e)
+nothing_found (Some q) given (Err Unknown) m e = absurd m
+nothing_found (Some q) given (Err Misuse) m e = absurd m
+nothing_found (Some q) given (Err Asks) m e = absurd (false≢true e)
+nothing_found (Some q) given (Err Differs) m e = absurd (false≢true e)
+nothing_found (Some q) given (Err (Stopped limit)) m e = absurd (false≢true e)
+
+pub where_none : (o : Option RunInputs) (N : Type 0) (P : RunInputs → Type 0) → o ≡ None → N → MatchOption o N P
+where_none o N P none n = subst (λ (x : Option RunInputs). MatchOption x N P) (sym none) n
+
+-- a run that was begun
+pub begun : (o : Option RunInputs) (program environment context : Handle) (begins : Stops) (old new : WaitingRun) (answer : Result Value HostError) (done : Result (Unit {0}) HostError) (value : Value)
+    → new ≡ record { program = program; environment = environment; context = context; stops = begins } → finds_nothing answer ≡ false → replies_of begins ≡ []
+    → MatchOption o (answer ≡ Err Unknown) (λ q. WaitsIfAsks q [] answer (waiting_call_of begins)) → PassesOn answer done value → MatchOption o (new ≡ old) (λ q. IsNewRun q program environment context done new)
+begun None program environment context begins old new answer done value is known given m k = absurd (false≢true (sym known ∙ ap (λ (r : Result Value HostError). finds_nothing r) m))
+begun (Some q) program environment context begins old new answer done value is known given m k = record {
+  program = ap (λ (w : WaitingRun). w.program) is;
+  environment = ap (λ (w : WaitingRun). w.environment) is;
+  context = ap (λ (w : WaitingRun). w.context) is;
+  given = ap (λ (w : WaitingRun). replies_of w.stops) is ∙ given;
+  stands = subst (λ (w : WaitingRun). WaitsIfAsks q [] done (waiting_call_of w.stops)) (sym is) (stands_kept q [] answer done value (waiting_call_of begins) m k);
+}
 
 -- a reply that was given, and the run that went on
 goes_on : (Is : Reply → Type 0) (q : RunInputs) (old : WaitingRun) (mid : Stops) (new : WaitingRun) (r : Reply) (done : Result (Unit {0}) HostError) (value : Value)

@@ -1,5 +1,5 @@
 -- How the run stands that waits for a host's reply.
-use Rattle.std.specs.Prelude.{◌≡◌, ◌⊎◌, ℕ, Bool, List, [], ◌∷◌, ◌++◌, Option, None, Some, IsSomeAnd, MatchOption, Result, Ok, Err, string_bytes}
+use Rattle.std.specs.Prelude.{◌≡◌, ◌⊎◌, ℕ, Bool, true, false, List, [], ◌∷◌, ◌++◌, Option, None, Some, IsSomeAnd, MatchOption, Result, Ok, Err, string_bytes}
 use Rattle.expr_engine.specs.Engines.{RunInputs, run_inputs, waiting_inputs}
 use Rattle.expr_engine.specs.Runs.{named_by}
 use Rattle.expr_engine.specs.Served.{EndsCall, RunServes}
@@ -39,6 +39,19 @@ WaitsIfAsks q given (Err (Stopped limit)) waits = waits ≡ None
 abbrev pub PassesOn : Result Value HostError → Result (Unit {0}) HostError → Value → Type 0
 PassesOn (Ok v) done value = (done ≡ Ok tt) × (value ≡ v)
 PassesOn (Err e) done value = done ≡ Err e
+
+-- whether a handle finds nothing
+abbrev pub is_unknown : HostError → Bool
+is_unknown (Language error) = false
+is_unknown Unknown = true
+is_unknown Misuse = false
+is_unknown Asks = false
+is_unknown Differs = false
+is_unknown (Stopped limit) = false
+
+abbrev pub finds_nothing : {A : Type 0} → Result A HostError → Bool
+finds_nothing (Ok v) = false
+finds_nothing (Err refused) = is_unknown refused
 
 -- A run was begun under these handles, and has no replies yet.
 pub record IsNewRun (q : RunInputs) (of_program in_environment in_context : Handle) (done : Result (Unit {0}) HostError) (waits : WaitingRun) : Type 0 where

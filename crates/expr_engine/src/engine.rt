@@ -10,7 +10,7 @@ ghost use Rattle.expr_engine.specs.Limiting.{IsProgramBy};
 ghost use Rattle.expr_engine.specs.Promised.{IsNew};
 ghost use Rattle.expr_engine.specs.Runs.{pairs_of};
 ghost use Rattle.expr_engine.specs.Served.{RunServes, SaysLimit};
-ghost use Rattle.expr_engine.specs.Turns.{IsNewRun, IsRefusal, IsSameRun, PassesOn, RunGoesOn, WaitsIfAsks};
+ghost use Rattle.expr_engine.specs.Turns.{IsNewRun, IsRefusal, IsSameRun, PassesOn, RunGoesOn, WaitsIfAsks, finds_nothing, is_unknown};
 ghost use Rattle.expr_exchange.specs.Cursor.{part_of, way_of};
 ghost use Rattle.expr_exchange.specs.Refusals.{IsNoStop, ReturnsToHost};
 ghost use Rattle.expr_handles.specs.HandleMap.{SameThings, thing_at, next_number};
@@ -193,14 +193,18 @@ impl Engine {
         ensures built { self.new.built ≡ self.old.built }
         ensures limits { self.new.limits ≡ self.old.limits }
     {
-        self.knows_run(program, environment, context)?;
+        let mut stops = Stops::new(self.alloc);
+        let answer = self.turn(&mut stops, program, environment, context);
+        if finds_nothing(&answer) {
+            return Err(HostError::Unknown);
+        }
         self.waits = WaitingRun {
             program,
             environment,
             context,
-            stops: Stops::new(self.alloc),
+            stops,
         };
-        self.go_on()
+        self.keep(answer)
     }
 
     /// Refuses handles of which one finds nothing.
@@ -513,6 +517,26 @@ impl Engine {
             line: location.line,
             column: location.column,
         }))
+    }
+}
+
+/// Whether a handle of a run found nothing.
+fn finds_nothing(answer: &Result<Value, HostError>) -> bool
+    ensures { result ≡ finds_nothing answer.now }
+{
+    match answer {
+        Ok(_) => false,
+        Err(refused) => is_unknown(refused),
+    }
+}
+
+/// Whether a handle found nothing.
+fn is_unknown(refused: &HostError) -> bool
+    ensures { result ≡ is_unknown refused.now }
+{
+    match refused {
+        HostError::Unknown => true,
+        _ => false,
     }
 }
 
