@@ -1,9 +1,10 @@
 //! Asks about environments.
-ghost use Rattle.std.specs.Prelude.{◌≡◌, None, ◌≢◌, IfErr, Err, OnErr, OnOk};
+ghost use Rattle.std.specs.Prelude.{◌≡◌, ◌≢◌, ◌⊎◌, Err, IfErr, None, OnErr, OnOk, pos};
 ghost use Rattle.expr_engine.specs.Effects.{AddsEnvironment, AddsFixedZone, AddsName, AddsZoneByRule, SetsNow, call_result};
 ghost use Rattle.expr_engine.specs.Engines.{KeepsRest, NumbersRise, SameAdditions};
-ghost use Rattle.expr_exchange.specs.Refusals.{IsNoStop};
+ghost use Rattle.expr_exchange.specs.Refusals.{IsForMemory, IsNoStop, NotMeant};
 ghost use Rattle.expr_handles.specs.HandleMap.{thing_at, next_number};
+ghost use Rattle.jiff.specs.Instant.{IsTimestampParts};
 
 use crate::additions::Additions;
 use crate::call::Call;
@@ -22,7 +23,7 @@ pub fn add_environment(engine: &mut Engine, call: &mut Call<'_>) -> Result<(), H
     ensures contexts { engine.new.contexts ≡ engine.old.contexts }
     ensures standing { KeepsRest engine.old engine.new }
     ensures room { call.new.room.now ≡ call.old.room.now }
-    ensures ends { IfErr result IsNoStop }
+    ensures why { IfErr result IsForMemory }
 {
     call.environment = engine.environments.put(Additions::new(engine.alloc))?;
     Ok(())
@@ -77,7 +78,8 @@ pub fn set_now(engine: &mut Engine, call: &Call<'_>) -> Result<(), HostError>
     ensures rules { engine.new.rules ≡ engine.old.rules }
     ensures contexts { engine.new.contexts ≡ engine.old.contexts }
     ensures standing { KeepsRest engine.old engine.new }
-    ensures ends { IfErr result IsNoStop }
+    ensures why { IfErr result (λ e. (e ≡ HostError.Unknown)
+        ⊎ NotMeant (IsTimestampParts call.now.number (pos call.now.fraction)) e) }
 {
     engine.knows_environment(call.environment)?;
     let now = moment_of(call.number, call.fraction)?;

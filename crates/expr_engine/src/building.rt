@@ -1,9 +1,12 @@
 //! Values that a call hands in.
-ghost use Rattle.std.specs.Prelude.{◌≡◌, ◌≢◌, IfErr, IfOk, IsSomeAnd, OnOk};
+ghost use Rattle.std.specs.Prelude.{◌≡◌, ◌≢◌, ◌⊎◌, ◌+ℤ◌, IfErr, IfOk, IsSomeAnd, OnOk};
 ghost use Rattle.expr_engine.specs.Effects.{HandsIn, MakesArray, MakesMap, PushesValue, Unbuilds};
 ghost use Rattle.expr_engine.specs.Engines.{KeepsThings, KeepsRest};
+ghost use Rattle.expr_engine.specs.Reasons.{HandsNothingIn, KindRefuses};
+ghost use Rattle.expr_exchange.specs.Builder.{HasLast, values_of};
 ghost use Rattle.expr_exchange.specs.Kinds.{kind_numbered};
-ghost use Rattle.expr_exchange.specs.Refusals.{IsNoStop};
+ghost use Rattle.expr_exchange.specs.Refusals.{IsForMemory, NotMeant, status_of};
+ghost use Rattle.expr_exchange.specs.declared.host_error.Status.TheVariants.{Evaluation};
 
 use crate::call::Call;
 use crate::engine::Engine;
@@ -21,14 +24,29 @@ pub fn value_of_call(engine: &mut Engine, call: &Call<'_>) -> Result<Value, Host
     ensures contexts { engine.new.contexts ≡ engine.old.contexts }
     ensures environments { engine.new.environments ≡ engine.old.environments }
     ensures standing { KeepsRest engine.old engine.new }
-    ensures ends { IfErr result IsNoStop }
+    ensures why { IfErr result (HandsNothingIn engine.old call.now) }
 {
     match Kind::from_number(call.kind) {
-        Some(Kind::Built) => engine.built.pop(),
-        Some(Kind::Looked) => Ok(engine.answer.part().clone()?),
-        Some(Kind::Json) => Ok(from_json(engine.alloc, utf8(call.text)?)?),
-        Some(kind) => scalar_of(engine.alloc, kind, call.number, call.fraction, call.text),
+        Some(kind) => value_of_kind(engine, call, kind),
         None => Err(HostError::Misuse),
+    }
+}
+
+/// The value of a kind that a call hands in.
+fn value_of_kind(engine: &mut Engine, call: &Call<'_>, kind: Kind) -> Result<Value, HostError>
+    ensures value { IfOk result (HandsIn kind engine.old engine.new call.now) }
+    ensures why { IfErr result (KindRefuses kind engine.old call.now) }
+    ensures found { IfErr result (λ e. e ≢ HostError.Unknown) }
+    ensures rules { engine.new.rules ≡ engine.old.rules }
+    ensures contexts { engine.new.contexts ≡ engine.old.contexts }
+    ensures environments { engine.new.environments ≡ engine.old.environments }
+    ensures standing { KeepsRest engine.old engine.new }
+{
+    match kind {
+        Kind::Built => engine.built.pop(),
+        Kind::Looked => Ok(engine.answer.part().clone()?),
+        Kind::Json => Ok(from_json(engine.alloc, utf8(call.text)?)?),
+        _ => scalar_of(engine.alloc, kind, call.number, call.fraction, call.text),
     }
 }
 
@@ -38,7 +56,7 @@ pub fn push(engine: &mut Engine, call: &Call<'_>) -> Result<(), HostError>
     ensures found { IfErr result (λ e. e ≢ HostError.Unknown) }
     ensures kept { KeepsThings engine.old engine.new }
     ensures standing { KeepsRest engine.old engine.new }
-    ensures ends { IfErr result IsNoStop }
+    ensures why { IfErr result (λ e. IsForMemory e ⊎ HandsNothingIn engine.old call.now e) }
 {
     let value = value_of_call(engine, call)?;
     engine.built.push(value)
@@ -50,7 +68,7 @@ pub fn make_array(engine: &mut Engine, call: &Call<'_>) -> Result<(), HostError>
     ensures found { IfErr result (λ e. e ≢ HostError.Unknown) }
     ensures kept { KeepsThings engine.old engine.new }
     ensures standing { KeepsRest engine.old engine.new }
-    ensures ends { IfErr result IsNoStop }
+    ensures why { IfErr result (NotMeant (HasLast call.now.number (values_of engine.old.built))) }
 {
     engine.built.array(call.number)
 }
@@ -61,7 +79,8 @@ pub fn make_map(engine: &mut Engine, call: &Call<'_>) -> Result<(), HostError>
     ensures found { IfErr result (λ e. e ≢ HostError.Unknown) }
     ensures kept { KeepsThings engine.old engine.new }
     ensures standing { KeepsRest engine.old engine.new }
-    ensures ends { IfErr result IsNoStop }
+    ensures why { IfErr result (λ e. status_of e ≢ Evaluation
+        → NotMeant (HasLast (call.now.number +ℤ call.now.number) (values_of engine.old.built)) e) }
 {
     engine.built.map(call.number)
 }
@@ -72,7 +91,7 @@ pub fn unbuild(engine: &mut Engine) -> Result<(), HostError>
     ensures found { IfErr result (λ e. e ≢ HostError.Unknown) }
     ensures kept { KeepsThings engine.old engine.new }
     ensures standing { KeepsRest engine.old engine.new }
-    ensures ends { IfErr result IsNoStop }
+    ensures why { IfErr result (λ _. ⊥) }
 {
     engine.built.clear();
     Ok(())

@@ -8,6 +8,7 @@ ghost use Rattle.expr_engine.specs.Engines.{IsPlacedRefusal, KeepsThings, KeepsR
 ghost use Rattle.expr_engine.specs.Faults.{IsNotedAt, fault_byte, refused_byte};
 ghost use Rattle.expr_engine.specs.Limiting.{IsProgramBy};
 ghost use Rattle.expr_engine.specs.Promised.{IsNew};
+ghost use Rattle.expr_engine.specs.Reasons.{IsUnknownOrForMemory};
 ghost use Rattle.expr_engine.specs.Runs.{pairs_of};
 ghost use Rattle.expr_engine.specs.Served.{RunServes, SaysLimit};
 ghost use Rattle.expr_engine.specs.Turns.{IsNewRun, IsRefusal, IsSameRun, PassesOn, RunGoesOn, WaitsIfAsks, finds_nothing, is_unknown};
@@ -101,7 +102,7 @@ impl Engine {
             (λ rule. IfOk result (λ p. AreSaid (program_term rule.program) (string_bytes p.0) p.1)) }
         ensures unknown { thing_at self.now.rules program ≡ None → result ≡ Err HostError.Unknown }
         ensures known { result ≡ Err HostError.Unknown → thing_at self.now.rules program ≡ None }
-        ensures ends { IfErr result IsNoStop }
+        ensures why { IfErr result IsUnknownOrForMemory }
     {
         match self.rules.get(program) {
             Some(rule) => Ok(rule.names(self.alloc)?),
@@ -320,7 +321,7 @@ impl Engine {
     pub fn knows_context(&self, context: Handle) -> Result<(), HostError>
         ensures found { MatchOption (thing_at self.now.contexts context) (result ≡ Err HostError.Unknown)
             (λ _. IsOk result) }
-        ensures ends { IfErr result IsNoStop }
+        ensures why { IfErr result (λ e. e ≡ HostError.Unknown) }
     {
         match self.contexts.get(context) {
             Some(_) => Ok(()),
@@ -332,7 +333,7 @@ impl Engine {
     pub fn knows_environment(&self, environment: Handle) -> Result<(), HostError>
         ensures found { MatchOption (thing_at self.now.environments environment)
             (result ≡ Err HostError.Unknown) (λ _. IsOk result) }
-        ensures ends { IfErr result IsNoStop }
+        ensures why { IfErr result (λ e. e ≡ HostError.Unknown) }
     {
         match self.environments.get(environment) {
             Some(_) => Ok(()),
@@ -352,7 +353,7 @@ impl Engine {
         ensures environments { self.new.environments ≡ self.old.environments }
         ensures built { self.new.built ≡ self.old.built }
         ensures standing { KeepsRest self.old self.new }
-        ensures ends { IfErr result IsNoStop }
+        ensures why { IfErr result IsUnknownOrForMemory }
     {
         self.knows_context(context)?;
         let name = String::from_str(self.alloc, name)?;
@@ -431,7 +432,7 @@ impl Engine {
         ensures contexts { self.new.contexts ≡ self.old.contexts }
         ensures built { self.new.built ≡ self.old.built }
         ensures standing { KeepsRest self.old self.new }
-        ensures ends { IfErr result IsNoStop }
+        ensures why { IfErr result (λ e. e ≡ HostError.Unknown) }
     {
         let mut host = Additions::new(self.alloc);
         if !self.environments.swap(environment, &mut host) {

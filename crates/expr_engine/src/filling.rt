@@ -1,8 +1,10 @@
 //! Asks about contexts.
-ghost use Rattle.std.specs.Prelude.{◌≡◌, None, Err, ◌≢◌, IfErr, OnErr, OnOk};
+ghost use Rattle.std.specs.Prelude.{◌≡◌, ◌≢◌, ◌⊎◌, Err, IfErr, IsUtf8, None, OnErr, OnOk};
 ghost use Rattle.expr_engine.specs.Effects.{AddsBuiltContext, AddsContext, Sets, call_result};
 ghost use Rattle.expr_engine.specs.Engines.{KeepsRest, NumbersRise};
-ghost use Rattle.expr_exchange.specs.Refusals.{IsNoStop};
+ghost use Rattle.expr_engine.specs.Reasons.{HandsNothingIn, IsUnknownOrForMemory};
+ghost use Rattle.expr_exchange.specs.Builder.{NoContext, values_of};
+ghost use Rattle.expr_exchange.specs.Refusals.{IsForMemory};
 ghost use Rattle.expr_handles.specs.HandleMap.{SameThings, thing_at, next_number};
 
 use crate::building::value_of_call;
@@ -22,7 +24,7 @@ pub fn new_context(engine: &mut Engine, call: &mut Call<'_>) -> Result<(), HostE
     ensures environments { engine.new.environments ≡ engine.old.environments }
     ensures standing { KeepsRest engine.old engine.new }
     ensures room { call.new.room.now ≡ call.old.room.now }
-    ensures ends { IfErr result IsNoStop }
+    ensures why { IfErr result IsForMemory }
 {
     call.context = engine.contexts.put(Context::new(engine.alloc))?;
     Ok(())
@@ -38,7 +40,7 @@ pub fn built_context(engine: &mut Engine, call: &mut Call<'_>) -> Result<(), Hos
     ensures environments { engine.new.environments ≡ engine.old.environments }
     ensures standing { KeepsRest engine.old engine.new }
     ensures room { call.new.room.now ≡ call.old.room.now }
-    ensures ends { IfErr result IsNoStop }
+    ensures why { IfErr result (NoContext (values_of engine.old.built)) }
 {
     let context = engine.built.context()?;
     call.context = engine.contexts.put(context)?;
@@ -55,7 +57,8 @@ pub fn set(engine: &mut Engine, call: &Call<'_>) -> Result<(), HostError>
     ensures rules { engine.new.rules ≡ engine.old.rules }
     ensures environments { engine.new.environments ≡ engine.old.environments }
     ensures standing { KeepsRest engine.old engine.new }
-    ensures ends { IfErr result IsNoStop }
+    ensures why { IfErr result (λ e. ((e ≡ HostError.Misuse) × (IsUtf8 call.now.name.now → ⊥))
+        ⊎ (IsUnknownOrForMemory e ⊎ HandsNothingIn engine.old call.now e)) }
 {
     engine.knows_context(call.context)?;
     let name = utf8(call.name)?;

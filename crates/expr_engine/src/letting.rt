@@ -2,7 +2,6 @@
 ghost use Rattle.std.specs.Prelude.{◌≡◌, None, Err, IfErr, IsOk, OnErr, OnOk, Ok, if◌then◌else◌};
 ghost use Rattle.expr_engine.specs.Effects.{DropsContext, DropsEnvironment, DropsProgram, ForgetsAll};
 ghost use Rattle.expr_engine.specs.Engines.{KeepsRest, NumbersRise, SameAdditions};
-ghost use Rattle.expr_exchange.specs.Refusals.{IsNoStop};
 ghost use Rattle.expr_handles.specs.HandleMap.{SameThings, thing_at, next_number};
 ghost use Rattle.expr_stops.specs.Stops.{waiting_call_of};
 
@@ -20,7 +19,7 @@ pub fn drop_program(engine: &mut Engine, call: &Call<'_>) -> Result<(), HostErro
     ensures contexts { engine.new.contexts ≡ engine.old.contexts }
     ensures environments { engine.new.environments ≡ engine.old.environments }
     ensures standing { KeepsRest engine.old engine.new }
-    ensures ends { IfErr result IsNoStop }
+    ensures why { IfErr result (λ e. e ≡ HostError.Unknown) }
 {
     let is_known = engine.rules.remove(call.program);
     check_known(is_known)
@@ -37,7 +36,7 @@ pub fn drop_context(engine: &mut Engine, call: &Call<'_>) -> Result<(), HostErro
     ensures rules { engine.new.rules ≡ engine.old.rules }
     ensures environments { engine.new.environments ≡ engine.old.environments }
     ensures standing { KeepsRest engine.old engine.new }
-    ensures ends { IfErr result IsNoStop }
+    ensures why { IfErr result (λ e. e ≡ HostError.Unknown) }
 {
     let is_known = engine.contexts.remove(call.context);
     check_known(is_known)
@@ -56,7 +55,7 @@ pub fn drop_environment(engine: &mut Engine, call: &Call<'_>) -> Result<(), Host
     ensures rules { engine.new.rules ≡ engine.old.rules }
     ensures contexts { engine.new.contexts ≡ engine.old.contexts }
     ensures standing { KeepsRest engine.old engine.new }
-    ensures ends { IfErr result IsNoStop }
+    ensures why { IfErr result (λ e. e ≡ HostError.Unknown) }
 {
     let is_known = engine.environments.remove(call.environment);
     check_known(is_known)
@@ -80,7 +79,7 @@ pub fn clear(engine: &mut Engine) -> Result<(), HostError>
     ensures ok { IsOk result }
     ensures waits { waiting_call_of engine.new.waits.stops ≡ None }
     ensures limits { engine.new.limits ≡ engine.old.limits }
-    ensures ends { IfErr result IsNoStop }
+    ensures why { IfErr result (λ _. ⊥) }
 {
     engine.clear();
     Ok(())

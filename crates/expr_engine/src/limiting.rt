@@ -3,7 +3,6 @@ ghost use Rattle.std.specs.Prelude.{◌≡◌, ◌≢◌, Err, IfErr, MatchOptio
 ghost use Rattle.expr_engine.specs.Effects.{LetsGoOfLimits, SetsLimit};
 ghost use Rattle.expr_engine.specs.Engines.{KeepsThings};
 ghost use Rattle.expr_engine.specs.Limiting.{limits_asked, with_limit};
-ghost use Rattle.expr_exchange.specs.Refusals.{IsNoStop};
 
 use crate::call::Call;
 use crate::engine::Engine;
@@ -20,7 +19,7 @@ pub fn set_limit(engine: &mut Engine, call: &Call<'_>) -> Result<(), HostError>
     ensures kept { KeepsThings engine.old engine.new }
     ensures answer { engine.new.answer ≡ engine.old.answer }
     ensures waits { engine.new.waits ≡ engine.old.waits }
-    ensures ends { IfErr result IsNoStop }
+    ensures why { IfErr result (λ e. e ≡ HostError.Misuse) }
 {
     let Some(limit) = limit_numbered(call.kind) else {
         return Err(HostError::Misuse);
@@ -70,7 +69,7 @@ pub fn let_go_of_limits(engine: &mut Engine) -> Result<(), HostError>
     ensures kept { KeepsThings engine.old engine.new }
     ensures answer { engine.new.answer ≡ engine.old.answer }
     ensures waits { engine.new.waits ≡ engine.old.waits }
-    ensures ends { IfErr result IsNoStop }
+    ensures why { IfErr result (λ _. ⊥) }
 {
     engine.limits = None;
     Ok(())

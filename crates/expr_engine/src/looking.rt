@@ -1,11 +1,12 @@
 //! Asks about the answer.
-ghost use Rattle.std.specs.Prelude.{◌≡◌, ◌≢◌, IfErr, IfOk, Ok, OnErr, OnOk, string_bytes};
+ghost use Rattle.std.specs.Prelude.{◌≡◌, ◌≢◌, [], IfErr, IfOk, Ok, OnErr, OnOk, string_bytes};
 ghost use Rattle.expr_encoding.specs.Optional.{value_or_refusal};
 ghost use Rattle.expr_encoding.specs.Writing.{json_text};
 ghost use Rattle.expr_engine.specs.Effects.{Looks, LooksIn, LooksOut, SaysKey, SaysText, Tells, key_said, call_result};
 ghost use Rattle.expr_engine.specs.Engines.{KeepsThings, KeepsRest};
-ghost use Rattle.expr_exchange.specs.Cursor.{SameLook};
-ghost use Rattle.expr_exchange.specs.Refusals.{IsNoStop};
+ghost use Rattle.expr_error.specs.ErrorKind.{OnlyMemory};
+ghost use Rattle.expr_exchange.specs.Cursor.{SameLook, at_number, item_at, key_at, part_of, way_of};
+ghost use Rattle.expr_exchange.specs.Refusals.{AnswerRefuses, IsForMemory, NotThere};
 ghost use Rattle.expr_value.specs.Strings.{string_text};
 ghost use Rattle.expr_value.specs.Values.{text_of};
 
@@ -35,7 +36,7 @@ pub fn look(engine: &mut Engine, call: &mut Call<'_>) -> Result<(), HostError>
     ensures kept { KeepsThings engine.old engine.new }
     ensures standing { KeepsRest engine.old engine.new }
     ensures room { call.new.room.now ≡ call.old.room.now }
-    ensures ends { IfErr result IsNoStop }
+    ensures why { IfErr result (λ _. ⊥) }
 {
     describe(engine.answer.part(), call);
     Ok(())
@@ -50,7 +51,8 @@ pub fn look_down(engine: &mut Engine, call: &mut Call<'_>) -> Result<(), HostErr
     ensures waits { engine.new.waits ≡ engine.old.waits }
     ensures limits { engine.new.limits ≡ engine.old.limits }
     ensures room { call.new.room.now ≡ call.old.room.now }
-    ensures ends { IfErr result IsNoStop }
+    ensures why { IfErr result
+        (NotThere (at_number call.old.number (item_at (part_of engine.old.answer)))) }
 {
     engine.answer.go_down(call.number)?;
     describe(engine.answer.part(), call);
@@ -66,7 +68,7 @@ pub fn look_up(engine: &mut Engine, call: &mut Call<'_>) -> Result<(), HostError
     ensures waits { engine.new.waits ≡ engine.old.waits }
     ensures limits { engine.new.limits ≡ engine.old.limits }
     ensures room { call.new.room.now ≡ call.old.room.now }
-    ensures ends { IfErr result IsNoStop }
+    ensures why { IfErr result (λ e. (e ≡ HostError.Misuse) × (way_of engine.old.answer ≡ [])) }
 {
     engine.answer.go_up()?;
     describe(engine.answer.part(), call);
@@ -80,7 +82,8 @@ pub fn show_key(engine: &mut Engine, call: &mut Call<'_>) -> Result<(), HostErro
     ensures kept { KeepsThings engine.old engine.new }
     ensures standing { KeepsRest engine.old engine.new }
     ensures room { call.new.room.now ≡ call.old.room.now }
-    ensures ends { IfErr result IsNoStop }
+    ensures why { IfErr result
+        (NotThere (at_number call.old.number (key_at (part_of engine.old.answer)))) }
 {
     let key = key_of(engine.alloc, engine.answer.part(), call.number)?;
     describe(&key, call);
@@ -90,7 +93,8 @@ pub fn show_key(engine: &mut Engine, call: &mut Call<'_>) -> Result<(), HostErro
 
 /// The text of a key: the string, or what the key prints as.
 fn key_text(alloc: Global, key: &Value) -> expr::Result<String>
-    ensures { IfOk result (λ text. string_bytes text ≡ key_said key.now) }
+    ensures ok { IfOk result (λ text. string_bytes text ≡ key_said key.now) }
+    ensures err { OnlyMemory result }
 {
     match key {
         Value::String(text) => Ok(text.as_str().to_string(alloc)?),
@@ -104,7 +108,7 @@ pub fn say_shown(engine: &mut Engine) -> Result<(), HostError>
     ensures found { IfErr result (λ e. e ≢ HostError.Unknown) }
     ensures kept { KeepsThings engine.old engine.new }
     ensures standing { KeepsRest engine.old engine.new }
-    ensures ends { IfErr result IsNoStop }
+    ensures why { IfErr result IsForMemory }
 {
     engine.said = engine.answer.part().to_string(engine.alloc)?;
     Ok(())
@@ -116,7 +120,7 @@ pub fn say_text(engine: &mut Engine) -> Result<(), HostError>
     ensures found { IfErr result (λ e. e ≢ HostError.Unknown) }
     ensures kept { KeepsThings engine.old engine.new }
     ensures standing { KeepsRest engine.old engine.new }
-    ensures ends { IfErr result IsNoStop }
+    ensures why { IfErr result IsForMemory }
 {
     engine.said = engine.answer.part().string_text(engine.alloc)?;
     Ok(())
@@ -129,7 +133,8 @@ pub fn say_json(engine: &mut Engine) -> Result<(), HostError>
     ensures found { IfErr result (λ e. e ≢ HostError.Unknown) }
     ensures kept { KeepsThings engine.old engine.new }
     ensures standing { KeepsRest engine.old engine.new }
-    ensures ends { IfErr result IsNoStop }
+    ensures why { IfErr result
+        (AnswerRefuses (value_or_refusal (json_text (part_of engine.old.answer)))) }
 {
     engine.said = to_json(engine.alloc, engine.answer.part())?.into_string();
     Ok(())

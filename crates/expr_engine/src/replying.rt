@@ -5,7 +5,8 @@ ghost use Rattle.expr_engine.specs.Engines.{KeepsThings, waiting_inputs};
 ghost use Rattle.expr_engine.specs.Turns.{IsAnswer, IsRefusal, RunGoesOn};
 ghost use Rattle.expr_exchange.specs.Builder.{values_of};
 ghost use Rattle.expr_exchange.specs.Cursor.{part_of};
-ghost use Rattle.expr_exchange.specs.Refusals.{IsNoStop};
+ghost use Rattle.expr_exchange.specs.Refusals.{NotThere};
+ghost use Rattle.expr_stops.specs.Stops.{waiting_call_of};
 
 use crate::call::Call;
 use crate::engine::Engine;
@@ -63,7 +64,7 @@ pub fn look_at_waiting_call(engine: &mut Engine, call: &mut Call<'_>) -> Result<
     ensures kept { KeepsThings engine.old engine.new }
     ensures limits { engine.new.limits ≡ engine.old.limits }
     ensures room { call.new.room.now ≡ call.old.room.now }
-    ensures ends { IfErr result IsNoStop }
+    ensures why { IfErr result (NotThere (waiting_call_of engine.old.waits.stops)) }
 {
     let Some(stop) = engine.waits.stops.waiting_call() else {
         return Err(HostError::Misuse);

@@ -27,6 +27,7 @@ impl Rule {
     ghost use Rattle.expr.specs.Limited.{MayGive as GivesWithin};
     ghost use Rattle.expr_engine.specs.Limiting.{IsCompiledBy};
     ghost use Rattle.expr_engine.specs.Effects.{AreSaid};
+    ghost use Rattle.expr_error.specs.ErrorKind.{OnlyMemory};
     ghost use Rattle.expr_engine.specs.Runs.{MeaningAllows, context_of, host_with_replies, named_by, pairs_of};
     ghost use Rattle.expr_limited.specs.Outcomes.{ReturnsOutcome};
     ghost use Rattle.expr_stops.specs.Stops.{CodeComes, EndsTurn, IfEnded, StopsWell, waiting_call_of, replies_of};
@@ -54,7 +55,8 @@ impl Rule {
 
     /// The names that the program asks for, each on a line, and how many they are.
     pub fn names(&self, alloc: Global) -> Result<(String, usize)>
-        ensures { IfOk result (λ p. AreSaid (program_term self.now.program) (string_bytes p.0) p.1) }
+        ensures ok { IfOk result (λ p. AreSaid (program_term self.now.program) (string_bytes p.0) p.1) }
+        ensures err { OnlyMemory result }
     {
         let names = self.program.names(alloc)?;
         Ok((names.join(alloc, "\n")?, names.len()))

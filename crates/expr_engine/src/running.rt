@@ -5,7 +5,7 @@ ghost use Rattle.expr_engine.specs.Engines.{CompileRefuses, KeepsThings, KeepsRe
 ghost use Rattle.expr_engine.specs.Served.{RunServes};
 ghost use Rattle.expr_engine.specs.Turns.{IsNewRun};
 ghost use Rattle.expr_exchange.specs.Cursor.{part_of};
-ghost use Rattle.expr_exchange.specs.Refusals.{IsNoStop};
+ghost use Rattle.expr_engine.specs.Reasons.{IsUnknownOrForMemory};
 ghost use Rattle.expr_handles.specs.HandleMap.{SameThings, thing_at};
 
 use crate::call::Call;
@@ -38,7 +38,7 @@ pub fn names(engine: &mut Engine, call: &mut Call<'_>) -> Result<(), HostError>
     ensures kept { KeepsThings engine.old engine.new }
     ensures standing { KeepsRest engine.old engine.new }
     ensures room { call.new.room.now ≡ call.old.room.now }
-    ensures ends { IfErr result IsNoStop }
+    ensures why { IfErr result IsUnknownOrForMemory }
 {
     let (names, count) = engine.names(call.program)?;
     call.number = i64::try_from(count).unwrap_or(0);

@@ -55,6 +55,15 @@ IsForMemory Asks = ⊥
 IsForMemory Differs = ⊥
 IsForMemory (Stopped limit) = ⊥
 
+-- A refusal of the language, of such an answer, or for want of memory.
+abbrev pub AnswerRefuses : {A : Type 0} → Result A ErrorKind → HostError → Type 0
+AnswerRefuses answer (Language error) = error_kind error ≢ memory → answer ≡ Err (error_kind error)
+AnswerRefuses answer Unknown = ⊥
+AnswerRefuses answer Misuse = ⊥
+AnswerRefuses answer Asks = ⊥
+AnswerRefuses answer Differs = ⊥
+AnswerRefuses answer (Stopped limit) = ⊥
+
 -- A refusal of what isn't there, or for want of memory.
 abbrev pub NotThere : {A : Type 0} → Option A → HostError → Type 0
 NotThere sought (Language error) = error_kind error ≡ memory

@@ -1,8 +1,8 @@
 //! Values that a host builds, one behind the other.
 ghost use Rattle.std.specs.Prelude.{◌≡◌, ◌≢◌, ◌+ℤ◌, ◌++◌, ◌∷◌, [], IfErr, IfOk, IsOk, OnErr, OnOk, length, pos};
-ghost use Rattle.expr_exchange.specs.Builder.{BecomesMap, EndsInMap, HasLast, TakesNames, TakesPlace, values_of};
+ghost use Rattle.expr_exchange.specs.Builder.{BecomesMap, EndsInMap, HasLast, NoContext, TakesNames, TakesPlace, values_of};
 ghost use Rattle.expr_exchange.specs.declared.host_error.Status.TheVariants.{Evaluation};
-ghost use Rattle.expr_exchange.specs.Refusals.{IsForMemory, IsNoStop, NotMeant, status_of};
+ghost use Rattle.expr_exchange.specs.Refusals.{IsForMemory, NotMeant, status_of};
 
 use crate::host_error::HostError;
 use crate::map_pairs::map_of;
@@ -34,7 +34,6 @@ impl ValueBuilder {
         ensures err { OnErr result (values_of self.new ≡ values_of self.old) }
         ensures refused { IfErr result IsForMemory }
         ensures found { IfErr result (λ e. e ≢ HostError.Unknown) }
-        ensures ends { IfErr result IsNoStop }
     {
         self.values.push(value)?;
         Ok(())
@@ -64,7 +63,6 @@ impl ValueBuilder {
         ensures count { IfOk result (λ last. pos (length last.items) ≡ count) }
         ensures refused { IfErr result (NotMeant (HasLast count (values_of self.old))) }
         ensures found { IfErr result (λ e. e ≢ HostError.Unknown) }
-        ensures ends { IfErr result IsNoStop }
     {
         let Ok(count) = usize::try_from(count) else {
             return Err(HostError::Misuse);
@@ -80,7 +78,6 @@ impl ValueBuilder {
         ensures ok { OnOk result (TakesPlace count (values_of self.old) Value.Array (values_of self.new)) }
         ensures refused { IfErr result (NotMeant (HasLast count (values_of self.old))) }
         ensures found { IfErr result (λ e. e ≢ HostError.Unknown) }
-        ensures ends { IfErr result IsNoStop }
     {
         let items = self.take_last(count)?;
         self.push(Value::from(items))
@@ -94,7 +91,6 @@ impl ValueBuilder {
         ensures refused { IfErr result (λ e. status_of e ≢ Evaluation
             → NotMeant (HasLast (count +ℤ count) (values_of self.old)) e) }
         ensures found { IfErr result (λ e. e ≢ HostError.Unknown) }
-        ensures ends { IfErr result IsNoStop }
     {
         let Some(count) = count.checked_mul(2) else {
             return Err(HostError::Misuse);
@@ -109,7 +105,7 @@ impl ValueBuilder {
         ensures ok { IfOk result (TakesNames (values_of self.old) (values_of self.new)) }
         ensures given { EndsInMap (values_of self.old) → IsOk result }
         ensures found { IfErr result (λ e. e ≢ HostError.Unknown) }
-        ensures ends { IfErr result IsNoStop }
+        ensures refused { IfErr result (NoContext (values_of self.old)) }
     {
         let value = self.pop()?;
         Ok(Context::try_from(self.alloc, value)?)
