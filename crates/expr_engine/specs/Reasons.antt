@@ -53,6 +53,10 @@ abbrev pub HandsNothingIn : Engine → Call → HostError → Type 0
 HandsNothingIn engine call refused =
     MatchOption (kind_numbered call.kind) (refused ≡ Misuse) (λ kind. KindRefuses kind engine call refused)
 
+-- No run stops, and what is handed in is misused only where it isn't all texts.
+abbrev pub MisusesNoText : Type 0 → HostError → Type 0
+MisusesNoText AreTexts refused = IsNoStop refused × (refused ≡ Misuse → AreTexts → ⊥)
+
 -- What is asked may be refused so. Of a run that is begun or goes on its answer says more.
 abbrev pub MayRefuse : Ask → Engine → Call → HostError → Type 0
 MayRefuse is.Compile engine call refused = CompileRefuses engine.limits call.text.now refused
@@ -76,14 +80,14 @@ MayRefuse is.Text engine call refused = IsForMemory refused
 MayRefuse is.Json engine call refused = AnswerRefuses (value_or_refusal (json_text (part_of engine.answer))) refused
 MayRefuse is.Said engine call refused = ⊥
 MayRefuse is.Environment engine call refused = IsForMemory refused
-MayRefuse is.FixedZone engine call refused = IsNoStop refused
-MayRefuse is.ZoneRule engine call refused = IsNoStop refused
+MayRefuse is.FixedZone engine call refused = MisusesNoText (IsUtf8 call.name.now) refused
+MayRefuse is.ZoneRule engine call refused = MisusesNoText (IsUtf8 call.name.now × IsUtf8 call.text.now) refused
 MayRefuse is.Now engine call refused = (refused ≡ Unknown) ⊎ NotMeant (IsTimestampParts call.number (pos call.fraction)) refused
 MayRefuse is.DropProgram engine call refused = refused ≡ Unknown
 MayRefuse is.DropContext engine call refused = refused ≡ Unknown
 MayRefuse is.DropEnvironment engine call refused = refused ≡ Unknown
 MayRefuse is.Clear engine call refused = ⊥
-MayRefuse is.Name engine call refused = IsNoStop refused
+MayRefuse is.Name engine call refused = MisusesNoText (IsUtf8 call.name.now) refused
 MayRefuse is.Answer engine call refused = Unit {0}
 MayRefuse is.Refuse engine call refused = Unit {0}
 MayRefuse is.WaitingCall engine call refused = NotThere (waiting_call_of engine.waits.stops) refused

@@ -1,8 +1,9 @@
 //! Asks about environments.
-ghost use Rattle.std.specs.Prelude.{◌≡◌, ◌≢◌, ◌⊎◌, Err, IfErr, None, OnErr, OnOk, pos};
+ghost use Rattle.std.specs.Prelude.{◌≡◌, ◌≢◌, ◌⊎◌, Err, IfErr, IsUtf8, None, OnErr, OnOk, pos};
 ghost use Rattle.expr_engine.specs.Effects.{AddsEnvironment, AddsFixedZone, AddsName, AddsZoneByRule, SetsNow, call_result};
 ghost use Rattle.expr_engine.specs.Engines.{KeepsRest, NumbersRise, SameAdditions};
-ghost use Rattle.expr_exchange.specs.Refusals.{IsForMemory, IsNoStop, NotMeant};
+ghost use Rattle.expr_engine.specs.Reasons.{MisusesNoText};
+ghost use Rattle.expr_exchange.specs.Refusals.{IsForMemory, NotMeant};
 ghost use Rattle.expr_handles.specs.HandleMap.{thing_at, next_number};
 ghost use Rattle.jiff.specs.Instant.{IsTimestampParts};
 
@@ -41,7 +42,7 @@ pub fn zone_by_seconds(engine: &mut Engine, call: &Call<'_>) -> Result<(), HostE
     ensures rules { engine.new.rules ≡ engine.old.rules }
     ensures contexts { engine.new.contexts ≡ engine.old.contexts }
     ensures standing { KeepsRest engine.old engine.new }
-    ensures ends { IfErr result IsNoStop }
+    ensures why { IfErr result (MisusesNoText (IsUtf8 call.now.name.now)) }
 {
     engine.knows_environment(call.environment)?;
     engine.add_zone(call.environment, utf8(call.name)?, call.number, None)
@@ -59,7 +60,7 @@ pub fn zone_by_rule(engine: &mut Engine, call: &Call<'_>) -> Result<(), HostErro
     ensures rules { engine.new.rules ≡ engine.old.rules }
     ensures contexts { engine.new.contexts ≡ engine.old.contexts }
     ensures standing { KeepsRest engine.old engine.new }
-    ensures ends { IfErr result IsNoStop }
+    ensures why { IfErr result (MisusesNoText (IsUtf8 call.now.name.now × IsUtf8 call.now.text.now)) }
 {
     engine.knows_environment(call.environment)?;
     let rule = utf8(call.text)?;
@@ -98,7 +99,7 @@ pub fn add_name(engine: &mut Engine, call: &Call<'_>) -> Result<(), HostError>
     ensures rules { engine.new.rules ≡ engine.old.rules }
     ensures contexts { engine.new.contexts ≡ engine.old.contexts }
     ensures standing { KeepsRest engine.old engine.new }
-    ensures ends { IfErr result IsNoStop }
+    ensures why { IfErr result (MisusesNoText (IsUtf8 call.now.name.now)) }
 {
     engine.knows_environment(call.environment)?;
     engine.add_name(call.environment, utf8(call.name)?)

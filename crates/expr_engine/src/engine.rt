@@ -386,7 +386,7 @@ impl Engine {
         ensures contexts { self.new.contexts ≡ self.old.contexts }
         ensures built { self.new.built ≡ self.old.built }
         ensures standing { KeepsRest self.old self.new }
-        ensures ends { IfErr result IsNoStop }
+        ensures ends { IfErr result (λ e. IsNoStop e × (e ≢ HostError.Misuse)) }
     {
         let mut host = Additions::new(self.alloc);
         if !self.environments.swap(environment, &mut host) {
@@ -409,7 +409,7 @@ impl Engine {
         ensures contexts { self.new.contexts ≡ self.old.contexts }
         ensures built { self.new.built ≡ self.old.built }
         ensures standing { KeepsRest self.old self.new }
-        ensures ends { IfErr result IsNoStop }
+        ensures ends { IfErr result (λ e. IsNoStop e × (e ≢ HostError.Misuse)) }
     {
         let mut host = Additions::new(self.alloc);
         if !self.environments.swap(environment, &mut host) {

@@ -63,10 +63,10 @@ pub returns-in-Environment : goal.returns-in-Environment
 returns-in-Environment c = let f = c.add_environment.ensures in asked c.in-Environment.is (acts f.done tt (ap waits_in f.standing) (ap limits_in f.standing) (left_environments c.args.engine.now c.add_environment.new.engine c.add_environment.result f.rules f.contexts f.err f.standing) f.why (λ m. absurd m) (never_unknown c.add_environment.result f.found) f.numbers f.room)
 
 pub returns-in-FixedZone : goal.returns-in-FixedZone
-returns-in-FixedZone c = let f = c.zone_by_seconds.ensures in asked c.in-FixedZone.is (acts f.done tt (ap waits_in f.standing) (ap limits_in f.standing) (left_environments c.args.engine.now c.zone_by_seconds.new.engine c.zone_by_seconds.result f.rules f.contexts f.err f.standing) f.ends f.unknown f.known (numbers_by_environments f.rules f.contexts f.next) refl)
+returns-in-FixedZone c = let f = c.zone_by_seconds.ensures in asked c.in-FixedZone.is (acts f.done tt (ap waits_in f.standing) (ap limits_in f.standing) (left_environments c.args.engine.now c.zone_by_seconds.new.engine c.zone_by_seconds.result f.rules f.contexts f.err f.standing) f.why f.unknown f.known (numbers_by_environments f.rules f.contexts f.next) refl)
 
 pub returns-in-ZoneRule : goal.returns-in-ZoneRule
-returns-in-ZoneRule c = let f = c.zone_by_rule.ensures in asked c.in-ZoneRule.is (acts f.done tt (ap waits_in f.standing) (ap limits_in f.standing) (left_environments c.args.engine.now c.zone_by_rule.new.engine c.zone_by_rule.result f.rules f.contexts f.err f.standing) f.ends f.unknown f.known (numbers_by_environments f.rules f.contexts f.next) refl)
+returns-in-ZoneRule c = let f = c.zone_by_rule.ensures in asked c.in-ZoneRule.is (acts f.done tt (ap waits_in f.standing) (ap limits_in f.standing) (left_environments c.args.engine.now c.zone_by_rule.new.engine c.zone_by_rule.result f.rules f.contexts f.err f.standing) f.why f.unknown f.known (numbers_by_environments f.rules f.contexts f.next) refl)
 
 pub returns-in-Now : goal.returns-in-Now
 returns-in-Now c = let f = c.set_now.ensures in asked c.in-Now.is (acts f.done tt (ap waits_in f.standing) (ap limits_in f.standing) (left_environments c.args.engine.now c.set_now.new.engine c.set_now.result f.rules f.contexts f.err f.standing) f.why f.unknown f.known (numbers_by_environments f.rules f.contexts f.next) refl)
@@ -84,7 +84,7 @@ pub returns-in-Clear : goal.returns-in-Clear
 returns-in-Clear c = let f = c.clear.ensures in asked c.in-Clear.is (acts f.done tt f.waits f.limits (always_ok (Leaves c.args.engine.now c.clear.new.engine) c.clear.result f.ok) f.why (λ m. absurd m) (λ e. absurd (ok_never_unknown c.clear.result f.ok e)) f.numbers refl)
 
 pub returns-in-Name : goal.returns-in-Name
-returns-in-Name c = let f = c.add_name.ensures in asked c.in-Name.is (acts f.done tt (ap waits_in f.standing) (ap limits_in f.standing) (left_environments c.args.engine.now c.add_name.new.engine c.add_name.result f.rules f.contexts f.err f.standing) f.ends f.unknown f.known (numbers_by_environments f.rules f.contexts f.next) refl)
+returns-in-Name c = let f = c.add_name.ensures in asked c.in-Name.is (acts f.done tt (ap waits_in f.standing) (ap limits_in f.standing) (left_environments c.args.engine.now c.add_name.new.engine c.add_name.result f.rules f.contexts f.err f.standing) f.why f.unknown f.known (numbers_by_environments f.rules f.contexts f.next) refl)
 
 pub returns-in-Answer : goal.returns-in-Answer
 returns-in-Answer c = let f = c.answer_call.ensures in asked c.in-Answer.is (acts f.done tt f.turns f.limits (left_answer c.args.engine.now c.answer_call.new.engine c.answer_call.result f.kept f.answer) (no_reason c.answer_call.result) f.unknown f.known (numbers_kept c.args.engine.now c.answer_call.new.engine f.kept) f.room)
