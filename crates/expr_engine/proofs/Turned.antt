@@ -222,6 +222,23 @@ known_refused None (Err e) m = inl (cc m)
 known_refused (Some q) (Ok v) m = tt
 known_refused (Some q) (Err e) m = absurd (false≢true m)
 
+pub known_meant : (o : Option RunInputs) (r : Result (Unit {0}) HostError) → MatchOption o (r ≡ Err Unknown) (λ _. IsOk r) → r ≡ Err Misuse → ⊥
+known_meant None r m is = let no : ⊥ = cc (m, is) in no
+known_meant (Some q) (Ok v) m is = let no : ⊥ = cc is in no
+known_meant (Some q) (Err e) m is = false≢true m
+
+-- and a run is never misused
+pub run_meant : (o : Option RunInputs) (given : List CallReply) (r : Result (Unit {0}) HostError) (value : Value) → MatchOption o (r ≡ Err Unknown) (λ q. RunServes q given r value) → IfErr r (λ e. e ≢ Misuse)
+run_meant None given (Ok v) value m = tt
+run_meant None given (Err e) value m = λ is. cc (m, is)
+run_meant (Some q) given (Ok v) value m = tt
+run_meant (Some q) given (Err (Language error)) value m = λ is. cc is
+run_meant (Some q) given (Err Unknown) value m = λ is. cc is
+run_meant (Some q) given (Err Misuse) value m = absurd m
+run_meant (Some q) given (Err Asks) value m = λ is. cc is
+run_meant (Some q) given (Err Differs) value m = λ is. cc is
+run_meant (Some q) given (Err (Stopped limit)) value m = λ is. cc is
+
 -- a run that found all three isn't refused so
 pub found_ends : (o : Option RunInputs) (given : List CallReply) (r : Result (Unit {0}) HostError) (value : Value) → IsSome o → MatchOption o (r ≡ Err Unknown) (λ q. RunServes q given r value) → IfErr r (λ e. e ≢ Unknown)
 found_ends None given r value some m = absurd (false≢true some)

@@ -1,5 +1,5 @@
 -- Why calls are refused.
-use Rattle.std.specs.Prelude.{◌≡◌, ◌≢◌, ◌⊎◌, ◌+ℤ◌, ℕ, pos, List, [], MatchOption, Result, Err, IfErr, IsUtf8}
+use Rattle.std.specs.Prelude.{◌≡◌, ◌≢◌, ◌⊎◌, ◌+ℤ◌, ℕ, pos, List, [], None, MatchOption, Result, Err, IfErr, IsUtf8}
 use Rattle.jiff.specs.Instant.{IsTimestampParts}
 use Rattle.expr_encoding.specs.Optional.{value_or_refusal}
 use Rattle.expr_encoding.specs.Reading.{json_value}
@@ -88,8 +88,10 @@ MayRefuse is.DropContext engine call refused = refused ≡ Unknown
 MayRefuse is.DropEnvironment engine call refused = refused ≡ Unknown
 MayRefuse is.Clear engine call refused = ⊥
 MayRefuse is.Name engine call refused = MisusesNoText (IsUtf8 call.name.now) refused
-MayRefuse is.Answer engine call refused = Unit {0}
-MayRefuse is.Refuse engine call refused = Unit {0}
+MayRefuse is.Answer engine call refused =
+    refused ≡ Misuse → (waiting_call_of engine.waits.stops ≡ None) ⊎ (values_of engine.built ≡ [])
+MayRefuse is.Refuse engine call refused =
+    refused ≡ Misuse → (waiting_call_of engine.waits.stops ≡ None) ⊎ (IsUtf8 call.text.now → ⊥)
 MayRefuse is.WaitingCall engine call refused = NotThere (waiting_call_of engine.waits.stops) refused
 MayRefuse is.Limit engine call refused = refused ≡ Misuse
 MayRefuse is.Unlimited engine call refused = ⊥

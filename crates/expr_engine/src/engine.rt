@@ -250,6 +250,7 @@ impl Engine {
         ensures unknown { IsStale self.now → result ≡ Err HostError.Unknown }
         ensures known { result ≡ Err HostError.Unknown → IsStale self.now }
         ensures refused { IfErr result (λ e. (e ≡ HostError.Unknown) ⊎ (e ≡ HostError.Misuse)) }
+        ensures misused { result ≡ Err HostError.Misuse → waiting_call_of self.now.waits.stops ≡ None }
     {
         if self.waits.stops.waiting_call().is_none() {
             return Err(HostError::Misuse);
@@ -266,6 +267,8 @@ impl Engine {
             (part_of self.new.answer) }
         ensures found { IsSome (waiting_call_of self.old.waits.stops) → IsSome (waiting_inputs self.old)
             → IfErr result (λ e. e ≢ HostError.Unknown) }
+        ensures meant { IsSome (waiting_call_of self.old.waits.stops) → IsSome (waiting_inputs self.old)
+            → IfErr result (λ e. e ≢ HostError.Misuse) }
         ensures way { OnOk result (way_of self.new.answer ≡ []) }
         ensures err { OnErr result (self.new.answer ≡ self.old.answer) }
         ensures kept { KeepsThings self.old self.new }
@@ -283,6 +286,8 @@ impl Engine {
             (part_of self.new.answer) }
         ensures found { IsSome (waiting_call_of self.old.waits.stops) → IsSome (waiting_inputs self.old)
             → IfErr result (λ e. e ≢ HostError.Unknown) }
+        ensures meant { IsSome (waiting_call_of self.old.waits.stops) → IsSome (waiting_inputs self.old)
+            → IfErr result (λ e. e ≢ HostError.Misuse) }
         ensures way { OnOk result (way_of self.new.answer ≡ []) }
         ensures err { OnErr result (self.new.answer ≡ self.old.answer) }
         ensures kept { KeepsThings self.old self.new }

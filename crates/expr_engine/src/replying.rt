@@ -1,5 +1,5 @@
 //! Asks about the call that waits for a host's reply.
-ghost use Rattle.std.specs.Prelude.{◌≡◌, ◌≢◌, IfErr, OnErr, OnOk};
+ghost use Rattle.std.specs.Prelude.{◌≡◌, ◌≢◌, ◌⊎◌, [], IfErr, IsUtf8, None, OnErr, OnOk};
 ghost use Rattle.expr_engine.specs.Effects.{EndsRun, IsStale, LooksAtCall, TakesLast, call_result};
 ghost use Rattle.expr_engine.specs.Engines.{KeepsThings, waiting_inputs};
 ghost use Rattle.expr_engine.specs.Turns.{IsAnswer, IsRefusal, RunGoesOn};
@@ -18,6 +18,8 @@ use expr_exchange::HostError;
 /// Answers the call that waits with the value that was built last, and goes on with its run.
 pub fn answer_call(engine: &mut Engine, call: &mut Call<'_>) -> Result<(), HostError>
     ensures done { OnOk result (EndsRun TakesLast engine.old engine.new (call_result call.new)) }
+    ensures why { IfErr result (λ e. e ≡ HostError.Misuse
+        → (waiting_call_of engine.old.waits.stops ≡ None) ⊎ (values_of engine.old.built ≡ [])) }
     ensures turns { RunGoesOn (IsAnswer (values_of engine.old.built))
         (waiting_inputs engine.old) engine.old.waits
         engine.new.waits result (part_of engine.new.answer) }
@@ -39,6 +41,8 @@ pub fn answer_call(engine: &mut Engine, call: &mut Call<'_>) -> Result<(), HostE
 pub fn refuse_call(engine: &mut Engine, call: &mut Call<'_>) -> Result<(), HostError>
     ensures done { OnOk result
         (EndsRun (λ was is. is ≡ was) engine.old engine.new (call_result call.new)) }
+    ensures why { IfErr result (λ e. e ≡ HostError.Misuse
+        → (waiting_call_of engine.old.waits.stops ≡ None) ⊎ (IsUtf8 call.old.text.now → ⊥)) }
     ensures turns { RunGoesOn (IsRefusal call.old.text.now) (waiting_inputs engine.old) engine.old.waits
         engine.new.waits result (part_of engine.new.answer) }
     ensures unknown { IsStale engine.old → result ≡ Err HostError.Unknown }

@@ -87,10 +87,10 @@ pub returns-in-Name : goal.returns-in-Name
 returns-in-Name c = let f = c.add_name.ensures in asked c.in-Name.is (acts f.done tt (ap waits_in f.standing) (ap limits_in f.standing) (left_environments c.args.engine.now c.add_name.new.engine c.add_name.result f.rules f.contexts f.err f.standing) f.why f.unknown f.known (numbers_by_environments f.rules f.contexts f.next) refl)
 
 pub returns-in-Answer : goal.returns-in-Answer
-returns-in-Answer c = let f = c.answer_call.ensures in asked c.in-Answer.is (acts f.done tt f.turns f.limits (left_answer c.args.engine.now c.answer_call.new.engine c.answer_call.result f.kept f.answer) (no_reason c.answer_call.result) f.unknown f.known (numbers_kept c.args.engine.now c.answer_call.new.engine f.kept) f.room)
+returns-in-Answer c = let f = c.answer_call.ensures in asked c.in-Answer.is (acts f.done tt f.turns f.limits (left_answer c.args.engine.now c.answer_call.new.engine c.answer_call.result f.kept f.answer) f.why f.unknown f.known (numbers_kept c.args.engine.now c.answer_call.new.engine f.kept) f.room)
 
 pub returns-in-Refuse : goal.returns-in-Refuse
-returns-in-Refuse c = let f = c.refuse_call.ensures in asked c.in-Refuse.is (acts f.done tt f.turns f.limits (left_answer c.args.engine.now c.refuse_call.new.engine c.refuse_call.result f.kept f.answer) (no_reason c.refuse_call.result) f.unknown f.known (numbers_kept c.args.engine.now c.refuse_call.new.engine f.kept) f.room)
+returns-in-Refuse c = let f = c.refuse_call.ensures in asked c.in-Refuse.is (acts f.done tt f.turns f.limits (left_answer c.args.engine.now c.refuse_call.new.engine c.refuse_call.result f.kept f.answer) f.why f.unknown f.known (numbers_kept c.args.engine.now c.refuse_call.new.engine f.kept) f.room)
 
 pub returns-in-WaitingCall : goal.returns-in-WaitingCall
 returns-in-WaitingCall c = let f = c.look_at_waiting_call.ensures in asked c.in-WaitingCall.is (acts f.done tt f.waits f.limits (left_answer c.args.engine.now c.look_at_waiting_call.new.engine c.look_at_waiting_call.result f.kept f.answer) f.why (λ m. absurd m) (never_unknown c.look_at_waiting_call.result f.found) (numbers_kept c.args.engine.now c.look_at_waiting_call.new.engine f.kept) f.room)
