@@ -1,7 +1,7 @@
 -- Texts that are refused, and where.
 use Rattle.std.proofs.Common.{◌≡◌, ◌⊎◌, ◌∙◌, ℕ, List, Option, None, Some, Result, Ok, Err, IfErr, IfSome, OnOk, ap, arith, inl, inr, rules, subst, sym}
 use Rattle.expr_engine.specs.Engines.{CompileRefuses}
-use Rattle.expr_engine.specs.Faults.{StatusSaysOfText, IsAt, IsNotedAt, IsLocation, refused_byte}
+use Rattle.expr_engine.specs.Faults.{IsAt, IsLocation, IsNotedAt, StatusSaysOfText, refused_byte}
 use Rattle.expr_engine.specs.Served.{EndsCall, number_of}
 use Rattle.expr_engine.specs.declared.engine.TextPlace.{TextPlace}
 use Rattle.expr_error.specs.declared.error.Error.TheVariants.{PestError, ParseError, ExprError, RegexError, MemoryError}

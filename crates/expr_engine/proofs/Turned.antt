@@ -1,5 +1,5 @@
 -- Runs that begin, and runs that go on with a reply.
-use Rattle.std.proofs.Common.{true, false, ◌≡◌, ◌≢◌, ◌⊎◌, ◌∙◌, ◌∷◌, ◌++◌, List, [], Option, None, Some, IsSome, IsErrAnd, IsSomeAnd, MatchOption, Result, Ok, Err, IfErr, IsOk, OnOk, inl, inr, ap, refl, subst, sym}
+use Rattle.std.proofs.Common.{◌≡◌, ◌≢◌, ◌⊎◌, ◌∙◌, ◌∷◌, ◌++◌, true, false, List, [], Option, None, Some, IsSome, IsErrAnd, IsSomeAnd, MatchOption, Result, Ok, Err, IfErr, IsOk, OnOk, inl, inr, ap, refl, subst, sym}
 use Rattle.std.proofs.lemmas.Bool.{false≢true}
 use Rattle.std.specs.Option.{option_and_then, option_map}
 use Rattle.expr_engine.specs.Engines.{RunInputs, RunMayAnswer, MayEnd, additions_at, names_at, run_inputs}

@@ -1,4 +1,4 @@
-use Rattle.std.proofs.Common.{◌≡◌, ◌∙◌, ◌++◌, ◌∷◌, [], Ok, Err, ap, inr, refl, subst, sym, ◌⊎◌, None, inl}
+use Rattle.std.proofs.Common.{◌≡◌, ◌⊎◌, ◌∙◌, ◌++◌, ◌∷◌, [], None, Ok, Err, ap, inl, inr, refl, subst, sym}
 use Rattle.expr_engine.specs.Effects.{Tells, call_result}
 use Rattle.expr_engine.specs.Engines.{waiting_inputs}
 use Rattle.expr_engine.specs.Turns.{IsAnswer}

@@ -1,4 +1,4 @@
-use Rattle.std.proofs.Common.{ℕ, List, Ok, Err, ap, inr, refl, subst, ◌≡◌, ◌⊎◌, None, inl, IsUtf8}
+use Rattle.std.proofs.Common.{◌≡◌, ◌⊎◌, ℕ, List, None, Ok, Err, IsUtf8, ap, inl, inr, refl, subst}
 use Rattle.expr_engine.specs.Effects.{Tells, call_result}
 use Rattle.expr_engine.specs.Engines.{waiting_inputs}
 use Rattle.expr_engine.specs.Turns.{IsRefusal, RunGoesOn}
