@@ -15,7 +15,6 @@ ghost use Rattle.expr_engine.specs.Turns.{IsNewRun, IsRefusal, IsSameRun, Passes
 ghost use Rattle.expr_exchange.specs.Cursor.{part_of, way_of};
 ghost use Rattle.expr_exchange.specs.Refusals.{IsNoStop, ReturnsToHost};
 ghost use Rattle.expr_handles.specs.HandleMap.{SameThings, thing_at, next_number};
-ghost use Rattle.expr_handles.specs.declared.Handle.{Handle};
 ghost use Rattle.expr_meter.specs.Counting.{stops as stops_at};
 ghost use Rattle.expr_stops.specs.Stops.{waiting_call_of, replies_of};
 ghost use Rattle.expr_stops.specs.declared.replies.Reply.TheVariants as reply;

@@ -1,4 +1,4 @@
-use Rattle.std.proofs.Common.{◌≡◌, ℕ, List, [], MatchOption, ap, refl, string_bytes, subst, sym}
+use Rattle.std.proofs.Common.{◌≡◌, ℕ, List, [], Some, MatchOption, ap, refl, string_bytes, subst, sym}
 use Rattle.expr_engine.specs.Asks.{ask_of, shows_of}
 use Rattle.expr_engine.specs.Effects.{Does, IsMissing, call_result}
 use Rattle.expr_engine.specs.Engines.{run_inputs}
