@@ -1,9 +1,12 @@
 //! An engine behind a pointer, for C.
 #![tactic(auto)]
 
+ghost use Rattle.std.specs.Prelude.{◌≡◌};
 ghost use types.Logic.{sem};
 ghost use base.Fraction.{full_share};
+ghost use denote.Param.{layout};
 ghost use denote.RawPtr.{lies_at, room_at};
+ghost use prog.Memory.{capped, size};
 ghost use Rattle.expr_engine.specs.Promised.{IsNew, IsServed};
 ghost use Rattle.expr_engine.specs.contracts.engine.Engine.{the_row as engine_row};
 ghost use Rattle.expr_engine.specs.declared.engine.Engine.{Engine as EngineValue};
@@ -13,7 +16,9 @@ use std::alloc::Global;
 
 /// How many bytes an engine takes. They lie at a multiple of 16.
 #[unsafe(no_mangle)]
-pub extern "C" fn expr_c_size() -> usize {
+pub extern "C" fn expr_c_size() -> usize
+    ensures { result ≡ capped (size (layout engine_row)) }
+{
     size_of::<Engine>()
 }
 

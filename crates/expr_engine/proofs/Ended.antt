@@ -5,9 +5,9 @@ use Rattle.expr_engine.specs.Effects.{Does, CallResult}
 use Rattle.expr.proofs.Stopping.{IsOfRuns, stops_of_runs}
 use Rattle.expr_costs.specs.Costs.{costs_in}
 use Rattle.expr_engine.specs.Codes.{code_of}
-use Rattle.expr_engine.specs.Engines.{RunInputs, CompileRefuses, MayAnswer, MayEnd}
+use Rattle.expr_engine.specs.Engines.{RunInputs, CompileRefuses, RunMayAnswer, MayEnd}
 use Rattle.expr_engine.specs.Limiting.{LimitsBy, limits_asked}
-use Rattle.expr_engine.specs.Runs.{context_of, host_with}
+use Rattle.expr_engine.specs.Runs.{context_of, host_with_replies}
 use Rattle.expr_engine.specs.Served.{AnswersNumber, EndsCall, RunServes, Says, number_of}
 use Rattle.expr_engine.specs.Turns.{Turns}
 use Rattle.expr_engine.specs.declared.call.Ask.{Ask}
@@ -34,7 +34,7 @@ use Rattle.expr_meaning.specs.World.{World, world_of}
 use Rattle.expr_error.specs.ErrorKind.{ErrorKind, error_kind, syntax, literal, evaluation, pattern, memory}
 use Rattle.expr_value.specs.declared.value.Value.{Value}
 
-said_by : (q : RunInputs) (given : List CallReply) (value : Value) (fault : ErrorKind) → (fault ≢ memory → MayAnswer q given (Err fault)) → Says q given (ends_by fault) value
+said_by : (q : RunInputs) (given : List CallReply) (value : Value) (fault : ErrorKind) → (fault ≢ memory → RunMayAnswer q given (Err fault)) → Says q given (ends_by fault) value
 said_by q given value syntax m = m (search rules)
 said_by q given value literal m = m (search rules)
 said_by q given value evaluation m = m (search rules)
@@ -47,7 +47,7 @@ stops_at_runs (Some limits) world code limit p = stops_of_runs (costs_in world.h
 stops_at_runs None world code limit p = absurd p
 
 of_runs : (q : RunInputs) (given : List CallReply) (limit : Limit) → MayEnd q given (stops limit) → IsOfRuns limit
-of_runs q given limit p = stops_at_runs q.limits (world_of (host_with q.added given) (context_of q.names)) (code_of q.rule.code) limit p
+of_runs q given limit p = stops_at_runs q.limits (world_of (host_with_replies q.added given) (context_of q.names)) (code_of q.rule.code) limit p
 
 said_at : (q : RunInputs) (given : List CallReply) (value : Value) (limit : Limit) → MayEnd q given (stops limit) → Says q given (ends_at limit) value
 said_at q given value Height p = of_runs q given Height p
@@ -63,10 +63,8 @@ answers_by q given (Err (Language error)) value number r (inl e) = record { stat
 answers_by q given (Err (Language error)) value number r (inr e) = record { status = ends.Memory; is = e; says = tt }
 answers_by q given (Err Unknown) value number r e = absurd r
 answers_by q given (Err Misuse) value number r e = absurd r
-answers_by q given (Err Asks) value number r (inl e) = record { status = ends.Asks; is = e; says = tt }
-answers_by q given (Err Asks) value number r (inr e) = record { status = ends.Memory; is = e; says = tt }
-answers_by q given (Err Differs) value number r (inl e) = record { status = ends.Differs; is = e; says = tt }
-answers_by q given (Err Differs) value number r (inr e) = record { status = ends.Memory; is = e; says = tt }
+answers_by q given (Err Asks) value number r e = record { status = ends.Asks; is = e; says = tt }
+answers_by q given (Err Differs) value number r e = record { status = ends.Differs; is = e; says = tt }
 answers_by q given (Err (Stopped limit)) value number r (inl e) = record { status = ends_at limit; is = e; says = said_at q given value limit r }
 answers_by q given (Err (Stopped limit)) value number r (inr e) = record { status = ends.Memory; is = e; says = tt }
 
@@ -80,20 +78,13 @@ pub turns_on : (ask : Ask) (old : Engine) (call : Call) (done : Result (Unit {0}
 turns_on ask old call done mid new t w a =
     subst (λ (x : WaitingRun). Turns ask old call done x (part_of new.answer)) (sym w) (subst (λ (x : ValueCursor). Turns ask old call done mid.waits (part_of x)) (sym a) t)
 
--- a refusal of the language ends otherwise than done, and otherwise than by a handle that finds nothing
+-- a refusal of the language ends otherwise than done
 not_done : (fault : ErrorKind) → number_of (ends_by fault) ≡ 0 → ⊥
 not_done syntax e = omega arith
 not_done literal e = omega arith
 not_done evaluation e = omega arith
 not_done pattern e = omega arith
 not_done memory e = omega arith
-
-not_unknown : (fault : ErrorKind) → number_of (ends_by fault) ≡ 6 → ⊥
-not_unknown syntax e = omega arith
-not_unknown literal e = omega arith
-not_unknown evaluation e = omega arith
-not_unknown pattern e = omega arith
-not_unknown memory e = omega arith
 
 -- nor does a stop at a limit
 not_done_at : (limit : Limit) → number_of (ends_at limit) ≡ 0 → ⊥
@@ -103,40 +94,32 @@ not_done_at Steps e = omega arith
 not_done_at Depth e = omega arith
 not_done_at Size e = omega arith
 
-not_unknown_at : (limit : Limit) → number_of (ends_at limit) ≡ 6 → ⊥
-not_unknown_at Height e = omega arith
-not_unknown_at Patterns e = omega arith
-not_unknown_at Steps e = omega arith
-not_unknown_at Depth e = omega arith
-not_unknown_at Size e = omega arith
+never_done : (A : Type 0) (refused : HostError) (number : ℕ) → EndsCall {A = A} (Err refused) number → number ≡ 0 → ⊥
+never_done A (Language error) number (inl e) z = not_done (error_kind error) (sym e ∙ z)
+never_done A (Language error) number (inr e) z = omega arith
+never_done A Unknown number e z = omega arith
+never_done A Misuse number e z = omega arith
+never_done A Asks number e z = omega arith
+never_done A Differs number e z = omega arith
+never_done A (Stopped limit) number (inl e) z = not_done_at limit (sym e ∙ z)
+never_done A (Stopped limit) number (inr e) z = omega arith
 
-never_done : (refused : HostError) (number : ℕ) → (number ≡ number_of (status_of refused)) ⊎ (number ≡ 5) → number ≡ 0 → ⊥
-never_done (Language error) number (inl e) z = not_done (error_kind error) (sym e ∙ z)
-never_done Unknown number (inl e) z = omega arith
-never_done Misuse number (inl e) z = omega arith
-never_done Asks number (inl e) z = omega arith
-never_done Differs number (inl e) z = omega arith
-never_done (Stopped limit) number (inl e) z = not_done_at limit (sym e ∙ z)
-never_done refused number (inr e) z = omega arith
-
--- only a handle that finds nothing ends by this number
-pub unknown_by : (status : Status) (refused : HostError) (number : ℕ) → (status ≡ status_of refused) ⊎ (status ≡ ends.Memory) → number ≡ number_of status → number ≡ 6 → refused ≡ Unknown
-unknown_by status Unknown number s n z = refl
-unknown_by status (Language error) number (inl e) n z = absurd (not_unknown (error_kind error) (sym (ap (λ s. number_of s) e) ∙ sym n ∙ z))
-unknown_by status Misuse number (inl e) n z = let k : number_of status ≡ 7 = ap (λ s. number_of s) e in absurd (omega (arith, k, n, z))
-unknown_by status Asks number (inl e) n z = let k : number_of status ≡ 8 = ap (λ s. number_of s) e in absurd (omega (arith, k, n, z))
-unknown_by status Differs number (inl e) n z = let k : number_of status ≡ 9 = ap (λ s. number_of s) e in absurd (omega (arith, k, n, z))
-unknown_by status (Stopped limit) number (inl e) n z = absurd (not_unknown_at limit (sym (ap (λ s. number_of s) e) ∙ sym n ∙ z))
-unknown_by status (Language error) number (inr e) n z = let k : number_of status ≡ 5 = ap (λ s. number_of s) e in absurd (omega (arith, k, n, z))
-unknown_by status Misuse number (inr e) n z = let k : number_of status ≡ 5 = ap (λ s. number_of s) e in absurd (omega (arith, k, n, z))
-unknown_by status Asks number (inr e) n z = let k : number_of status ≡ 5 = ap (λ s. number_of s) e in absurd (omega (arith, k, n, z))
-unknown_by status Differs number (inr e) n z = let k : number_of status ≡ 5 = ap (λ s. number_of s) e in absurd (omega (arith, k, n, z))
-unknown_by status (Stopped limit) number (inr e) n z = let k : number_of status ≡ 5 = ap (λ s. number_of s) e in absurd (omega (arith, k, n, z))
+-- a call that is refused ends by its status, or by that of memory where the refusal has a message
+pub ends_call : (refused : HostError) (status : Status) (number : ℕ) → (status ≡ status_of refused) ⊎ (status ≡ ends.Memory) → (refused ≡ Unknown → status ≡ ends.Unknown) → (refused ≡ Misuse → status ≡ ends.Misuse)
+    → (refused ≡ Asks → status ≡ ends.Asks) → (refused ≡ Differs → status ≡ ends.Differs) → number ≡ number_of status → EndsCall {A = Unit {0}} (Err refused) number
+ends_call (Language error) status number (inl s) u m a d n = inl (n ∙ ap (λ (x : Status). number_of x) s)
+ends_call (Language error) status number (inr s) u m a d n = inr (n ∙ ap (λ (x : Status). number_of x) s)
+ends_call Unknown status number s u m a d n = n ∙ ap (λ (x : Status). number_of x) (u refl)
+ends_call Misuse status number s u m a d n = n ∙ ap (λ (x : Status). number_of x) (m refl)
+ends_call Asks status number s u m a d n = n ∙ ap (λ (x : Status). number_of x) (a refl)
+ends_call Differs status number s u m a d n = n ∙ ap (λ (x : Status). number_of x) (d refl)
+ends_call (Stopped limit) status number (inl s) u m a d n = inl (n ∙ ap (λ (x : Status). number_of x) s)
+ends_call (Stopped limit) status number (inr s) u m a d n = inr (n ∙ ap (λ (x : Status). number_of x) s)
 
 -- what holds where a call is done, or refused, by the number of its ending
 pub done_by : {A P : Type 0} (done : Result A HostError) (number : ℕ) → OnOk done P → EndsCall done number → number ≡ 0 → P
 done_by (Ok shown) number p e z = p
-done_by (Err refused) number p e z = absurd (never_done refused number e z)
+done_by {A} (Err refused) number p e z = absurd (never_done A refused number e z)
 
 pub refused_by : {A P : Type 0} (done : Result A HostError) (number : ℕ) → OnErr done P → EndsCall done number → number ≢ 0 → P
 refused_by (Ok shown) number p e n = absurd (n e)

@@ -1,7 +1,7 @@
 -- Texts that are refused, and where.
 use Rattle.std.proofs.Common.{◌≡◌, ◌⊎◌, ◌∙◌, ℕ, List, Option, None, Some, Result, Ok, Err, IfErr, IfSome, OnOk, ap, arith, inl, inr, rules, subst, sym}
 use Rattle.expr_engine.specs.Engines.{CompileRefuses}
-use Rattle.expr_engine.specs.Faults.{AnswersText, IsAt, IsNotedAt, IsSpot, refused_byte}
+use Rattle.expr_engine.specs.Faults.{IsAt, IsLocation, IsNotedAt, StatusSaysOfText, refused_byte}
 use Rattle.expr_engine.specs.Served.{EndsCall, number_of}
 use Rattle.expr_engine.specs.declared.engine.TextPlace.{TextPlace}
 use Rattle.expr_error.specs.declared.error.Error.TheVariants.{PestError, ParseError, ExprError, RegexError, MemoryError}
@@ -22,7 +22,7 @@ on_ok (Err e) p = tt
 pub marked : (byte : Option ℕ) (text : List ℕ) (noted : Option TextPlace) (place : TextPlace) → IsNotedAt byte text noted → IfSome noted (λ p. place ≡ p) → IsAt byte text place
 marked None text noted place stands same = tt
 marked (Some b) text None place stands same = λ utf8. absurd (stands utf8)
-marked (Some b) text (Some p) place stands same = λ utf8. subst (λ (q : TextPlace). IsSpot text b q) (sym same) (stands utf8)
+marked (Some b) text (Some p) place stands same = λ utf8. subst (λ (q : TextPlace). IsLocation text b q) (sym same) (stands utf8)
 
 -- a call has the place that was noted, or memory was refused for saying so
 pub placed_on : (byte : Option ℕ) (text : List ℕ) (mid new : TextPlace) (status : Status) (number : ℕ) → IsAt byte text mid ⊎ (status ≡ ends.Memory) → new ≡ mid → number ≡ number_of status → IsAt byte text new ⊎ (number ≡ 5)
@@ -30,25 +30,26 @@ placed_on byte text mid new status number (inl stands) same n = inl (subst (λ (
 placed_on byte text mid new status number (inr m) same n = inr (n ∙ ap (λ (s : Status). number_of s) m)
 
 -- a text is refused what it deserves, and is told where
-pub answers_text : {A : Type 0} (limits : Option Limits) (text : List ℕ) (done : Result A HostError) (number : ℕ) (place : TextPlace) → IfErr done (CompileRefuses limits text) → EndsCall done number → IfErr done (λ refused. IsAt (refused_byte refused) text place ⊎ (number ≡ 5)) → AnswersText limits text number place
+pub answers_text : {A : Type 0} (limits : Option Limits) (text : List ℕ) (done : Result A HostError) (number : ℕ) (place : TextPlace) → IfErr done (CompileRefuses limits text) → EndsCall done number → IfErr done (λ refused. IsAt (refused_byte refused) text place ⊎ (number ≡ 5)) → StatusSaysOfText limits text number place
 answers_text limits text (Ok v) number place r e stands = record { status = ends.Done; is = e; says = tt }
-answers_text limits text (Err refused) number place r (inr e) stands = record { status = ends.Memory; is = e; says = tt }
+answers_text limits text (Err (Language error)) number place r (inr e) stands = record { status = ends.Memory; is = e; says = tt }
 answers_text limits text (Err (Language (PestError byte))) number place (why, (in_text, first), utf8) (inl e) (inl stands) =
-    let spot = stands utf8 in
+    let location = stands utf8 in
     record {
       status = ends.Syntax;
       is = e;
-      says = (why (search rules), record { fault = subst (λ (b : ℕ). FaultPlace text b) (sym spot.same) first; spot = subst (λ (b : ℕ). IsSpot text b place) (sym spot.same) spot });
+      says = (why (search rules), record { fault = subst (λ (b : ℕ). FaultPlace text b) (sym location.same) first; location = subst (λ (b : ℕ). IsLocation text b place) (sym location.same) location });
     }
 answers_text limits text (Err (Language (PestError byte))) number place r (inl e) (inr m) = absurd (omega (arith, e, m))
 answers_text limits text (Err (Language (ParseError message))) number place (why, placed, utf8) (inl e) stands = record { status = ends.Literal; is = e; says = why (search rules) }
 answers_text limits text (Err (Language (ExprError message))) number place (why, placed, utf8) (inl e) stands = absurd (why (search rules))
 answers_text limits text (Err (Language (RegexError error))) number place (why, placed, utf8) (inl e) stands = absurd (why (search rules))
 answers_text limits text (Err (Language MemoryError)) number place r (inl e) stands = record { status = ends.Memory; is = e; says = tt }
-answers_text limits text (Err Unknown) number place r (inl e) stands = absurd r
-answers_text limits text (Err Misuse) number place r (inl e) stands = record { status = ends.Misuse; is = e; says = r }
-answers_text limits text (Err Asks) number place r (inl e) stands = absurd r
-answers_text limits text (Err Differs) number place r (inl e) stands = absurd r
+answers_text limits text (Err Unknown) number place r e stands = absurd r
+answers_text limits text (Err Misuse) number place r e stands = record { status = ends.Misuse; is = e; says = r }
+answers_text limits text (Err Asks) number place r e stands = absurd r
+answers_text limits text (Err Differs) number place r e stands = absurd r
+answers_text limits text (Err (Stopped limit)) number place r (inr e) stands = record { status = ends.Memory; is = e; says = tt }
 answers_text limits text (Err (Stopped Height)) number place (passed, utf8) (inl e) stands = record { status = ends.Height; is = e; says = passed }
 answers_text limits text (Err (Stopped Patterns)) number place (passed, utf8) (inl e) stands = record { status = ends.Patterns; is = e; says = passed }
 answers_text (Some limits) text (Err (Stopped Steps)) number place (passed, utf8) (inl e) stands = absurd passed
@@ -59,6 +60,6 @@ answers_text None text (Err (Stopped Depth)) number place (passed, utf8) (inl e)
 answers_text None text (Err (Stopped Size)) number place (passed, utf8) (inl e) stands = absurd passed
 
 -- the same where the call kept the text
-pub placed_in : {A : Type 0} (limits : Option Limits) (text kept : List ℕ) (done : Result A HostError) (number : ℕ) (place : TextPlace) → IfErr done (CompileRefuses limits text) → kept ≡ text → EndsCall done number → IfErr done (λ refused. IsAt (refused_byte refused) kept place ⊎ (number ≡ 5)) → AnswersText limits text number place
+pub placed_in : {A : Type 0} (limits : Option Limits) (text kept : List ℕ) (done : Result A HostError) (number : ℕ) (place : TextPlace) → IfErr done (CompileRefuses limits text) → kept ≡ text → EndsCall done number → IfErr done (λ refused. IsAt (refused_byte refused) kept place ⊎ (number ≡ 5)) → StatusSaysOfText limits text number place
 placed_in limits text kept done number place refuses same e stands =
     answers_text limits text done number place refuses e (subst (λ (t : List ℕ). IfErr done (λ refused. IsAt (refused_byte refused) t place ⊎ (number ≡ 5))) same stands)

@@ -6,7 +6,7 @@ use Rattle.expr_code.proofs.Contracts.{executed_allowed}
 use Rattle.expr_code.proofs.Correct.{exact_code}
 use Rattle.expr_code.specs.Codes.{IsCode}
 use Rattle.expr_code.specs.Machine.{CodeAnswers, Op}
-use Rattle.expr_engine.specs.Runs.{MayGive, added_by, host_by, host_with, named_by, names_in}
+use Rattle.expr_engine.specs.Runs.{MeaningAllows, added_by, host_by, host_with_replies, named_by, names_in}
 use Rattle.expr_engine.specs.declared.additions.Additions.{Additions}
 use Rattle.expr_limited.specs.Outcomes.{ReturnsOutcome}
 use Rattle.expr_meaning.specs.Host.{Host}
@@ -34,7 +34,7 @@ gives_merely (Err e) allowed c given = λ n. ∥∥₁_map c (λ x. given x n)
 
 -- what a code comes to, its program allows
 pub given_within : (limits : Option Limits) (world : World) (b : Block) (code : List (List Op)) (r : Result (Outcome Value) Error) → ∥ IsCode b code ∥₁
-    → ReturnsOutcome r (CodeComes limits world code) → GivesWithin r (MayGive world b)
+    → ReturnsOutcome r (CodeComes limits world code) → GivesWithin r (MeaningAllows world b)
 given_within limits world b code (Ok (Answered v)) lowered p =
     ∥∥₁_map lowered (λ is. (exact_code world b code is (Ok v)).0 (comes_answers limits world code (Ok v) p.0 p.1))
 given_within limits world b code (Ok (at_limit limit)) lowered p = tt
@@ -43,26 +43,26 @@ given_within limits world b code (Err e) lowered p = λ m.
 
 -- the same of a run that ended, in any host
 turned_merely : (t : Turn) (world : World) (b : Block) (code : List (List Op)) → ∥ IsCode b code ∥₁
-    → IfEnded t (λ r. Returns r (CodeAnswers world code)) → IfEnded t (λ r. Returns r (MayGive world b))
+    → IfEnded t (λ r. Returns r (CodeAnswers world code)) → IfEnded t (λ r. Returns r (MeaningAllows world b))
 turned_merely (Ended r) world b code lowered given = gives_merely r _ lowered (λ is. executed_allowed world r b code is given)
 turned_merely Asks world b code lowered given = tt
 turned_merely (Differs stop) world b code lowered given = tt
 turned_merely (Stopped limit) world b code lowered given = tt
 
 pub turned_within : (limits : Option Limits) (t : Turn) (world : World) (b : Block) (code : List (List Op)) → ∥ IsCode b code ∥₁
-    → EndsTurn t (CodeComes limits world code) → IfEnded t (λ r. Returns r (MayGive world b))
+    → EndsTurn t (CodeComes limits world code) → IfEnded t (λ r. Returns r (MeaningAllows world b))
 turned_within limits t world b code lowered p = turned_merely t world b code lowered (answers_by limits world code t p)
 
 -- what holds in the host of an environment's names and replies, holds in what the environment adds
 pub hosted_in : (P : Host → Type 0) (o : Option Additions) (added : Additions) (names : StopNames) (given : List CallReply) → o ≡ Some added → names ≡ names_in added
-    → P (host_replying (host_by o) (is_named names) given) → P (host_with o given)
+    → P (host_replying (host_by o) (is_named names) given) → P (host_with_replies o given)
 hosted_in P o added names given is same p =
-    subst (λ (x : Option Additions). P (host_with x given)) (sym is) (subst (λ (n : StopNames). P (host_replying (added_by added) (is_named n) given)) same
+    subst (λ (x : Option Additions). P (host_with_replies x given)) (sym is) (subst (λ (n : StopNames). P (host_replying (added_by added) (is_named n) given)) same
     (subst (λ (x : Option Additions). P (host_replying (host_by x) (is_named names) given)) is p))
 
 -- and what holds where nothing is added, holds with any replies
-pub unhosted_in : (P : Host → Type 0) (o : Option Additions) (given : List CallReply) → o ≡ None → P (host_by o) → P (host_with o given)
-unhosted_in P o given is p = subst (λ (x : Option Additions). P (host_with x given)) (sym is) (subst (λ (x : Option Additions). P (host_by x)) is p)
+pub unhosted_in : (P : Host → Type 0) (o : Option Additions) (given : List CallReply) → o ≡ None → P (host_by o) → P (host_with_replies o given)
+unhosted_in P o given is p = subst (λ (x : Option Additions). P (host_with_replies x given)) (sym is) (subst (λ (x : Option Additions). P (host_by x)) is p)
 
 pub stops_in : (t : Turn) (o : Option Additions) (added : Additions) (names : StopNames) (given : List CallReply) (waits : Option Stop) → o ≡ Some added → names ≡ names_in added
     → StopsWell (is_named names) given t waits → StopsWell (named_by o) given t waits

@@ -1,10 +1,13 @@
 -- Values that are handed in by a number or a text.
-use Rattle.std.proofs.Common.{◌≡◌, ◌∙◌, ◌++◌, ◌∷◌, [], Option, None, Some, IsSomeAnd, ap, subst, sym}
+use Rattle.std.proofs.Common.{◌≡◌, ◌∙◌, ◌++◌, ◌∷◌, [], Option, None, Some, IsSomeAnd, ap, refl, sym}
 use Rattle.expr_engine.specs.Effects.{HandsIn}
+use Rattle.expr_engine.specs.Reasons.{KindRefuses}
 use Rattle.expr_engine.specs.declared.call.Call.{Call}
 use Rattle.expr_engine.specs.declared.engine.Engine.{Engine}
 use Rattle.expr_exchange.specs.Builder.{values_of}
-use Rattle.expr_exchange.specs.Scalars.{IsScalar}
+use Rattle.expr_exchange.specs.Refusals.{NotMeant}
+use Rattle.expr_exchange.specs.Scalars.{HasScalar, IsScalar}
+use Rattle.expr_exchange.specs.declared.host_error.HostError.{HostError}
 use Rattle.expr_exchange.specs.declared.kind.Kind.{Kind}
 use Rattle.expr_exchange.specs.declared.kind.Kind.TheVariants as is
 use Rattle.expr_value.specs.declared.value.Value.{Value}
@@ -28,8 +31,24 @@ hands_scalar is.Json old new call v s b = absurd s
 hands_scalar is.Built old new call v s b = absurd s
 hands_scalar is.Looked old new call v s b = absurd s
 
-pub hands_in : (o : Option Kind) (kind : Kind) (old new : Engine) (call : Call) (v : Value) → o ≡ Some kind → HandsIn kind old new call v → IsSomeAnd o (λ kind. HandsIn kind old new call v)
-hands_in o kind old new call v is h = subst (λ (x : Option Kind). IsSomeAnd x (λ kind. HandsIn kind old new call v)) (sym is) h
+-- and what is refused as such a scalar is no value of its kind
+pub refuses_scalar : (kind : Kind) (engine : Engine) (call : Call) (refused : HostError) → (kind ≡ is.Built → ⊥) → (kind ≡ is.Looked → ⊥) → (kind ≡ is.Json → ⊥) → NotMeant (HasScalar kind call.number call.fraction call.text.now) refused → KindRefuses kind engine call refused
+refuses_scalar is.Nil engine call refused built looked json m = m
+refuses_scalar is.Bool engine call refused built looked json m = m
+refuses_scalar is.Integer engine call refused built looked json m = m
+refuses_scalar is.String engine call refused built looked json m = m
+refuses_scalar is.Bytes engine call refused built looked json m = m
+refuses_scalar is.Duration engine call refused built looked json m = m
+refuses_scalar is.DateTime engine call refused built looked json m = m
+refuses_scalar is.Month engine call refused built looked json m = m
+refuses_scalar is.Weekday engine call refused built looked json m = m
+refuses_scalar is.Timezone engine call refused built looked json m = m
+refuses_scalar is.Array engine call refused built looked json m = m
+refuses_scalar is.Map engine call refused built looked json m = m
+refuses_scalar is.KeyedMap engine call refused built looked json m = m
+refuses_scalar is.Json engine call refused built looked json m = absurd (json refl)
+refuses_scalar is.Built engine call refused built looked json m = absurd (built refl)
+refuses_scalar is.Looked engine call refused built looked json m = absurd (looked refl)
 
 -- what was handed in was so too where what was built is the same after
 handed_at : (kind : Kind) (old mid new : Engine) (call : Call) (v : Value) → HandsIn kind old mid call v → new.built ≡ mid.built → HandsIn kind old new call v

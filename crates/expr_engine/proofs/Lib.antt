@@ -1,3 +1,4 @@
+pub mod Acting
 pub mod Ended
 pub mod Faulty
 pub mod Given

@@ -1,30 +1,54 @@
 -- Runs that begin, and runs that go on with a reply.
-use Rattle.std.proofs.Common.{◌≡◌, ◌≢◌, ◌⊎◌, ◌∙◌, ◌∷◌, ◌++◌, List, [], Option, None, Some, IsSome, IsErrAnd, IsSomeAnd, MatchOption, Result, Ok, Err, IfErr, IsOk, OnOk, inl, inr, ap, rules, refl, subst, sym}
+use Rattle.std.proofs.Common.{◌≡◌, ◌≢◌, ◌⊎◌, ◌∙◌, ◌∷◌, ◌++◌, true, false, List, [], Option, None, Some, IsSome, IsErrAnd, IsSomeAnd, MatchOption, Result, Ok, Err, IfErr, IsOk, OnOk, inl, inr, ap, refl, subst, sym}
 use Rattle.std.proofs.lemmas.Bool.{false≢true}
-use Rattle.expr_engine.specs.Engines.{RunInputs, MayAnswer, MayEnd}
+use Rattle.std.specs.Option.{option_and_then, option_map}
+use Rattle.expr_engine.specs.Engines.{RunInputs, RunMayAnswer, MayEnd, additions_at, names_at, run_inputs}
+use Rattle.expr_engine.specs.Runs.{NamedValues, named_by}
 use Rattle.expr_engine.specs.Served.{RunServes}
-use Rattle.expr_engine.specs.Turns.{GoesOn, IsAnswer, IsNewRun, IsSameRun, PassesOn, RunGoesOn, WaitsIfAsks}
+use Rattle.expr_engine.specs.Turns.{GoesOnWith, IsAnswer, IsNewRun, IsSameRun, PassesOn, RunGoesOn, WaitsIfAsks, finds_nothing}
+use Rattle.expr_engine.specs.declared.additions.Additions.{Additions}
+use Rattle.expr_engine.specs.declared.engine.Engine.{Engine}
+use Rattle.expr_engine.specs.declared.rule.Rule.{Rule}
 use Rattle.expr_engine.specs.declared.waiting_run.WaitingRun.{WaitingRun}
 use Rattle.expr_exchange.specs.Refusals.{ReturnsToHost}
 use Rattle.expr_exchange.specs.declared.host_error.HostError.{HostError}
 use Rattle.expr_exchange.specs.declared.host_error.HostError.TheVariants.{Language, Unknown, Misuse, Asks, Differs, Stopped}
+use Rattle.expr_handles.specs.HandleMap.{thing_at}
 use Rattle.expr_handles.specs.declared.Handle.{Handle}
 use Rattle.expr_meter.specs.Counting.{stops}
-use Rattle.expr_stops.specs.Stops.{IsReplied, IsSame, waiting_call_of, replies_of}
+use Rattle.expr_stops.specs.Stops.{IsOther, IsReplied, waiting_call_of, replies_of}
 use Rattle.expr_stops.specs.declared.replies.CallReply.{CallReply}
 use Rattle.expr_stops.specs.declared.replies.Reply.{Reply}
 use Rattle.expr_stops.specs.declared.replies.Reply.TheVariants as reply
 use Rattle.expr_stops.specs.declared.replay.Stop.{Stop}
 use Rattle.expr_stops.specs.declared.stops.Stops.{Stops}
-use Rattle.expr_error.specs.ErrorKind.{ErrorKind, error_kind, syntax, literal, evaluation, pattern, memory}
-use Rattle.expr_error.specs.declared.error.Error.{Error}
 use Rattle.expr_value.specs.declared.value.Value.{Value}
+
+-- what a run finds under three handles
+abbrev inputs_in : Engine → Rule → Option Additions → NamedValues → RunInputs
+inputs_in engine rule added names = record { rule = rule; added = added; names = names; limits = engine.limits }
+
+pub found_so : (engine : Engine) (program environment context : Handle) (rule : Rule) (added : Option Additions) (names : NamedValues) → Some rule ≡ thing_at engine.rules program → additions_at engine environment ≡ Some added → names_at engine context ≡ Some names
+    → run_inputs engine program environment context ≡ Some (inputs_in engine rule added names)
+found_so engine program environment context rule added names r a n =
+    ap (λ (o : Option Rule). option_and_then (λ (rule : Rule). option_and_then (λ (added : Option Additions). option_map (λ (names : NamedValues). inputs_in engine rule added names) (names_at engine context)) (additions_at engine environment)) o) (sym r)
+    ∙ ap (λ (o : Option (Option Additions)). option_and_then (λ (added : Option Additions). option_map (λ (names : NamedValues). inputs_in engine rule added names) (names_at engine context)) o) a
+    ∙ ap (λ (o : Option NamedValues). option_map (λ (names : NamedValues). inputs_in engine rule added names) o) n
+
+-- a run that differs came to another call than the one that was replied to
+pub differs_so : {stop : Stop} (engine : Engine) (program environment context : Handle) (rule : Rule) (added : Option Additions) (names : NamedValues) (given : List CallReply) (waits : Option Stop) (r : Result Value HostError)
+    → Some rule ≡ thing_at engine.rules program → additions_at engine environment ≡ Some added → names_at engine context ≡ Some names → r ≡ Err Differs → waits ≡ None → IsOther (named_by added) given stop
+    → MatchOption (run_inputs engine program environment context) (r ≡ Err Unknown) (λ q. WaitsIfAsks q given r waits)
+differs_so {stop} engine program environment context rule added names given waits r found a n is none other =
+    let stands : WaitsIfAsks {A = Value} (inputs_in engine rule added names) given (Err Differs) waits = (none, record { stop = stop; other = other }) in
+    subst (λ (o : Option RunInputs). MatchOption o (r ≡ Err Unknown) (λ q. WaitsIfAsks q given r waits)) (sym (found_so engine program environment context rule added names found a n))
+    (subst (λ (d : Result Value HostError). WaitsIfAsks (inputs_in engine rule added names) given d waits) (sym is) stands)
 
 -- what a run gives is kept, or passed on
 runs_kept : (q : RunInputs) (given : List CallReply) (answer : Result Value HostError) (done : Result (Unit {0}) HostError) (value : Value)
-    → ReturnsToHost answer (MayAnswer q given) (λ limit. MayEnd q given (stops limit)) → PassesOn answer done value → RunServes q given done value
+    → ReturnsToHost answer (RunMayAnswer q given) (λ limit. MayEnd q given (stops limit)) → PassesOn answer done value → RunServes q given done value
 runs_kept q given (Ok v) done value g k =
-    subst (λ (d : Result (Unit {0}) HostError). RunServes q given d value) (sym k.0) (subst (λ (x : Value). MayAnswer q given (Ok x)) (sym k.1) g)
+    subst (λ (d : Result (Unit {0}) HostError). RunServes q given d value) (sym k.0) (subst (λ (x : Value). RunMayAnswer q given (Ok x)) (sym k.1) g)
 runs_kept q given (Err (Language error)) done value g k = subst (λ (d : Result (Unit {0}) HostError). RunServes q given d value) (sym k) g
 runs_kept q given (Err Unknown) done value g k = absurd g
 runs_kept q given (Err Misuse) done value g k = absurd g
@@ -33,7 +57,7 @@ runs_kept q given (Err Differs) done value g k = subst (λ (d : Result (Unit {0}
 runs_kept q given (Err (Stopped limit)) done value g k = subst (λ (d : Result (Unit {0}) HostError). RunServes q given d value) (sym k) g
 
 pub went : (o : Option RunInputs) (given : List CallReply) (answer : Result Value HostError) (done : Result (Unit {0}) HostError) (value : Value)
-    → MatchOption o (answer ≡ Err Unknown) (λ q. ReturnsToHost answer (MayAnswer q given) (λ limit. MayEnd q given (stops limit))) → PassesOn answer done value
+    → MatchOption o (answer ≡ Err Unknown) (λ q. ReturnsToHost answer (RunMayAnswer q given) (λ limit. MayEnd q given (stops limit))) → PassesOn answer done value
     → MatchOption o (done ≡ Err Unknown) (λ q. RunServes q given done value)
 went None given (Ok v) done value m k = let no : ⊥ = cc m in absurd no
 went None given (Err e) done value m k = let same : e ≡ Unknown = cc m in k ∙ ap Err same
@@ -52,7 +76,7 @@ stands_kept q given (Err (Stopped limit)) done value waits s k = subst (λ (d : 
 
 -- the same of a run that was taken out of an engine
 pub went_as : (o : Option RunInputs) (was is : Stops) (answer : Result Value HostError) (done : Result (Unit {0}) HostError) (value : Value)
-    → is ≡ was → MatchOption o (answer ≡ Err Unknown) (λ q. ReturnsToHost answer (MayAnswer q (replies_of is)) (λ limit. MayEnd q (replies_of is) (stops limit))) → PassesOn answer done value
+    → is ≡ was → MatchOption o (answer ≡ Err Unknown) (λ q. ReturnsToHost answer (RunMayAnswer q (replies_of is)) (λ limit. MayEnd q (replies_of is) (stops limit))) → PassesOn answer done value
     → MatchOption o (done ≡ Err Unknown) (λ q. RunServes q (replies_of was) done value)
 went_as o was is answer done value same m k =
     subst (λ (s : Stops). MatchOption o (done ≡ Err Unknown) (λ q. RunServes q (replies_of s) done value)) same (went o (replies_of is) answer done value m k)
@@ -72,23 +96,38 @@ stood_as o was is now after answer done value same kept m k none =
     (subst (λ (s : Stops). MatchOption o (done ≡ Err Unknown) (λ q. WaitsIfAsks q (replies_of s) done (waiting_call_of now))) same
     (stood o (replies_of is) answer done value (waiting_call_of now) (m (subst (λ (s : Stops). waiting_call_of s ≡ None) (sym same) none)) k))
 
+-- a run that is refused as where a handle finds nothing has such a handle, and one that isn't has none
+pub nothing_found : (o : Option RunInputs) (given : List CallReply) (answer : Result Value HostError)
+    → MatchOption o (answer ≡ Err Unknown) (λ q. ReturnsToHost answer (RunMayAnswer q given) (λ limit. MayEnd q given (stops limit))) → finds_nothing answer ≡ true → o ≡ None
+nothing_found None given answer m e = refl
+nothing_found (Some q) given (Ok v) m e = absurd (false≢true e)
+nothing_found (Some q) given (Err (Language error)) m e = absurd (false≢true e)
+nothing_found (Some q) given (Err Unknown) m e = absurd m
+nothing_found (Some q) given (Err Misuse) m e = absurd m
+nothing_found (Some q) given (Err Asks) m e = absurd (false≢true e)
+nothing_found (Some q) given (Err Differs) m e = absurd (false≢true e)
+nothing_found (Some q) given (Err (Stopped limit)) m e = absurd (false≢true e)
+
+pub where_none : (o : Option RunInputs) (N : Type 0) (P : RunInputs → Type 0) → o ≡ None → N → MatchOption o N P
+where_none o N P none n = subst (λ (x : Option RunInputs). MatchOption x N P) (sym none) n
+
 -- a run that was begun
-pub begun : (o : Option RunInputs) (program environment context : Handle) (known done : Result (Unit {0}) HostError) (old new : WaitingRun) (given : List CallReply)
-    → MatchOption o (known ≡ Err Unknown) (λ _. IsOk known) → known ≡ Ok tt → new.program ≡ program → new.environment ≡ environment → new.context ≡ context → replies_of new.stops ≡ given → given ≡ []
-    → MatchOption o (done ≡ Err Unknown) (λ q. WaitsIfAsks q given done (waiting_call_of new.stops)) → MatchOption o (new ≡ old) (λ q. IsNewRun q program environment context done new)
-begun None program environment context known done old new given m k p e c g z s = let no : ⊥ = cc (m, k) in absurd no
-begun (Some q) program environment context known done old new given m k p e c g z s = record {
-  program = p;
-  environment = e;
-  context = c;
-  given = g ∙ z;
-  stands = subst (λ (x : List CallReply). WaitsIfAsks q x done (waiting_call_of new.stops)) z s;
+pub begun : (o : Option RunInputs) (program environment context : Handle) (begins : Stops) (old new : WaitingRun) (answer : Result Value HostError) (done : Result (Unit {0}) HostError) (value : Value)
+    → new ≡ record { program = program; environment = environment; context = context; stops = begins } → finds_nothing answer ≡ false → replies_of begins ≡ []
+    → MatchOption o (answer ≡ Err Unknown) (λ q. WaitsIfAsks q [] answer (waiting_call_of begins)) → PassesOn answer done value → MatchOption o (new ≡ old) (λ q. IsNewRun q program environment context done new)
+begun None program environment context begins old new answer done value is known given m k = absurd (false≢true (sym known ∙ ap (λ (r : Result Value HostError). finds_nothing r) m))
+begun (Some q) program environment context begins old new answer done value is known given m k = record {
+  program = ap (λ (w : WaitingRun). w.program) is;
+  environment = ap (λ (w : WaitingRun). w.environment) is;
+  context = ap (λ (w : WaitingRun). w.context) is;
+  given = ap (λ (w : WaitingRun). replies_of w.stops) is ∙ given;
+  stands = subst (λ (w : WaitingRun). WaitsIfAsks q [] done (waiting_call_of w.stops)) (sym is) (stands_kept q [] answer done value (waiting_call_of begins) m k);
 }
 
 -- a reply that was given, and the run that went on
 goes_on : (Is : Reply → Type 0) (q : RunInputs) (old : WaitingRun) (mid : Stops) (new : WaitingRun) (r : Reply) (done : Result (Unit {0}) HostError) (value : Value)
     → IsReplied old.stops mid r → Is r → IsSameRun old new → replies_of new.stops ≡ replies_of mid
-    → RunServes q (replies_of mid) done value → WaitsIfAsks q (replies_of mid) done (waiting_call_of new.stops) → GoesOn Is q old new done value
+    → RunServes q (replies_of mid) done value → WaitsIfAsks q (replies_of mid) done (waiting_call_of new.stops) → GoesOnWith Is q old new done value
 goes_on Is q old mid new r done value replied is run given runs stands = record {
   stop = replied.stop;
   waited = replied.waited;
@@ -100,7 +139,7 @@ goes_on Is q old mid new r done value replied is run given runs stands = record 
   runs = subst (λ (x : List CallReply). RunServes q x done value) (sym given) runs;
 }
 
-by_ending : (Is : Reply → Type 0) (q : RunInputs) (old new : WaitingRun) (done : Result (Unit {0}) HostError) (value : Value) → GoesOn Is q old new done value → RunGoesOn Is (Some q) old new done value
+by_ending : (Is : Reply → Type 0) (q : RunInputs) (old new : WaitingRun) (done : Result (Unit {0}) HostError) (value : Value) → GoesOnWith Is q old new done value → RunGoesOn Is (Some q) old new done value
 by_ending Is q old new (Ok v) value g = g
 by_ending Is q old new (Err (Language error)) value g = inr g
 by_ending Is q old new (Err Unknown) value g = absurd g.runs
@@ -117,35 +156,6 @@ replied_by Is None old mid new r done value some replied is run given runs stand
 replied_by Is (Some q) old mid new r done value some replied is run given runs stands =
     by_ending Is q old new done value (goes_on Is q old mid new r done value replied is run given runs stands)
 
--- a refusal that is no other than for want of memory is one for want of memory
-is_memory : (fault : ErrorKind) → (fault ≢ memory → ⊥) → fault ≡ memory
-is_memory syntax h = absurd (h (search rules))
-is_memory literal h = absurd (h (search rules))
-is_memory evaluation h = absurd (h (search rules))
-is_memory pattern h = absurd (h (search rules))
-is_memory memory h = refl
-
-none_waits : (o : Option Stop) → IsSome o → o ≡ None → ⊥
-none_waits None some is = false≢true some
-none_waits (Some s) some is = cc is
-
--- a call that was not replied to for want of memory still waits
-pub still_waits : (Is : Reply → Type 0) (o : Option RunInputs) (old new : WaitingRun) (e : Error) (value : Value) → IsSome (waiting_call_of old.stops) → IsSameRun old new → IsSame old.stops new.stops
-    → (error_kind e ≢ memory → waiting_call_of old.stops ≡ None) → RunGoesOn Is o old new (Err (Language e)) value
-still_waits Is o old new e value some run same w =
-    inl (is_memory (error_kind e) (λ n. none_waits (waiting_call_of old.stops) some (w n)), record { run = run; stops = same })
-
-pub still_waits_by : (Is : Reply → Type 0) (o : Option RunInputs) (old new : WaitingRun) (r : Result (Unit {0}) HostError) (e : Error) (value : Value) → IsErrAnd r (λ x. x ≡ Language e) → IsSome (waiting_call_of old.stops) → IsSameRun old new → IsSame old.stops new.stops
-    → (error_kind e ≢ memory → waiting_call_of old.stops ≡ None) → RunGoesOn Is o old new r value
-still_waits_by Is o old new (Ok v) e value is some run same w = absurd is
-still_waits_by Is o old new (Err x) e value is some run same w =
-    subst (λ (y : HostError). RunGoesOn Is o old new (Err y) value) (sym is) (still_waits Is o old new e value some run same w)
-
--- a refusal of the language is none of a handle
-pub language_known : (r : Result (Unit {0}) HostError) (e : Error) → IsErrAnd r (λ x. x ≡ Language e) → IfErr r (λ x. x ≢ Unknown)
-language_known (Ok v) e is = tt
-language_known (Err x) e is = λ u. cc (is, u)
-
 -- a refusal is passed on
 pub passed_on : (Is : Reply → Type 0) (o : Option RunInputs) (old new : WaitingRun) (r : Result (Unit {0}) HostError) (e : HostError) (value : Value) → IsErrAnd r (λ x. x ≡ e) → RunGoesOn Is o old new (Err e) value → RunGoesOn Is o old new r value
 passed_on Is o old new (Ok v) e value is p = absurd is
@@ -158,7 +168,7 @@ left_waiting Is o old new e value same (inr is) = subst (λ (x : HostError). Run
 
 -- a reply of one sort is one of another
 weaker : (Is Js : Reply → Type 0) → ((r : Reply) → Is r → Js r) → (o : Option RunInputs) (old new : WaitingRun) (done : Result (Unit {0}) HostError) (value : Value)
-    → IsSomeAnd o (λ q. GoesOn Is q old new done value) → IsSomeAnd o (λ q. GoesOn Js q old new done value)
+    → IsSomeAnd o (λ q. GoesOnWith Is q old new done value) → IsSomeAnd o (λ q. GoesOnWith Js q old new done value)
 weaker Is Js f None old new done value g = absurd g
 weaker Is Js f (Some q) old new done value g = record {
   stop = g.stop;
@@ -186,7 +196,7 @@ pub built_last : (values front : List Value) (v : Value) → values ≡ front ++
 built_last values front v stood r is = subst (λ (x : Reply). IsAnswer values x) (sym is) (record { front = front; stood = stood })
 
 -- what the run has come to that ended with an answer
-pub ended_so : (Is : Reply → Type 0) (o : Option RunInputs) (old new : WaitingRun) (value : Value) → RunGoesOn Is o old new (Ok tt) value → IsSomeAnd o (λ q. MayAnswer q (replies_of new.stops) (Ok value))
+pub ended_so : (Is : Reply → Type 0) (o : Option RunInputs) (old new : WaitingRun) (value : Value) → RunGoesOn Is o old new (Ok tt) value → IsSomeAnd o (λ q. RunMayAnswer q (replies_of new.stops) (Ok value))
 ended_so Is None old new value g = absurd g
 ended_so Is (Some q) old new value g = g.runs
 
@@ -211,6 +221,23 @@ known_refused None (Ok v) m = tt
 known_refused None (Err e) m = inl (cc m)
 known_refused (Some q) (Ok v) m = tt
 known_refused (Some q) (Err e) m = absurd (false≢true m)
+
+pub known_meant : (o : Option RunInputs) (r : Result (Unit {0}) HostError) → MatchOption o (r ≡ Err Unknown) (λ _. IsOk r) → r ≡ Err Misuse → ⊥
+known_meant None r m is = let no : ⊥ = cc (m, is) in no
+known_meant (Some q) (Ok v) m is = let no : ⊥ = cc is in no
+known_meant (Some q) (Err e) m is = false≢true m
+
+-- and a run is never misused
+pub run_meant : (o : Option RunInputs) (given : List CallReply) (r : Result (Unit {0}) HostError) (value : Value) → MatchOption o (r ≡ Err Unknown) (λ q. RunServes q given r value) → IfErr r (λ e. e ≢ Misuse)
+run_meant None given (Ok v) value m = tt
+run_meant None given (Err e) value m = λ is. cc (m, is)
+run_meant (Some q) given (Ok v) value m = tt
+run_meant (Some q) given (Err (Language error)) value m = λ is. cc is
+run_meant (Some q) given (Err Unknown) value m = λ is. cc is
+run_meant (Some q) given (Err Misuse) value m = absurd m
+run_meant (Some q) given (Err Asks) value m = λ is. cc is
+run_meant (Some q) given (Err Differs) value m = λ is. cc is
+run_meant (Some q) given (Err (Stopped limit)) value m = λ is. cc is
 
 -- a run that found all three isn't refused so
 pub found_ends : (o : Option RunInputs) (given : List CallReply) (r : Result (Unit {0}) HostError) (value : Value) → IsSome o → MatchOption o (r ≡ Err Unknown) (λ q. RunServes q given r value) → IfErr r (λ e. e ≢ Unknown)

@@ -3,15 +3,18 @@ use Rattle.std.proofs.Common.{◌≡◌, ◌≤◌, ℕ, Bool, true, false, List
 use Rattle.std.proofs.lemmas.Bool.{false≢true}
 use Rattle.std.proofs.lemmas.Grind.{common_steps}
 use Rattle.std.specs.Option.{unwrap_or}
-use Rattle.expr_engine.specs.Effects.{Adds, Changes}
-use Rattle.expr_engine.specs.Engines.{Leaves, NumbersRise, SameAdditions, SameKept}
+use Rattle.expr_engine.specs.Effects.{Changes}
+use Rattle.expr_engine.specs.Engines.{KeepsThings, KeepsRest, Kept, Leaves, NumbersRise, SameAdditions, SameKept, Standing}
 use Rattle.expr_engine.specs.Runs.{named_at, zone_at}
 use Rattle.expr_engine.specs.declared.additions.Additions.{Additions}
 use Rattle.expr_engine.specs.declared.engine.Engine.{Engine}
+use Rattle.expr_engine.specs.declared.waiting_run.WaitingRun.{WaitingRun}
 use Rattle.expr_exchange.specs.Cursor.{SameLook, way_of, whole_of}
+use Rattle.expr_exchange.specs.declared.cursor.ValueCursor.{ValueCursor}
 use Rattle.expr_handles.specs.HandleMap.{SameThings, thing_at, is_same, next_number}
 use Rattle.expr_handles.specs.declared.Handle.{Handle}
 use Rattle.expr_handles.specs.declared.HandleMap.{HandleMap}
+use Rattle.expr_meter.specs.declared.limits.Limits.{Limits}
 
 pub additions_by_things : {old new : HandleMap Additions} → SameThings old new → SameAdditions old new
 additions_by_things s = record {
@@ -20,12 +23,16 @@ additions_by_things s = record {
   names = λ h name. ap (option_map (λ a. named_at a name)) (s h);
 }
 
+-- what handles find is the same where all three are
+pub keeps_all : (old new : Engine) → new.rules ≡ old.rules → new.contexts ≡ old.contexts → new.environments ≡ old.environments → KeepsThings old new
+keeps_all old new r c e = λ i. record { rules = r i; contexts = c i; environments = e i }
+
 -- where all three are the same, or one finds the same things and the others are the same
-pub same_kept : {old new : Engine} → new.rules ≡ old.rules → new.contexts ≡ old.contexts → new.environments ≡ old.environments → SameKept old new
-same_kept r c e = record {
-  rules = λ h. ap (λ k. thing_at k h) r;
-  contexts = λ h. ap (λ k. thing_at k h) c;
-  environments = additions_by_things (λ h. ap (λ k. thing_at k h) e);
+pub same_kept : (old new : Engine) → KeepsThings old new → SameKept old new
+same_kept old new k = record {
+  rules = λ h. ap (λ (x : Kept). thing_at x.rules h) k;
+  contexts = λ h. ap (λ (x : Kept). thing_at x.contexts h) k;
+  environments = additions_by_things (λ h. ap (λ (x : Kept). thing_at x.environments h) k);
 }
 
 pub same_rules : {old new : Engine} → SameThings old.rules new.rules → new.contexts ≡ old.contexts → new.environments ≡ old.environments → SameKept old new
@@ -80,26 +87,20 @@ additions_by_exchange old mid new h spare was is m n w zones moment names = reco
   names = λ k name. told_at (λ a. named_at a name) old mid new h spare was is m n w (names name) k (is_same h k) refl;
 }
 
--- a thing was exchanged, and exchanged back as it was
-put_back : {T : Type 0} (o n : Option T) (spare was is : T) → n ≡ option_map (λ _. is) o → was ≡ unwrap_or o spare → is ≡ was → n ≡ o
-put_back None n spare was is e w z = e
-put_back (Some x) n spare was is e w z = e ∙ ap Some (z ∙ w)
-
-thing_by_exchange : {T : Type 0} (old mid new : HandleMap T) (h : Handle) (spare was is : T) → ((k : Handle) → thing_at mid k ≡ (if is_same h k then option_map (λ _. spare) (thing_at old k) else thing_at old k))
-    → ((k : Handle) → thing_at new k ≡ (if is_same h k then option_map (λ _. is) (thing_at mid k) else thing_at mid k)) → was ≡ unwrap_or (thing_at old h) spare → is ≡ was
-    → (k : Handle) (b : Bool) → is_same h k ≡ b → thing_at new k ≡ thing_at old k
-thing_by_exchange old mid new h spare was is m n w z k true e =
-    put_back (thing_at old k) (thing_at new k) spare was is (exchanged_twice (thing_at old k) (thing_at mid k) (thing_at new k) spare is (rw e at (m k)) (rw e at (n k))) (w ∙ ap (λ o. unwrap_or o spare) (sym (one_finds old h k e))) z
-thing_by_exchange old mid new h spare was is m n w z k false e = rw e at (n k) ∙ rw e at (m k)
-
-pub things_by_exchange : {T : Type 0} (old mid new : HandleMap T) (h : Handle) (spare was is : T) → ((k : Handle) → thing_at mid k ≡ (if is_same h k then option_map (λ _. spare) (thing_at old k) else thing_at old k))
-    → ((k : Handle) → thing_at new k ≡ (if is_same h k then option_map (λ _. is) (thing_at mid k) else thing_at mid k)) → was ≡ unwrap_or (thing_at old h) spare → is ≡ was → SameThings old new
-things_by_exchange old mid new h spare was is m n w z = λ k. thing_by_exchange old mid new h spare was is m n w z k (is_same h k) refl
-
 -- what holds, holds where a result is a refusal
 pub on_err : {A E P : Type 0} (r : Result A E) → P → OnErr r P
 on_err (Ok v) p = tt
 on_err (Err e) p = p
+
+-- how an engine stands, part by part
+abbrev pub answer_in : Standing → ValueCursor
+answer_in s = s.answer
+
+abbrev pub waits_in : Standing → WaitingRun
+waits_in s = s.waits
+
+abbrev pub limits_in : Standing → Option Limits
+limits_in s = s.limits
 
 pub leaves : {old new : Engine} → SameKept old new → new.answer ≡ old.answer → Leaves old new
 leaves k a = record { kept = k; look = record { whole = ap whole_of a; way = ap way_of a } }
@@ -136,15 +137,15 @@ changes_by_exchange Becomes old mid new h spare was is m n known w b = record {
 }
 
 -- what was left is left by what changes nothing of it after
-pub leaves_after : {old mid new : Engine} → Leaves old mid → new.rules ≡ mid.rules → new.contexts ≡ mid.contexts → new.environments ≡ mid.environments → new.answer ≡ mid.answer → Leaves old new
-leaves_after l r c e a = record {
+pub leaves_after : (old mid new : Engine) → Leaves old mid → KeepsThings mid new → new.answer ≡ mid.answer → Leaves old new
+leaves_after old mid new l k a = record {
   kept = record {
-    rules = λ h. ap (λ k. thing_at k h) r ∙ l.kept.rules h;
-    contexts = λ h. ap (λ k. thing_at k h) c ∙ l.kept.contexts h;
+    rules = λ h. ap (λ (x : Kept). thing_at x.rules h) k ∙ l.kept.rules h;
+    contexts = λ h. ap (λ (x : Kept). thing_at x.contexts h) k ∙ l.kept.contexts h;
     environments = record {
-      zones = λ h name. ap (λ k. option_map (λ a. zone_at a name) (thing_at k h)) e ∙ l.kept.environments.zones h name;
-      moments = λ h. ap (λ k. option_map (λ a. a.moment) (thing_at k h)) e ∙ l.kept.environments.moments h;
-      names = λ h name. ap (λ k. option_map (λ a. named_at a name) (thing_at k h)) e ∙ l.kept.environments.names h name;
+      zones = λ h name. ap (λ (x : Kept). option_map (λ a. zone_at a name) (thing_at x.environments h)) k ∙ l.kept.environments.zones h name;
+      moments = λ h. ap (λ (x : Kept). option_map (λ a. a.moment) (thing_at x.environments h)) k ∙ l.kept.environments.moments h;
+      names = λ h name. ap (λ (x : Kept). option_map (λ a. named_at a name) (thing_at x.environments h)) k ∙ l.kept.environments.names h name;
     };
   };
   look = record { whole = ap whole_of a ∙ l.look.whole; way = ap way_of a ∙ l.look.way };
@@ -153,15 +154,16 @@ leaves_after l r c e a = record {
 as_far : (a b c : ℕ) → a ≤ b → c ≡ b → a ≤ c
 as_far a b c h e = omega arith
 
-pub rise_after : {old mid new : Engine} → NumbersRise old mid → new.rules ≡ mid.rules → new.contexts ≡ mid.contexts → new.environments ≡ mid.environments → NumbersRise old new
-rise_after n r c e = record {
-  rules = as_far _ _ _ n.rules (ap (λ k. next_number k) r);
-  contexts = as_far _ _ _ n.contexts (ap (λ k. next_number k) c);
-  environments = as_far _ _ _ n.environments (ap (λ k. next_number k) e);
+pub rise_after : (old mid new : Engine) → NumbersRise old mid → KeepsThings mid new → NumbersRise old new
+rise_after old mid new n k = record {
+  rules = as_far _ _ _ n.rules (ap (λ (x : Kept). next_number x.rules) k);
+  contexts = as_far _ _ _ n.contexts (ap (λ (x : Kept). next_number x.contexts) k);
+  environments = as_far _ _ _ n.environments (ap (λ (x : Kept). next_number x.environments) k);
 }
 
-pub numbers_kept : {old new : Engine} → new.rules ≡ old.rules → new.contexts ≡ old.contexts → new.environments ≡ old.environments → NumbersRise old new
-numbers_kept r c e = numbers_same (ap (λ k. next_number k) r) (ap (λ k. next_number k) c) (ap (λ k. next_number k) e)
+pub numbers_kept : (old new : Engine) → KeepsThings old new → NumbersRise old new
+numbers_kept old new k =
+    numbers_same (ap (λ (x : Kept). next_number x.rules) k) (ap (λ (x : Kept). next_number x.contexts) k) (ap (λ (x : Kept). next_number x.environments) k)
 
 pub numbers_by_rules : {old new : Engine} → next_number new.rules ≡ next_number old.rules → new.contexts ≡ old.contexts → new.environments ≡ old.environments → NumbersRise old new
 numbers_by_rules r c e = numbers_same r (ap (λ k. next_number k) c) (ap (λ k. next_number k) e)
@@ -173,36 +175,26 @@ pub numbers_by_environments : {old new : Engine} → new.rules ≡ old.rules →
 numbers_by_environments r c e = numbers_same (ap (λ k. next_number k) r) (ap (λ k. next_number k) c) e
 
 -- what a call leaves that is refused: all of it, or where one of the three finds the same things
-pub left_same : {A E : Type 0} (old new : Engine) (r : Result A E) → new.rules ≡ old.rules → new.contexts ≡ old.contexts → new.environments ≡ old.environments → new.answer ≡ old.answer → OnErr r (Leaves old new)
-left_same old new (Ok v) a b c d = tt
-left_same old new (Err x) a b c d = leaves (same_kept a b c) d
+pub left_same : {A E : Type 0} (old new : Engine) (r : Result A E) → KeepsThings old new → KeepsRest old new → OnErr r (Leaves old new)
+left_same old new (Ok v) k s = tt
+left_same old new (Err x) k s = leaves (same_kept old new k) (ap answer_in s)
 
-pub left_rules : {A E : Type 0} (old new : Engine) (r : Result A E) → OnErr r (SameThings old.rules new.rules) → new.contexts ≡ old.contexts → new.environments ≡ old.environments → new.answer ≡ old.answer → OnErr r (Leaves old new)
-left_rules old new (Ok v) s c e a = tt
-left_rules old new (Err x) s c e a = leaves (same_rules s c e) a
+pub left_rules : {A E : Type 0} (old new : Engine) (r : Result A E) → OnErr r (SameThings old.rules new.rules) → new.contexts ≡ old.contexts → new.environments ≡ old.environments → KeepsRest old new → OnErr r (Leaves old new)
+left_rules old new (Ok v) t c e s = tt
+left_rules old new (Err x) t c e s = leaves (same_rules t c e) (ap answer_in s)
 
-pub left_contexts : {A E : Type 0} (old new : Engine) (r : Result A E) → new.rules ≡ old.rules → OnErr r (SameThings old.contexts new.contexts) → new.environments ≡ old.environments → new.answer ≡ old.answer → OnErr r (Leaves old new)
-left_contexts old new (Ok v) k s e a = tt
-left_contexts old new (Err x) k s e a = leaves (same_contexts k s e) a
+pub left_contexts : {A E : Type 0} (old new : Engine) (r : Result A E) → new.rules ≡ old.rules → OnErr r (SameThings old.contexts new.contexts) → new.environments ≡ old.environments → KeepsRest old new → OnErr r (Leaves old new)
+left_contexts old new (Ok v) k t e s = tt
+left_contexts old new (Err x) k t e s = leaves (same_contexts k t e) (ap answer_in s)
 
-pub left_environments : {A E : Type 0} (old new : Engine) (r : Result A E) → new.rules ≡ old.rules → new.contexts ≡ old.contexts → OnErr r (SameAdditions old.environments new.environments) → new.answer ≡ old.answer → OnErr r (Leaves old new)
-left_environments old new (Ok v) k c s a = tt
-left_environments old new (Err x) k c s a = leaves (same_environments k c s) a
+pub left_environments : {A E : Type 0} (old new : Engine) (r : Result A E) → new.rules ≡ old.rules → new.contexts ≡ old.contexts → OnErr r (SameAdditions old.environments new.environments) → KeepsRest old new → OnErr r (Leaves old new)
+left_environments old new (Ok v) k c t s = tt
+left_environments old new (Err x) k c t s = leaves (same_environments k c t) (ap answer_in s)
 
-pub left_look : {A E : Type 0} (old new : Engine) (r : Result A E) → new.rules ≡ old.rules → new.contexts ≡ old.contexts → new.environments ≡ old.environments → OnErr r (SameLook old.answer new.answer) → OnErr r (Leaves old new)
-left_look old new (Ok v) k c e l = tt
-left_look old new (Err x) k c e l = record { kept = same_kept k c e; look = l }
+pub left_look : {A E : Type 0} (old new : Engine) (r : Result A E) → KeepsThings old new → OnErr r (SameLook old.answer new.answer) → OnErr r (Leaves old new)
+left_look old new (Ok v) k l = tt
+left_look old new (Err x) k l = record { kept = same_kept old new k; look = l }
 
-pub left_answer : {A E : Type 0} (old new : Engine) (r : Result A E) → new.rules ≡ old.rules → new.contexts ≡ old.contexts → new.environments ≡ old.environments → OnErr r (new.answer ≡ old.answer) → OnErr r (Leaves old new)
-left_answer old new (Ok v) k c e a = tt
-left_answer old new (Err x) k c e a = leaves (same_kept k c e) a
-
--- a new thing takes the next number
-pub adds_rise : {T : Type 0} {Is : T → Type 0} {old new : HandleMap T} {h : Handle} → Adds Is old new h → next_number old ≤ next_number new
-adds_rise a = omega (arith, a.number, a.next)
-
-pub rise_by_rules : {old new : Engine} → next_number old.rules ≤ next_number new.rules → new.contexts ≡ old.contexts → new.environments ≡ old.environments → NumbersRise old new
-rise_by_rules r c e = record { rules = r; contexts = no_less _ _ (ap (λ k. next_number k) c); environments = no_less _ _ (ap (λ k. next_number k) e) }
-
-pub rise_by_contexts : {old new : Engine} → new.rules ≡ old.rules → next_number old.contexts ≤ next_number new.contexts → new.environments ≡ old.environments → NumbersRise old new
-rise_by_contexts r c e = record { rules = no_less _ _ (ap (λ k. next_number k) r); contexts = c; environments = no_less _ _ (ap (λ k. next_number k) e) }
+pub left_answer : {A E : Type 0} (old new : Engine) (r : Result A E) → KeepsThings old new → OnErr r (new.answer ≡ old.answer) → OnErr r (Leaves old new)
+left_answer old new (Ok v) k a = tt
+left_answer old new (Err x) k a = leaves (same_kept old new k) a

@@ -6,7 +6,7 @@ use Rattle.std.specs.declared.alloc.Global.{Global}
 use Rattle.expr_encoding.specs.Optional.{value_or_refusal}
 use Rattle.expr_encoding.specs.Reading.{json_value}
 use Rattle.expr_encoding.specs.Writing.{json_text}
-use Rattle.expr_engine.specs.Engines.{MayAnswer, run_inputs, waiting_inputs}
+use Rattle.expr_engine.specs.Engines.{KeepsThings, KeepsRest, RunMayAnswer, run_inputs, waiting_inputs}
 use Rattle.expr_engine.specs.Adding.{AddsNothing, BecomesByRule, BecomesFixed, BecomesNow, GainsName}
 use Rattle.expr_engine.specs.Limiting.{IsProgramBy, limits_asked}
 use Rattle.expr_engine.specs.declared.call.Ask.{Ask}
@@ -74,17 +74,13 @@ pub record Changes {T : Type 0} (Becomes : T → T → Type 0) (old new : Handle
   pub kept : IsSomeAnd (thing_at new handle) (Becomes was)
   pub others : KeepsOthers handle old new
 
--- Programs, contexts and environments are the same.
-pub record KeepsAll (old new : Engine) : Type 0 where
-  pub rules : new.rules ≡ old.rules
-  pub contexts : new.contexts ≡ old.contexts
-  pub environments : new.environments ≡ old.environments
-
 pub record Compiles (old new : Engine) (call : Call) (reply : CallResult) : Type 0 where
-  pub rules : Adds (λ rule. IsProgramBy old.limits call.text.now (program_term rule.program)) old.rules new.rules reply.program
+  pub rules : Adds (λ rule. IsProgramBy old.limits call.text.now (program_term rule.program))
+      old.rules new.rules reply.program
   pub contexts : new.contexts ≡ old.contexts
   pub environments : new.environments ≡ old.environments
-  pub answer : new.answer ≡ old.answer
+  pub rest : KeepsRest old new
+  pub built : new.built ≡ old.built
 
 -- These are a program's names, each on a line, and how many they are.
 pub record AreSaid (b : Block) (text : List ℕ) (count : ℕ) : Type 0 where
@@ -95,11 +91,13 @@ pub record AreSaid (b : Block) (text : List ℕ) (count : ℕ) : Type 0 where
 
 -- The program's names are said, each on a line, and counted.
 pub record SaysNames (old new : Engine) (call : Call) (reply : CallResult) : Type 0 where
-  pub keeps : KeepsAll old new
-  pub answer : new.answer ≡ old.answer
+  pub keeps : KeepsThings old new
+  pub rest : KeepsRest old new
   pub count : ℕ
-  pub said : IsSomeAnd (thing_at old.rules call.program) (λ rule. AreSaid (program_term rule.program) (string_bytes new.said) count)
+  pub said : IsSomeAnd (thing_at old.rules call.program)
+      (λ rule. AreSaid (program_term rule.program) (string_bytes new.said) count)
   pub number : pos count ≤ℤ pos 9223372036854775807 → reply.number ≡ pos count
+  pub built : new.built ≡ old.built
 
 -- Of the value its kind, its number and its fraction are told.
 pub record Tells (v : Value) (reply : CallResult) : Type 0 where
@@ -109,33 +107,44 @@ pub record Tells (v : Value) (reply : CallResult) : Type 0 where
 
 -- The program's answer is kept, and looked at as a whole.
 pub record RunsOnce (old new : Engine) (call : Call) (reply : CallResult) : Type 0 where
-  pub keeps : KeepsAll old new
-  pub answer : IsSomeAnd (run_inputs old call.program call.environment call.context) (λ q. MayAnswer q [] (Ok (part_of new.answer)))
+  pub keeps : KeepsThings old new
+  pub answer : IsSomeAnd (run_inputs old call.program call.environment call.context)
+      (λ q. RunMayAnswer q [] (Ok (part_of new.answer)))
   pub way : way_of new.answer ≡ []
   pub told : Tells (part_of new.answer) reply
+  pub built : new.built ≡ old.built
+
+-- The last value was taken.
+pub record TakesLast (old new : List Value) : Type 0 where
+  pub last : Value
+  pub stood : old ≡ new ++ last ∷ []
 
 -- The run that waited came to its end. Its answer is kept, and looked at as a whole.
-pub record EndsRun (old new : Engine) (reply : CallResult) : Type 0 where
-  pub keeps : KeepsAll old new
-  pub answer : IsSomeAnd (waiting_inputs old) (λ q. MayAnswer q (replies_of new.waits.stops) (Ok (part_of new.answer)))
+pub record EndsRun (Built : List Value → List Value → Type 0) (old new : Engine) (reply : CallResult) : Type 0 where
+  pub keeps : KeepsThings old new
+  pub built : Built (values_of old.built) (values_of new.built)
+  pub answer : IsSomeAnd (waiting_inputs old)
+      (λ q. RunMayAnswer q (replies_of new.waits.stops) (Ok (part_of new.answer)))
   pub way : way_of new.answer ≡ []
   pub told : Tells (part_of new.answer) reply
 
 -- Copies of the arguments of the call that waits are looked at, and the name of its function is said.
 pub record LooksAtCall (old new : Engine) (reply : CallResult) : Type 0 where
-  pub keeps : KeepsAll old new
+  pub keeps : KeepsThings old new
   pub stop : Stop
   pub waits : waiting_call_of old.waits.stops ≡ Some stop
   pub arguments : part_of new.answer ≡ values.Array stop.call.args.items
   pub way : way_of new.answer ≡ []
   pub name : string_bytes new.said ≡ string_bytes stop.call.ident
   pub told : Tells (part_of new.answer) reply
+  pub built : new.built ≡ old.built
 
 pub record AddsContext (old new : Engine) (reply : CallResult) : Type 0 where
   pub contexts : Adds (λ names. names ≡ []) old.contexts new.contexts reply.context
   pub rules : new.rules ≡ old.rules
   pub environments : new.environments ≡ old.environments
-  pub answer : new.answer ≡ old.answer
+  pub rest : KeepsRest old new
+  pub built : new.built ≡ old.built
 
 -- The value that was built last became a context.
 pub record AddsBuiltContext (old new : Engine) (reply : CallResult) : Type 0 where
@@ -144,7 +153,7 @@ pub record AddsBuiltContext (old new : Engine) (reply : CallResult) : Type 0 whe
   pub contexts : Adds (λ names. map_of last ≡ Some names) old.contexts new.contexts reply.context
   pub rules : new.rules ≡ old.rules
   pub environments : new.environments ≡ old.environments
-  pub answer : new.answer ≡ old.answer
+  pub rest : KeepsRest old new
 
 -- The value is the one that a call hands in, of which what was built has the rest.
 abbrev pub HandsIn : Kind → Engine → Engine → Call → Value → Type 0
@@ -157,83 +166,91 @@ HandsIn kind old new call v = IsScalar kind call.number call.fraction call.text.
 pub record Sets (old new : Engine) (call : Call) : Type 0 where
   pub value : Value
   pub handed : IsSomeAnd (kind_numbered call.kind) (λ kind. HandsIn kind old new call value)
-  pub contexts : Changes (λ was is. is ≡ put call.name.now value was) old.contexts new.contexts call.context
+  pub contexts : Changes (λ was is. is ≡ put call.name.now value was)
+      old.contexts new.contexts call.context
   pub rules : new.rules ≡ old.rules
   pub environments : new.environments ≡ old.environments
-  pub answer : new.answer ≡ old.answer
+  pub rest : KeepsRest old new
 
 -- The value that is handed in stands behind what was built.
-pub record Pushes (old new : Engine) (call : Call) : Type 0 where
+pub record PushesValue (old new : Engine) (call : Call) : Type 0 where
   pub value : Value
   pub left : Engine
   pub handed : IsSomeAnd (kind_numbered call.kind) (λ kind. HandsIn kind old left call value)
   pub stands : values_of new.built ≡ values_of left.built ++ value ∷ []
-  pub keeps : KeepsAll old new
-  pub answer : new.answer ≡ old.answer
+  pub keeps : KeepsThings old new
+  pub rest : KeepsRest old new
 
 pub record MakesArray (old new : Engine) (call : Call) : Type 0 where
   pub built : TakesPlace call.number (values_of old.built) values.Array (values_of new.built)
-  pub keeps : KeepsAll old new
-  pub answer : new.answer ≡ old.answer
+  pub keeps : KeepsThings old new
+  pub rest : KeepsRest old new
 
 -- The map of the last pairs takes their place.
 pub record MakesMap (old new : Engine) (call : Call) : Type 0 where
   pub built : BecomesMap (call.number +ℤ call.number) (values_of old.built) (values_of new.built)
-  pub keeps : KeepsAll old new
-  pub answer : new.answer ≡ old.answer
+  pub keeps : KeepsThings old new
+  pub rest : KeepsRest old new
 
 -- What was built is let go of, all of it.
 pub record Unbuilds (old new : Engine) : Type 0 where
   pub built : values_of new.built ≡ []
-  pub keeps : KeepsAll old new
-  pub answer : new.answer ≡ old.answer
+  pub keeps : KeepsThings old new
+  pub rest : KeepsRest old new
 
 -- Of the value that is looked at is told, after a look down or up.
 pub record Looks (old new : Engine) (reply : CallResult) : Type 0 where
-  pub keeps : KeepsAll old new
-  pub answer : new.answer ≡ old.answer
+  pub keeps : KeepsThings old new
+  pub rest : KeepsRest old new
   pub told : Tells (part_of new.answer) reply
+  pub built : new.built ≡ old.built
 
 pub record LooksIn (old new : Engine) (call : Call) (reply : CallResult) : Type 0 where
-  pub keeps : KeepsAll old new
+  pub keeps : KeepsThings old new
   pub down : LooksDown call.number old.answer new.answer
   pub told : Tells (part_of new.answer) reply
+  pub built : new.built ≡ old.built
 
 pub record LooksOut (old new : Engine) (reply : CallResult) : Type 0 where
-  pub keeps : KeepsAll old new
+  pub keeps : KeepsThings old new
   pub up : LooksUp old.answer new.answer
   pub told : Tells (part_of new.answer) reply
+  pub built : new.built ≡ old.built
 
 -- The text of a key is the string, or what the key prints as.
 abbrev pub key_said : Value → List ℕ
 key_said key = unwrap_or (string_of key) (text_of key)
 
 pub record SaysKey (old new : Engine) (call : Call) (reply : CallResult) : Type 0 where
-  pub keeps : KeepsAll old new
-  pub answer : new.answer ≡ old.answer
+  pub keeps : KeepsThings old new
+  pub rest : KeepsRest old new
   pub key : Value
   pub is : at_number call.number (key_at (part_of old.answer)) ≡ Some key
   pub told : Tells key reply
   pub text : string_bytes new.said ≡ key_said key
+  pub built : new.built ≡ old.built
 
 -- A text is said of the value that is looked at.
 pub record SaysText (Is : Value → List ℕ → Type 0) (old new : Engine) : Type 0 where
-  pub keeps : KeepsAll old new
-  pub answer : new.answer ≡ old.answer
+  pub keeps : KeepsThings old new
+  pub rest : KeepsRest old new
   pub text : Is (part_of old.answer) (string_bytes new.said)
+  pub built : new.built ≡ old.built
 
 pub record AddsEnvironment (old new : Engine) (reply : CallResult) : Type 0 where
   pub environments : Adds AddsNothing old.environments new.environments reply.environment
   pub rules : new.rules ≡ old.rules
   pub contexts : new.contexts ≡ old.contexts
-  pub answer : new.answer ≡ old.answer
+  pub rest : KeepsRest old new
+  pub built : new.built ≡ old.built
 
 -- An environment is such now, and every other is what it was.
 pub record ChangesEnvironment (Becomes : Additions → Additions → Type 0) (old new : Engine) (call : Call) : Type 0 where
   pub environments : Changes Becomes old.environments new.environments call.environment
   pub rules : new.rules ≡ old.rules
   pub contexts : new.contexts ≡ old.contexts
-  pub answer : new.answer ≡ old.answer
+  pub rest : KeepsRest old new
+  pub built : new.built ≡ old.built
 
 abbrev pub AddsFixedZone : Engine → Engine → Call → Type 0
 AddsFixedZone old new call = ChangesEnvironment (BecomesFixed call.name.now call.number) old new call
@@ -251,19 +268,22 @@ pub record DropsProgram (old new : Engine) (call : Call) : Type 0 where
   pub rules : LetsGo old.rules new.rules call.program
   pub contexts : new.contexts ≡ old.contexts
   pub environments : new.environments ≡ old.environments
-  pub answer : new.answer ≡ old.answer
+  pub rest : KeepsRest old new
+  pub built : new.built ≡ old.built
 
 pub record DropsContext (old new : Engine) (call : Call) : Type 0 where
   pub contexts : LetsGo old.contexts new.contexts call.context
   pub rules : new.rules ≡ old.rules
   pub environments : new.environments ≡ old.environments
-  pub answer : new.answer ≡ old.answer
+  pub rest : KeepsRest old new
+  pub built : new.built ≡ old.built
 
 pub record DropsEnvironment (old new : Engine) (call : Call) : Type 0 where
   pub environments : LetsGo old.environments new.environments call.environment
   pub rules : new.rules ≡ old.rules
   pub contexts : new.contexts ≡ old.contexts
-  pub answer : new.answer ≡ old.answer
+  pub rest : KeepsRest old new
+  pub built : new.built ≡ old.built
 
 pub record ForgetsAll (old new : Engine) : Type 0 where
   pub rules : (handle : Handle) → thing_at new.rules handle ≡ None
@@ -275,15 +295,18 @@ pub record ForgetsAll (old new : Engine) : Type 0 where
 
 -- One limit is the number that is given, and the others are what they were, or those for strangers where there were none.
 pub record SetsLimit (old new : Engine) (call : Call) : Type 0 where
-  pub limits : IsSomeAnd (limits_asked old.limits call.kind call.number) (λ limits. new.limits ≡ Some limits)
-  pub keeps : KeepsAll old new
+  pub limits : IsSomeAnd (limits_asked old.limits call.kind call.number)
+      (λ limits. new.limits ≡ Some limits)
+  pub keeps : KeepsThings old new
   pub answer : new.answer ≡ old.answer
+  pub built : new.built ≡ old.built
 
 -- There are no limits.
 pub record LetsGoOfLimits (old new : Engine) : Type 0 where
   pub limits : new.limits ≡ None
-  pub keeps : KeepsAll old new
+  pub keeps : KeepsThings old new
   pub answer : new.answer ≡ old.answer
+  pub built : new.built ≡ old.built
 
 -- what a call has done that is done
 abbrev pub Does : Ask → Engine → Engine → Call → CallResult → Type 0
@@ -293,7 +316,7 @@ Does is.Run old new call reply = RunsOnce old new call reply
 Does is.Context old new call reply = AddsContext old new reply
 Does is.ContextOf old new call reply = AddsBuiltContext old new reply
 Does is.Set old new call reply = Sets old new call
-Does is.Push old new call reply = Pushes old new call
+Does is.Push old new call reply = PushesValue old new call
 Does is.Array old new call reply = MakesArray old new call
 Does is.Map old new call reply = MakesMap old new call
 Does is.Unbuild old new call reply = Unbuilds old new
@@ -314,8 +337,8 @@ Does is.DropContext old new call reply = DropsContext old new call
 Does is.DropEnvironment old new call reply = DropsEnvironment old new call
 Does is.Clear old new call reply = ForgetsAll old new
 Does is.Name old new call reply = AddsName old new call
-Does is.Answer old new call reply = EndsRun old new reply
-Does is.Refuse old new call reply = EndsRun old new reply
+Does is.Answer old new call reply = EndsRun TakesLast old new reply
+Does is.Refuse old new call reply = EndsRun (λ was is. is ≡ was) old new reply
 Does is.WaitingCall old new call reply = LooksAtCall old new reply
 Does is.Limit old new call reply = SetsLimit old new call
 Does is.Unlimited old new call reply = LetsGoOfLimits old new

@@ -4,11 +4,13 @@ use Rattle.std.specs.Option.{option_and_then}
 use Rattle.expr.specs.Texts.{IsRefused}
 use Rattle.expr_engine.specs.Codes.{code_of}
 use Rattle.expr_engine.specs.Limiting.{Passes}
-use Rattle.expr_engine.specs.Runs.{MayGive, NamedValues, context_of, host_with, named_at, zone_at}
+use Rattle.expr_engine.specs.Runs.{MeaningAllows, NamedValues, context_of, host_with_replies, named_at, zone_at}
 use Rattle.expr_engine.specs.declared.additions.Additions.{Additions}
 use Rattle.expr_engine.specs.declared.engine.Engine.{Engine}
 use Rattle.expr_engine.specs.declared.rule.Rule.{Rule}
+use Rattle.expr_engine.specs.declared.waiting_run.WaitingRun.{WaitingRun}
 use Rattle.expr_exchange.specs.Cursor.{SameLook}
+use Rattle.expr_exchange.specs.declared.cursor.ValueCursor.{ValueCursor}
 use Rattle.expr_exchange.specs.declared.host_error.HostError.{HostError}
 use Rattle.expr_exchange.specs.declared.host_error.HostError.TheVariants.{Language, Unknown, Misuse, Asks, Differs, Stopped}
 use Rattle.expr_handles.specs.HandleMap.{SameThings, thing_at, next_number}
@@ -54,11 +56,12 @@ run_inputs engine program environment context =
 -- how a run of the program's code may end in that environment and that context, where calls of the host's functions answer what it replied, within the limits, if there
 -- are any
 abbrev pub MayEnd : RunInputs → List CallReply → Ending Room → Type 0
-MayEnd q given end = CodeComes q.limits (world_of (host_with q.added given) (context_of q.names)) (code_of q.rule.code) end
+MayEnd q given end = CodeComes q.limits (world_of (host_with_replies q.added given) (context_of q.names)) (code_of q.rule.code) end
 
 -- An answer of such a run: the program's meaning allows it too.
-pub record MayAnswer (q : RunInputs) (given : List CallReply) (answer : Answer) : Type 0 where
-  pub allowed : MayGive (world_of (host_with q.added given) (context_of q.names)) (program_term q.rule.program) answer
+pub record RunMayAnswer (q : RunInputs) (given : List CallReply) (answer : Answer) : Type 0 where
+  pub allowed : MeaningAllows (world_of (host_with_replies q.added given) (context_of q.names))
+      (program_term q.rule.program) answer
   pub left : Room
   pub ends : MayEnd q given (ending_of answer left)
 
@@ -93,11 +96,38 @@ CompileRefuses limits text Asks = ⊥
 CompileRefuses limits text Differs = ⊥
 CompileRefuses limits text (Stopped limit) = Passes limits text limit × IsUtf8 text
 
+-- what handles find
+pub record Kept : Type 0 where
+  pub rules : HandleMap Rule
+  pub contexts : HandleMap NamedValues
+  pub environments : HandleMap Additions
+
+abbrev pub kept_of : Engine → Kept
+kept_of engine = record { rules = engine.rules; contexts = engine.contexts; environments = engine.environments }
+
+-- Programs, contexts and environments are the same.
+abbrev pub KeepsThings : Engine → Engine → Type 0
+KeepsThings old new = kept_of new ≡ kept_of old
+
+-- how an engine stands beside that and beside what is built and said
+pub record Standing : Type 0 where
+  pub answer : ValueCursor
+  pub waits : WaitingRun
+  pub limits : Option Limits
+
+abbrev pub standing_of : Engine → Standing
+standing_of engine = record { answer = engine.answer; waits = engine.waits; limits = engine.limits }
+
+-- What is looked at, the run that waits and the limits are the same.
+abbrev pub KeepsRest : Engine → Engine → Type 0
+KeepsRest old new = standing_of new ≡ standing_of old
+
 -- Every handle finds an environment with the zones, the moment and the names that it found.
 pub record SameAdditions (old new : HandleMap Additions) : Type 0 where
   pub zones : (h : Handle) (name : List ℕ) → option_map (λ a. zone_at a name) (thing_at new h)
       ≡ option_map (λ a. zone_at a name) (thing_at old h)
-  pub moments : (h : Handle) → option_map (λ a. a.moment) (thing_at new h) ≡ option_map (λ a. a.moment) (thing_at old h)
+  pub moments : (h : Handle) → option_map (λ a. a.moment) (thing_at new h)
+      ≡ option_map (λ a. a.moment) (thing_at old h)
   pub names : (h : Handle) (name : List ℕ) → option_map (λ a. named_at a name) (thing_at new h)
       ≡ option_map (λ a. named_at a name) (thing_at old h)
 

@@ -21,12 +21,12 @@ abbrev pub place_of : Call → TextPlace
 place_of call = record { byte = call.place; line = call.line; column = call.column }
 
 -- A place is at this byte of the text, and has its line and its column.
-pub record IsSpot (text : List ℕ) (byte : ℕ) (place : TextPlace) : Type 0 where
+pub record IsLocation (text : List ℕ) (byte : ℕ) (place : TextPlace) : Type 0 where
   pub same : place.byte ≡ byte
-  pub spot : LineColumn
-  pub is : IsLineColumn text byte spot
-  pub line : place.line ≡ spot.line
-  pub column : place.column ≡ spot.column
+  pub location : LineColumn
+  pub is : IsLineColumn text byte location
+  pub line : place.line ≡ location.line
+  pub column : place.column ≡ location.column
 
 -- the byte at which a text is refused
 abbrev pub fault_byte : Error → Option ℕ
@@ -46,16 +46,16 @@ refused_byte (Stopped limit) = None
 
 -- A place in a text is that of this byte, if there is one.
 abbrev pub IsAt : Option ℕ → List ℕ → TextPlace → Type 0
-IsAt byte text place = IfSome byte (λ b. IsUtf8 text → IsSpot text b place)
+IsAt byte text place = IfSome byte (λ b. IsUtf8 text → IsLocation text b place)
 
 -- It is noted, if there is such a byte.
 abbrev pub IsNotedAt : Option ℕ → List ℕ → Option TextPlace → Type 0
-IsNotedAt byte text noted = IfSome byte (λ b. IsUtf8 text → IsSomeAnd noted (IsSpot text b))
+IsNotedAt byte text noted = IfSome byte (λ b. IsUtf8 text → IsSomeAnd noted (IsLocation text b))
 
 -- A place is that of the text's first fault.
 pub record IsFirstFault (text : List ℕ) (place : TextPlace) : Type 0 where
   pub fault : FaultPlace text place.byte
-  pub spot : IsSpot text place.byte place
+  pub location : IsLocation text place.byte place
 
 -- What the ending of a call that compiles says of its text: it has no tree, and its first fault stands there; or it has one with a literal that is too large; or it
 -- isn't UTF-8; or it passes this limit. The limits of runs are none.
@@ -77,7 +77,7 @@ SaysOfText limits text place ends.Depth = ⊥
 SaysOfText limits text place ends.Size = ⊥
 
 -- the same of the number of an ending
-pub record AnswersText (limits : Option Limits) (text : List ℕ) (number : ℕ) (place : TextPlace) : Type 0 where
+pub record StatusSaysOfText (limits : Option Limits) (text : List ℕ) (number : ℕ) (place : TextPlace) : Type 0 where
   pub status : Status
   pub is : number ≡ number_of status
   pub says : SaysOfText limits text place status

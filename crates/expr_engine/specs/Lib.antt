@@ -6,6 +6,7 @@ pub mod Engines
 pub mod Faults
 pub mod Limiting
 pub mod Promised
+pub mod Reasons
 pub mod Runs
 pub mod Served
 pub mod Turns

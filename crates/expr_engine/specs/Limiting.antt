@@ -30,18 +30,19 @@ with_limit Depth n limits = record { height = limits.height; patterns = limits.p
 with_limit Size n limits = record { height = limits.height; patterns = limits.patterns; steps = limits.steps; depth = limits.depth; size = n }
 
 -- the same of limits that there may be: where there are none, of those for strangers
-abbrev pub limited : Option Limits → Limit → ℕ → Limits
-limited limits limit n = with_limit limit n (unwrap_or limits for_strangers)
+abbrev pub limits_with : Option Limits → Limit → ℕ → Limits
+limits_with limits limit n = with_limit limit n (unwrap_or limits for_strangers)
 
 -- the limits that a call asks for by the number of a limit and by a number from 0; none where these are no such numbers
 abbrev pub limits_asked : Option Limits → (kind : ℕ) → (number : ℤ) → Option Limits
-limits_asked limits kind (pos n) = option_map (λ limit. limited limits limit n) (limit_by_number kind)
+limits_asked limits kind (pos n) = option_map (λ limit. limits_with limits limit n) (limit_by_number kind)
 limits_asked limits kind (negsuc n) = None
 
 -- How a call leaves the limits: one sets a limit, or is misused, one lets go of all, and no other call changes them. How it ended is said by the caller.
 abbrev pub LimitsBy : Ask → Option Limits → Call → (Done Misused : Type 0) → Option Limits → Type 0
 LimitsBy is.Limit old call Done Misused new =
-    MatchOption (limits_asked old call.kind call.number) (Misused × (new ≡ old)) (λ limits. Done × (new ≡ Some limits))
+    MatchOption (limits_asked old call.kind call.number) (Misused × (new ≡ old))
+    (λ limits. Done × (new ≡ Some limits))
 LimitsBy is.Unlimited old call Done Misused new = Done × (new ≡ None)
 LimitsBy ask old call Done Misused new = new ≡ old
 

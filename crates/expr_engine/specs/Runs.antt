@@ -58,10 +58,10 @@ named_by None = λ _. false
 named_by (Some added) = is_named (names_in added)
 
 -- what an environment adds where calls of the functions that the host answers itself answer what it replied
-abbrev pub host_with : Option Additions → List CallReply → Host
-host_with None given = no_host
-host_with (Some added) given = host_replying (added_by added) (is_named (names_in added)) given
+abbrev pub host_with_replies : Option Additions → List CallReply → Host
+host_with_replies None given = no_host
+host_with_replies (Some added) given = host_replying (added_by added) (is_named (names_in added)) given
 
 -- what a program's meaning allows, whichever way it comes to that
-abbrev pub MayGive : World → Block → Answer → Type 0
-MayGive world b answer = ∥ AllowsBlock world b answer ∥₁
+abbrev pub MeaningAllows : World → Block → Answer → Type 0
+MeaningAllows world b answer = ∥ AllowsBlock world b answer ∥₁

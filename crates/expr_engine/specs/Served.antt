@@ -1,6 +1,7 @@
 -- What a call answers.
-use Rattle.std.specs.Prelude.{◌≡◌, ◌≢◌, ◌⊎◌, ℕ, List, [], Result, Ok, Err, string_bytes}
-use Rattle.expr_engine.specs.Engines.{RunInputs, MayAnswer, MayEnd}
+use Rattle.std.specs.Prelude.{◌≡◌, ◌≢◌, ◌⊎◌, ◌++◌, ℕ, List, [], Result, Ok, Err, drop, length, min, string_bytes, take}
+use Rattle.expr_engine.specs.Engines.{RunInputs, RunMayAnswer, MayEnd}
+use Rattle.expr_engine.specs.declared.call.Call.{Call}
 use Rattle.expr_engine.specs.declared.call.Shows.{Shows}
 use Rattle.expr_engine.specs.declared.call.Shows.TheVariants as shows
 use Rattle.expr_engine.specs.declared.engine.Engine.{Engine}
@@ -38,8 +39,8 @@ number_of ends.Size = 14
 
 -- A run that found all three, with these replies, gives the value that is then looked at, or a refusal, or it stops for a reply, or at a limit at which one may stop.
 abbrev pub RunServes : {A : Type 0} → RunInputs → List CallReply → Result A HostError → Value → Type 0
-RunServes q given (Ok shown) value = MayAnswer q given (Ok value)
-RunServes q given (Err (Language error)) value = error_kind error ≢ memory → MayAnswer q given (Err (error_kind error))
+RunServes q given (Ok shown) value = RunMayAnswer q given (Ok value)
+RunServes q given (Err (Language error)) value = error_kind error ≢ memory → RunMayAnswer q given (Err (error_kind error))
 RunServes q given (Err Unknown) value = ⊥
 RunServes q given (Err Misuse) value = ⊥
 RunServes q given (Err Asks) value = Unit {0}
@@ -49,11 +50,11 @@ RunServes q given (Err (Stopped limit)) value = MayEnd q given (stops limit)
 -- What the ending of such a run says: its value, or its kind of refusal, is one that the meaning allows and to which a run comes within the limits, or the limit is one
 -- at which a run may stop. The limits of texts are none.
 abbrev pub Says : RunInputs → List CallReply → Status → Value → Type 0
-Says q given ends.Done value = MayAnswer q given (Ok value)
-Says q given ends.Syntax value = MayAnswer q given (Err syntax)
-Says q given ends.Literal value = MayAnswer q given (Err literal)
-Says q given ends.Evaluation value = MayAnswer q given (Err evaluation)
-Says q given ends.Pattern value = MayAnswer q given (Err pattern)
+Says q given ends.Done value = RunMayAnswer q given (Ok value)
+Says q given ends.Syntax value = RunMayAnswer q given (Err syntax)
+Says q given ends.Literal value = RunMayAnswer q given (Err literal)
+Says q given ends.Evaluation value = RunMayAnswer q given (Err evaluation)
+Says q given ends.Pattern value = RunMayAnswer q given (Err pattern)
 Says q given ends.Memory value = Unit {0}
 Says q given ends.Unknown value = ⊥
 Says q given ends.Misuse value = ⊥
@@ -71,16 +72,30 @@ pub record AnswersNumber (q : RunInputs) (given : List CallReply) (number : ℕ)
   pub is : number ≡ number_of status
   pub says : Says q given status value
 
--- A call that ended so has this number, or memory was refused for its message.
+-- A call that ended so has this number, or memory was refused for its message, if it has one.
 abbrev pub EndsCall : {A : Type 0} → Result A HostError → ℕ → Type 0
 EndsCall (Ok shown) number = number ≡ 0
-EndsCall (Err refused) number = (number ≡ number_of (status_of refused)) ⊎ (number ≡ 5)
+EndsCall (Err (Language error)) number = (number ≡ number_of (status_of (Language error))) ⊎ (number ≡ 5)
+EndsCall (Err Unknown) number = number ≡ 6
+EndsCall (Err Misuse) number = number ≡ 7
+EndsCall (Err Asks) number = number ≡ 8
+EndsCall (Err Differs) number = number ≡ 9
+EndsCall (Err (Stopped limit)) number = (number ≡ number_of (status_of (Stopped limit))) ⊎ (number ≡ 5)
 
 -- the text that an engine shows
 abbrev pub text_shown : Shows → Engine → List ℕ
 text_shown shows.Nothing engine = []
 text_shown shows.Said engine = string_bytes engine.said
 text_shown shows.Value engine = bytes_in (part_of engine.answer)
+
+-- a room after a text was written into it: as much of the text as it holds, and what it had behind that
+abbrev pub text_in_room : List ℕ → List ℕ → List ℕ
+text_in_room text room = take (min (length text) (length room)) text ++ drop (min (length text) (length room)) room
+
+-- A call answers how long a text is, and has it in its room.
+pub record ShowsText (text room : List ℕ) (answered : Call) : Type 0 where
+  pub count : answered.length ≡ length text
+  pub written : answered.room.now ≡ text_in_room text room
 
 -- A limit that was passed is said in words.
 abbrev pub SaysLimit : HostError → List ℕ → Type 0

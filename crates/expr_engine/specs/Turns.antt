@@ -1,5 +1,5 @@
 -- How the run stands that waits for a host's reply.
-use Rattle.std.specs.Prelude.{◌≡◌, ◌⊎◌, ℕ, List, [], ◌∷◌, ◌++◌, Option, None, Some, IsSomeAnd, MatchOption, Result, Ok, Err, string_bytes}
+use Rattle.std.specs.Prelude.{◌≡◌, ◌⊎◌, ℕ, Bool, true, false, List, [], ◌∷◌, ◌++◌, Option, None, Some, IsSomeAnd, MatchOption, Result, Ok, Err, string_bytes}
 use Rattle.expr_engine.specs.Engines.{RunInputs, run_inputs, waiting_inputs}
 use Rattle.expr_engine.specs.Runs.{named_by}
 use Rattle.expr_engine.specs.Served.{EndsCall, RunServes}
@@ -12,7 +12,7 @@ use Rattle.expr_exchange.specs.Builder.{values_of}
 use Rattle.expr_exchange.specs.declared.host_error.HostError.{HostError}
 use Rattle.expr_exchange.specs.declared.host_error.HostError.TheVariants.{Language, Unknown, Misuse, Asks, Differs, Stopped}
 use Rattle.expr_handles.specs.declared.Handle.{Handle}
-use Rattle.expr_stops.specs.Stops.{IsNext, IsSame, waiting_call_of, replies_of}
+use Rattle.expr_stops.specs.Stops.{IsNext, IsOther, IsSame, waiting_call_of, replies_of}
 use Rattle.expr_stops.specs.declared.replies.CallReply.{CallReply}
 use Rattle.expr_stops.specs.declared.replies.Reply.{Reply}
 use Rattle.expr_stops.specs.declared.replies.Reply.TheVariants as reply
@@ -20,20 +20,38 @@ use Rattle.expr_stops.specs.declared.replay.Stop.{Stop}
 use Rattle.expr_error.specs.ErrorKind.{error_kind, memory}
 use Rattle.expr_value.specs.declared.value.Value.{Value}
 
--- A run that asks waits for the reply to its next call, and any other waits for nothing.
+-- A run came to a call of a registered name at whose place another was replied to.
+pub record ComesToOther (named : List ℕ → Bool) (given : List CallReply) : Type 0 where
+  pub stop : Stop
+  pub other : IsOther named given stop
+
+-- A run that asks waits for the reply to its next call, and any other waits for nothing. One that differs came to another call.
 abbrev pub WaitsIfAsks : {A : Type 0} → RunInputs → List CallReply → Result A HostError → Option Stop → Type 0
 WaitsIfAsks q given (Ok v) waits = waits ≡ None
 WaitsIfAsks q given (Err (Language error)) waits = waits ≡ None
 WaitsIfAsks q given (Err Unknown) waits = waits ≡ None
 WaitsIfAsks q given (Err Misuse) waits = waits ≡ None
 WaitsIfAsks q given (Err Asks) waits = IsSomeAnd waits (IsNext (named_by q.added) given)
-WaitsIfAsks q given (Err Differs) waits = waits ≡ None
+WaitsIfAsks q given (Err Differs) waits = (waits ≡ None) × ComesToOther (named_by q.added) given
 WaitsIfAsks q given (Err (Stopped limit)) waits = waits ≡ None
 
 -- A run's answer is looked at, and a refusal is passed on.
 abbrev pub PassesOn : Result Value HostError → Result (Unit {0}) HostError → Value → Type 0
 PassesOn (Ok v) done value = (done ≡ Ok tt) × (value ≡ v)
 PassesOn (Err e) done value = done ≡ Err e
+
+-- whether a handle finds nothing
+abbrev pub is_unknown : HostError → Bool
+is_unknown (Language error) = false
+is_unknown Unknown = true
+is_unknown Misuse = false
+is_unknown Asks = false
+is_unknown Differs = false
+is_unknown (Stopped limit) = false
+
+abbrev pub finds_nothing : {A : Type 0} → Result A HostError → Bool
+finds_nothing (Ok v) = false
+finds_nothing (Err refused) = is_unknown refused
 
 -- A run was begun under these handles, and has no replies yet.
 pub record IsNewRun (q : RunInputs) (of_program in_environment in_context : Handle) (done : Result (Unit {0}) HostError) (waits : WaitingRun) : Type 0 where
@@ -55,26 +73,28 @@ pub record IsSameWait (old new : WaitingRun) : Type 0 where
   pub stops : IsSame old.stops new.stops
 
 -- The call that waited has such a reply, behind all others, and its run went on.
-pub record GoesOn (Is : Reply → Type 0) (q : RunInputs) (old new : WaitingRun) (done : Result (Unit {0}) HostError) (value : Value) : Type 0 where
+pub record GoesOnWith (Is : Reply → Type 0) (q : RunInputs) (old new : WaitingRun) (done : Result (Unit {0}) HostError) (value : Value) : Type 0 where
   pub stop : Stop
   pub waited : waiting_call_of old.stops ≡ Some stop
   pub reply : Reply
   pub is : Is reply
-  pub given : replies_of new.stops ≡ replies_of old.stops ++ (record { call = stop.call; reply = reply } ∷ [])
+  pub given : replies_of new.stops
+      ≡ replies_of old.stops ++ (record { call = stop.call; reply = reply } ∷ [])
   pub run : IsSameRun old new
   pub stands : WaitsIfAsks q (replies_of new.stops) done (waiting_call_of new.stops)
   pub runs : RunServes q (replies_of new.stops) done value
 
 -- The same of what the run's handles find. Where memory is refused for the reply, or a handle finds nothing, or nothing stands for a reply, the call still waits.
 abbrev pub RunGoesOn : (Reply → Type 0) → Option RunInputs → WaitingRun → WaitingRun → Result (Unit {0}) HostError → Value → Type 0
-RunGoesOn Is o old new (Ok v) value = IsSomeAnd o (λ q. GoesOn Is q old new (Ok v) value)
+RunGoesOn Is o old new (Ok v) value = IsSomeAnd o (λ q. GoesOnWith Is q old new (Ok v) value)
 RunGoesOn Is o old new (Err (Language error)) value =
-    ((error_kind error ≡ memory) × IsSameWait old new) ⊎ IsSomeAnd o (λ q. GoesOn Is q old new (Err (Language error)) value)
+    ((error_kind error ≡ memory) × IsSameWait old new)
+    ⊎ IsSomeAnd o (λ q. GoesOnWith Is q old new (Err (Language error)) value)
 RunGoesOn Is o old new (Err Unknown) value = new ≡ old
 RunGoesOn Is o old new (Err Misuse) value = new ≡ old
-RunGoesOn Is o old new (Err Asks) value = IsSomeAnd o (λ q. GoesOn Is q old new (Err Asks) value)
-RunGoesOn Is o old new (Err Differs) value = IsSomeAnd o (λ q. GoesOn Is q old new (Err Differs) value)
-RunGoesOn Is o old new (Err (Stopped limit)) value = IsSomeAnd o (λ q. GoesOn Is q old new (Err (Stopped limit)) value)
+RunGoesOn Is o old new (Err Asks) value = IsSomeAnd o (λ q. GoesOnWith Is q old new (Err Asks) value)
+RunGoesOn Is o old new (Err Differs) value = IsSomeAnd o (λ q. GoesOnWith Is q old new (Err Differs) value)
+RunGoesOn Is o old new (Err (Stopped limit)) value = IsSomeAnd o (λ q. GoesOnWith Is q old new (Err (Stopped limit)) value)
 
 -- The value was built last.
 pub record IsBuiltLast (values : List Value) (v : Value) : Type 0 where
@@ -92,7 +112,8 @@ IsRefusal text (reply.Refusal message) = string_bytes message ≡ text
 -- How a call leaves the run that waits: calls that run nothing leave it as it is.
 abbrev pub Turns : Ask → Engine → Call → Result (Unit {0}) HostError → WaitingRun → Value → Type 0
 Turns is.Run old call done waits value =
-    MatchOption (run_inputs old call.program call.environment call.context) (waits ≡ old.waits) (λ q. IsNewRun q call.program call.environment call.context done waits)
+    MatchOption (run_inputs old call.program call.environment call.context) (waits ≡ old.waits)
+    (λ q. IsNewRun q call.program call.environment call.context done waits)
 Turns is.Answer old call done waits value = RunGoesOn (IsAnswer (values_of old.built)) (waiting_inputs old) old.waits waits done value
 Turns is.Refuse old call done waits value = RunGoesOn (IsRefusal call.text.now) (waiting_inputs old) old.waits waits done value
 Turns is.Clear old call done waits value = waiting_call_of waits.stops ≡ None

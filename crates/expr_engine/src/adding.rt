@@ -1,8 +1,11 @@
 //! Asks about environments.
-ghost use Rattle.std.specs.Prelude.{◌≡◌, None, ◌≢◌, IfErr, Err, OnErr, OnOk};
+ghost use Rattle.std.specs.Prelude.{◌≡◌, ◌≢◌, ◌⊎◌, Err, IfErr, IsUtf8, None, OnErr, OnOk, pos};
 ghost use Rattle.expr_engine.specs.Effects.{AddsEnvironment, AddsFixedZone, AddsName, AddsZoneByRule, SetsNow, call_result};
-ghost use Rattle.expr_engine.specs.Engines.{NumbersRise, SameAdditions};
+ghost use Rattle.expr_engine.specs.Engines.{KeepsRest, NumbersRise, SameAdditions};
+ghost use Rattle.expr_engine.specs.Reasons.{MisusesNoText};
+ghost use Rattle.expr_exchange.specs.Refusals.{IsForMemory, NotMeant};
 ghost use Rattle.expr_handles.specs.HandleMap.{thing_at, next_number};
+ghost use Rattle.jiff.specs.Instant.{IsTimestampParts};
 
 use crate::additions::Additions;
 use crate::call::Call;
@@ -19,9 +22,9 @@ pub fn add_environment(engine: &mut Engine, call: &mut Call<'_>) -> Result<(), H
     ensures numbers { NumbersRise engine.old engine.new }
     ensures rules { engine.new.rules ≡ engine.old.rules }
     ensures contexts { engine.new.contexts ≡ engine.old.contexts }
-    ensures answer { engine.new.answer ≡ engine.old.answer }
-    ensures waits { engine.new.waits ≡ engine.old.waits }
-    ensures limits { engine.new.limits ≡ engine.old.limits }
+    ensures standing { KeepsRest engine.old engine.new }
+    ensures room { call.new.room.now ≡ call.old.room.now }
+    ensures why { IfErr result IsForMemory }
 {
     call.environment = engine.environments.put(Additions::new(engine.alloc))?;
     Ok(())
@@ -38,9 +41,8 @@ pub fn zone_by_seconds(engine: &mut Engine, call: &Call<'_>) -> Result<(), HostE
     ensures next { next_number engine.new.environments ≡ next_number engine.old.environments }
     ensures rules { engine.new.rules ≡ engine.old.rules }
     ensures contexts { engine.new.contexts ≡ engine.old.contexts }
-    ensures answer { engine.new.answer ≡ engine.old.answer }
-    ensures waits { engine.new.waits ≡ engine.old.waits }
-    ensures limits { engine.new.limits ≡ engine.old.limits }
+    ensures standing { KeepsRest engine.old engine.new }
+    ensures why { IfErr result (MisusesNoText (IsUtf8 call.now.name.now)) }
 {
     engine.knows_environment(call.environment)?;
     engine.add_zone(call.environment, utf8(call.name)?, call.number, None)
@@ -57,9 +59,8 @@ pub fn zone_by_rule(engine: &mut Engine, call: &Call<'_>) -> Result<(), HostErro
     ensures next { next_number engine.new.environments ≡ next_number engine.old.environments }
     ensures rules { engine.new.rules ≡ engine.old.rules }
     ensures contexts { engine.new.contexts ≡ engine.old.contexts }
-    ensures answer { engine.new.answer ≡ engine.old.answer }
-    ensures waits { engine.new.waits ≡ engine.old.waits }
-    ensures limits { engine.new.limits ≡ engine.old.limits }
+    ensures standing { KeepsRest engine.old engine.new }
+    ensures why { IfErr result (MisusesNoText (IsUtf8 call.now.name.now × IsUtf8 call.now.text.now)) }
 {
     engine.knows_environment(call.environment)?;
     let rule = utf8(call.text)?;
@@ -77,9 +78,9 @@ pub fn set_now(engine: &mut Engine, call: &Call<'_>) -> Result<(), HostError>
     ensures next { next_number engine.new.environments ≡ next_number engine.old.environments }
     ensures rules { engine.new.rules ≡ engine.old.rules }
     ensures contexts { engine.new.contexts ≡ engine.old.contexts }
-    ensures answer { engine.new.answer ≡ engine.old.answer }
-    ensures waits { engine.new.waits ≡ engine.old.waits }
-    ensures limits { engine.new.limits ≡ engine.old.limits }
+    ensures standing { KeepsRest engine.old engine.new }
+    ensures why { IfErr result (λ e. (e ≡ HostError.Unknown)
+        ⊎ NotMeant (IsTimestampParts call.now.number (pos call.now.fraction)) e) }
 {
     engine.knows_environment(call.environment)?;
     let now = moment_of(call.number, call.fraction)?;
@@ -97,9 +98,8 @@ pub fn add_name(engine: &mut Engine, call: &Call<'_>) -> Result<(), HostError>
     ensures next { next_number engine.new.environments ≡ next_number engine.old.environments }
     ensures rules { engine.new.rules ≡ engine.old.rules }
     ensures contexts { engine.new.contexts ≡ engine.old.contexts }
-    ensures answer { engine.new.answer ≡ engine.old.answer }
-    ensures waits { engine.new.waits ≡ engine.old.waits }
-    ensures limits { engine.new.limits ≡ engine.old.limits }
+    ensures standing { KeepsRest engine.old engine.new }
+    ensures why { IfErr result (MisusesNoText (IsUtf8 call.now.name.now)) }
 {
     engine.knows_environment(call.environment)?;
     engine.add_name(call.environment, utf8(call.name)?)

@@ -1,5 +1,5 @@
 //! What a host adds to the language: zones, the moment that is now, and the names of functions that it answers itself.
-ghost use Rattle.std.specs.Prelude.{◌≡◌, ℕ, List, None, OnErr, OnOk, Some, IfSome, IsNone, bytes_eq, if◌then◌else◌, option_map, true};
+ghost use Rattle.std.specs.Prelude.{◌≡◌, ℕ, List, OnErr, OnOk, IfSome, IsNone};
 ghost use Rattle.expr_engine.specs.Adding.{AddsNothing, BecomesByRule, BecomesFixed, BecomesNow, GainsName, GainsZone};
 ghost use Rattle.expr_engine.specs.Runs.{named_at, names_in, zone_at};
 ghost use Rattle.expr_datetime.specs.Times.{plain_rules};

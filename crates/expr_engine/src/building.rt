@@ -1,7 +1,12 @@
 //! Values that a call hands in.
-ghost use Rattle.std.specs.Prelude.{◌≡◌, ◌≢◌, IfErr, IfOk, IsSomeAnd, OnOk};
-ghost use Rattle.expr_engine.specs.Effects.{HandsIn, MakesArray, MakesMap, Pushes, Unbuilds};
+ghost use Rattle.std.specs.Prelude.{◌≡◌, ◌≢◌, ◌⊎◌, ◌+ℤ◌, IfErr, IfOk, IsSomeAnd, OnOk};
+ghost use Rattle.expr_engine.specs.Effects.{HandsIn, MakesArray, MakesMap, PushesValue, Unbuilds};
+ghost use Rattle.expr_engine.specs.Engines.{KeepsThings, KeepsRest};
+ghost use Rattle.expr_engine.specs.Reasons.{HandsNothingIn, KindRefuses};
+ghost use Rattle.expr_exchange.specs.Builder.{HasLast, values_of};
 ghost use Rattle.expr_exchange.specs.Kinds.{kind_numbered};
+ghost use Rattle.expr_exchange.specs.Refusals.{IsForMemory, NotMeant, status_of};
+ghost use Rattle.expr_exchange.specs.declared.host_error.Status.TheVariants.{Evaluation};
 
 use crate::call::Call;
 use crate::engine::Engine;
@@ -11,38 +16,49 @@ use expr_encoding::from_json;
 use expr_exchange::{HostError, Kind, scalar_of};
 
 /// The value that a call hands in.
-pub fn handed_in(engine: &mut Engine, call: &Call<'_>) -> Result<Value, HostError>
+pub fn value_of_call(engine: &mut Engine, call: &Call<'_>) -> Result<Value, HostError>
     ensures value { IfOk result (λ v. IsSomeAnd (kind_numbered call.now.kind)
         (λ kind. HandsIn kind engine.old engine.new call.now v)) }
     ensures found { IfErr result (λ e. e ≢ HostError.Unknown) }
     ensures rules { engine.new.rules ≡ engine.old.rules }
     ensures contexts { engine.new.contexts ≡ engine.old.contexts }
     ensures environments { engine.new.environments ≡ engine.old.environments }
-    ensures answer { engine.new.answer ≡ engine.old.answer }
-    ensures waits { engine.new.waits ≡ engine.old.waits }
-    ensures limits { engine.new.limits ≡ engine.old.limits }
+    ensures standing { KeepsRest engine.old engine.new }
+    ensures why { IfErr result (HandsNothingIn engine.old call.now) }
 {
     match Kind::from_number(call.kind) {
-        Some(Kind::Built) => engine.built.pop(),
-        Some(Kind::Looked) => Ok(engine.answer.part().clone()?),
-        Some(Kind::Json) => Ok(from_json(engine.alloc, utf8(call.text)?)?),
-        Some(kind) => scalar_of(engine.alloc, kind, call.number, call.fraction, call.text),
+        Some(kind) => value_of_kind(engine, call, kind),
         None => Err(HostError::Misuse),
+    }
+}
+
+/// The value of a kind that a call hands in.
+fn value_of_kind(engine: &mut Engine, call: &Call<'_>, kind: Kind) -> Result<Value, HostError>
+    ensures value { IfOk result (HandsIn kind engine.old engine.new call.now) }
+    ensures why { IfErr result (KindRefuses kind engine.old call.now) }
+    ensures found { IfErr result (λ e. e ≢ HostError.Unknown) }
+    ensures rules { engine.new.rules ≡ engine.old.rules }
+    ensures contexts { engine.new.contexts ≡ engine.old.contexts }
+    ensures environments { engine.new.environments ≡ engine.old.environments }
+    ensures standing { KeepsRest engine.old engine.new }
+{
+    match kind {
+        Kind::Built => engine.built.pop(),
+        Kind::Looked => Ok(engine.answer.part().clone()?),
+        Kind::Json => Ok(from_json(engine.alloc, utf8(call.text)?)?),
+        _ => scalar_of(engine.alloc, kind, call.number, call.fraction, call.text),
     }
 }
 
 /// Puts the value that is handed in behind those that were built.
 pub fn push(engine: &mut Engine, call: &Call<'_>) -> Result<(), HostError>
-    ensures done { OnOk result (Pushes engine.old engine.new call.now) }
+    ensures done { OnOk result (PushesValue engine.old engine.new call.now) }
     ensures found { IfErr result (λ e. e ≢ HostError.Unknown) }
-    ensures rules { engine.new.rules ≡ engine.old.rules }
-    ensures contexts { engine.new.contexts ≡ engine.old.contexts }
-    ensures environments { engine.new.environments ≡ engine.old.environments }
-    ensures answer { engine.new.answer ≡ engine.old.answer }
-    ensures waits { engine.new.waits ≡ engine.old.waits }
-    ensures limits { engine.new.limits ≡ engine.old.limits }
+    ensures kept { KeepsThings engine.old engine.new }
+    ensures standing { KeepsRest engine.old engine.new }
+    ensures why { IfErr result (λ e. IsForMemory e ⊎ HandsNothingIn engine.old call.now e) }
 {
-    let value = handed_in(engine, call)?;
+    let value = value_of_call(engine, call)?;
     engine.built.push(value)
 }
 
@@ -50,12 +66,9 @@ pub fn push(engine: &mut Engine, call: &Call<'_>) -> Result<(), HostError>
 pub fn make_array(engine: &mut Engine, call: &Call<'_>) -> Result<(), HostError>
     ensures done { OnOk result (MakesArray engine.old engine.new call.now) }
     ensures found { IfErr result (λ e. e ≢ HostError.Unknown) }
-    ensures rules { engine.new.rules ≡ engine.old.rules }
-    ensures contexts { engine.new.contexts ≡ engine.old.contexts }
-    ensures environments { engine.new.environments ≡ engine.old.environments }
-    ensures answer { engine.new.answer ≡ engine.old.answer }
-    ensures waits { engine.new.waits ≡ engine.old.waits }
-    ensures limits { engine.new.limits ≡ engine.old.limits }
+    ensures kept { KeepsThings engine.old engine.new }
+    ensures standing { KeepsRest engine.old engine.new }
+    ensures why { IfErr result (NotMeant (HasLast call.now.number (values_of engine.old.built))) }
 {
     engine.built.array(call.number)
 }
@@ -64,12 +77,10 @@ pub fn make_array(engine: &mut Engine, call: &Call<'_>) -> Result<(), HostError>
 pub fn make_map(engine: &mut Engine, call: &Call<'_>) -> Result<(), HostError>
     ensures done { OnOk result (MakesMap engine.old engine.new call.now) }
     ensures found { IfErr result (λ e. e ≢ HostError.Unknown) }
-    ensures rules { engine.new.rules ≡ engine.old.rules }
-    ensures contexts { engine.new.contexts ≡ engine.old.contexts }
-    ensures environments { engine.new.environments ≡ engine.old.environments }
-    ensures answer { engine.new.answer ≡ engine.old.answer }
-    ensures waits { engine.new.waits ≡ engine.old.waits }
-    ensures limits { engine.new.limits ≡ engine.old.limits }
+    ensures kept { KeepsThings engine.old engine.new }
+    ensures standing { KeepsRest engine.old engine.new }
+    ensures why { IfErr result (λ e. status_of e ≢ Evaluation
+        → NotMeant (HasLast (call.now.number +ℤ call.now.number) (values_of engine.old.built)) e) }
 {
     engine.built.map(call.number)
 }
@@ -78,12 +89,9 @@ pub fn make_map(engine: &mut Engine, call: &Call<'_>) -> Result<(), HostError>
 pub fn unbuild(engine: &mut Engine) -> Result<(), HostError>
     ensures done { OnOk result (Unbuilds engine.old engine.new) }
     ensures found { IfErr result (λ e. e ≢ HostError.Unknown) }
-    ensures rules { engine.new.rules ≡ engine.old.rules }
-    ensures contexts { engine.new.contexts ≡ engine.old.contexts }
-    ensures environments { engine.new.environments ≡ engine.old.environments }
-    ensures answer { engine.new.answer ≡ engine.old.answer }
-    ensures waits { engine.new.waits ≡ engine.old.waits }
-    ensures limits { engine.new.limits ≡ engine.old.limits }
+    ensures kept { KeepsThings engine.old engine.new }
+    ensures standing { KeepsRest engine.old engine.new }
+    ensures why { IfErr result (λ _. ⊥) }
 {
     engine.built.clear();
     Ok(())

@@ -1,20 +1,20 @@
 //! An engine: programs, contexts and environments under handles, what is built, the last answer, what was said last, and the
 //! run that waits for a host's reply.
-ghost use Rattle.std.specs.Prelude.{◌≡◌, ◌≢◌, ◌≤ℤ◌, [], pos, codes, length, string_bytes, IfOk, IfErr, OnOk, OnErr, IfSome, IsSome, IsOk, IsNone, IsSomeAnd, MatchOption, Err, None, Some, ◌⊎◌};
+ghost use Rattle.std.specs.Prelude.{◌≡◌, ◌≢◌, [], string_bytes, IfOk, IfErr, OnOk, OnErr, IfSome, IsSome, IsOk, IsNone, MatchOption, Err, None, Some, ◌⊎◌};
 ghost use Rattle.std.specs.Option.{option_copied};
 ghost use Rattle.expr_engine.specs.Adding.{BecomesByRule, BecomesFixed, BecomesNow, GainsName};
-ghost use Rattle.expr_engine.specs.Effects.{Adds, AreSaid, Changes, IsStale};
-ghost use Rattle.expr_engine.specs.Engines.{IsPlacedRefusal, MayAnswer, MayEnd, NumbersRise, RefusesText, SameAdditions, additions_at, run_inputs, waiting_inputs, names_at};
+ghost use Rattle.expr_engine.specs.Effects.{Adds, AreSaid, Changes, ForgetsAll, IsStale};
+ghost use Rattle.expr_engine.specs.Engines.{IsPlacedRefusal, KeepsThings, KeepsRest, RunMayAnswer, MayEnd, NumbersRise, RefusesText, SameAdditions, additions_at, run_inputs, waiting_inputs, names_at};
 ghost use Rattle.expr_engine.specs.Faults.{IsNotedAt, fault_byte, refused_byte};
-ghost use Rattle.expr_engine.specs.Limiting.{IsProgramBy, for_strangers};
+ghost use Rattle.expr_engine.specs.Limiting.{IsProgramBy};
+ghost use Rattle.expr_engine.specs.Promised.{IsNew};
+ghost use Rattle.expr_engine.specs.Reasons.{IsUnknownOrForMemory};
 ghost use Rattle.expr_engine.specs.Runs.{pairs_of};
 ghost use Rattle.expr_engine.specs.Served.{RunServes, SaysLimit};
-ghost use Rattle.expr_engine.specs.Turns.{IsNewRun, IsRefusal, IsSameRun, PassesOn, RunGoesOn, WaitsIfAsks};
-ghost use Rattle.expr_exchange.specs.Builder.{values_of};
+ghost use Rattle.expr_engine.specs.Turns.{IsNewRun, IsRefusal, IsSameRun, PassesOn, RunGoesOn, WaitsIfAsks, finds_nothing, is_unknown};
 ghost use Rattle.expr_exchange.specs.Cursor.{part_of, way_of};
-ghost use Rattle.expr_exchange.specs.Refusals.{ReturnsToHost};
+ghost use Rattle.expr_exchange.specs.Refusals.{IsNoStop, ReturnsToHost};
 ghost use Rattle.expr_handles.specs.HandleMap.{SameThings, thing_at, next_number};
-ghost use Rattle.expr_handles.specs.declared.Handle.{Handle};
 ghost use Rattle.expr_meter.specs.Counting.{stops as stops_at};
 ghost use Rattle.expr_stops.specs.Stops.{waiting_call_of, replies_of};
 ghost use Rattle.expr_stops.specs.declared.replies.Reply.TheVariants as reply;
@@ -61,13 +61,7 @@ pub struct TextPlace {
 impl Engine {
     /// An engine that keeps nothing, with the limits for strangers. It takes no memory.
     pub fn new(alloc: Global) -> Engine
-        ensures rules { (handle : Handle) → thing_at result.rules handle ≡ None }
-        ensures contexts { (handle : Handle) → thing_at result.contexts handle ≡ None }
-        ensures environments { (handle : Handle) → thing_at result.environments handle ≡ None }
-        ensures built { values_of result.built ≡ [] }
-        ensures part { part_of result.answer ≡ Value.Nil }
-        ensures waits { waiting_call_of result.waits.stops ≡ None }
-        ensures limits { result.limits ≡ Some for_strangers }
+        ensures { IsNew result }
     {
         Engine {
             alloc,
@@ -92,9 +86,8 @@ impl Engine {
         ensures next { OnErr result (next_number self.new.rules ≡ next_number self.old.rules) }
         ensures contexts { self.new.contexts ≡ self.old.contexts }
         ensures environments { self.new.environments ≡ self.old.environments }
-        ensures answer { self.new.answer ≡ self.old.answer }
-        ensures waits { self.new.waits ≡ self.old.waits }
-        ensures limits { self.new.limits ≡ self.old.limits }
+        ensures built { self.new.built ≡ self.old.built }
+        ensures standing { KeepsRest self.old self.new }
     {
         match Rule::compile(self.alloc, text, self.limits)? {
             Outcome::Answered(rule) => Ok(self.rules.put(rule)?),
@@ -108,6 +101,7 @@ impl Engine {
             (λ rule. IfOk result (λ p. AreSaid (program_term rule.program) (string_bytes p.0) p.1)) }
         ensures unknown { thing_at self.now.rules program ≡ None → result ≡ Err HostError.Unknown }
         ensures known { result ≡ Err HostError.Unknown → thing_at self.now.rules program ≡ None }
+        ensures why { IfErr result IsUnknownOrForMemory }
     {
         match self.rules.get(program) {
             Some(rule) => Ok(rule.names(self.alloc)?),
@@ -116,6 +110,7 @@ impl Engine {
     }
 
     /// The names of a context, or none where there is no context.
+    #[inline(always)]
     fn names_of(&self, context: Handle) -> Result<LentNames<'_>, HostError>
         ensures found { IfOk result (λ lent. names_at self.now context
             ≡ Some (pairs_of (option_copied lent.names))) }
@@ -131,6 +126,7 @@ impl Engine {
     }
 
     /// What an environment adds, or nothing where there is no environment.
+    #[inline(always)]
     fn host_of(&self, environment: Handle) -> Result<LentHost<'_>, HostError>
         ensures found { IfOk result (λ lent. additions_at self.now environment
             ≡ Some (option_copied lent.added)) }
@@ -148,6 +144,7 @@ impl Engine {
 
     /// Runs a program within the limits, with the replies that a run has, up to its end or to its next call that the host
     /// answers itself.
+    #[inline(always)]
     fn turn(
         &self,
         stops: &mut Stops,
@@ -156,7 +153,8 @@ impl Engine {
         context: Handle,
     ) -> Result<Value, HostError>
         ensures ended { MatchOption (run_inputs self.now program environment context)
-            (result ≡ Err HostError.Unknown) (λ q. ReturnsToHost result (MayAnswer q (replies_of stops.old))
+            (result ≡ Err HostError.Unknown)
+            (λ q. ReturnsToHost result (RunMayAnswer q (replies_of stops.old))
             (λ limit. MayEnd q (replies_of stops.old) (stops_at limit))) }
         ensures stops { waiting_call_of stops.old ≡ None
             → MatchOption (run_inputs self.now program environment context)
@@ -191,22 +189,26 @@ impl Engine {
             (λ q. IsNewRun q program environment context result self.new.waits) }
         ensures way { OnOk result (way_of self.new.answer ≡ []) }
         ensures err { OnErr result (self.new.answer ≡ self.old.answer) }
-        ensures rules { self.new.rules ≡ self.old.rules }
-        ensures contexts { self.new.contexts ≡ self.old.contexts }
-        ensures environments { self.new.environments ≡ self.old.environments }
+        ensures kept { KeepsThings self.old self.new }
+        ensures built { self.new.built ≡ self.old.built }
         ensures limits { self.new.limits ≡ self.old.limits }
     {
-        self.knows_run(program, environment, context)?;
+        let mut stops = Stops::new(self.alloc);
+        let answer = self.turn(&mut stops, program, environment, context);
+        if finds_nothing(&answer) {
+            return Err(HostError::Unknown);
+        }
         self.waits = WaitingRun {
             program,
             environment,
             context,
-            stops: Stops::new(self.alloc),
+            stops,
         };
-        self.go_on()
+        self.keep(answer)
     }
 
     /// Refuses handles of which one finds nothing.
+    #[inline(always)]
     fn knows_run(
         &self,
         program: Handle,
@@ -226,15 +228,15 @@ impl Engine {
     }
 
     /// Keeps what a run answers.
+    #[inline(always)]
     fn keep(&mut self, answer: Result<Value, HostError>) -> Result<(), HostError>
-        ensures kept { PassesOn answer result (part_of self.new.answer) }
+        ensures passed { PassesOn answer result (part_of self.new.answer) }
         ensures way { OnOk result (way_of self.new.answer ≡ []) }
         ensures err { OnErr result (self.new.answer ≡ self.old.answer) }
         ensures waits { self.new.waits ≡ self.old.waits }
         ensures limits { self.new.limits ≡ self.old.limits }
-        ensures rules { self.new.rules ≡ self.old.rules }
-        ensures contexts { self.new.contexts ≡ self.old.contexts }
-        ensures environments { self.new.environments ≡ self.old.environments }
+        ensures kept { KeepsThings self.old self.new }
+        ensures built { self.new.built ≡ self.old.built }
     {
         self.answer.keep(answer?);
         Ok(())
@@ -247,6 +249,7 @@ impl Engine {
         ensures unknown { IsStale self.now → result ≡ Err HostError.Unknown }
         ensures known { result ≡ Err HostError.Unknown → IsStale self.now }
         ensures refused { IfErr result (λ e. (e ≡ HostError.Unknown) ⊎ (e ≡ HostError.Misuse)) }
+        ensures misused { result ≡ Err HostError.Misuse → waiting_call_of self.now.waits.stops ≡ None }
     {
         if self.waits.stops.waiting_call().is_none() {
             return Err(HostError::Misuse);
@@ -263,11 +266,12 @@ impl Engine {
             (part_of self.new.answer) }
         ensures found { IsSome (waiting_call_of self.old.waits.stops) → IsSome (waiting_inputs self.old)
             → IfErr result (λ e. e ≢ HostError.Unknown) }
+        ensures meant { IsSome (waiting_call_of self.old.waits.stops) → IsSome (waiting_inputs self.old)
+            → IfErr result (λ e. e ≢ HostError.Misuse) }
         ensures way { OnOk result (way_of self.new.answer ≡ []) }
         ensures err { OnErr result (self.new.answer ≡ self.old.answer) }
-        ensures rules { self.new.rules ≡ self.old.rules }
-        ensures contexts { self.new.contexts ≡ self.old.contexts }
-        ensures environments { self.new.environments ≡ self.old.environments }
+        ensures kept { KeepsThings self.old self.new }
+        ensures built { self.new.built ≡ self.old.built }
         ensures limits { self.new.limits ≡ self.old.limits }
     {
         self.waits.stops.answer(value)?;
@@ -281,11 +285,12 @@ impl Engine {
             (part_of self.new.answer) }
         ensures found { IsSome (waiting_call_of self.old.waits.stops) → IsSome (waiting_inputs self.old)
             → IfErr result (λ e. e ≢ HostError.Unknown) }
+        ensures meant { IsSome (waiting_call_of self.old.waits.stops) → IsSome (waiting_inputs self.old)
+            → IfErr result (λ e. e ≢ HostError.Misuse) }
         ensures way { OnOk result (way_of self.new.answer ≡ []) }
         ensures err { OnErr result (self.new.answer ≡ self.old.answer) }
-        ensures rules { self.new.rules ≡ self.old.rules }
-        ensures contexts { self.new.contexts ≡ self.old.contexts }
-        ensures environments { self.new.environments ≡ self.old.environments }
+        ensures kept { KeepsThings self.old self.new }
+        ensures built { self.new.built ≡ self.old.built }
         ensures limits { self.new.limits ≡ self.old.limits }
     {
         self.waits.stops.refuse(text)?;
@@ -293,6 +298,7 @@ impl Engine {
     }
 
     /// Goes on with the run that has a reply, and keeps what it answers.
+    #[inline(always)]
     fn go_on(&mut self) -> Result<(), HostError>
         ensures ended { MatchOption (waiting_inputs self.old) (result ≡ Err HostError.Unknown)
             (λ q. RunServes q (replies_of self.old.waits.stops) result (part_of self.new.answer)) }
@@ -304,9 +310,8 @@ impl Engine {
         ensures run { IsSameRun self.old.waits self.new.waits }
         ensures way { OnOk result (way_of self.new.answer ≡ []) }
         ensures err { OnErr result (self.new.answer ≡ self.old.answer) }
-        ensures rules { self.new.rules ≡ self.old.rules }
-        ensures contexts { self.new.contexts ≡ self.old.contexts }
-        ensures environments { self.new.environments ≡ self.old.environments }
+        ensures kept { KeepsThings self.old self.new }
+        ensures built { self.new.built ≡ self.old.built }
         ensures limits { self.new.limits ≡ self.old.limits }
     {
         let mut stops = std::mem::replace(&mut self.waits.stops, Stops::new(self.alloc));
@@ -318,8 +323,9 @@ impl Engine {
 
     /// Refuses a handle that finds no context.
     pub fn knows_context(&self, context: Handle) -> Result<(), HostError>
-        ensures { MatchOption (thing_at self.now.contexts context) (result ≡ Err HostError.Unknown)
+        ensures found { MatchOption (thing_at self.now.contexts context) (result ≡ Err HostError.Unknown)
             (λ _. IsOk result) }
+        ensures why { IfErr result (λ e. e ≡ HostError.Unknown) }
     {
         match self.contexts.get(context) {
             Some(_) => Ok(()),
@@ -329,8 +335,9 @@ impl Engine {
 
     /// Refuses a handle that finds no environment.
     pub fn knows_environment(&self, environment: Handle) -> Result<(), HostError>
-        ensures { MatchOption (thing_at self.now.environments environment) (result ≡ Err HostError.Unknown)
-            (λ _. IsOk result) }
+        ensures found { MatchOption (thing_at self.now.environments environment)
+            (result ≡ Err HostError.Unknown) (λ _. IsOk result) }
+        ensures why { IfErr result (λ e. e ≡ HostError.Unknown) }
     {
         match self.environments.get(environment) {
             Some(_) => Ok(()),
@@ -348,10 +355,9 @@ impl Engine {
         ensures next { next_number self.new.contexts ≡ next_number self.old.contexts }
         ensures rules { self.new.rules ≡ self.old.rules }
         ensures environments { self.new.environments ≡ self.old.environments }
-        ensures answer { self.new.answer ≡ self.old.answer }
         ensures built { self.new.built ≡ self.old.built }
-        ensures waits { self.new.waits ≡ self.old.waits }
-        ensures limits { self.new.limits ≡ self.old.limits }
+        ensures standing { KeepsRest self.old self.new }
+        ensures why { IfErr result IsUnknownOrForMemory }
     {
         self.knows_context(context)?;
         let name = String::from_str(self.alloc, name)?;
@@ -382,9 +388,9 @@ impl Engine {
         ensures next { next_number self.new.environments ≡ next_number self.old.environments }
         ensures rules { self.new.rules ≡ self.old.rules }
         ensures contexts { self.new.contexts ≡ self.old.contexts }
-        ensures answer { self.new.answer ≡ self.old.answer }
-        ensures waits { self.new.waits ≡ self.old.waits }
-        ensures limits { self.new.limits ≡ self.old.limits }
+        ensures built { self.new.built ≡ self.old.built }
+        ensures standing { KeepsRest self.old self.new }
+        ensures ends { IfErr result (λ e. IsNoStop e × (e ≢ HostError.Misuse)) }
     {
         let mut host = Additions::new(self.alloc);
         if !self.environments.swap(environment, &mut host) {
@@ -405,9 +411,9 @@ impl Engine {
         ensures next { next_number self.new.environments ≡ next_number self.old.environments }
         ensures rules { self.new.rules ≡ self.old.rules }
         ensures contexts { self.new.contexts ≡ self.old.contexts }
-        ensures answer { self.new.answer ≡ self.old.answer }
-        ensures waits { self.new.waits ≡ self.old.waits }
-        ensures limits { self.new.limits ≡ self.old.limits }
+        ensures built { self.new.built ≡ self.old.built }
+        ensures standing { KeepsRest self.old self.new }
+        ensures ends { IfErr result (λ e. IsNoStop e × (e ≢ HostError.Misuse)) }
     {
         let mut host = Additions::new(self.alloc);
         if !self.environments.swap(environment, &mut host) {
@@ -428,9 +434,9 @@ impl Engine {
         ensures next { next_number self.new.environments ≡ next_number self.old.environments }
         ensures rules { self.new.rules ≡ self.old.rules }
         ensures contexts { self.new.contexts ≡ self.old.contexts }
-        ensures answer { self.new.answer ≡ self.old.answer }
-        ensures waits { self.new.waits ≡ self.old.waits }
-        ensures limits { self.new.limits ≡ self.old.limits }
+        ensures built { self.new.built ≡ self.old.built }
+        ensures standing { KeepsRest self.old self.new }
+        ensures why { IfErr result (λ e. e ≡ HostError.Unknown) }
     {
         let mut host = Additions::new(self.alloc);
         if !self.environments.swap(environment, &mut host) {
@@ -444,14 +450,9 @@ impl Engine {
     /// Lets go of all that is kept, and of its memory. Handles that were given find nothing, and are not given again. The
     /// limits stay: they are no thing that is kept.
     pub fn clear(&mut self)
-        ensures rules { (handle : Handle) → thing_at self.new.rules handle ≡ None }
-        ensures contexts { (handle : Handle) → thing_at self.new.contexts handle ≡ None }
-        ensures environments { (handle : Handle) → thing_at self.new.environments handle ≡ None }
+        ensures done { ForgetsAll self.old self.new }
         ensures numbers { NumbersRise self.old self.new }
-        ensures built { values_of self.new.built ≡ [] }
-        ensures part { part_of self.new.answer ≡ Value.Nil }
         ensures waits { waiting_call_of self.new.waits.stops ≡ None }
-        ensures limits { self.new.limits ≡ self.old.limits }
     {
         let alloc = self.alloc;
         self.rules.clear(alloc);
@@ -465,16 +466,14 @@ impl Engine {
 
     /// Notes what is said of a refusal, and where a text is refused.
     pub fn note(&mut self, refused: &HostError, text: &[u8]) -> Result<Option<TextPlace>, Error>
-        ensures rules { self.new.rules ≡ self.old.rules }
-        ensures contexts { self.new.contexts ≡ self.old.contexts }
-        ensures environments { self.new.environments ≡ self.old.environments }
-        ensures answer { self.new.answer ≡ self.old.answer }
+        ensures kept { KeepsThings self.old self.new }
         ensures built { self.new.built ≡ self.old.built }
-        ensures waits { self.new.waits ≡ self.old.waits }
-        ensures limits { self.new.limits ≡ self.old.limits }
+        ensures standing { KeepsRest self.old self.new }
         ensures noted { IfOk result (IsNotedAt (refused_byte refused.now) text.now) }
         ensures unknown { refused.now ≡ HostError.Unknown → IsOk result }
         ensures misuse { refused.now ≡ HostError.Misuse → IsOk result }
+        ensures asks { refused.now ≡ HostError.Asks → IsOk result }
+        ensures differs { refused.now ≡ HostError.Differs → IsOk result }
         ensures limit { OnOk result (SaysLimit refused.now (string_bytes self.new.said)) }
     {
         self.said = String::new(self.alloc);
@@ -492,13 +491,9 @@ impl Engine {
 
     /// Notes what is said of a refusal of the language, and where a text is refused.
     fn note_error(&mut self, error: &Error, text: &[u8]) -> Result<Option<TextPlace>, Error>
-        ensures rules { self.new.rules ≡ self.old.rules }
-        ensures contexts { self.new.contexts ≡ self.old.contexts }
-        ensures environments { self.new.environments ≡ self.old.environments }
-        ensures answer { self.new.answer ≡ self.old.answer }
+        ensures kept { KeepsThings self.old self.new }
         ensures built { self.new.built ≡ self.old.built }
-        ensures waits { self.new.waits ≡ self.old.waits }
-        ensures limits { self.new.limits ≡ self.old.limits }
+        ensures standing { KeepsRest self.old self.new }
         ensures noted { IfOk result (IsNotedAt (fault_byte error.now) text.now) }
     {
         match fault_of(error) {
@@ -512,25 +507,41 @@ impl Engine {
 
     /// Notes where a text is refused, and says the line with a caret under that place.
     fn note_fault(&mut self, byte: usize, text: &[u8]) -> Result<Option<TextPlace>, Error>
-        ensures rules { self.new.rules ≡ self.old.rules }
-        ensures contexts { self.new.contexts ≡ self.old.contexts }
-        ensures environments { self.new.environments ≡ self.old.environments }
-        ensures answer { self.new.answer ≡ self.old.answer }
+        ensures kept { KeepsThings self.old self.new }
         ensures built { self.new.built ≡ self.old.built }
-        ensures waits { self.new.waits ≡ self.old.waits }
-        ensures limits { self.new.limits ≡ self.old.limits }
+        ensures standing { KeepsRest self.old self.new }
         ensures noted { IfOk result (IsNotedAt (Some byte) text.now) }
     {
         let Ok(text) = std::str::from_utf8(text) else {
             return Ok(None);
         };
-        let spot = line_column_of(self.alloc, text, byte)?;
-        self.said = spot.shown;
+        let location = line_column_of(self.alloc, text, byte)?;
+        self.said = location.shown;
         Ok(Some(TextPlace {
             byte,
-            line: spot.line,
-            column: spot.column,
+            line: location.line,
+            column: location.column,
         }))
+    }
+}
+
+/// Whether a handle of a run found nothing.
+fn finds_nothing(answer: &Result<Value, HostError>) -> bool
+    ensures { result ≡ finds_nothing answer.now }
+{
+    match answer {
+        Ok(_) => false,
+        Err(refused) => is_unknown(refused),
+    }
+}
+
+/// Whether a handle found nothing.
+fn is_unknown(refused: &HostError) -> bool
+    ensures { result ≡ is_unknown refused.now }
+{
+    match refused {
+        HostError::Unknown => true,
+        _ => false,
     }
 }
 

@@ -1,10 +1,13 @@
 //! Asks about contexts.
-ghost use Rattle.std.specs.Prelude.{◌≡◌, None, Err, ◌≢◌, IfErr, OnErr, OnOk};
+ghost use Rattle.std.specs.Prelude.{◌≡◌, ◌≢◌, ◌⊎◌, Err, IfErr, IsUtf8, None, OnErr, OnOk};
 ghost use Rattle.expr_engine.specs.Effects.{AddsBuiltContext, AddsContext, Sets, call_result};
-ghost use Rattle.expr_engine.specs.Engines.{NumbersRise};
+ghost use Rattle.expr_engine.specs.Engines.{KeepsRest, NumbersRise};
+ghost use Rattle.expr_engine.specs.Reasons.{HandsNothingIn, IsUnknownOrForMemory};
+ghost use Rattle.expr_exchange.specs.Builder.{NoContext, values_of};
+ghost use Rattle.expr_exchange.specs.Refusals.{IsForMemory};
 ghost use Rattle.expr_handles.specs.HandleMap.{SameThings, thing_at, next_number};
 
-use crate::building::handed_in;
+use crate::building::value_of_call;
 use crate::call::Call;
 use crate::engine::Engine;
 use crate::running::utf8;
@@ -19,9 +22,9 @@ pub fn new_context(engine: &mut Engine, call: &mut Call<'_>) -> Result<(), HostE
     ensures numbers { NumbersRise engine.old engine.new }
     ensures rules { engine.new.rules ≡ engine.old.rules }
     ensures environments { engine.new.environments ≡ engine.old.environments }
-    ensures answer { engine.new.answer ≡ engine.old.answer }
-    ensures waits { engine.new.waits ≡ engine.old.waits }
-    ensures limits { engine.new.limits ≡ engine.old.limits }
+    ensures standing { KeepsRest engine.old engine.new }
+    ensures room { call.new.room.now ≡ call.old.room.now }
+    ensures why { IfErr result IsForMemory }
 {
     call.context = engine.contexts.put(Context::new(engine.alloc))?;
     Ok(())
@@ -35,9 +38,9 @@ pub fn built_context(engine: &mut Engine, call: &mut Call<'_>) -> Result<(), Hos
     ensures numbers { NumbersRise engine.old engine.new }
     ensures rules { engine.new.rules ≡ engine.old.rules }
     ensures environments { engine.new.environments ≡ engine.old.environments }
-    ensures answer { engine.new.answer ≡ engine.old.answer }
-    ensures waits { engine.new.waits ≡ engine.old.waits }
-    ensures limits { engine.new.limits ≡ engine.old.limits }
+    ensures standing { KeepsRest engine.old engine.new }
+    ensures room { call.new.room.now ≡ call.old.room.now }
+    ensures why { IfErr result (NoContext (values_of engine.old.built)) }
 {
     let context = engine.built.context()?;
     call.context = engine.contexts.put(context)?;
@@ -53,12 +56,12 @@ pub fn set(engine: &mut Engine, call: &Call<'_>) -> Result<(), HostError>
     ensures next { next_number engine.new.contexts ≡ next_number engine.old.contexts }
     ensures rules { engine.new.rules ≡ engine.old.rules }
     ensures environments { engine.new.environments ≡ engine.old.environments }
-    ensures answer { engine.new.answer ≡ engine.old.answer }
-    ensures waits { engine.new.waits ≡ engine.old.waits }
-    ensures limits { engine.new.limits ≡ engine.old.limits }
+    ensures standing { KeepsRest engine.old engine.new }
+    ensures why { IfErr result (λ e. ((e ≡ HostError.Misuse) × (IsUtf8 call.now.name.now → ⊥))
+        ⊎ (IsUnknownOrForMemory e ⊎ HandsNothingIn engine.old call.now e)) }
 {
     engine.knows_context(call.context)?;
     let name = utf8(call.name)?;
-    let value = handed_in(engine, call)?;
+    let value = value_of_call(engine, call)?;
     engine.set(call.context, name, value)
 }

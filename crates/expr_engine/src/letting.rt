@@ -1,7 +1,7 @@
 //! Asks to let go of what is kept.
-ghost use Rattle.std.specs.Prelude.{◌≡◌, None, Err, IsOk, OnErr, OnOk, Ok, if◌then◌else◌};
+ghost use Rattle.std.specs.Prelude.{◌≡◌, None, Err, IfErr, IsOk, OnErr, OnOk, Ok, if◌then◌else◌};
 ghost use Rattle.expr_engine.specs.Effects.{DropsContext, DropsEnvironment, DropsProgram, ForgetsAll};
-ghost use Rattle.expr_engine.specs.Engines.{NumbersRise, SameAdditions};
+ghost use Rattle.expr_engine.specs.Engines.{KeepsRest, NumbersRise, SameAdditions};
 ghost use Rattle.expr_handles.specs.HandleMap.{SameThings, thing_at, next_number};
 ghost use Rattle.expr_stops.specs.Stops.{waiting_call_of};
 
@@ -15,12 +15,11 @@ pub fn drop_program(engine: &mut Engine, call: &Call<'_>) -> Result<(), HostErro
     ensures unknown { thing_at engine.old.rules call.now.program ≡ None → result ≡ Err HostError.Unknown }
     ensures known { result ≡ Err HostError.Unknown → thing_at engine.old.rules call.now.program ≡ None }
     ensures next { next_number engine.new.rules ≡ next_number engine.old.rules }
-    ensures answer { engine.new.answer ≡ engine.old.answer }
     ensures err { OnErr result (SameThings engine.old.rules engine.new.rules) }
     ensures contexts { engine.new.contexts ≡ engine.old.contexts }
     ensures environments { engine.new.environments ≡ engine.old.environments }
-    ensures waits { engine.new.waits ≡ engine.old.waits }
-    ensures limits { engine.new.limits ≡ engine.old.limits }
+    ensures standing { KeepsRest engine.old engine.new }
+    ensures why { IfErr result (λ e. e ≡ HostError.Unknown) }
 {
     let is_known = engine.rules.remove(call.program);
     check_known(is_known)
@@ -33,12 +32,11 @@ pub fn drop_context(engine: &mut Engine, call: &Call<'_>) -> Result<(), HostErro
     ensures known { result ≡ Err HostError.Unknown
         → thing_at engine.old.contexts call.now.context ≡ None }
     ensures next { next_number engine.new.contexts ≡ next_number engine.old.contexts }
-    ensures answer { engine.new.answer ≡ engine.old.answer }
     ensures err { OnErr result (SameThings engine.old.contexts engine.new.contexts) }
     ensures rules { engine.new.rules ≡ engine.old.rules }
     ensures environments { engine.new.environments ≡ engine.old.environments }
-    ensures waits { engine.new.waits ≡ engine.old.waits }
-    ensures limits { engine.new.limits ≡ engine.old.limits }
+    ensures standing { KeepsRest engine.old engine.new }
+    ensures why { IfErr result (λ e. e ≡ HostError.Unknown) }
 {
     let is_known = engine.contexts.remove(call.context);
     check_known(is_known)
@@ -53,12 +51,11 @@ pub fn drop_environment(engine: &mut Engine, call: &Call<'_>) -> Result<(), Host
     ensures known { result ≡ Err HostError.Unknown
         → thing_at engine.old.environments call.now.environment ≡ None }
     ensures next { next_number engine.new.environments ≡ next_number engine.old.environments }
-    ensures answer { engine.new.answer ≡ engine.old.answer }
     ensures err { OnErr result (SameAdditions engine.old.environments engine.new.environments) }
     ensures rules { engine.new.rules ≡ engine.old.rules }
     ensures contexts { engine.new.contexts ≡ engine.old.contexts }
-    ensures waits { engine.new.waits ≡ engine.old.waits }
-    ensures limits { engine.new.limits ≡ engine.old.limits }
+    ensures standing { KeepsRest engine.old engine.new }
+    ensures why { IfErr result (λ e. e ≡ HostError.Unknown) }
 {
     let is_known = engine.environments.remove(call.environment);
     check_known(is_known)
@@ -82,6 +79,7 @@ pub fn clear(engine: &mut Engine) -> Result<(), HostError>
     ensures ok { IsOk result }
     ensures waits { waiting_call_of engine.new.waits.stops ≡ None }
     ensures limits { engine.new.limits ≡ engine.old.limits }
+    ensures why { IfErr result (λ _. ⊥) }
 {
     engine.clear();
     Ok(())

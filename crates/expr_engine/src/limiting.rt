@@ -1,6 +1,7 @@
 //! Asks about limits.
 ghost use Rattle.std.specs.Prelude.{◌≡◌, ◌≢◌, Err, IfErr, MatchOption, None, Ok, OnOk, Some};
 ghost use Rattle.expr_engine.specs.Effects.{LetsGoOfLimits, SetsLimit};
+ghost use Rattle.expr_engine.specs.Engines.{KeepsThings};
 ghost use Rattle.expr_engine.specs.Limiting.{limits_asked, with_limit};
 
 use crate::call::Call;
@@ -15,11 +16,10 @@ pub fn set_limit(engine: &mut Engine, call: &Call<'_>) -> Result<(), HostError>
         ((result ≡ Err HostError.Misuse) × (engine.new.limits ≡ engine.old.limits))
         (λ limits. (result ≡ Ok tt) × (engine.new.limits ≡ Some limits)) }
     ensures found { IfErr result (λ e. e ≢ HostError.Unknown) }
-    ensures rules { engine.new.rules ≡ engine.old.rules }
-    ensures contexts { engine.new.contexts ≡ engine.old.contexts }
-    ensures environments { engine.new.environments ≡ engine.old.environments }
+    ensures kept { KeepsThings engine.old engine.new }
     ensures answer { engine.new.answer ≡ engine.old.answer }
     ensures waits { engine.new.waits ≡ engine.old.waits }
+    ensures why { IfErr result (λ e. e ≡ HostError.Misuse) }
 {
     let Some(limit) = limit_numbered(call.kind) else {
         return Err(HostError::Misuse);
@@ -28,12 +28,12 @@ pub fn set_limit(engine: &mut Engine, call: &Call<'_>) -> Result<(), HostError>
         return Err(HostError::Misuse);
     };
     let limits = engine.limits.unwrap_or(Limits::for_strangers());
-    engine.limits = Some(changed(limits, limit, number));
+    engine.limits = Some(with_limit(limits, limit, number));
     Ok(())
 }
 
 /// Limits of which one is another number.
-fn changed(limits: Limits, limit: Limit, number: u64) -> Limits
+fn with_limit(limits: Limits, limit: Limit, number: u64) -> Limits
     ensures { result ≡ with_limit limit number limits }
 {
     match limit {
@@ -66,11 +66,10 @@ pub fn let_go_of_limits(engine: &mut Engine) -> Result<(), HostError>
     ensures ok { result ≡ Ok tt }
     ensures found { IfErr result (λ e. e ≢ HostError.Unknown) }
     ensures none { engine.new.limits ≡ None }
-    ensures rules { engine.new.rules ≡ engine.old.rules }
-    ensures contexts { engine.new.contexts ≡ engine.old.contexts }
-    ensures environments { engine.new.environments ≡ engine.old.environments }
+    ensures kept { KeepsThings engine.old engine.new }
     ensures answer { engine.new.answer ≡ engine.old.answer }
     ensures waits { engine.new.waits ≡ engine.old.waits }
+    ensures why { IfErr result (λ _. ⊥) }
 {
     engine.limits = None;
     Ok(())

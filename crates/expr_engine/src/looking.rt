@@ -1,9 +1,12 @@
 //! Asks about the answer.
-ghost use Rattle.std.specs.Prelude.{◌≡◌, ◌≢◌, IfErr, IfOk, Ok, OnErr, OnOk, string_bytes};
+ghost use Rattle.std.specs.Prelude.{◌≡◌, ◌≢◌, [], IfErr, IfOk, Ok, OnErr, OnOk, string_bytes};
 ghost use Rattle.expr_encoding.specs.Optional.{value_or_refusal};
 ghost use Rattle.expr_encoding.specs.Writing.{json_text};
 ghost use Rattle.expr_engine.specs.Effects.{Looks, LooksIn, LooksOut, SaysKey, SaysText, Tells, key_said, call_result};
-ghost use Rattle.expr_exchange.specs.Cursor.{SameLook, part_of};
+ghost use Rattle.expr_engine.specs.Engines.{KeepsThings, KeepsRest};
+ghost use Rattle.expr_error.specs.ErrorKind.{OnlyMemory};
+ghost use Rattle.expr_exchange.specs.Cursor.{SameLook, at_number, item_at, key_at, part_of, way_of};
+ghost use Rattle.expr_exchange.specs.Refusals.{AnswerRefuses, IsForMemory, NotThere};
 ghost use Rattle.expr_value.specs.Strings.{string_text};
 ghost use Rattle.expr_value.specs.Values.{text_of};
 
@@ -15,8 +18,10 @@ use expr_exchange::{HostError, key_of, summary_of};
 use std::alloc::Global;
 
 /// Tells of a value.
+#[inline(always)]
 pub fn describe(value: &Value, call: &mut Call<'_>)
-    ensures { Tells value.now (call_result call.new) }
+    ensures told { Tells value.now (call_result call.new) }
+    ensures room { call.new.room.now ≡ call.old.room.now }
 {
     let told = summary_of(value);
     call.kind = told.kind.number();
@@ -27,13 +32,11 @@ pub fn describe(value: &Value, call: &mut Call<'_>)
 /// Looks at the same value again.
 pub fn look(engine: &mut Engine, call: &mut Call<'_>) -> Result<(), HostError>
     ensures done { OnOk result (Looks engine.old engine.new (call_result call.new)) }
-    ensures answer { engine.new.answer ≡ engine.old.answer }
     ensures found { IfErr result (λ e. e ≢ HostError.Unknown) }
-    ensures rules { engine.new.rules ≡ engine.old.rules }
-    ensures contexts { engine.new.contexts ≡ engine.old.contexts }
-    ensures environments { engine.new.environments ≡ engine.old.environments }
-    ensures waits { engine.new.waits ≡ engine.old.waits }
-    ensures limits { engine.new.limits ≡ engine.old.limits }
+    ensures kept { KeepsThings engine.old engine.new }
+    ensures standing { KeepsRest engine.old engine.new }
+    ensures room { call.new.room.now ≡ call.old.room.now }
+    ensures why { IfErr result (λ _. ⊥) }
 {
     describe(engine.answer.part(), call);
     Ok(())
@@ -44,11 +47,12 @@ pub fn look_down(engine: &mut Engine, call: &mut Call<'_>) -> Result<(), HostErr
     ensures done { OnOk result (LooksIn engine.old engine.new call.old (call_result call.new)) }
     ensures look { OnErr result (SameLook engine.old.answer engine.new.answer) }
     ensures found { IfErr result (λ e. e ≢ HostError.Unknown) }
-    ensures rules { engine.new.rules ≡ engine.old.rules }
-    ensures contexts { engine.new.contexts ≡ engine.old.contexts }
-    ensures environments { engine.new.environments ≡ engine.old.environments }
+    ensures kept { KeepsThings engine.old engine.new }
     ensures waits { engine.new.waits ≡ engine.old.waits }
     ensures limits { engine.new.limits ≡ engine.old.limits }
+    ensures room { call.new.room.now ≡ call.old.room.now }
+    ensures why { IfErr result
+        (NotThere (at_number call.old.number (item_at (part_of engine.old.answer)))) }
 {
     engine.answer.go_down(call.number)?;
     describe(engine.answer.part(), call);
@@ -60,11 +64,11 @@ pub fn look_up(engine: &mut Engine, call: &mut Call<'_>) -> Result<(), HostError
     ensures done { OnOk result (LooksOut engine.old engine.new (call_result call.new)) }
     ensures look { OnErr result (SameLook engine.old.answer engine.new.answer) }
     ensures found { IfErr result (λ e. e ≢ HostError.Unknown) }
-    ensures rules { engine.new.rules ≡ engine.old.rules }
-    ensures contexts { engine.new.contexts ≡ engine.old.contexts }
-    ensures environments { engine.new.environments ≡ engine.old.environments }
+    ensures kept { KeepsThings engine.old engine.new }
     ensures waits { engine.new.waits ≡ engine.old.waits }
     ensures limits { engine.new.limits ≡ engine.old.limits }
+    ensures room { call.new.room.now ≡ call.old.room.now }
+    ensures why { IfErr result (λ e. (e ≡ HostError.Misuse) × (way_of engine.old.answer ≡ [])) }
 {
     engine.answer.go_up()?;
     describe(engine.answer.part(), call);
@@ -74,13 +78,12 @@ pub fn look_up(engine: &mut Engine, call: &mut Call<'_>) -> Result<(), HostError
 /// Tells of a key of the map that is looked at, and says its text.
 pub fn show_key(engine: &mut Engine, call: &mut Call<'_>) -> Result<(), HostError>
     ensures done { OnOk result (SaysKey engine.old engine.new call.old (call_result call.new)) }
-    ensures answer { engine.new.answer ≡ engine.old.answer }
     ensures found { IfErr result (λ e. e ≢ HostError.Unknown) }
-    ensures rules { engine.new.rules ≡ engine.old.rules }
-    ensures contexts { engine.new.contexts ≡ engine.old.contexts }
-    ensures environments { engine.new.environments ≡ engine.old.environments }
-    ensures waits { engine.new.waits ≡ engine.old.waits }
-    ensures limits { engine.new.limits ≡ engine.old.limits }
+    ensures kept { KeepsThings engine.old engine.new }
+    ensures standing { KeepsRest engine.old engine.new }
+    ensures room { call.new.room.now ≡ call.old.room.now }
+    ensures why { IfErr result
+        (NotThere (at_number call.old.number (key_at (part_of engine.old.answer)))) }
 {
     let key = key_of(engine.alloc, engine.answer.part(), call.number)?;
     describe(&key, call);
@@ -90,7 +93,8 @@ pub fn show_key(engine: &mut Engine, call: &mut Call<'_>) -> Result<(), HostErro
 
 /// The text of a key: the string, or what the key prints as.
 fn key_text(alloc: Global, key: &Value) -> expr::Result<String>
-    ensures { IfOk result (λ text. string_bytes text ≡ key_said key.now) }
+    ensures ok { IfOk result (λ text. string_bytes text ≡ key_said key.now) }
+    ensures err { OnlyMemory result }
 {
     match key {
         Value::String(text) => Ok(text.as_str().to_string(alloc)?),
@@ -101,13 +105,10 @@ fn key_text(alloc: Global, key: &Value) -> expr::Result<String>
 /// Says what the value prints as.
 pub fn say_shown(engine: &mut Engine) -> Result<(), HostError>
     ensures done { OnOk result (SaysText (λ v text. text ≡ text_of v) engine.old engine.new) }
-    ensures answer { engine.new.answer ≡ engine.old.answer }
     ensures found { IfErr result (λ e. e ≢ HostError.Unknown) }
-    ensures rules { engine.new.rules ≡ engine.old.rules }
-    ensures contexts { engine.new.contexts ≡ engine.old.contexts }
-    ensures environments { engine.new.environments ≡ engine.old.environments }
-    ensures waits { engine.new.waits ≡ engine.old.waits }
-    ensures limits { engine.new.limits ≡ engine.old.limits }
+    ensures kept { KeepsThings engine.old engine.new }
+    ensures standing { KeepsRest engine.old engine.new }
+    ensures why { IfErr result IsForMemory }
 {
     engine.said = engine.answer.part().to_string(engine.alloc)?;
     Ok(())
@@ -116,13 +117,10 @@ pub fn say_shown(engine: &mut Engine) -> Result<(), HostError>
 /// Says what the built-in `string` gives of the value.
 pub fn say_text(engine: &mut Engine) -> Result<(), HostError>
     ensures done { OnOk result (SaysText (λ v text. text ≡ string_text v) engine.old engine.new) }
-    ensures answer { engine.new.answer ≡ engine.old.answer }
     ensures found { IfErr result (λ e. e ≢ HostError.Unknown) }
-    ensures rules { engine.new.rules ≡ engine.old.rules }
-    ensures contexts { engine.new.contexts ≡ engine.old.contexts }
-    ensures environments { engine.new.environments ≡ engine.old.environments }
-    ensures waits { engine.new.waits ≡ engine.old.waits }
-    ensures limits { engine.new.limits ≡ engine.old.limits }
+    ensures kept { KeepsThings engine.old engine.new }
+    ensures standing { KeepsRest engine.old engine.new }
+    ensures why { IfErr result IsForMemory }
 {
     engine.said = engine.answer.part().string_text(engine.alloc)?;
     Ok(())
@@ -132,13 +130,11 @@ pub fn say_text(engine: &mut Engine) -> Result<(), HostError>
 pub fn say_json(engine: &mut Engine) -> Result<(), HostError>
     ensures done { OnOk result
         (SaysText (λ v text. value_or_refusal (json_text v) ≡ Ok text) engine.old engine.new) }
-    ensures answer { engine.new.answer ≡ engine.old.answer }
     ensures found { IfErr result (λ e. e ≢ HostError.Unknown) }
-    ensures rules { engine.new.rules ≡ engine.old.rules }
-    ensures contexts { engine.new.contexts ≡ engine.old.contexts }
-    ensures environments { engine.new.environments ≡ engine.old.environments }
-    ensures waits { engine.new.waits ≡ engine.old.waits }
-    ensures limits { engine.new.limits ≡ engine.old.limits }
+    ensures kept { KeepsThings engine.old engine.new }
+    ensures standing { KeepsRest engine.old engine.new }
+    ensures why { IfErr result
+        (AnswerRefuses (value_or_refusal (json_text (part_of engine.old.answer)))) }
 {
     engine.said = to_json(engine.alloc, engine.answer.part())?.into_string();
     Ok(())

@@ -27,7 +27,8 @@ impl Rule {
     ghost use Rattle.expr.specs.Limited.{MayGive as GivesWithin};
     ghost use Rattle.expr_engine.specs.Limiting.{IsCompiledBy};
     ghost use Rattle.expr_engine.specs.Effects.{AreSaid};
-    ghost use Rattle.expr_engine.specs.Runs.{MayGive, context_of, host_with, named_by, pairs_of};
+    ghost use Rattle.expr_error.specs.ErrorKind.{OnlyMemory};
+    ghost use Rattle.expr_engine.specs.Runs.{MeaningAllows, context_of, host_with_replies, named_by, pairs_of};
     ghost use Rattle.expr_limited.specs.Outcomes.{ReturnsOutcome};
     ghost use Rattle.expr_stops.specs.Stops.{CodeComes, EndsTurn, IfEnded, StopsWell, waiting_call_of, replies_of};
     ghost use Rattle.expr_syntax.specs.Texts.{IsPlaced};
@@ -54,7 +55,8 @@ impl Rule {
 
     /// The names that the program asks for, each on a line, and how many they are.
     pub fn names(&self, alloc: Global) -> Result<(String, usize)>
-        ensures { IfOk result (λ p. AreSaid (program_term self.now.program) (string_bytes p.0) p.1) }
+        ensures ok { IfOk result (λ p. AreSaid (program_term self.now.program) (string_bytes p.0) p.1) }
+        ensures err { OnlyMemory result }
     {
         let names = self.program.names(alloc)?;
         Ok((names.join(alloc, "\n")?, names.len()))
@@ -66,6 +68,7 @@ impl Rule {
     ///
     /// The first refusal in the order of evaluation: `ExprError`, `RegexError`, or `MemoryError` where a growth is refused.
     /// That a limit is passed is no error, but [`Outcome::Stopped`].
+    #[inline(always)]
     pub fn run<H: Functions>(
         &self,
         alloc: Global,
@@ -73,7 +76,7 @@ impl Rule {
         names: LentNames<'_>,
         limits: Option<Limits>,
     ) -> Result<Outcome<Value>>
-        ensures answer { GivesWithin result (MayGive (world_of (H.host host.now)
+        ensures answer { GivesWithin result (MeaningAllows (world_of (H.host host.now)
             (context_of (pairs_of (option_copied names.entry.names)))) (program_term self.now.program)) }
         ensures ends { ReturnsOutcome result (CodeComes limits (world_of (H.host host.now)
             (context_of (pairs_of (option_copied names.entry.names)))) (code_of self.now.code)) }
@@ -83,6 +86,7 @@ impl Rule {
 
     /// Runs the program within limits, with the replies that a run has, up to its end or to its next call that the host
     /// answers itself.
+    #[inline(always)]
     pub fn turn(
         &self,
         alloc: Global,
@@ -93,11 +97,11 @@ impl Rule {
     ) -> Turn
         // It ends or stops at a limit as a run of the program's code does that counts within the limits, if there are any.
         ensures ends { EndsTurn result (CodeComes limits
-            (world_of (host_with (option_copied host.entry.added) (replies_of stops.old))
+            (world_of (host_with_replies (option_copied host.entry.added) (replies_of stops.old))
             (context_of (pairs_of (option_copied names.entry.names)))) (code_of self.now.code)) }
         // An answer is one that the program's meaning allows.
-        ensures ended { IfEnded result (λ r. Returns r (MayGive
-            (world_of (host_with (option_copied host.entry.added) (replies_of stops.old))
+        ensures ended { IfEnded result (λ r. Returns r (MeaningAllows
+            (world_of (host_with_replies (option_copied host.entry.added) (replies_of stops.old))
             (context_of (pairs_of (option_copied names.entry.names)))) (program_term self.now.program))) }
         ensures stops { waiting_call_of stops.old ≡ None
             → StopsWell (named_by (option_copied host.entry.added))

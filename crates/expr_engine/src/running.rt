@@ -1,10 +1,11 @@
 //! Asks about programs.
 ghost use Rattle.std.specs.Prelude.{◌≡◌, [], Err, None, IfErr, IfOk, IsUtf8, MatchOption, OnErr, OnOk};
 ghost use Rattle.expr_engine.specs.Effects.{Compiles, RunsOnce, SaysNames, call_result};
-ghost use Rattle.expr_engine.specs.Engines.{CompileRefuses, NumbersRise, run_inputs};
+ghost use Rattle.expr_engine.specs.Engines.{CompileRefuses, KeepsThings, KeepsRest, NumbersRise, run_inputs};
 ghost use Rattle.expr_engine.specs.Served.{RunServes};
 ghost use Rattle.expr_engine.specs.Turns.{IsNewRun};
 ghost use Rattle.expr_exchange.specs.Cursor.{part_of};
+ghost use Rattle.expr_engine.specs.Reasons.{IsUnknownOrForMemory};
 ghost use Rattle.expr_handles.specs.HandleMap.{SameThings, thing_at};
 
 use crate::call::Call;
@@ -19,11 +20,10 @@ pub fn compile(engine: &mut Engine, call: &mut Call<'_>) -> Result<(), HostError
     ensures text { call.new.text.now ≡ call.old.text.now }
     ensures err { OnErr result (SameThings engine.old.rules engine.new.rules) }
     ensures numbers { NumbersRise engine.old engine.new }
-    ensures answer { engine.new.answer ≡ engine.old.answer }
     ensures contexts { engine.new.contexts ≡ engine.old.contexts }
     ensures environments { engine.new.environments ≡ engine.old.environments }
-    ensures waits { engine.new.waits ≡ engine.old.waits }
-    ensures limits { engine.new.limits ≡ engine.old.limits }
+    ensures standing { KeepsRest engine.old engine.new }
+    ensures room { call.new.room.now ≡ call.old.room.now }
 {
     let text = utf8(call.text)?;
     call.program = engine.compile(text)?;
@@ -35,12 +35,10 @@ pub fn names(engine: &mut Engine, call: &mut Call<'_>) -> Result<(), HostError>
     ensures done { OnOk result (SaysNames engine.old engine.new call.old (call_result call.new)) }
     ensures unknown { thing_at engine.old.rules call.old.program ≡ None → result ≡ Err HostError.Unknown }
     ensures known { result ≡ Err HostError.Unknown → thing_at engine.old.rules call.old.program ≡ None }
-    ensures answer { engine.new.answer ≡ engine.old.answer }
-    ensures rules { engine.new.rules ≡ engine.old.rules }
-    ensures contexts { engine.new.contexts ≡ engine.old.contexts }
-    ensures environments { engine.new.environments ≡ engine.old.environments }
-    ensures waits { engine.new.waits ≡ engine.old.waits }
-    ensures limits { engine.new.limits ≡ engine.old.limits }
+    ensures kept { KeepsThings engine.old engine.new }
+    ensures standing { KeepsRest engine.old engine.new }
+    ensures room { call.new.room.now ≡ call.old.room.now }
+    ensures why { IfErr result IsUnknownOrForMemory }
 {
     let (names, count) = engine.names(call.program)?;
     call.number = i64::try_from(count).unwrap_or(0);
@@ -61,10 +59,9 @@ pub fn run(engine: &mut Engine, call: &mut Call<'_>) -> Result<(), HostError>
     ensures turns { MatchOption (run_inputs engine.old call.old.program call.old.environment call.old.context)
         (engine.new.waits ≡ engine.old.waits) (λ q. IsNewRun q call.old.program call.old.environment
         call.old.context result engine.new.waits) }
-    ensures rules { engine.new.rules ≡ engine.old.rules }
-    ensures contexts { engine.new.contexts ≡ engine.old.contexts }
-    ensures environments { engine.new.environments ≡ engine.old.environments }
+    ensures kept { KeepsThings engine.old engine.new }
     ensures limits { engine.new.limits ≡ engine.old.limits }
+    ensures room { call.new.room.now ≡ call.old.room.now }
 {
     engine.run(call.program, call.environment, call.context)?;
     describe(engine.answer.part(), call);

@@ -1,14 +1,11 @@
 //! The one call: an engine does what it is asked to.
-ghost use Rattle.std.specs.Prelude.{◌≡◌, ◌≢◌, ◌⊎◌, [], length, Err, IfErr, IfSome, MatchOption, Ok, OnErr, OnOk, Some};
-ghost use Rattle.expr_engine.specs.Asks.{ask_of, shows_of};
-ghost use Rattle.expr_engine.specs.Effects.{Does, IsMissing, call_result};
-ghost use Rattle.expr_engine.specs.Engines.{CompileRefuses, Leaves, NumbersRise, run_inputs};
-ghost use Rattle.expr_engine.specs.Faults.{AnswersText, IsAt, place_of, refused_byte};
-ghost use Rattle.expr_engine.specs.Limiting.{LimitsBy};
-ghost use Rattle.expr_engine.specs.Served.{AnswersNumber, EndsCall, RunServes, number_of, text_shown};
-ghost use Rattle.expr_engine.specs.Turns.{Turns, TurnsBy};
+ghost use Rattle.std.specs.Prelude.{◌≡◌, ◌⊎◌, [], Err, IfErr, IfSome, OnErr, OnOk, string_bytes};
+ghost use Rattle.expr_engine.specs.Effects.{call_result};
+ghost use Rattle.expr_engine.specs.Engines.{KeepsThings, KeepsRest};
+ghost use Rattle.expr_engine.specs.Faults.{IsAt, place_of, refused_byte};
+ghost use Rattle.expr_engine.specs.Promised.{Acts, IsServed};
+ghost use Rattle.expr_engine.specs.Served.{EndsCall, ShowsText, number_of, text_in_room, text_shown};
 ghost use Rattle.expr_exchange.specs.Builder.{values_of};
-ghost use Rattle.expr_exchange.specs.Cursor.{part_of};
 ghost use Rattle.expr_exchange.specs.Refusals.{status_of};
 
 use crate::adding::{add_environment, add_name, set_now, zone_by_rule, zone_by_seconds};
@@ -26,37 +23,7 @@ use expr_exchange::{HostError, Status, bytes_of};
 /// Does what a call asks for. Whatever stands in the call, it returns. What is refused leaves all that is kept and what is
 /// looked at as it was, and lets go of what was built.
 pub fn serve(engine: &mut Engine, call: &mut Call<'_>)
-    // What is done, is done to what the call's handles find, and to nothing else.
-    ensures done { call.new.status ≡ 0 → MatchOption (ask_of call.old.ask) ⊥
-        (λ ask. Does ask engine.old engine.new call.old (call_result call.new)) }
-    // A text is refused, or stops at a limit, since it deserves that; where it has no tree, the place of its first fault is
-    // answered.
-    ensures text { ask_of call.old.ask ≡ Some Ask.Compile
-        → AnswersText engine.old.limits call.old.text.now call.new.status (place_of call.new) }
-    // A run answers what the program's meaning allows in the environment and the context of the handles, or one of them
-    // finds nothing.
-    ensures run { ask_of call.old.ask ≡ Some Ask.Run → MatchOption
-        (run_inputs engine.old call.old.program call.old.environment call.old.context) (call.new.status ≡ 6)
-        (λ q. AnswersNumber q [] call.new.status (part_of engine.new.answer)) }
-    // The run that waits for the host's reply: one that was begun, or that goes on with the reply, or the same.
-    ensures turns { MatchOption (ask_of call.old.ask) (engine.new.waits ≡ engine.old.waits)
-        (λ ask. TurnsBy ask engine.old call.old call.new.status engine.new.waits
-        (part_of engine.new.answer)) }
-    // The limits are those before, but where a call sets one or lets go of all.
-    ensures limits { MatchOption (ask_of call.old.ask) (engine.new.limits ≡ engine.old.limits)
-        (λ ask. LimitsBy ask engine.old.limits call.old (call.new.status ≡ 0) (call.new.status ≡ 7)
-        engine.new.limits) }
-    ensures refused { call.new.status ≢ 0 → Leaves engine.old engine.new }
-    ensures built { call.new.status ≢ 0 → values_of engine.new.built ≡ [] }
-    // A handle that is out of date, or was never given, is UNKNOWN, and nothing else is.
-    ensures unknown { MatchOption (ask_of call.old.ask) (call.new.status ≡ 7)
-        (λ ask. IsMissing ask engine.old call.old → call.new.status ≡ 6) }
-    ensures known { call.new.status ≡ 6 → MatchOption (ask_of call.old.ask) ⊥
-        (λ ask. IsMissing ask engine.old call.old) }
-    // No handle is given twice.
-    ensures numbers { NumbersRise engine.old engine.new }
-    ensures shown { call.new.status ≡ 0 → MatchOption (ask_of call.old.ask) ⊥
-        (λ ask. call.new.length ≡ length (text_shown (shows_of ask) engine.new)) }
+    ensures { IsServed engine.old engine.new call.old call.new }
 {
     match Ask::from_number(call.ask) {
         Some(ask) => {
@@ -69,19 +36,7 @@ pub fn serve(engine: &mut Engine, call: &mut Call<'_>)
 
 /// Does what a call asks for.
 fn act(engine: &mut Engine, call: &mut Call<'_>, ask: Ask) -> Result<(), HostError>
-    ensures done { OnOk result (Does ask engine.old engine.new call.old (call_result call.new)) }
-    ensures why { ask ≡ Ask.Compile → IfErr result (CompileRefuses engine.old.limits call.old.text.now) }
-    ensures text { ask ≡ Ask.Compile → call.new.text.now ≡ call.old.text.now }
-    ensures run { ask ≡ Ask.Run → MatchOption
-        (run_inputs engine.old call.old.program call.old.environment call.old.context)
-        (result ≡ Err HostError.Unknown) (λ q. RunServes q [] result (part_of engine.new.answer)) }
-    ensures turns { Turns ask engine.old call.old result engine.new.waits (part_of engine.new.answer) }
-    ensures limits { LimitsBy ask engine.old.limits call.old (result ≡ Ok tt) (result ≡ Err HostError.Misuse)
-        engine.new.limits }
-    ensures refused { OnErr result (Leaves engine.old engine.new) }
-    ensures unknown { IsMissing ask engine.old call.old → result ≡ Err HostError.Unknown }
-    ensures known { result ≡ Err HostError.Unknown → IsMissing ask engine.old call.old }
-    ensures numbers { NumbersRise engine.old engine.new }
+    ensures { Acts ask engine.old engine.new call.old call.new result }
 {
     match ask {
         Ask::Compile => compile(engine, call),
@@ -120,14 +75,11 @@ fn act(engine: &mut Engine, call: &mut Call<'_>, ask: Ask) -> Result<(), HostErr
 }
 
 /// Says how a call ended, and shows its text.
+#[inline(always)]
 fn finish(engine: &mut Engine, call: &mut Call<'_>, shows: Shows, done: Result<(), HostError>)
     ensures same { OnOk done (engine.new ≡ engine.old) }
-    ensures answer { engine.new.answer ≡ engine.old.answer }
-    ensures rules { engine.new.rules ≡ engine.old.rules }
-    ensures contexts { engine.new.contexts ≡ engine.old.contexts }
-    ensures environments { engine.new.environments ≡ engine.old.environments }
-    ensures waits { engine.new.waits ≡ engine.old.waits }
-    ensures limits { engine.new.limits ≡ engine.old.limits }
+    ensures kept { KeepsThings engine.old engine.new }
+    ensures standing { KeepsRest engine.old engine.new }
     ensures built { OnErr done (values_of engine.new.built ≡ []) }
     ensures reply { call_result call.new ≡ call_result call.old }
     ensures ended { EndsCall done call.new.status }
@@ -136,7 +88,8 @@ fn finish(engine: &mut Engine, call: &mut Call<'_>, shows: Shows, done: Result<(
     ensures unknown { done ≡ Err HostError.Unknown → call.new.status ≡ 6 }
     ensures known { call.new.status ≡ 6 → done ≡ Err HostError.Unknown }
     ensures misuse { done ≡ Err HostError.Misuse → call.new.status ≡ 7 }
-    ensures length { OnOk done (call.new.length ≡ length (text_shown shows engine.new)) }
+    ensures shown { OnOk done (ShowsText (text_shown shows engine.new) call.old.room.now call.new) }
+    ensures said { OnErr done (ShowsText (string_bytes engine.new.said) call.old.room.now call.new) }
 {
     match done {
         Ok(()) => answer(engine, call, Status::Done, shows),
@@ -148,11 +101,12 @@ fn finish(engine: &mut Engine, call: &mut Call<'_>, shows: Shows, done: Result<(
 }
 
 /// Writes down how a call ended, and the text that is shown, as far as the room goes.
+#[inline(always)]
 fn answer(engine: &Engine, call: &mut Call<'_>, status: Status, shows: Shows)
     ensures reply { call_result call.new ≡ call_result call.old }
     ensures place { place_of call.new ≡ place_of call.old }
     ensures status { call.new.status ≡ number_of status }
-    ensures length { call.new.length ≡ length (text_shown shows engine.now) }
+    ensures shown { ShowsText (text_shown shows engine.now) call.old.room.now call.new }
 {
     call.status = number(status);
     let text = shown_bytes(engine, shows);
@@ -161,6 +115,7 @@ fn answer(engine: &Engine, call: &mut Call<'_>, status: Status, shows: Shows)
 }
 
 /// The text that is shown.
+#[inline(always)]
 fn shown_bytes(engine: &Engine, shows: Shows) -> &[u8]
     ensures { result.now ≡ text_shown shows engine.now }
 {
@@ -196,19 +151,18 @@ fn number(status: Status) -> u32
 
 /// Lets go of what was built, notes what is said, and answers how the call ended.
 fn refuse(engine: &mut Engine, refused: &HostError, call: &mut Call<'_>) -> Status
-    ensures rules { engine.new.rules ≡ engine.old.rules }
-    ensures contexts { engine.new.contexts ≡ engine.old.contexts }
-    ensures environments { engine.new.environments ≡ engine.old.environments }
-    ensures answer { engine.new.answer ≡ engine.old.answer }
-    ensures waits { engine.new.waits ≡ engine.old.waits }
-    ensures limits { engine.new.limits ≡ engine.old.limits }
+    ensures kept { KeepsThings engine.old engine.new }
+    ensures standing { KeepsRest engine.old engine.new }
     ensures built { values_of engine.new.built ≡ [] }
     ensures reply { call_result call.new ≡ call_result call.old }
+    ensures room { call.new.room.now ≡ call.old.room.now }
     ensures status { (result ≡ status_of refused.now) ⊎ (result ≡ Status.Memory) }
     ensures placed { IsAt (refused_byte refused.now) call.old.text.now (place_of call.new)
         ⊎ (result ≡ Status.Memory) }
     ensures unknown { refused.now ≡ HostError.Unknown → result ≡ Status.Unknown }
     ensures misuse { refused.now ≡ HostError.Misuse → result ≡ Status.Misuse }
+    ensures asks { refused.now ≡ HostError.Asks → result ≡ Status.Asks }
+    ensures differs { refused.now ≡ HostError.Differs → result ≡ Status.Differs }
 {
     engine.built.clear();
     match engine.note(refused, call.text) {
@@ -223,6 +177,7 @@ fn refuse(engine: &mut Engine, refused: &HostError, call: &mut Call<'_>) -> Stat
 /// Writes down where a text is refused, if it is known.
 fn mark(call: &mut Call<'_>, noted: Option<TextPlace>)
     ensures reply { call_result call.new ≡ call_result call.old }
+    ensures room { call.new.room.now ≡ call.old.room.now }
     ensures place { IfSome noted (λ place. place_of call.new ≡ place) }
 {
     match noted {
@@ -236,8 +191,9 @@ fn mark(call: &mut Call<'_>, noted: Option<TextPlace>)
 }
 
 /// Writes bytes into room as far as it goes.
-fn copy_into(from: &[u8], room: &mut [u8]) {
-    for (to, byte) in room.iter_mut().zip(from.iter()) {
-        *to = *byte;
-    }
+fn copy_into(from: &[u8], room: &mut [u8])
+    ensures { room.new ≡ text_in_room from.now room.old }
+{
+    let n = from.len().min(room.len());
+    room[..n].copy_from_slice(&from[..n]);
 }

@@ -3,7 +3,7 @@ use Rattle.std.proofs.Common.{◌≡◌, ◌∙◌, ℕ, List, [], ◌∷◌, �
 use Rattle.std.proofs.lemmas.List.{append-nil}
 use Rattle.std.specs.Option.{option_and_then, option_map}
 use Rattle.std.specs.declared.alloc.Global.{Global}
-use Rattle.expr_exchange.specs.Maps.{map_by, map_of_pairs, named, pairs_in_turn, text_pairs}
+use Rattle.expr_exchange.specs.Maps.{map_by, map_of_pairs, pair_by_name, pairs_in_turn, text_pairs}
 use Rattle.expr_value.specs.Names.{put_all}
 use Rattle.expr_value.specs.Values.{scalar_pairs, string_of}
 use Rattle.expr_value.specs.declared.value.Value.{Value}
@@ -49,10 +49,10 @@ unfolding values.out-Value denote.Hole.Carrier.out
 is_string s = refl
 
 -- names are the texts of their pairs
-pub text_pairs-named : (names : List (String Global × Value)) → text_pairs (map named names) ≡ Some (map (λ p. (string_bytes p.0, p.1)) names)
-text_pairs-named [] = refl
-text_pairs-named (p ∷ ps) =
-    ap (λ name. before name p.1 (text_pairs (map named ps))) (is_string (string_bytes p.0)) ∙ ap (before (Some (string_bytes p.0)) p.1) (text_pairs-named ps)
+pub text_pairs-by_name : (names : List (String Global × Value)) → text_pairs (map pair_by_name names) ≡ Some (map (λ p. (string_bytes p.0, p.1)) names)
+text_pairs-by_name [] = refl
+text_pairs-by_name (p ∷ ps) =
+    ap (λ name. before name p.1 (text_pairs (map pair_by_name ps))) (is_string (string_bytes p.0)) ∙ ap (before (Some (string_bytes p.0)) p.1) (text_pairs-by_name ps)
 
 more_none : (name : Option (List ℕ)) (value : Value) (rest more : Option (List (List ℕ × Value))) → (rest ≡ None → more ≡ None) → before name value rest ≡ None → before name value more ≡ None
 more_none None value rest more so none = refl
@@ -69,5 +69,5 @@ no_texts-at [] key value none = ap (λ name. before name value (Some [])) none
 no_texts-at (p ∷ ps) key value none = ap (before (string_of p.0) p.1) (no_texts-at ps key value none) ∙ none_before (string_of p.0) p.1
 
 -- the map of pairs by names
-pub map_named : (names : List (String Global × Value)) (made : Value) → made ≡ values.Map (put_all [] (map (λ p. (string_bytes p.0, p.1)) names)) → map_of_pairs (map named names) ≡ Some made
-map_named names made is = ap (λ o. map_by o (scalar_pairs (map named names))) (text_pairs-named names) ∙ ap Some (sym is)
+pub map_named : (names : List (String Global × Value)) (made : Value) → made ≡ values.Map (put_all [] (map (λ p. (string_bytes p.0, p.1)) names)) → map_of_pairs (map pair_by_name names) ≡ Some made
+map_named names made is = ap (λ o. map_by o (scalar_pairs (map pair_by_name names))) (text_pairs-by_name names) ∙ ap Some (sym is)

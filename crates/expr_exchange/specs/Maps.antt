@@ -36,11 +36,11 @@ abbrev pub map_in_turn : List Value → Option Value
 map_in_turn vs = map_of_pairs (pairs_in_turn vs)
 
 -- a name and its value as a key and its value
-abbrev pub named : String Global × Value → Value × Value
-named p = (values.String (string_bytes p.0), p.1)
+abbrev pub pair_by_name : String Global × Value → Value × Value
+pair_by_name p = (values.String (string_bytes p.0), p.1)
 
 abbrev pub pairs_of : MapPairs → List (Value × Value)
-pairs_of (Named names) = map named names.items
+pairs_of (Named names) = map pair_by_name names.items
 pairs_of (Keyed pairs) = pairs.items
 
 -- Not all keys are texts where they aren't kept as such.

@@ -42,6 +42,10 @@ ReturnsToHost (Err Asks) allowed passed = Unit {0}
 ReturnsToHost (Err Differs) allowed passed = Unit {0}
 ReturnsToHost (Err (Stopped limit)) allowed passed = passed limit
 
+-- A refusal that is no run's and no limit's.
+abbrev pub IsNoStop : HostError → Type 0
+IsNoStop refused = (refused ≢ Asks) × (refused ≢ Differs) × ((limit : Limit) → refused ≢ Stopped limit)
+
 -- A refusal for want of memory.
 abbrev pub IsForMemory : HostError → Type 0
 IsForMemory (Language error) = error_kind error ≡ memory
@@ -50,6 +54,15 @@ IsForMemory Misuse = ⊥
 IsForMemory Asks = ⊥
 IsForMemory Differs = ⊥
 IsForMemory (Stopped limit) = ⊥
+
+-- A refusal of the language, of such an answer, or for want of memory.
+abbrev pub AnswerRefuses : {A : Type 0} → Result A ErrorKind → HostError → Type 0
+AnswerRefuses answer (Language error) = error_kind error ≢ memory → answer ≡ Err (error_kind error)
+AnswerRefuses answer Unknown = ⊥
+AnswerRefuses answer Misuse = ⊥
+AnswerRefuses answer Asks = ⊥
+AnswerRefuses answer Differs = ⊥
+AnswerRefuses answer (Stopped limit) = ⊥
 
 -- A refusal of what isn't there, or for want of memory.
 abbrev pub NotThere : {A : Type 0} → Option A → HostError → Type 0

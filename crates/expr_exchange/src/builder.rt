@@ -1,6 +1,6 @@
 //! Values that a host builds, one behind the other.
 ghost use Rattle.std.specs.Prelude.{◌≡◌, ◌≢◌, ◌+ℤ◌, ◌++◌, ◌∷◌, [], IfErr, IfOk, IsOk, OnErr, OnOk, length, pos};
-ghost use Rattle.expr_exchange.specs.Builder.{BecomesMap, EndsInMap, HasLast, TakesNames, TakesPlace, values_of};
+ghost use Rattle.expr_exchange.specs.Builder.{BecomesMap, EndsInMap, HasLast, NoContext, TakesNames, TakesPlace, values_of};
 ghost use Rattle.expr_exchange.specs.declared.host_error.Status.TheVariants.{Evaluation};
 ghost use Rattle.expr_exchange.specs.Refusals.{IsForMemory, NotMeant, status_of};
 
@@ -105,6 +105,7 @@ impl ValueBuilder {
         ensures ok { IfOk result (TakesNames (values_of self.old) (values_of self.new)) }
         ensures given { EndsInMap (values_of self.old) → IsOk result }
         ensures found { IfErr result (λ e. e ≢ HostError.Unknown) }
+        ensures refused { IfErr result (NoContext (values_of self.old)) }
     {
         let value = self.pop()?;
         Ok(Context::try_from(self.alloc, value)?)

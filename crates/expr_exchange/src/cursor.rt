@@ -53,6 +53,7 @@ impl ValueCursor {
     }
 
     /// The part that is looked at.
+    #[inline(always)]
     pub fn part(&self) -> &Value
         ensures { result.now ≡ part_of self.now }
     {
@@ -139,6 +140,7 @@ pub fn bytes_of(value: &Value) -> &[u8]
 }
 
 /// What is told of a value.
+#[inline(always)]
 pub fn summary_of(value: &Value) -> ValueSummary
     ensures kind { result.kind ≡ kind_of value.now }
     ensures number { number_of value.now ≤ℤ pos 9_223_372_036_854_775_807

@@ -1,7 +1,7 @@
 //! The map of keys and values that a host builds, one behind the other.
 ghost use Rattle.std.specs.Prelude.{◌≡◌, ◌++◌, ◌∷◌, [], IfErr, IfOk, None, OnErr, Some, map};
 ghost use Rattle.expr_error.specs.ErrorKind.{OnlyMemory, RefusesWith, evaluation};
-ghost use Rattle.expr_exchange.specs.Maps.{AreSplit, map_in_turn, map_of_pairs, named, pairs_of};
+ghost use Rattle.expr_exchange.specs.Maps.{AreSplit, map_in_turn, map_of_pairs, pair_by_name, pairs_of};
 ghost use Rattle.expr_value.specs.Values.{string_of};
 
 use expr_value::{KeyedMap, Result, Text, Value};
@@ -23,7 +23,7 @@ impl MapPairs {
         ensures err { OnlyMemory result }
     {
         match self {
-            MapPairs::Named(names) => named_and(alloc, names, key, value),
+            MapPairs::Named(names) => add_to_named(alloc, names, key, value),
             MapPairs::Keyed(keyed) => {
                 let mut pairs = keyed;
                 pairs.push((key, value))?;
@@ -47,13 +47,13 @@ impl MapPairs {
 }
 
 /// Pairs by names, and one more behind them, whose key may be no text.
-fn named_and(
+fn add_to_named(
     alloc: Global,
     names: Vec<(String, Value)>,
     key: Value,
     value: Value,
 ) -> Result<MapPairs>
-    ensures ok { IfOk result (λ more. pairs_of more ≡ map named names.items ++ (key, value) ∷ []) }
+    ensures ok { IfOk result (λ more. pairs_of more ≡ map pair_by_name names.items ++ (key, value) ∷ []) }
     ensures split { IfOk result AreSplit }
     ensures err { OnlyMemory result }
 {
@@ -85,7 +85,7 @@ fn into_text(key: Value) -> std::result::Result<Text, Value>
 
 /// The same pairs with values for keys.
 fn keyed_of(alloc: Global, names: Vec<(String, Value)>) -> Result<Vec<(Value, Value)>>
-    ensures ok { IfOk result (λ keyed. keyed.items ≡ map named names.items) }
+    ensures ok { IfOk result (λ keyed. keyed.items ≡ map pair_by_name names.items) }
     ensures err { OnlyMemory result }
 {
     let mut keyed = Vec::with_capacity(alloc, names.len() + 1)?;

@@ -42,6 +42,7 @@ impl<T: Drop> HandleMap<T> {
     }
 
     /// The thing of a handle, if it is still kept.
+    #[inline(always)]
     pub fn get(&self, handle: Handle) -> Option<&T>
         ensures { option_copied result ≡ thing_at self.now handle }
     {

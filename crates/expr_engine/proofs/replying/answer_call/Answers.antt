@@ -1,13 +1,36 @@
-use Rattle.std.proofs.Common.{◌≡◌, Ok, Err, inr, refl, subst}
+use Rattle.std.proofs.Common.{◌≡◌, ◌⊎◌, ◌∙◌, ◌++◌, ◌∷◌, [], None, Ok, Err, ap, inl, inr, refl, subst, sym}
 use Rattle.expr_engine.specs.Effects.{Tells, call_result}
 use Rattle.expr_engine.specs.Engines.{waiting_inputs}
 use Rattle.expr_engine.specs.Turns.{IsAnswer}
 use Rattle.expr_engine.proofs.Turned.{built_last, ended_so, left_waiting, passed_on, replies_so}
 use Rattle.expr_exchange.specs.Builder.{values_of}
 use Rattle.expr_exchange.specs.Cursor.{part_of}
+use Rattle.expr_exchange.specs.declared.builder.ValueBuilder.{ValueBuilder}
 use Rattle.expr_stops.specs.declared.replies.Reply.{Reply}
 use Rattle.expr_stops.specs.declared.replies.Reply.TheVariants as reply
+use Rattle.expr_engine.specs.declared.call.Call.{Call}
+use Rattle.expr_engine.specs.declared.engine.Engine.{Engine}
+use Rattle.expr_exchange.specs.declared.host_error.HostError.{HostError}
+use Rattle.expr_exchange.specs.declared.host_error.HostError.TheVariants.{Misuse}
+use Rattle.expr_exchange.proofs.Refused.{passed_so}
+use Rattle.expr_stops.specs.Stops.{waiting_call_of}
 use Rattle.expr_engine.proofs.replying.answer_call.Goals as goal
+
+abbrev Why : Engine → Call → HostError → Type 0
+Why engine call e = e ≡ Misuse → (waiting_call_of engine.waits.stops ≡ None) ⊎ (values_of engine.built ≡ [])
+
+pub returns-in_err-knows_waiting-clause-why : goal.returns-in_err-knows_waiting-clause-why
+returns-in_err-knows_waiting-clause-why c =
+    passed_so c.from_residual.result c.in_err-knows_waiting.field-0.0 (Why c.args.engine.now c.args.call.now) c.from_residual.ensures.1 (λ is. inl (c.in_err-knows_waiting.ensures.misused (ap Err is)))
+
+pub returns-in_err-value-clause-why : goal.returns-in_err-value-clause-why
+returns-in_err-value-clause-why c =
+    passed_so c.from_residual-in_err-value.result c.in_err-value.field-0.0 (Why c.args.engine.now c.args.call.now) c.from_residual-in_err-value.ensures.1 (λ is. inr c.in_err-value.ensures.err.1)
+
+pub returns-in_err-reply-clause-why : goal.returns-in_err-reply-clause-why
+returns-in_err-reply-clause-why c =
+    passed_so c.from_residual-in_err-reply.result c.in_err-reply.field-0.0 (Why c.args.engine.now c.args.call.now) c.from_residual-in_err-reply.ensures.1
+    (λ is. absurd (c.in_err-reply.ensures.meant c.in_ok-knows_waiting.ensures.waits c.in_ok-knows_waiting.ensures.found is))
 
 pub returns-in_err-knows_waiting-clause-turns : goal.returns-in_err-knows_waiting-clause-turns
 returns-in_err-knows_waiting-clause-turns c =
@@ -54,10 +77,14 @@ returns-clause-done c =
     let old = c.args.engine.now in
     let new = c.reply.new.self in
     record {
-      keeps = record { rules = c.reply.ensures.rules; contexts = c.reply.ensures.contexts; environments = c.reply.ensures.environments };
+      keeps = c.reply.ensures.kept;
+      built = record {
+        last = c.in_ok-value.value;
+        stood = c.in_ok-value.ensures.ok ∙ ap (λ (left : ValueBuilder). values_of left ++ c.in_ok-value.value ∷ []) (sym c.reply.ensures.built);
+      };
       answer =
           ended_so Is (waiting_inputs old) old.waits new.waits (part_of new.answer)
           (c.in_ok-reply.ensures.replied c.in_ok-knows_waiting.ensures.waits c.in_ok-knows_waiting.ensures.found);
       way = c.in_ok-reply.ensures.way;
-      told = subst (λ v. Tells v (call_result c.describe.new.call)) c.part.ensures c.describe.ensures;
+      told = subst (λ v. Tells v (call_result c.describe.new.call)) c.part.ensures c.describe.ensures.told;
     }

@@ -20,11 +20,12 @@ returns-clause-done c =
     c.keep.ensures.part ∙ c.from.ensures ∙ ap Array (same_values stop.call.args.items c.in_ok-arguments.arguments.items c.in_ok-arguments.ensures.cases.0) in
     let name : string_bytes c.in_ok-engine.field-0 ≡ string_bytes stop.call.ident = grind (arith, common_steps) in
     record {
-      keeps = record { rules = refl; contexts = refl; environments = refl };
+      keeps = refl;
       stop = stop;
       waits = sym c.in-Some.ensures;
       arguments = arguments;
       way = c.keep.ensures.way;
       name = name;
-      told = subst (λ v. Tells v (call_result c.describe.new.call)) c.part.ensures c.describe.ensures;
+      told = subst (λ v. Tells v (call_result c.describe.new.call)) c.part.ensures c.describe.ensures.told;
+      built = refl;
     }

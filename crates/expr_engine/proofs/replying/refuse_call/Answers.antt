@@ -1,10 +1,34 @@
-use Rattle.std.proofs.Common.{ℕ, List, Ok, Err, inr, refl, subst}
+use Rattle.std.proofs.Common.{◌≡◌, ◌⊎◌, ℕ, List, None, Ok, Err, IsUtf8, ap, inl, inr, refl, subst}
 use Rattle.expr_engine.specs.Effects.{Tells, call_result}
 use Rattle.expr_engine.specs.Engines.{waiting_inputs}
 use Rattle.expr_engine.specs.Turns.{IsRefusal, RunGoesOn}
 use Rattle.expr_engine.proofs.Turned.{ended_so, left_waiting, passed_on}
+use Rattle.expr_exchange.specs.Builder.{values_of}
 use Rattle.expr_exchange.specs.Cursor.{part_of}
+use Rattle.expr_exchange.specs.declared.builder.ValueBuilder.{ValueBuilder}
+use Rattle.expr_engine.specs.declared.call.Call.{Call}
+use Rattle.expr_engine.specs.declared.engine.Engine.{Engine}
+use Rattle.expr_exchange.specs.declared.host_error.HostError.{HostError}
+use Rattle.expr_exchange.specs.declared.host_error.HostError.TheVariants.{Misuse}
+use Rattle.expr_exchange.proofs.Refused.{passed_so}
+use Rattle.expr_stops.specs.Stops.{waiting_call_of}
 use Rattle.expr_engine.proofs.replying.refuse_call.Goals as goal
+
+abbrev Why : Engine → Call → HostError → Type 0
+Why engine call e = e ≡ Misuse → (waiting_call_of engine.waits.stops ≡ None) ⊎ (IsUtf8 call.text.now → ⊥)
+
+pub returns-in_err-knows_waiting-clause-why : goal.returns-in_err-knows_waiting-clause-why
+returns-in_err-knows_waiting-clause-why c =
+    passed_so c.from_residual.result c.in_err-knows_waiting.field-0.0 (Why c.args.engine.now c.args.call.now) c.from_residual.ensures.1 (λ is. inl (c.in_err-knows_waiting.ensures.misused (ap Err is)))
+
+pub returns-in_err-text-clause-why : goal.returns-in_err-text-clause-why
+returns-in_err-text-clause-why c =
+    passed_so c.from_residual-in_err-text.result c.in_err-text.field-0.0 (Why c.args.engine.now c.args.call.now) c.from_residual-in_err-text.ensures.1 (λ is. inr c.in_err-text.ensures.refused.1)
+
+pub returns-in_err-refuse-clause-why : goal.returns-in_err-refuse-clause-why
+returns-in_err-refuse-clause-why c =
+    passed_so c.from_residual-in_err-refuse.result c.in_err-refuse.field-0.0 (Why c.args.engine.now c.args.call.now) c.from_residual-in_err-refuse.ensures.1
+    (λ is. absurd (c.in_err-refuse.ensures.meant c.in_ok-knows_waiting.ensures.waits c.in_ok-knows_waiting.ensures.found is))
 
 pub returns-in_err-knows_waiting-clause-turns : goal.returns-in_err-knows_waiting-clause-turns
 returns-in_err-knows_waiting-clause-turns c =
@@ -47,10 +71,11 @@ returns-clause-done c =
     let old = c.args.engine.now in
     let new = c.refuse.new.self in
     record {
-      keeps = record { rules = c.refuse.ensures.rules; contexts = c.refuse.ensures.contexts; environments = c.refuse.ensures.environments };
+      keeps = c.refuse.ensures.kept;
+      built = ap (λ (left : ValueBuilder). values_of left) c.refuse.ensures.built;
       answer =
           ended_so (IsRefusal c.in_ok-text.text.now) (waiting_inputs old) old.waits new.waits (part_of new.answer)
           (c.in_ok-refuse.ensures.replied c.in_ok-knows_waiting.ensures.waits c.in_ok-knows_waiting.ensures.found);
       way = c.in_ok-refuse.ensures.way;
-      told = subst (λ v. Tells v (call_result c.describe.new.call)) c.part.ensures c.describe.ensures;
+      told = subst (λ v. Tells v (call_result c.describe.new.call)) c.part.ensures c.describe.ensures.told;
     }

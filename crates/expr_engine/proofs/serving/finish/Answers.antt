@@ -1,8 +1,27 @@
-use Rattle.expr_engine.specs.Faults.{place_of, refused_byte}
+use Rattle.std.proofs.Common.{◌⊎◌, ◌≡◌, ℕ, List, Result, IfErr, string_bytes, subst, sym}
+use Rattle.expr_engine.specs.Faults.{IsAt, place_of, refused_byte}
+use Rattle.expr_engine.specs.Served.{EndsCall, ShowsText}
+use Rattle.expr_exchange.specs.declared.host_error.HostError.{HostError}
+use Rattle.expr_engine.proofs.Ended.{ends_call}
 use Rattle.expr_engine.proofs.Faulty.{placed_on}
+use Rattle.expr_engine.proofs.Unchanged.{on_err}
 use Rattle.expr_engine.proofs.serving.finish.Goals as goal
+
+pub returns-in-Err-clause-ended : goal.returns-in-Err-clause-ended
+returns-in-Err-clause-ended c =
+    let f = c.refuse-status.ensures in
+    subst (λ (done : Result (Unit {0}) HostError). EndsCall done c.answer-in-Err.new.call.status) (sym c.in-Err.is)
+    (ends_call c.in-Err.refused c.refuse-status.result c.answer-in-Err.new.call.status f.status f.unknown f.misuse f.asks f.differs c.answer-in-Err.ensures.status)
 
 pub returns-in-Err-clause-placed : goal.returns-in-Err-clause-placed
 returns-in-Err-clause-placed c =
-    placed_on (refused_byte c.in-Err.refused) c.args.call.now.text.now (place_of c.refuse-status.new.call) (place_of c.answer-in-Err.new.call) c.refuse-status.result c.answer-in-Err.new.call.status
-    c.refuse-status.ensures.placed c.answer-in-Err.ensures.place c.answer-in-Err.ensures.status
+    let text = c.args.call.now.text.now in
+    let number = c.answer-in-Err.new.call.status in
+    subst (λ (done : Result (Unit {0}) HostError). IfErr done (λ refused. IsAt (refused_byte refused) text (place_of c.answer-in-Err.new.call) ⊎ (number ≡ 5))) (sym c.in-Err.is)
+    (placed_on (refused_byte c.in-Err.refused) text (place_of c.refuse-status.new.call) (place_of c.answer-in-Err.new.call) c.refuse-status.result number
+    c.refuse-status.ensures.placed c.answer-in-Err.ensures.place c.answer-in-Err.ensures.status)
+
+pub returns-in-Err-clause-said : goal.returns-in-Err-clause-said
+returns-in-Err-clause-said c =
+    on_err c.args.done
+    (subst (λ (room : List ℕ). ShowsText (string_bytes c.refuse-status.new.engine.said) room c.answer-in-Err.new.call) c.refuse-status.ensures.room c.answer-in-Err.ensures.shown)

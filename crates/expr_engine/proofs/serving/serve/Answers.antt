@@ -1,79 +1,73 @@
-use Rattle.std.proofs.Common.{◌≡◌, [], MatchOption, length, subst, sym}
+use Rattle.std.proofs.Common.{◌≡◌, ℕ, List, [], Some, MatchOption, ap, refl, string_bytes, subst, sym}
 use Rattle.expr_engine.specs.Asks.{ask_of, shows_of}
 use Rattle.expr_engine.specs.Effects.{Does, IsMissing, call_result}
 use Rattle.expr_engine.specs.Engines.{run_inputs}
 use Rattle.expr_engine.specs.Faults.{place_of}
 use Rattle.expr_engine.specs.Limiting.{LimitsBy}
-use Rattle.expr_engine.specs.Served.{AnswersNumber, text_shown}
+use Rattle.expr_engine.specs.Promised.{Gives}
+use Rattle.expr_engine.specs.Reasons.{EndsWithReason}
+use Rattle.expr_engine.specs.Served.{AnswersNumber, ShowsText, text_shown}
 use Rattle.expr_engine.specs.Turns.{TurnsBy}
-use Rattle.expr_engine.specs.declared.call.Ask.TheVariants.{Compile, Run}
+use Rattle.expr_engine.specs.declared.call.Ask.{Ask}
+use Rattle.expr_engine.specs.declared.call.Ask.TheVariants as is
 use Rattle.expr_exchange.specs.Cursor.{part_of}
+use Rattle.expr_engine.proofs.Acting.{served_nothing}
 use Rattle.expr_engine.proofs.Ended.{asked_for, does_by, done_by, limits_by, refused_by, served_by, turns_on}
 use Rattle.expr_engine.proofs.Faulty.{placed_in}
-use Rattle.expr_engine.proofs.Unchanged.{leaves_after, rise_after}
+use Rattle.expr_engine.proofs.Unchanged.{answer_in, leaves_after, limits_in, rise_after, waits_in}
 use Rattle.expr_engine.proofs.serving.serve.Goals as goal
 
-pub returns-in-Some-clause-done : goal.returns-in-Some-clause-done
-returns-in-Some-clause-done c = λ z.
-    asked_for ⊥ (ask_of c.args.call.now.ask) c.in-Some.ask (λ ask. Does ask c.args.engine.now c.finish.new.engine c.args.call.now (call_result c.finish.new.call)) (sym c.in-Some.ensures)
-    (does_by c.in-Some.ask c.args.engine.now c.act-done.new.engine c.finish.new.engine c.args.call.now (call_result c.act-done.new.call) (call_result c.finish.new.call)
-    (done_by c.act-done.result c.finish.new.call.status c.act-done.ensures.done c.finish.ensures.ended z) (done_by c.act-done.result c.finish.new.call.status c.finish.ensures.same c.finish.ensures.ended z) c.finish.ensures.reply)
-
-pub returns-in-Some-clause-text : goal.returns-in-Some-clause-text
-returns-in-Some-clause-text c = λ is_compile.
-    let is : c.in-Some.ask ≡ Compile = cc (is_compile, c.in-Some.ensures) in
-    placed_in c.args.engine.now.limits c.args.call.now.text.now c.act-done.new.call.text.now c.act-done.result c.finish.new.call.status (place_of c.finish.new.call)
-    (c.act-done.ensures.why is) (c.act-done.ensures.text is) c.finish.ensures.ended c.finish.ensures.placed
-
-pub returns-in-Some-clause-run : goal.returns-in-Some-clause-run
-returns-in-Some-clause-run c = λ is_run.
-    let is : c.in-Some.ask ≡ Run = cc (is_run, c.in-Some.ensures) in
-    let found = run_inputs c.args.engine.now c.args.call.now.program c.args.call.now.environment c.args.call.now.context in
-    let status = c.finish.new.call.status in
-    subst (λ a. MatchOption found (status ≡ 6) (λ q. AnswersNumber q [] status (part_of a))) (sym c.finish.ensures.answer)
-    (served_by found [] c.act-done.result (part_of c.act-done.new.engine.answer) status (c.act-done.ensures.run is) c.finish.ensures.unknown c.finish.ensures.ended)
-
-pub returns-in-Some-clause-turns : goal.returns-in-Some-clause-turns
-returns-in-Some-clause-turns c =
+pub returns-in-Some : goal.returns-in-Some
+returns-in-Some c =
+    let acts = c.act-done.ensures in
+    let ends = c.finish.ensures in
+    let old = c.args.engine.now in
+    let mid = c.act-done.new.engine in
     let new = c.finish.new.engine in
-    let status = c.finish.new.call.status in
-    asked_for (new.waits ≡ c.args.engine.now.waits) (ask_of c.args.call.now.ask) c.in-Some.ask (λ ask. TurnsBy ask c.args.engine.now c.args.call.now status new.waits (part_of new.answer)) (sym c.in-Some.ensures)
-    (record {
-      done = c.act-done.result;
-      ends = c.finish.ensures.ended;
-      turns = turns_on c.in-Some.ask c.args.engine.now c.args.call.now c.act-done.result c.act-done.new.engine new c.act-done.ensures.turns c.finish.ensures.waits c.finish.ensures.answer;
-    })
+    let call = c.args.call.now in
+    let answered = c.finish.new.call in
+    let result = c.act-done.result in
+    let ask = c.in-Some.ask in
+    let same : ask_of call.ask ≡ Some ask = sym c.in-Some.ensures in
+    record {
+      done = λ z.
+          asked_for ⊥ (ask_of call.ask) ask (λ ask. Does ask old new call (call_result answered)) same
+          (does_by ask old mid new call (call_result c.act-done.new.call) (call_result answered)
+          (done_by result answered.status acts.does ends.ended z) (done_by result answered.status ends.same ends.ended z) ends.reply);
+      text = λ is_compile.
+          let same_ask : ask ≡ is.Compile = cc (is_compile, same) in
+          let (refuses, kept) = subst (λ (x : Ask). Gives x old call c.act-done.new.call result (part_of mid.answer)) same_ask acts.gives in
+          placed_in old.limits call.text.now c.act-done.new.call.text.now result answered.status (place_of answered) refuses kept ends.ended ends.placed;
+      run = λ is_run.
+          let same_ask : ask ≡ is.Run = cc (is_run, same) in
+          let found = run_inputs old call.program call.environment call.context in
+          subst (λ a. MatchOption found (answered.status ≡ 6) (λ q. AnswersNumber q [] answered.status (part_of a))) (sym (ap answer_in ends.standing))
+          (served_by found [] result (part_of mid.answer) answered.status
+          (subst (λ (x : Ask). Gives x old call c.act-done.new.call result (part_of mid.answer)) same_ask acts.gives) ends.unknown ends.ended);
+      turns =
+          asked_for (new.waits ≡ old.waits) (ask_of call.ask) ask (λ ask. TurnsBy ask old call answered.status new.waits (part_of new.answer)) same
+          (record { done = result; ends = ends.ended; turns = turns_on ask old call result mid new acts.turns (ap waits_in ends.standing) (ap answer_in ends.standing) });
+      limits =
+          asked_for (new.limits ≡ old.limits) (ask_of call.ask) ask (λ ask. LimitsBy ask old.limits call (answered.status ≡ 0) (answered.status ≡ 7) new.limits) same
+          (limits_by ask old.limits call result answered.status mid.limits new.limits ends.ended ends.misuse acts.limits (ap limits_in ends.standing));
+      refused = λ n. leaves_after old mid new (refused_by result answered.status acts.refused ends.ended n) ends.kept (ap answer_in ends.standing);
+      why =
+          asked_for (answered.status ≡ 7) (ask_of call.ask) ask (λ ask. EndsWithReason ask old call answered.status) same
+          (record { done = result; ends = ends.ended; why = acts.why });
+      built = λ n. refused_by result answered.status ends.built ends.ended n;
+      unknown =
+          asked_for (answered.status ≡ 7) (ask_of call.ask) ask (λ ask. IsMissing ask old call → answered.status ≡ 6) same
+          (λ m. ends.unknown (acts.unknown m));
+      known = λ e. asked_for ⊥ (ask_of call.ask) ask (λ ask. IsMissing ask old call) same (acts.known (ends.known e));
+      numbers = rise_after old mid new acts.numbers ends.kept;
+      shown = λ z.
+          asked_for ⊥ (ask_of call.ask) ask (λ ask. ShowsText (text_shown (shows_of ask) new) call.room.now answered) same
+          (subst (λ s. ShowsText (text_shown s new) call.room.now answered) c.shows.ensures
+          (subst (λ (room : List ℕ). ShowsText (text_shown c.shows.result new) room answered) acts.room (done_by result answered.status ends.shown ends.ended z)));
+      said = λ n. subst (λ (room : List ℕ). ShowsText (string_bytes new.said) room answered) acts.room (refused_by result answered.status ends.said ends.ended n);
+    }
 
-pub returns-in-Some-clause-limits : goal.returns-in-Some-clause-limits
-returns-in-Some-clause-limits c =
-    let old = c.args.engine.now.limits in
-    let new = c.finish.new.engine.limits in
-    let status = c.finish.new.call.status in
-    asked_for (new ≡ old) (ask_of c.args.call.now.ask) c.in-Some.ask (λ ask. LimitsBy ask old c.args.call.now (status ≡ 0) (status ≡ 7) new) (sym c.in-Some.ensures)
-    (limits_by c.in-Some.ask old c.args.call.now c.act-done.result status c.act-done.new.engine.limits new c.finish.ensures.ended c.finish.ensures.misuse c.act-done.ensures.limits c.finish.ensures.limits)
-
-pub returns-in-Some-clause-refused : goal.returns-in-Some-clause-refused
-returns-in-Some-clause-refused c = λ n.
-    leaves_after {mid = c.act-done.new.engine} (refused_by c.act-done.result c.finish.new.call.status c.act-done.ensures.refused c.finish.ensures.ended n)
-    c.finish.ensures.rules c.finish.ensures.contexts c.finish.ensures.environments c.finish.ensures.answer
-
-pub returns-in-Some-clause-built : goal.returns-in-Some-clause-built
-returns-in-Some-clause-built c = λ n. refused_by c.act-done.result c.finish.new.call.status c.finish.ensures.built c.finish.ensures.ended n
-
-pub returns-in-Some-clause-unknown : goal.returns-in-Some-clause-unknown
-returns-in-Some-clause-unknown c =
-    asked_for (c.finish.new.call.status ≡ 7) (ask_of c.args.call.now.ask) c.in-Some.ask (λ ask. IsMissing ask c.args.engine.now c.args.call.now → c.finish.new.call.status ≡ 6) (sym c.in-Some.ensures)
-    (λ m. c.finish.ensures.unknown (c.act-done.ensures.unknown m))
-
-pub returns-in-Some-clause-known : goal.returns-in-Some-clause-known
-returns-in-Some-clause-known c = λ e.
-    asked_for ⊥ (ask_of c.args.call.now.ask) c.in-Some.ask (λ ask. IsMissing ask c.args.engine.now c.args.call.now) (sym c.in-Some.ensures)
-    (c.act-done.ensures.known (c.finish.ensures.known e))
-
-pub returns-in-Some-clause-numbers : goal.returns-in-Some-clause-numbers
-returns-in-Some-clause-numbers c = rise_after c.act-done.ensures.numbers c.finish.ensures.rules c.finish.ensures.contexts c.finish.ensures.environments
-
-pub returns-in-Some-clause-shown : goal.returns-in-Some-clause-shown
-returns-in-Some-clause-shown c = λ z.
-    asked_for ⊥ (ask_of c.args.call.now.ask) c.in-Some.ask (λ ask. c.finish.new.call.length ≡ length (text_shown (shows_of ask) c.finish.new.engine)) (sym c.in-Some.ensures)
-    (subst (λ s. c.finish.new.call.length ≡ length (text_shown s c.finish.new.engine)) c.shows.ensures (done_by c.act-done.result c.finish.new.call.status c.finish.ensures.length c.finish.ensures.ended z))
+pub returns-in-None : goal.returns-in-None
+returns-in-None c =
+    let ends = c.finish-in-None.ensures in
+    served_nothing c.args.engine.now c.finish-in-None.new.engine c.args.call.now c.finish-in-None.new.call (sym c.in-None.ensures) (ends.misuse refl) ends.kept ends.standing ends.built ends.said

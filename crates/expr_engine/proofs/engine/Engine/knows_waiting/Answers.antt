@@ -1,7 +1,7 @@
 use Rattle.std.proofs.Common.{◌≡◌, true, arith, is_some}
 use Rattle.std.proofs.lemmas.Grind.{common_steps}
 use Rattle.expr_engine.specs.Engines.{waiting_inputs}
-use Rattle.expr_engine.proofs.Turned.{known_refused, known_some, stale_unknown, unknown_none}
+use Rattle.expr_engine.proofs.Turned.{known_meant, known_refused, known_some, stale_unknown, unknown_none}
 use Rattle.expr_stops.specs.Stops.{waiting_call_of}
 use Rattle.expr_engine.proofs.engine.Engine.knows_waiting.Goals as goal
 
@@ -18,3 +18,6 @@ pub returns-clause-known : goal.returns-clause-known
 returns-clause-known c = λ is.
     let waits : is_some (waiting_call_of c.args.self.now.waits.stops) ≡ true = grind (arith, common_steps) in
     (waits, unknown_none (waiting_inputs c.args.self.now) c.knows_run.result c.knows_run.ensures is)
+
+pub returns-clause-misused : goal.returns-clause-misused
+returns-clause-misused c = λ is. absurd (known_meant (waiting_inputs c.args.self.now) c.knows_run.result c.knows_run.ensures is)

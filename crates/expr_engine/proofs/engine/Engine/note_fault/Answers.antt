@@ -5,8 +5,8 @@ use Rattle.expr_engine.proofs.engine.Engine.note_fault.Goals as goal
 pub returns-clause-noted : goal.returns-clause-noted
 returns-clause-noted c = λ _. record {
   same = refl;
-  spot = c.in_ok-spot.spot;
-  is = subst (λ (text : List ℕ). IsLineColumn text c.args.byte c.in_ok-spot.spot) c.in-Ok.ensures.cases.0 c.in_ok-spot.ensures.ok;
+  location = c.in_ok-location.location;
+  is = subst (λ (text : List ℕ). IsLineColumn text c.args.byte c.in_ok-location.location) c.in-Ok.ensures.cases.0 c.in_ok-location.ensures.ok;
   line = refl;
   column = refl;
 }

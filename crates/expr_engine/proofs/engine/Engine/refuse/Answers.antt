@@ -1,6 +1,6 @@
 use Rattle.expr_engine.specs.Engines.{waiting_inputs}
 use Rattle.expr_engine.specs.Turns.{IsRefusal}
-use Rattle.expr_engine.proofs.Turned.{found_ends, replied_by}
+use Rattle.expr_engine.proofs.Turned.{found_ends, replied_by, run_meant}
 use Rattle.expr_exchange.specs.Cursor.{part_of}
 use Rattle.expr_stops.specs.Stops.{replies_of}
 use Rattle.expr_stops.specs.declared.replies.Reply.TheVariants as reply
@@ -13,3 +13,6 @@ returns-clause-replied c = λ waits found.
 
 pub returns-clause-found : goal.returns-clause-found
 returns-clause-found c = λ waits found. found_ends (waiting_inputs c.args.self.now) (replies_of c.refuse.new.self) c.go_on.result (part_of c.go_on.new.self.answer) found c.go_on.ensures.ended
+
+pub returns-clause-meant : goal.returns-clause-meant
+returns-clause-meant c = λ waits found. run_meant (waiting_inputs c.args.self.now) (replies_of c.refuse.new.self) c.go_on.result (part_of c.go_on.new.self.answer) c.go_on.ensures.ended

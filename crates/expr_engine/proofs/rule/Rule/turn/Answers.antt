@@ -2,7 +2,7 @@ use Rattle.std.proofs.Common.{List, ap, subst, sym}
 use Rattle.std.specs.Option.{option_copied}
 use Rattle.expr_code.specs.Machine.{Op}
 use Rattle.expr_engine.specs.Codes.{code_of}
-use Rattle.expr_engine.specs.Runs.{context_of, host_by, host_with, named_by, pairs_of}
+use Rattle.expr_engine.specs.Runs.{context_of, host_by, host_with_replies, named_by, pairs_of}
 use Rattle.expr_engine.proofs.Given.{hosted_in, stops_in, turned_within, unhosted_in}
 use Rattle.expr_stops.proofs.Replied.{turned}
 use Rattle.expr_stops.specs.Stops.{CodeComes, EndsTurn, StopsWell, waiting_call_of, replies_of}
@@ -22,7 +22,7 @@ pub returns-in-Some-clause-ended : goal.returns-in-Some-clause-ended
 returns-in-Some-clause-ended c =
     let ctx : ContextView = context_of (pairs_of (option_copied c.args.names.names)) in
     let code : List (List Op) = code_of c.args.self.now.code in
-    let host = host_with (option_copied c.args.host.added) (replies_of c.args.stops.now) in
+    let host = host_with_replies (option_copied c.args.host.added) (replies_of c.args.stops.now) in
     let ends : EndsTurn c.execute.result (CodeComes c.args.limits (world_of host ctx) code) = returns-in-Some-clause-ends c in
     turned_within c.args.limits c.execute.result (world_of host ctx) (program_term c.args.self.now.program) code c.args.self.now.lowered ends
 
@@ -42,7 +42,7 @@ pub returns-in-None-clause-ended : goal.returns-in-None-clause-ended
 returns-in-None-clause-ended c =
     let ctx : ContextView = context_of (pairs_of (option_copied c.args.names.names)) in
     let code : List (List Op) = code_of c.args.self.now.code in
-    let host = host_with (option_copied c.args.host.added) (replies_of c.args.stops.now) in
+    let host = host_with_replies (option_copied c.args.host.added) (replies_of c.args.stops.now) in
     let ends : EndsTurn c.of.result (CodeComes c.args.limits (world_of host ctx) code) = returns-in-None-clause-ends c in
     turned_within c.args.limits c.of.result (world_of host ctx) (program_term c.args.self.now.program) code c.args.self.now.lowered ends
 
