@@ -4,10 +4,11 @@ use Rattle.std.proofs.lemmas.Bool.{false≢true}
 use Rattle.expr_engine.specs.Effects.{Does, CallResult}
 use Rattle.expr.proofs.Stopping.{IsOfRuns, stops_of_runs}
 use Rattle.expr_costs.specs.Costs.{costs_in}
-use Rattle.expr_engine.specs.Codes.{code_of}
+use Rattle.expr.specs.KeptCodes.{kept_blocks}
 use Rattle.expr_engine.specs.Engines.{RunInputs, CompileRefuses, RunMayAnswer, MayEnd}
 use Rattle.expr_engine.specs.Limiting.{LimitsBy, limits_asked}
-use Rattle.expr_engine.specs.Runs.{context_of, host_with_replies}
+use Rattle.expr.specs.Contexts.{context_of}
+use Rattle.expr_engine.specs.Runs.{host_with_replies}
 use Rattle.expr_engine.specs.Served.{AnswersNumber, EndsCall, RunServes, Says, number_of}
 use Rattle.expr_engine.specs.Turns.{Turns}
 use Rattle.expr_engine.specs.declared.call.Ask.{Ask}
@@ -47,7 +48,7 @@ stops_at_runs (Some limits) world code limit p = stops_of_runs (costs_in world.h
 stops_at_runs None world code limit p = absurd p
 
 of_runs : (q : RunInputs) (given : List CallReply) (limit : Limit) → MayEnd q given (stops limit) → IsOfRuns limit
-of_runs q given limit p = stops_at_runs q.limits (world_of (host_with_replies q.added given) (context_of q.names)) (code_of q.rule.code) limit p
+of_runs q given limit p = stops_at_runs q.limits (world_of (host_with_replies q.added given) (context_of q.names)) (kept_blocks q.rule.code) limit p
 
 said_at : (q : RunInputs) (given : List CallReply) (value : Value) (limit : Limit) → MayEnd q given (stops limit) → Says q given (ends_at limit) value
 said_at q given value Height p = of_runs q given Height p

@@ -3,7 +3,8 @@ use Rattle.std.proofs.Common.{◌≡◌, ◌≢◌, ◌⊎◌, ◌∙◌, ◌∷
 use Rattle.std.proofs.lemmas.Bool.{false≢true}
 use Rattle.std.specs.Option.{option_and_then, option_map}
 use Rattle.expr_engine.specs.Engines.{RunInputs, RunMayAnswer, MayEnd, additions_at, names_at, run_inputs}
-use Rattle.expr_engine.specs.Runs.{NamedValues, named_by}
+use Rattle.expr.specs.Contexts.{NamedValues}
+use Rattle.expr_engine.specs.Runs.{named_by}
 use Rattle.expr_engine.specs.Served.{RunServes}
 use Rattle.expr_engine.specs.Turns.{GoesOnWith, IsAnswer, IsNewRun, IsSameRun, PassesOn, RunGoesOn, WaitsIfAsks, finds_nothing}
 use Rattle.expr_engine.specs.declared.additions.Additions.{Additions}

@@ -2,9 +2,10 @@
 use Rattle.std.specs.Prelude.{◌≡◌, ◌≢◌, ◌≤◌, ℕ, ◌==◌, List, [], Option, None, Some, Err, IsUtf8, if◌then◌else◌, option_map}
 use Rattle.std.specs.Option.{option_and_then}
 use Rattle.expr.specs.Texts.{IsRefused}
-use Rattle.expr_engine.specs.Codes.{code_of}
+use Rattle.expr.specs.KeptCodes.{kept_blocks}
 use Rattle.expr_engine.specs.Limiting.{Passes}
-use Rattle.expr_engine.specs.Runs.{MeaningAllows, NamedValues, context_of, host_with_replies, named_at, zone_at}
+use Rattle.expr.specs.Contexts.{NamedValues, context_of}
+use Rattle.expr_engine.specs.Runs.{MeaningAllows, host_with_replies, named_at, zone_at}
 use Rattle.expr_engine.specs.declared.additions.Additions.{Additions}
 use Rattle.expr_engine.specs.declared.engine.Engine.{Engine}
 use Rattle.expr_engine.specs.declared.rule.Rule.{Rule}
@@ -56,7 +57,7 @@ run_inputs engine program environment context =
 -- how a run of the program's code may end in that environment and that context, where calls of the host's functions answer what it replied, within the limits, if there
 -- are any
 abbrev pub MayEnd : RunInputs → List CallReply → Ending Room → Type 0
-MayEnd q given end = CodeComes q.limits (world_of (host_with_replies q.added given) (context_of q.names)) (code_of q.rule.code) end
+MayEnd q given end = CodeComes q.limits (world_of (host_with_replies q.added given) (context_of q.names)) (kept_blocks q.rule.code) end
 
 -- An answer of such a run: the program's meaning allows it too.
 pub record RunMayAnswer (q : RunInputs) (given : List CallReply) (answer : Answer) : Type 0 where

@@ -1,6 +1,5 @@
 pub mod Adding
 pub mod Asks
-pub mod Codes
 pub mod Effects
 pub mod Engines
 pub mod Faults

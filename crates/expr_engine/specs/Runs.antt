@@ -1,6 +1,7 @@
 -- What a run is asked in: the names of a context, and what an environment adds.
 use Rattle.std.specs.Prelude.{ℕ, Bool, List, [], Option, None, Some, false}
 use Rattle.std.specs.HashMap.{get_by_text}
+use Rattle.expr.specs.Contexts.{NamedValues}
 use Rattle.expr_engine.specs.declared.additions.Additions.{Additions}
 use Rattle.expr_meaning.specs.Allows.{AllowsBlock}
 use Rattle.expr_meaning.specs.Host.{Host, no_host}
@@ -9,18 +10,8 @@ use Rattle.expr_stops.specs.declared.replies.CallReply.{CallReply}
 use Rattle.expr_stops.specs.declared.names.StopNames.{StopNames}
 use Rattle.expr_tree.specs.Term.{Block}
 use Rattle.expr_value.specs.Answers.{Answer}
-use Rattle.expr_context.specs.Context.{ContextView}
 use Rattle.expr_meaning.specs.World.{World}
-use Rattle.expr_value.specs.Names.{find}
-use Rattle.expr_value.specs.declared.value.Value.{Value}
 use Rattle.expr_datetime.specs.declared.zone.TimezoneValue.{TimezoneValue}
-
-abbrev pub NamedValues : Type 0
-NamedValues = List (List ℕ × Value)
-
--- what names stand for that have these values
-abbrev pub context_of : NamedValues → ContextView
-context_of pairs = record { value_of = λ name. find name pairs; map = pairs }
 
 -- the names of a context, none where there is none
 abbrev pub pairs_of : Option NamedValues → NamedValues

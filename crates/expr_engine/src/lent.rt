@@ -10,7 +10,8 @@ pub struct LentNames<'a> {
 
 impl<'a> ContextProvider for LentNames<'a> {
     ghost use Rattle.std.specs.Option.{option_copied};
-    ghost use Rattle.expr_engine.specs.Runs.{context_of, pairs_of};
+    ghost use Rattle.expr.specs.Contexts.{context_of};
+    ghost use Rattle.expr_engine.specs.Runs.{pairs_of};
 
     ghost context = { λ lent. context_of (pairs_of (option_copied lent.names)) };
 

@@ -1,6 +1,6 @@
 //! A program that is kept, and its code.
 ghost use Rattle.expr_code.specs.Codes.{IsCode};
-ghost use Rattle.expr_engine.specs.Codes.{code_of};
+ghost use Rattle.expr.specs.KeptCodes.{kept_blocks};
 ghost use Rattle.expr_engine.specs.Limiting.{IsCompiledBy};
 ghost use Rattle.expr_syntax.specs.Texts.{IsPlaced};
 ghost use Rattle.expr_tree.specs.TermOf.{program_term};
@@ -18,7 +18,7 @@ use std::alloc::Global;
 pub struct Rule {
     pub program: Program,
     pub code: KeptCode,
-    pub ghost lowered: { ∥ IsCode (program_term program) (code_of code) ∥₁ },
+    pub ghost lowered: { ∥ IsCode (program_term program) (kept_blocks code) ∥₁ },
 }
 
 impl Rule {
@@ -28,7 +28,8 @@ impl Rule {
     ghost use Rattle.expr_engine.specs.Limiting.{IsCompiledBy};
     ghost use Rattle.expr_engine.specs.Effects.{AreSaid};
     ghost use Rattle.expr_error.specs.ErrorKind.{OnlyMemory};
-    ghost use Rattle.expr_engine.specs.Runs.{MeaningAllows, context_of, host_with_replies, named_by, pairs_of};
+    ghost use Rattle.expr.specs.Contexts.{context_of};
+    ghost use Rattle.expr_engine.specs.Runs.{MeaningAllows, host_with_replies, named_by, pairs_of};
     ghost use Rattle.expr_limited.specs.Outcomes.{ReturnsOutcome};
     ghost use Rattle.expr_stops.specs.Stops.{CodeComes, EndsTurn, IfEnded, StopsWell, waiting_call_of, replies_of};
     ghost use Rattle.expr_syntax.specs.Texts.{IsPlaced};
@@ -79,7 +80,7 @@ impl Rule {
         ensures answer { GivesWithin result (MeaningAllows (world_of (H.host host.now)
             (context_of (pairs_of (option_copied names.entry.names)))) (program_term self.now.program)) }
         ensures ends { ReturnsOutcome result (CodeComes limits (world_of (H.host host.now)
-            (context_of (pairs_of (option_copied names.entry.names)))) (code_of self.now.code)) }
+            (context_of (pairs_of (option_copied names.entry.names)))) (kept_blocks self.now.code)) }
     {
         execute_in(alloc, host, &self.code, names, limits)
     }
@@ -98,7 +99,7 @@ impl Rule {
         // It ends or stops at a limit as a run of the program's code does that counts within the limits, if there are any.
         ensures ends { EndsTurn result (CodeComes limits
             (world_of (host_with_replies (option_copied host.entry.added) (replies_of stops.old))
-            (context_of (pairs_of (option_copied names.entry.names)))) (code_of self.now.code)) }
+            (context_of (pairs_of (option_copied names.entry.names)))) (kept_blocks self.now.code)) }
         // An answer is one that the program's meaning allows.
         ensures ended { IfEnded result (λ r. Returns r (MeaningAllows
             (world_of (host_with_replies (option_copied host.entry.added) (replies_of stops.old))
