@@ -1,5 +1,5 @@
 -- What the calls on arrays and maps give.
-use Rattle.std.specs.Prelude.{◌≡◌, ℕ, ◌-◌, ◌==◌, if◌then◌else◌, ℤ, pos, negsuc, List, [], ◌∷◌, length, take, map, reverse, slice_get, Option, None, Some, unwrap_or, flat_map, Ok, Err}
+use Rattle.std.specs.Prelude.{◌≡◌, ℕ, ◌-◌, ◌==◌, if◌then◌else◌, ℤ, pos, negsuc, List, [], ◌∷◌, length, take, map, reverse, slice_get, false, Option, None, Some, unwrap_or, flat_map, Ok, Err}
 use Rattle.std.specs.Int.{w64, cast_signed}
 use Rattle.std.specs.Map.{keys_of, values_of}
 use Rattle.std.specs.Option.{option_and_then, option_map}
