@@ -112,7 +112,7 @@ module _ (height : ℕ) (m : BlockWithHeight) (high : height < m.height) where
   fits_not t same f =
       let low : program_height t ≤ height = f.1 in
       let higher : height < program_height t = subst (λ n. height < n) (ap (λ (n : BlockWithHeight). n.height) same) high in
-      omega arith
+      omega (arith, low, higher)
 
   pub IsCompiledWithin-high : (text : List ℕ) → IsMeasureOf text m → (e : Error) → IsParseRefusal e → IsCompiledWithin text height (Err e)
   IsCompiledWithin-high text read (PestError place) r = absurd r
