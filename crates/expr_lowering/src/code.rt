@@ -22,7 +22,7 @@ pub struct Code<L, N, P> {
 }
 
 impl<'p> Code<&'p Value, &'p String, &'p Pattern> {
-    ghost use Rattle.std.specs.Prelude.{◌≡◌, IfOk, string_bytes};
+    ghost use Rattle.std.specs.Prelude.{IfOk, string_bytes};
     ghost use Rattle.expr_code.specs.Codes.{IsCode};
     ghost use Rattle.expr_lowering.specs.Blocks.{CodeKeeps, blocks_of};
     ghost use Rattle.expr_lowering.specs.Kept.{ProgramKeeps};
