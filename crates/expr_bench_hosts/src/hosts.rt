@@ -71,8 +71,22 @@ fn put_node(alloc: Global, host: &Environment, node: &Node, page: &mut Page) {
     }
 }
 
-/// An environment with functions of its own.
-fn host_of_functions(alloc: Global) -> Result<Environment> {
+/// What is asked of an environment with functions of its own.
+#[derive(Clone, Copy)]
+enum HostRow {
+    /// A text.
+    Text,
+    /// The last node of a text.
+    Node,
+    /// A text, its program and its code.
+    Program,
+    /// A kept machine.
+    Machine,
+}
+
+/// What an environment with functions of its own answers. It is made here, since no function may hand out boxed closures that it
+/// makes.
+fn functions_answer(alloc: Global, row: &Row, asked: HostRow) -> Result<String> {
     let calls = Cell::new(0_i64);
     let mut host = Environment::new(alloc);
     for (name, counts) in FUNCTIONS {
@@ -95,27 +109,24 @@ fn host_of_functions(alloc: Global) -> Result<Environment> {
             Ok(Value::Integer(calls.get()))
         })?,
     )?;
-    Ok(host)
+    match asked {
+        HostRow::Text => { answer_text(alloc, host.eval(alloc, row.text(0), &Context::new(alloc))) }
+        HostRow::Node => node_answer(alloc, &host, row),
+        HostRow::Program => program_answer(alloc, &host, row),
+        HostRow::Machine => machine_answer(alloc, &host, row),
+    }
 }
 
-/// What a text answers where those functions are added.
-pub fn functions_text(alloc: Global, row: &Row) -> Result<String> {
-    let host = host_of_functions(alloc)?;
-    answer_text(alloc, host.eval(alloc, row.text(0), &Context::new(alloc)))
-}
-
-/// What the last node of a text answers where those functions are added, by the environment's call for nodes of its kind.
-pub fn function_parts_text(alloc: Global, row: &Row) -> Result<String> {
-    let host = host_of_functions(alloc)?;
+/// What the last node of a text answers there, by the environment's call for nodes of its kind.
+fn node_answer(alloc: Global, host: &Environment, row: &Row) -> Result<String> {
     let program = compile(alloc, row.text(0))?;
     let mut page = Page::new(alloc);
-    put_node(alloc, &host, &program.expr, &mut page);
+    put_node(alloc, host, &program.expr, &mut page);
     page.into_text()
 }
 
-/// What a text, its program and its code answer where those functions are added and `a` is 2, by each call for them.
-pub fn hosted_text(alloc: Global, row: &Row) -> Result<String> {
-    let host = host_of_functions(alloc)?;
+/// What a text, its program and its code answer there where `a` is 2, by each call for them.
+fn program_answer(alloc: Global, host: &Environment, row: &Row) -> Result<String> {
     let context = where_a_is_2(alloc)?;
     let program = compile(alloc, row.text(0))?;
     let mut page = Page::new(alloc);
@@ -130,18 +141,37 @@ pub fn hosted_text(alloc: Global, row: &Row) -> Result<String> {
 }
 
 /// What a kept machine answers of a text there, once and again, and then where `a` stands for nothing.
-pub fn machine_text(alloc: Global, row: &Row) -> Result<String> {
-    let host = host_of_functions(alloc)?;
+fn machine_answer(alloc: Global, host: &Environment, row: &Row) -> Result<String> {
     let context = where_a_is_2(alloc)?;
     let program = compile(alloc, row.text(0))?;
     let code = Code::lower(alloc, &program)?;
     let mut machine = KeptMachine::new(alloc, &code);
     let mut page = Page::new(alloc);
-    page.put_call("KeptMachine::new", machine.execute(&host, &context));
-    page.put_call("KeptMachine::execute", machine.execute(&host, &context));
-    let answer = machine.execute_among(&host, Context::new(alloc));
+    page.put_call("KeptMachine::new", machine.execute(host, &context));
+    page.put_call("KeptMachine::execute", machine.execute(host, &context));
+    let answer = machine.execute_among(host, Context::new(alloc));
     page.put_call("KeptMachine::execute_among", answer);
     page.into_text()
+}
+
+/// What a text answers where those functions are added.
+pub fn functions_text(alloc: Global, row: &Row) -> Result<String> {
+    functions_answer(alloc, row, HostRow::Text)
+}
+
+/// What the last node of a text answers where those functions are added, by the environment's call for nodes of its kind.
+pub fn function_parts_text(alloc: Global, row: &Row) -> Result<String> {
+    functions_answer(alloc, row, HostRow::Node)
+}
+
+/// What a text, its program and its code answer where those functions are added and `a` is 2, by each call for them.
+pub fn hosted_text(alloc: Global, row: &Row) -> Result<String> {
+    functions_answer(alloc, row, HostRow::Program)
+}
+
+/// What a kept machine answers of a text there, once and again, and then where `a` stands for nothing.
+pub fn machine_text(alloc: Global, row: &Row) -> Result<String> {
+    functions_answer(alloc, row, HostRow::Machine)
 }
 
 /// What a parser answers that counts the arguments of `n`, by each of its calls, where `a` is 2.
@@ -158,8 +188,17 @@ pub fn parser_text(alloc: Global, row: &Row) -> Result<String> {
     page.into_text()
 }
 
-/// An environment with zones of a rule and of an offset, whose moment is the instant 0.
-fn host_of_zones(alloc: Global) -> Result<Environment> {
+/// What is asked of an environment with zones of its own.
+#[derive(Clone, Copy)]
+enum ZoneRow {
+    /// A text.
+    Text,
+    /// Whether a name is free for a zone.
+    Name,
+}
+
+/// What an environment with zones of a rule and of an offset answers, whose moment is the instant 0.
+fn zones_answer(alloc: Global, row: &Row, asked: ZoneRow) -> Result<String> {
     let mut host = Environment::new(alloc);
     if let Ok(rules) = TimeZone::posix("EST5EDT,M3.2.0,M11.1.0") {
         host.add_timezone("E", rules)?;
@@ -168,18 +207,21 @@ fn host_of_zones(alloc: Global) -> Result<Environment> {
         host.add_timezone("X/Plus1", TimeZone::fixed(ahead))?;
     }
     host.set_now(Timestamp::UNIX_EPOCH);
-    Ok(host)
+    match asked {
+        ZoneRow::Text => { answer_text(alloc, host.eval(alloc, row.text(0), &Context::new(alloc))) }
+        ZoneRow::Name => {
+            host.add_timezone(row.text(0), TimeZone::UTC)?;
+            Ok(String::from_str(alloc, "free")?)
+        }
+    }
 }
 
 /// What a text answers where those zones are added.
 pub fn zones_text(alloc: Global, row: &Row) -> Result<String> {
-    let host = host_of_zones(alloc)?;
-    answer_text(alloc, host.eval(alloc, row.text(0), &Context::new(alloc)))
+    zones_answer(alloc, row, ZoneRow::Text)
 }
 
 /// That a name is free for a zone, or the refusal of one that is taken.
 pub fn zone_name_text(alloc: Global, row: &Row) -> Result<String> {
-    let mut host = host_of_zones(alloc)?;
-    host.add_timezone(row.text(0), TimeZone::UTC)?;
-    Ok(String::from_str(alloc, "free")?)
+    zones_answer(alloc, row, ZoneRow::Name)
 }
