@@ -68,15 +68,14 @@ expr_c_call_spec 𝓤 𝓛 𝓜 𝓡 wired =
     sets ! (addr ! (through ! refl (stop !))) refl (tt, tt) $
     sets ! (addr ! (through ! refl (stop !))) refl (tt, tt) $
     let G = triple_of 𝓛 g.signature (g.spec 𝓛 𝓜.mem 𝓡.returns) in
-    let lifetimes = (α ∷ [], κs) in
     let x : MutBor E.Denot = record { ref_ptr = (b, o); ghost_name = δ; now = n } in
-    let z : G.Ghost = ((lifetimes, (full_share, qs), bounds, (x, (r, tt)), (mut_vals x, (mut_vals r, tt))), tt) in
-    let served : Lasts g.ended lifetimes (x, (r, tt)) → Type 0 = λ (engine, (call, _)). IsServed n engine r.now call in
+    let z : G.Ghost = (((α ∷ [], κs), (full_share, qs), bounds, (x, (r, tt)), (mut_vals x, (mut_vals r, tt))), tt) in
+    let served : Lasts g.ended (α ∷ [], κs) (x, (r, tt)) → Type 0 = λ (engine, (call, _)). IsServed n engine r.now call in
     move ! (0 ∷ 4 ∷ []) $ fjoin ! $ move ! (2 ∷ 3 ∷ []) $ join ! $ join ! $ nothing ! $ move ! (1 ∷ 0 ∷ []) $ use2 𝓛 (raw (G.pre z)) (id⊢ 𝓤 _) $
     calls_at ! (framed 𝓤 𝓛.H 𝓜 (tables 𝓤 𝓛.H 𝓜 𝓡 𝓡.env)) G (met 𝓤 𝓛 𝓜 𝓡 (code.calls-expr_c::do_call 𝓡.env wired)) z
     (and_then ! (get ! refl) (and_then ! (get ! refl) (no_more !))) (λ v.
     use1 𝓛 (later (some (λ (u : Unit {0}). ((‵ (flft (α ∷ []) full_share) ⊛ raw (alive 𝓛 f.signature κs qs)) ⊛ ‵ (unit.own_val u (v ∷ []))) ⊛
-    some (λ (ws : Lasts g.ended lifetimes (x, (r, tt))). ‵ (lasts g.ended lifetimes (x, (r, tt)) ws) ⊛ raw (fact 𝓤 (served ws)))))) (id⊢ 𝓤 _) $
+    some (λ (ws : Lasts g.ended (α ∷ [], κs) (x, (r, tt))). ‵ (lasts g.ended (α ∷ [], κs) (x, (r, tt)) ws) ⊛ raw (fact 𝓤 (served ws)))))) (id⊢ 𝓤 _) $
     await ! tt $ pick ! (λ u. split ! $ split ! $ split ! $ lft_end ! tt $ move ! (2 ∷ []) $ feq_l ! (λ is_unit.
     lands_as ! (ap only is_unit) refl (tt, tt) $
     -- [α is over; the tokens; the last values; what the lender keeps]
