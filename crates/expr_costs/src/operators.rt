@@ -5,7 +5,7 @@ ghost use Rattle.expr_costs.specs.Measures.{CostUpTo, UpTo};
 ghost use Rattle.expr_operators.specs.Positions.{how_many};
 ghost use Rattle.expr_value.specs.declared.value.Value.{out-Value};
 
-use crate::cost::Cost;
+use crate::cost::{Cost, work_and_room, work_cost};
 use crate::measures::{byte_units_of, content_work_of, length_of, lookup_work, times};
 use expr_sizes::weigh_pattern;
 use expr_tree::operator::Operator;
@@ -16,24 +16,23 @@ pub fn operator_cost(operator: Operator, left: &Value, right: &Value, bound: u64
     ensures { CostUpTo bound (operator_work operator left.now right.now)
         (operator_room operator left.now right.now) result }
 {
-    let work = match operator {
-        Operator::Equal | Operator::NotEqual => comparison_work_of(left, right, bound)?,
+    match operator {
+        Operator::Equal | Operator::NotEqual => {
+            Some(work_cost(comparison_work_of(left, right, bound)?))
+        }
         Operator::GreaterThan
         | Operator::GreaterThanOrEqual
         | Operator::LessThan
-        | Operator::LessThanOrEqual => byte_units_of(left).min(byte_units_of(right)) as u128,
-        Operator::In | Operator::NotIn => membership_work_of(right, left, bound)?,
-        Operator::Contains => membership_work_of(left, right, bound)?,
-        Operator::StartsWith | Operator::EndsWith => byte_units_of(right) as u128,
-        Operator::Matches => match_work_of(left, right, bound)?,
-        _ => 0,
-    };
-    let room = match operator {
-        Operator::Add => sum_room_of(left, right),
-        Operator::Matches => weight_of_pattern(right, bound)? as u128,
-        _ => 0,
-    };
-    Some(Cost { work, room })
+        | Operator::LessThanOrEqual => {
+            Some(work_cost(byte_units_of(left).min(byte_units_of(right)) as u128))
+        }
+        Operator::In | Operator::NotIn => Some(work_cost(membership_work_of(right, left, bound)?)),
+        Operator::Contains => Some(work_cost(membership_work_of(left, right, bound)?)),
+        Operator::StartsWith | Operator::EndsWith => Some(work_cost(byte_units_of(right) as u128)),
+        Operator::Matches => match_cost(left, right, bound),
+        Operator::Add => Some(work_and_room(0, sum_room_of(left, right))),
+        _ => Some(work_cost(0)),
+    }
 }
 
 /// The work of an operator on two texts, each of less than 16 bytes. There is no room to be had for it. Nothing is told of
@@ -89,14 +88,13 @@ fn membership_work_of(value: &Value, sought: &Value, bound: u64) -> Option<u128>
     Some(texts + (one + others))
 }
 
-/// The work of making what searches for a pattern, and of leading it over a text, up to a bound.
-fn match_work_of(text: &Value, pattern: &Value, bound: u64) -> Option<u128>
-    ensures work { UpTo bound (match_work text.now pattern.now) (λ n. n) result }
-    ensures small { IfSome result (λ n. n < 2 ^ 66) }
+/// What it costs to make what searches for a pattern, and to lead it over a text, up to a bound. The pattern is weighed once.
+fn match_cost(text: &Value, pattern: &Value, bound: u64) -> Option<Cost>
+    ensures { CostUpTo bound (match_work text.now pattern.now) (pattern_weight pattern.now) result }
 {
     let weight = weight_of_pattern(pattern, bound)?;
     let reading = times(byte_units_of(text), 1 + weight / 64, bound)?;
-    Some(500 + (weight as u128 + reading as u128))
+    Some(work_and_room(500 + (weight as u128 + reading as u128), weight as u128))
 }
 
 /// How much a value weighs as a pattern, up to a bound: 0 what is no text.
