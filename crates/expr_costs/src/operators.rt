@@ -35,10 +35,49 @@ pub fn operator_cost(operator: Operator, left: &Value, right: &Value, bound: u64
     }
 }
 
-/// The work of an operator on two texts, each of less than 16 bytes. There is no room to be had for it. Nothing is told of
-/// other values, nor of a sum or a pattern.
+/// The work of an operator on a text of less than 16 bytes and on another, or of seeking it in an array of less than 32 items.
+/// There is no room to be had for it. Nothing is told of other values, nor of a sum or a pattern.
 #[inline(always)]
 pub fn short_work(operator: Operator, left: &Value, right: &Value) -> Option<u64>
+    ensures { IfSome result (λ work. (operator_work operator left.now right.now ≡ work)
+        × (operator_room operator left.now right.now ≡ 0)) }
+{
+    match right {
+        Value::Array(_) => work_among_items(operator, left, right),
+        _ => work_on_texts(operator, left, right),
+    }
+}
+
+/// The same of an array on the right.
+#[inline(always)]
+fn work_among_items(operator: Operator, left: &Value, right: &Value) -> Option<u64>
+    ensures { IfSome result (λ work. (operator_work operator left.now right.now ≡ work)
+        × (operator_room operator left.now right.now ≡ 0)) }
+{
+    let Value::String(_) = left else {
+        return None;
+    };
+    let Value::Array(_) = right else {
+        return None;
+    };
+    let loads = byte_units_of(left);
+    if loads > 0 {
+        return None;
+    }
+    let count = length_of(right);
+    if count > 31 {
+        return None;
+    }
+    match operator {
+        Operator::In => Some(1 + count),
+        Operator::NotIn => Some(1 + count),
+        _ => None,
+    }
+}
+
+/// The same of two texts.
+#[inline(always)]
+fn work_on_texts(operator: Operator, left: &Value, right: &Value) -> Option<u64>
     ensures { IfSome result (λ work. (operator_work operator left.now right.now ≡ work)
         × (operator_room operator left.now right.now ≡ 0)) }
 {
