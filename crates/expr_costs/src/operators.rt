@@ -1,7 +1,7 @@
 //! What operators cost.
-ghost use Rattle.std.specs.Prelude.{◌≡◌, ◌+◌, ◌*◌, ◌<◌, ◌^◌, IfSome};
+ghost use Rattle.std.specs.Prelude.{◌≡◌, ◌+◌, ◌*◌, ◌<◌, ◌^◌, IfSome, IsTrue};
 ghost use Rattle.expr_costs.specs.Operators.{range_count, comparison_work, membership_work, sum_room, operator_room, operator_work, pattern_weight, match_work};
-ghost use Rattle.expr_costs.specs.Measures.{CostUpTo, UpTo};
+ghost use Rattle.expr_costs.specs.Measures.{CostUpTo, UpTo, content_work};
 ghost use Rattle.expr_operators.specs.Positions.{how_many};
 ghost use Rattle.expr_value.specs.declared.value.Value.{out-Value};
 
@@ -35,8 +35,8 @@ pub fn operator_cost(operator: Operator, left: &Value, right: &Value, bound: u64
     }
 }
 
-/// The work of an operator on a text of less than 16 bytes and on another, or of seeking it in an array of less than 32 items.
-/// There is no room to be had for it. Nothing is told of other values, nor of a sum or a pattern.
+/// The work of an operator on a text of less than 16 bytes and on another, or of seeking it, or an integer, in an array of less
+/// than 32 items. There is no room to be had for it. Nothing is told of other values, nor of a sum or a pattern.
 #[inline(always)]
 pub fn short_work(operator: Operator, left: &Value, right: &Value) -> Option<u64>
     ensures { IfSome result (λ work. (operator_work operator left.now right.now ≡ work)
@@ -54,9 +54,10 @@ fn work_among_items(operator: Operator, left: &Value, right: &Value) -> Option<u
     ensures { IfSome result (λ work. (operator_work operator left.now right.now ≡ work)
         × (operator_room operator left.now right.now ≡ 0)) }
 {
-    let Value::String(_) = left else {
+    let is_plain = is_text_or_integer(left);
+    if !is_plain {
         return None;
-    };
+    }
     let Value::Array(_) = right else {
         return None;
     };
@@ -91,6 +92,18 @@ fn work_on_texts(operator: Operator, left: &Value, right: &Value) -> Option<u64>
         Operator::Add | Operator::Matches => None,
         Operator::In | Operator::NotIn | Operator::Contains => Some(1),
         _ => Some(0),
+    }
+}
+
+/// Whether a value is of the kinds that are sought most: no more of it is read for a comparison than its bytes.
+#[inline(always)]
+fn is_text_or_integer(value: &Value) -> bool
+    ensures { IsTrue result → content_work value.now ≡ 0 }
+{
+    match value {
+        Value::String(_) => true,
+        Value::Integer(_) => true,
+        _ => false,
     }
 }
 
