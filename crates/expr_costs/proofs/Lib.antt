@@ -1,3 +1,4 @@
+mod Among
 mod Charging
 mod Inside
 mod Keeping

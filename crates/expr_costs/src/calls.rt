@@ -1,5 +1,5 @@
 //! What calls cost.
-ghost use Rattle.std.specs.Prelude.{◌≡◌, ◌+◌, ◌*◌, ◌∷◌, ◌<◌, ◌^◌, IfSome, length};
+ghost use Rattle.std.specs.Prelude.{◌+◌, ◌*◌, ◌∷◌, ◌<◌, ◌^◌, IfSome, length};
 ghost use Rattle.expr_costs.specs.Calls.{call_room, call_work, room_of, work_of};
 ghost use Rattle.expr_costs.specs.Measures.{CostUpTo, all_byte_units as reads, insertion_work as puts};
 ghost use Rattle.expr_sizes.specs.Sizes.{name_weights, weights as all_weigh};
@@ -8,7 +8,7 @@ use crate::arguments::{
     all_byte_units, byte_units_at, bytes_at, colons_at, first_count, first_pairwise,
     lookup_work_of, pieces, times_of, weights,
 };
-use crate::cost::Cost;
+use crate::cost::{Cost, work_and_room, work_cost};
 use crate::cost_kind::CostKind;
 use crate::measures::{byte_units_of, insertion_work, product, times};
 use expr_cow::CowValue;
@@ -168,22 +168,4 @@ fn parse_cost(arguments: &[CowValue<'_>], bound: u64) -> Option<Cost>
     let keys = insertion_work(colons_at(arguments, 0));
     let bytes = bytes_at(arguments, 0) as u128;
     Some(work_and_room(4 * loads + keys, 8 + 4 * bytes))
-}
-
-/// So much work, and room for nothing.
-#[inline(always)]
-fn work_cost(work: u128) -> Cost
-    ensures work { result.work ≡ work }
-    ensures room { result.room ≡ 0 }
-{
-    Cost { work, room: 0 }
-}
-
-/// So much work, and room for so much.
-#[inline(always)]
-fn work_and_room(work: u128, room: u128) -> Cost
-    ensures work { result.work ≡ work }
-    ensures room { result.room ≡ room }
-{
-    Cost { work, room }
 }
