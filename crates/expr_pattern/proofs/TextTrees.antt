@@ -1,5 +1,5 @@
 -- What the parser returns for text reads whole characters.
-use Rattle.std.proofs.Common.{ℕ, true, map, sym, ap, ◌∙◌, subst, true≢false, refl}
+use Rattle.std.proofs.Common.{true, map, sym, ap, ◌∙◌, subst, true≢false, refl}
 use Rattle.regex_class.proofs.RangesLemmas.{in_ranges-nil}
 use Rattle.regex_hir.specs.Re.{Re}
 use Rattle.regex_hir.specs.Meaning.{meaning, node_meaning, cat_all, alt_all}

@@ -17,12 +17,21 @@ use std::alloc::Global;
 const SIZE_LIMIT: usize = 10 << 20;
 
 /// A text, and the program of its pattern. It doesn't change: what a search writes to stands elsewhere.
-#[derive(Drop)]
 pub struct Compiled {
     pub(crate) source: String,
     pub(crate) program: Program,
     ghost searches: { SearchesFor (string_bytes source) program },
     ghost whole_characters: { MatchesText (pattern_of program) },
+}
+
+// Written out, so that a caller's proof sees one call and not the drop of each field.
+impl Drop for Compiled {
+    fn drop(self) {
+        let Compiled {
+            source: _source,
+            program: _program,
+        } = self;
+    }
 }
 
 impl Compiled {

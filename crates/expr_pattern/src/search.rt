@@ -9,7 +9,7 @@ use std::alloc::{AllocError, Global};
 use std::rc::Rc;
 
 /// How many bytes of states it may keep.
-const BUDGET: usize = 1 << 18;
+const BUDGET: usize = 1 << 17;
 
 /// An automaton of a pattern, whose states are built as texts are searched. It shares the compiled pattern, so that it lends
 /// from nothing.
