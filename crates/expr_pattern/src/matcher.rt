@@ -90,7 +90,7 @@ fn finds_between_characters(searcher: &mut Searcher<'_>, hay: &[u8]) -> bool
 }
 
 /// Whether no character has bytes on both sides of this place.
-fn is_character_boundary(hay: &[u8], at: usize) -> bool
+pub(crate) fn is_character_boundary(hay: &[u8], at: usize) -> bool
     ensures { result ≡ is_boundary hay.now at }
 {
     if at >= hay.len() {

@@ -1,14 +1,19 @@
-//! A search for a pattern that can be kept beside it.
+//! Searches for a pattern: one that can be kept beside it, and one for a single short text.
 ghost use Rattle.std.specs.Prelude.{◌≡◌, Some, IfOk, IfSome, string_bytes};
 ghost use Rattle.regex_dfa.specs.Search.{IsForwardFor};
 ghost use Rattle.expr_pattern.specs.Meaning.{pattern_answer};
 
 use crate::compiled::Compiled;
+use crate::matcher::is_character_boundary;
 use regex_dfa::{End, Forward};
+use regex_vm::Backtracker;
 use std::alloc::{AllocError, Global};
 use std::rc::Rc;
 
-/// How many bytes of states it may keep.
+/// How many pairs of a place and a state of a pattern a search tries that builds nothing.
+const FEW: usize = 1 << 10;
+
+/// How many bytes of states a search may keep.
 const BUDGET: usize = 1 << 17;
 
 /// An automaton of a pattern, whose states are built as texts are searched. It shares the compiled pattern, so that it lends
@@ -70,5 +75,26 @@ impl Search {
             End::At(_) => Some(true),
             End::NoMatch | End::Idle(_) | End::GaveUp => None,
         }
+    }
+}
+
+/// Whether a pattern matches somewhere in a text, with nothing built that a later search could use, or none where that may
+/// take long.
+pub(crate) fn answer_once(alloc: Global, compiled: &Compiled, text: &str) -> Option<bool>
+    ensures { IfSome result (λ b. pattern_answer (string_bytes compiled.now.source) text.now ≡ Some b) }
+{
+    let hay = text.as_bytes();
+    let nfa = &compiled.program.dfa.nfa;
+    if hay.len().saturating_mul(nfa.states.len()) > FEW {
+        return None;
+    }
+    let mut search = Backtracker::new(alloc);
+    let Ok(found) = search.find(nfa, hay, 0, hay.len(), hay.len(), &mut []) else {
+        return None;
+    };
+    match found {
+        None => Some(false),
+        Some((from, _)) if is_character_boundary(hay, from) => Some(true),
+        Some(_) => None,
     }
 }
