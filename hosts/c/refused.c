@@ -129,7 +129,7 @@ static void work(expr_engine *engine) {
     if (has_host) reply(engine, host);
     if (has_rule) {
         int is_done = ok(expr_names(engine, rule, &count, &names));
-        if (count != (is_done ? 2 : 0) || strcmp(names, is_done ? "built\nxs" : "")) FAIL("names");
+        if (count != (is_done ? 3 : 0) || strcmp(names, is_done ? "#\nbuilt\nxs" : "")) FAIL("names");
     }
     if (has_rule && has_context && has_host && ok(expr_run(engine, rule, host, context, &answer))) look(engine, context);
     ok(expr_eval(engine, "repeat(\"long\", 100)", EXPR_Z, EXPR_NO_ENVIRONMENT, EXPR_NO_CONTEXT, &answer));
