@@ -24,6 +24,7 @@ fn put_pattern(alloc: Global, pattern: &Pattern, page: &mut Page) -> Result<()> 
 fn put_patterns(alloc: Global, page: &mut Page) -> Result<()> {
     let pattern = Pattern::new(alloc, "^f")?;
     put_pattern(alloc, &pattern, page)?;
+    page.put_named("Pattern::share", pattern.share()?.text());
     match Pattern::of_text(alloc, "^f") {
         Ok(built) => page.put_fact("Pattern::of_text", built.is_some()),
         Err(Unbuilt::Memory) => return Err(Error::MemoryError),
