@@ -6,9 +6,10 @@ use expr_evaluation::{eval_expr, eval_func, eval_postfix_operator};
 use expr_lowering::Code;
 use expr_machine::{execute, run};
 use expr_syntax::{compile, compile_within};
-use expr_tree::node::{Node, Pattern, Program, Unbuilt};
+use expr_tree::node::{CompiledRegex, Node, Pattern, Program, Unbuilt};
 use expr_value::{Error, Result, Value};
 use std::alloc::Global;
+use std::rc::Rc;
 
 /// Puts the calls on the pattern `^f`.
 fn put_pattern(alloc: Global, pattern: &Pattern, page: &mut Page) -> Result<()> {
@@ -31,6 +32,16 @@ fn put_patterns(alloc: Global, page: &mut Page) -> Result<()> {
         Err(Unbuilt::Memory) => return Err(Error::MemoryError),
         Err(Unbuilt::TooBig) => page.put_fact("Pattern::kept", false),
     }
+    let kept = CompiledRegex::Built(Rc::new(alloc, pattern)?);
+    put_kept(&kept, page)
+}
+
+/// Puts what an operation keeps with one more owner, and its copy.
+fn put_kept(kept: &CompiledRegex, page: &mut Page) -> Result<()> {
+    let shared = kept.share()?;
+    page.put_fact("CompiledRegex::share", shared.is_some());
+    let copy = kept.clone()?;
+    page.put_fact("CompiledRegex::clone", copy.pattern().is_some());
     Ok(())
 }
 

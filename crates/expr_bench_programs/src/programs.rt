@@ -42,7 +42,7 @@ pub fn names_text(alloc: Global, row: &Row) -> Result<String> {
     Ok(names)
 }
 
-/// A copy of a text's program, which keeps no pattern, and what it answers.
+/// A copy of a text's program, with the patterns that it keeps, and what it answers.
 pub fn copy_text(alloc: Global, row: &Row) -> Result<String> {
     let copy = compile(alloc, row.text(0))?.clone()?;
     let mut page = Page::new(alloc);

@@ -5,20 +5,18 @@ use Rattle.std.specs.declared.alloc.Global.{Global}
 use Rattle.regex.specs.Failures.{IsPattern}
 use Rattle.regex.specs.Patterns.{default_config}
 use Rattle.expr_pattern.specs.Meaning.{IsNoPattern}
-use Rattle.expr_tree.specs.KeptPatterns.{KeptPattern, operations, line_operations}
-use Rattle.expr_tree.specs.declared.node.CompiledRegex.{CompiledRegex}
-use Rattle.expr_tree.specs.declared.node.CompiledRegex.TheVariants as compiled
+use Rattle.expr_tree.specs.KeptPatterns.{Kept, KeptPattern, built, nothing, too_big, operations, line_operations}
 use Rattle.expr_tree.specs.declared.node.Node.{Node}
 
 -- of a text that is the literal on the right of `matches`: its pattern; nothing, where it is no pattern; that it was too big, where it is one
-abbrev pub IsKeptOf : List ℕ → CompiledRegex → Type 0
-IsKeptOf text compiled.None = IsNoPattern text
-IsKeptOf text (compiled.Built p) = p.value ≡ text
-IsKeptOf text compiled.TooBig = IsPattern default_config text
+abbrev pub IsKeptOf : List ℕ → Kept → Type 0
+IsKeptOf text nothing = IsNoPattern text
+IsKeptOf text (built pattern) = pattern ≡ text
+IsKeptOf text too_big = IsPattern default_config text
 
 -- beside any other operation, nothing
-abbrev pub IsKept : Option (List ℕ) → CompiledRegex → Type 0
-IsKept None kept = kept ≡ compiled.None
+abbrev pub IsKept : Option (List ℕ) → Kept → Type 0
+IsKept None kept = kept ≡ nothing
 IsKept (Some text) kept = IsKeptOf text kept
 
 abbrev pub IsKeptBeside : KeptPattern → Type 0

@@ -1,7 +1,7 @@
 //! Nodes made from parts. Beside each stands whether a hash name is free in it, so that promotion walks no tree, and the height of the tree that it was read from.
 ghost use Rattle.std.specs.Prelude.{◌≡◌, suc, IfOk, string_bytes};
 ghost use Rattle.std.specs.Option.{option_map};
-ghost use Rattle.expr_tree.specs.KeptPatterns.{bound_operations, operations, postfix_operations, right_of, node_patterns};
+ghost use Rattle.expr_tree.specs.KeptPatterns.{bound_operations, kept_of, operations, postfix_operations, right_of, node_patterns};
 ghost use Rattle.expr_tree.specs.Term.{name, literal, postfix};
 ghost use Rattle.expr_tree.specs.TermOf.{term_of, postfix_term, bound_term};
 ghost use Rattle.expr_parts.specs.Kept.{IsKept, IsKeptOf, KeepPatterns};
@@ -16,6 +16,7 @@ use expr_tree::operator::{Operator, UnaryOperator};
 use expr_value::{Text, Value};
 use std::alloc::{AllocError, Global};
 use std::marker::Model;
+use std::rc::Rc;
 
 /// A node, whether a hash name is free in it, and the height of the tree that it was read from. Contracts see the node's tree and the height.
 pub struct AnnotatedNode {
@@ -422,7 +423,7 @@ fn kept_pattern(
     operator: Operator,
     right: &Node,
 ) -> Result<CompiledRegex, AllocError>
-    ensures { IfOk result (IsKept (right_of operator (node_patterns right.now).text)) }
+    ensures { IfOk result (λ kept. IsKept (right_of operator (node_patterns right.now).text) (kept_of kept)) }
 {
     match operator {
         Operator::Matches => match literal_text(right) {
@@ -435,10 +436,10 @@ fn kept_pattern(
 
 // The pattern of a text, or why there is none.
 fn pattern_of(alloc: Global, text: &str) -> Result<CompiledRegex, AllocError>
-    ensures { IfOk result (IsKeptOf text.now) }
+    ensures { IfOk result (λ kept. IsKeptOf text.now (kept_of kept)) }
 {
     match Pattern::kept(alloc, text) {
-        Ok(Some(pattern)) => Ok(CompiledRegex::Built(Box::new(alloc, pattern)?)),
+        Ok(Some(pattern)) => Ok(CompiledRegex::Built(Rc::new(alloc, pattern)?)),
         Ok(None) => Ok(CompiledRegex::None),
         Err(Unbuilt::TooBig) => Ok(CompiledRegex::TooBig),
         Err(Unbuilt::Memory) => Err(AllocError),

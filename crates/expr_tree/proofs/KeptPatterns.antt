@@ -1,10 +1,10 @@
 -- What stands beside the operations of each form of node, by its parts.
-use Rattle.std.proofs.Common.{◌≡◌, Bool, ℕ, List, [], ◌∷◌, ◌++◌, map, Option, Some, None, Vec, Box, Global, String, ap, ◌∙◌, rules}
+use Rattle.std.proofs.Common.{◌≡◌, Bool, List, [], ◌∷◌, ◌++◌, map, Option, Vec, Box, Global, String, ap, ◌∙◌, rules}
 use Rattle.std.specs.List.{All, flat_map}
 use Rattle.std.proofs.lemmas.List.Elements.{All-append, All-cons, All-head, All-nil, All-same, All-tail}
 use Rattle.std.proofs.lemmas.List.Folds.{flat_map-map}
 use Rattle.expr_value.specs.declared.value.Value.{Value}
-use Rattle.expr_tree.specs.KeptPatterns.{KeptPattern, NodePatterns, node_patterns, operations, postfix_operations, program_operations, right_of, in_lines, node_beside, postfix_beside, program_beside, bound_operations, predicate_operations, line_operations}
+use Rattle.expr_tree.specs.KeptPatterns.{KeptPattern, NodePatterns, kept_of, node_patterns, no_text, operations, postfix_operations, program_operations, right_of, in_lines, node_beside, postfix_beside, program_beside, bound_operations, predicate_operations, line_operations}
 use Rattle.expr_tree.specs.declared.node.Node.{Node, the_lemmas}
 use Rattle.expr_tree.specs.declared.node.Node.TheVariants as node
 use Rattle.expr_tree.specs.declared.node.Node.TheViews.{roll-Program}
@@ -15,51 +15,89 @@ use Rattle.expr_tree.specs.declared.node.Program.{Program, fold-roll-Program}
 use Rattle.expr_tree.specs.declared.operator.Operator.{Operator}
 use Rattle.expr_tree.specs.declared.operator.UnaryOperator.{UnaryOperator}
 
-pub beside-Ident : (s : String Global) → operations (node.Ident s) ≡ []
-beside-Ident s = search (rules, the_lemmas)
-
-pub beside-Value : (v : Value) → operations (node.Value v) ≡ []
-beside-Value v = search (rules, the_lemmas)
-
 items-node_patterns : (ns : List Node) → flat_map (λ (n : NodePatterns). n.operations) (map node_patterns ns) ≡ flat_map operations ns
 items-node_patterns ns = flat_map-map (λ (n : NodePatterns). n.operations) node_patterns ns
 
 lines-node_patterns : (ls : List (String Global × Node)) → in_lines (map (λ l. (l.0, node_patterns l.1)) ls) ≡ flat_map line_operations ls
 lines-node_patterns ls = flat_map-map (λ (l : String Global × NodePatterns). l.1.operations) (λ l. (l.0, node_patterns l.1)) ls
 
-array-node_patterns : (ns : Vec Node Global) → operations (node.Array ns) ≡ flat_map (λ (n : NodePatterns). n.operations) (map node_patterns ns.items)
+-- each form of node
+pub patterns-Ident : (s : String Global) → node_patterns (node.Ident s) ≡ no_text []
+patterns-Ident s = search (rules, the_lemmas)
+
+array-node_patterns : (ns : Vec Node Global) → node_patterns (node.Array ns) ≡ no_text (flat_map (λ (n : NodePatterns). n.operations) (map node_patterns ns.items))
 array-node_patterns ns = search (rules, the_lemmas)
 
-pub beside-Array : (ns : Vec Node Global) → operations (node.Array ns) ≡ flat_map operations ns.items
-beside-Array ns = array-node_patterns ns ∙ items-node_patterns ns.items
+pub patterns-Array : (ns : Vec Node Global) → node_patterns (node.Array ns) ≡ no_text (flat_map operations ns.items)
+patterns-Array ns = array-node_patterns ns ∙ ap no_text (items-node_patterns ns.items)
 
-map-node_patterns : (ps : Vec (String Global × Node) Global) → operations (node.Map ps) ≡ in_lines (map (λ l. (l.0, node_patterns l.1)) ps.items)
+map-node_patterns : (ps : Vec (String Global × Node) Global) → node_patterns (node.Map ps) ≡ no_text (in_lines (map (λ l. (l.0, node_patterns l.1)) ps.items))
 map-node_patterns ps = search (rules, the_lemmas)
 
-pub beside-Map : (ps : Vec (String Global × Node) Global) → operations (node.Map ps) ≡ flat_map line_operations ps.items
-beside-Map ps = map-node_patterns ps ∙ lines-node_patterns ps.items
+pub patterns-Map : (ps : Vec (String Global × Node) Global) → node_patterns (node.Map ps) ≡ no_text (flat_map line_operations ps.items)
+patterns-Map ps = map-node_patterns ps ∙ ap no_text (lines-node_patterns ps.items)
 
-pub beside-Range : (a b : Box Node Global) → operations (node.Range a b) ≡ operations a.value ++ operations b.value
-beside-Range a b = search (rules, the_lemmas)
+pub patterns-Range : (a b : Box Node Global) → node_patterns (node.Range a b) ≡ no_text (operations a.value ++ operations b.value)
+patterns-Range a b = search (rules, the_lemmas)
 
-pub beside-Unary : (o : UnaryOperator) (n : Box Node Global) → operations (node.Unary o n) ≡ operations n.value
-beside-Unary o n = search (rules, the_lemmas)
+pub patterns-Unary : (o : UnaryOperator) (n : Box Node Global) → node_patterns (node.Unary o n) ≡ no_text (operations n.value)
+patterns-Unary o n = search (rules, the_lemmas)
 
-pub beside-Operation : (o : Operator) (l r : Box Node Global) (kept : CompiledRegex)
-    → operations (node.Operation o l r kept) ≡ record { literal = right_of o (node_patterns r.value).text; kept = kept } ∷ (operations l.value ++ operations r.value)
-beside-Operation o l r kept = search (rules, the_lemmas)
+pub patterns-Operation : (o : Operator) (l r : Box Node Global) (kept : CompiledRegex)
+    → node_patterns (node.Operation o l r kept)
+    ≡ no_text (record { literal = right_of o (node_patterns r.value).text; kept = kept_of kept } ∷ (operations l.value ++ operations r.value))
+patterns-Operation o l r kept = search (rules, the_lemmas)
 
-pub beside-Postfix : (p : PostfixOperator) (n : Box Node Global) → operations (node.Postfix p n) ≡ operations n.value ++ postfix_operations p
-beside-Postfix p n = search (rules, the_lemmas)
+pub patterns-Postfix : (p : PostfixOperator) (n : Box Node Global) → node_patterns (node.Postfix p n) ≡ no_text (operations n.value ++ postfix_operations p)
+patterns-Postfix p n = search (rules, the_lemmas)
 
-pub beside-Conditional : (c : Box Node Global) (a b : Box Program Global) → operations (node.Conditional c a b) ≡ operations c.value ++ (program_operations a.value ++ program_operations b.value)
-beside-Conditional c a b = search (rules, the_lemmas)
+pub patterns-Conditional : (c : Box Node Global) (a b : Box Program Global)
+    → node_patterns (node.Conditional c a b) ≡ no_text (operations c.value ++ (program_operations a.value ++ program_operations b.value))
+patterns-Conditional c a b = search (rules, the_lemmas)
 
-func-node_patterns : (s : String Global) (ns : Vec Node Global) (p : Option (Box Program Global)) → operations (node.Func s ns p) ≡ flat_map (λ (n : NodePatterns). n.operations) (map node_patterns ns.items) ++ predicate_operations p
+func-node_patterns : (s : String Global) (ns : Vec Node Global) (p : Option (Box Program Global))
+    → node_patterns (node.Func s ns p) ≡ no_text (flat_map (λ (n : NodePatterns). n.operations) (map node_patterns ns.items) ++ predicate_operations p)
 func-node_patterns s ns p = search (rules, the_lemmas)
 
+pub patterns-Func : (s : String Global) (ns : Vec Node Global) (p : Option (Box Program Global))
+    → node_patterns (node.Func s ns p) ≡ no_text (flat_map operations ns.items ++ predicate_operations p)
+patterns-Func s ns p = func-node_patterns s ns p ∙ ap (λ bs. no_text (bs ++ predicate_operations p)) (items-node_patterns ns.items)
+
+-- what stands beside its operations
+beside : (n : Node) (bs : List KeptPattern) → node_patterns n ≡ no_text bs → operations n ≡ bs
+beside n bs e = ap (λ (p : NodePatterns). p.operations) e
+
+pub beside-Ident : (s : String Global) → operations (node.Ident s) ≡ []
+beside-Ident s = beside _ _ (patterns-Ident s)
+
+pub beside-Value : (v : Value) → operations (node.Value v) ≡ []
+beside-Value v = search (rules, the_lemmas)
+
+pub beside-Array : (ns : Vec Node Global) → operations (node.Array ns) ≡ flat_map operations ns.items
+beside-Array ns = beside _ _ (patterns-Array ns)
+
+pub beside-Map : (ps : Vec (String Global × Node) Global) → operations (node.Map ps) ≡ flat_map line_operations ps.items
+beside-Map ps = beside _ _ (patterns-Map ps)
+
+pub beside-Range : (a b : Box Node Global) → operations (node.Range a b) ≡ operations a.value ++ operations b.value
+beside-Range a b = beside _ _ (patterns-Range a b)
+
+pub beside-Unary : (o : UnaryOperator) (n : Box Node Global) → operations (node.Unary o n) ≡ operations n.value
+beside-Unary o n = beside _ _ (patterns-Unary o n)
+
+pub beside-Operation : (o : Operator) (l r : Box Node Global) (kept : CompiledRegex)
+    → operations (node.Operation o l r kept)
+    ≡ record { literal = right_of o (node_patterns r.value).text; kept = kept_of kept } ∷ (operations l.value ++ operations r.value)
+beside-Operation o l r kept = beside _ _ (patterns-Operation o l r kept)
+
+pub beside-Postfix : (p : PostfixOperator) (n : Box Node Global) → operations (node.Postfix p n) ≡ operations n.value ++ postfix_operations p
+beside-Postfix p n = beside _ _ (patterns-Postfix p n)
+
+pub beside-Conditional : (c : Box Node Global) (a b : Box Program Global) → operations (node.Conditional c a b) ≡ operations c.value ++ (program_operations a.value ++ program_operations b.value)
+beside-Conditional c a b = beside _ _ (patterns-Conditional c a b)
+
 pub beside-Func : (s : String Global) (ns : Vec Node Global) (p : Option (Box Program Global)) → operations (node.Func s ns p) ≡ flat_map operations ns.items ++ predicate_operations p
-beside-Func s ns p = func-node_patterns s ns p ∙ ap (λ bs. bs ++ predicate_operations p) (items-node_patterns ns.items)
+beside-Func s ns p = beside _ _ (patterns-Func s ns p)
 
 pub beside-Index : (n : Box Node Global) (optional : Bool) → postfix_operations (behind.Index n optional) ≡ operations n.value
 beside-Index n optional = search (rules, the_lemmas)
@@ -110,7 +148,7 @@ module _ (P : KeptPattern → Type 0) where
   all-Unary o n h = All-same P _ _ (beside-Unary o n) h
 
   pub all-Operation : (o : Operator) (l r : Box Node Global) (kept : CompiledRegex)
-      → P (record { literal = right_of o (node_patterns r.value).text; kept = kept })
+      → P (record { literal = right_of o (node_patterns r.value).text; kept = kept_of kept })
       → All P (operations l.value) → All P (operations r.value) → All P (operations (node.Operation o l r kept))
   all-Operation o l r kept own p q = All-same P _ _ (beside-Operation o l r kept) (All-cons P _ _ own (All-append P (operations l.value) (operations r.value) p q))
 

@@ -1,6 +1,6 @@
 -- The patterns that a node in memory keeps: what stands beside its operations. No tree has them.
-use Rattle.std.specs.Prelude.{◌≡◌, ℕ, List, [], ◌∷◌, ◌++◌, Option, Some, None, String}
-use Rattle.std.specs.List.{All, flat_map}
+use Rattle.std.specs.Prelude.{ℕ, List, [], ◌∷◌, ◌++◌, Option, Some, None, String}
+use Rattle.std.specs.List.{flat_map}
 use Rattle.std.specs.declared.alloc.Global.{Global}
 use Rattle.std.specs.declared.boxed.Box.{Box}
 use Rattle.expr_value.specs.Values.{string_of}
@@ -13,10 +13,21 @@ use Rattle.expr_tree.specs.declared.node.Program.{Program, fold-Program}
 use Rattle.expr_tree.specs.declared.operator.Operator.{Operator}
 use Rattle.expr_tree.specs.declared.operator.Operator.TheVariants.{Matches}
 
+-- what is kept beside an operation: nothing, the pattern of a text, or that a text's pattern was too big
+pub data Kept : Type 0 where
+  nothing : Kept
+  built : (text : List ℕ) → Kept
+  too_big : Kept
+
+abbrev pub kept_of : CompiledRegex → Kept
+kept_of compiled.None = nothing
+kept_of (compiled.Built p) = built p.value
+kept_of compiled.TooBig = too_big
+
 -- beside one operation: the text that is the literal on the right of `matches`, if one is, and what is kept
 pub record KeptPattern : Type 0 where
   pub literal : Option (List ℕ)
-  pub kept : CompiledRegex
+  pub kept : Kept
 
 -- a node: its text, where it is the literal of one, and what stands beside each operation in it
 pub record NodePatterns : Type 0 where
@@ -24,9 +35,12 @@ pub record NodePatterns : Type 0 where
   pub operations : List KeptPattern
 
 -- the text of a pattern that is kept
+abbrev pub kept_text : Kept → Option (List ℕ)
+kept_text (built text) = Some text
+kept_text _ = None
+
 abbrev pub built_text : CompiledRegex → Option (List ℕ)
-built_text (compiled.Built p) = Some p.value
-built_text _ = None
+built_text kept = kept_text (kept_of kept)
 
 abbrev pub right_of : Operator → Option (List ℕ) → Option (List ℕ)
 right_of Matches text = text
@@ -56,7 +70,7 @@ node_beside (Node-F.Value v) = record { text = string_of v; operations = [] }
 node_beside (Node-F.Func s ns p) = no_text (flat_map (λ n. n.operations) ns.items ++ in_predicate p)
 node_beside (Node-F.Unary o n) = no_text n.value.operations
 node_beside (Node-F.Operation o l r kept) =
-    no_text (record { literal = right_of o r.value.text; kept = kept } ∷ (l.value.operations ++ r.value.operations))
+    no_text (record { literal = right_of o r.value.text; kept = kept_of kept } ∷ (l.value.operations ++ r.value.operations))
 node_beside (Node-F.Postfix p n) = no_text (n.value.operations ++ p)
 node_beside (Node-F.Conditional c t e) = no_text (c.value.operations ++ (t.value ++ e.value))
 
@@ -87,13 +101,6 @@ program_operations = fold-Program NodePatterns (List KeptPattern) (List KeptPatt
 -- the text that is the literal on the right of `matches`, of an operator and the node on its right
 abbrev pub literal_right : Operator → Node → Option (List ℕ)
 literal_right o right = right_of o (node_patterns right).text
-
--- no pattern is kept beside an operation
-abbrev pub KeepNone : List KeptPattern → Type 0
-KeepNone bs = All (λ b. b.kept ≡ compiled.None) bs
-
-abbrev pub NodeKeepsNone : Node → Type 0
-NodeKeepsNone n = KeepNone (operations n)
 
 -- what stands beside the operations of a bound in memory, of a call's program, and of a line
 abbrev pub bound_operations : Option (Box Node Global) → List KeptPattern

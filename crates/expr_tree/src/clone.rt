@@ -1,17 +1,30 @@
-//! Copies of trees. No copy keeps a pattern.
+//! Copies of trees. What is kept of patterns is shared with the copy, and no pattern is built.
 ghost use Rattle.std.specs.Prelude.{◌≡◌, IfOk, map};
-ghost use Rattle.std.specs.List.{All};
-ghost use Rattle.expr_tree.specs.KeptPatterns.{KeepNone, NodeKeepsNone, bound_operations, postfix_operations, predicate_operations, program_operations};
+ghost use Rattle.expr_tree.specs.KeptPatterns.{bound_operations, line_operations, node_patterns, postfix_operations, predicate_operations, program_operations};
 ghost use Rattle.expr_tree.specs.TermOf.{bound_term, line_term, postfix_term, predicate_term, program_term, term_of};
 
 use crate::node::{CompiledRegex, Node, PostfixOperator, Program};
 use std::alloc::AllocError;
 
+impl Clone for CompiledRegex {
+    ghost use Rattle.expr_tree.specs.KeptPatterns.{kept_of};
+
+    ghost is_clone = { λ kept copy. kept_of copy ≡ kept_of kept };
+
+    fn clone(&self) -> Result<CompiledRegex, AllocError> {
+        match self {
+            CompiledRegex::None => Ok(CompiledRegex::None),
+            CompiledRegex::Built(pattern) => Ok(CompiledRegex::Built(pattern.clone()?)),
+            CompiledRegex::TooBig => Ok(CompiledRegex::TooBig),
+        }
+    }
+}
+
 impl Clone for Node {
-    ghost use Rattle.expr_tree.specs.KeptPatterns.{NodeKeepsNone};
+    ghost use Rattle.expr_tree.specs.KeptPatterns.{node_patterns};
     ghost use Rattle.expr_tree.specs.TermOf.{term_of};
 
-    ghost is_clone = { λ n m. (term_of m ≡ term_of n) × NodeKeepsNone m };
+    ghost is_clone = { λ n m. (term_of m ≡ term_of n) × (node_patterns m ≡ node_patterns n) };
 
     fn clone(&self) -> Result<Node, AllocError> {
         copy(self)
@@ -19,10 +32,11 @@ impl Clone for Node {
 }
 
 impl Clone for PostfixOperator {
-    ghost use Rattle.expr_tree.specs.KeptPatterns.{KeepNone, postfix_operations};
+    ghost use Rattle.expr_tree.specs.KeptPatterns.{postfix_operations};
     ghost use Rattle.expr_tree.specs.TermOf.{postfix_term};
 
-    ghost is_clone = { λ p q. (postfix_term q ≡ postfix_term p) × KeepNone (postfix_operations q) };
+    ghost is_clone = { λ p q. (postfix_term q ≡ postfix_term p)
+        × (postfix_operations q ≡ postfix_operations p) };
 
     fn clone(&self) -> Result<PostfixOperator, AllocError> {
         copy_postfix(self)
@@ -30,10 +44,11 @@ impl Clone for PostfixOperator {
 }
 
 impl Clone for Program {
-    ghost use Rattle.expr_tree.specs.KeptPatterns.{KeepNone, program_operations};
+    ghost use Rattle.expr_tree.specs.KeptPatterns.{program_operations};
     ghost use Rattle.expr_tree.specs.TermOf.{program_term};
 
-    ghost is_clone = { λ p q. (program_term q ≡ program_term p) × KeepNone (program_operations q) };
+    ghost is_clone = { λ p q. (program_term q ≡ program_term p)
+        × (program_operations q ≡ program_operations p) };
 
     fn clone(&self) -> Result<Program, AllocError> {
         copy_program(self)
@@ -43,7 +58,7 @@ impl Clone for Program {
 #[cycle(copy)]
 fn copy(node: &Node) -> Result<Node, AllocError>
     ensures tree { IfOk result (λ n. term_of n ≡ term_of node.now) }
-    ensures patterns { IfOk result NodeKeepsNone }
+    ensures patterns { IfOk result (λ n. node_patterns n ≡ node_patterns node.now) }
 {
     match node {
         Node::Ident(name) => Ok(Node::Ident(name.clone()?)),
@@ -80,15 +95,16 @@ fn copy(node: &Node) -> Result<Node, AllocError>
             operator,
             left,
             right,
-            compiled_regex: _,
+            compiled_regex,
         } => {
             let left = copy_boxed(left)?;
             let right = copy_boxed(right)?;
+            let compiled_regex = compiled_regex.clone()?;
             Ok(Node::Operation {
                 operator: *operator,
                 left,
                 right,
-                compiled_regex: CompiledRegex::None,
+                compiled_regex,
             })
         }
         Node::Postfix { operator, node } => {
@@ -116,7 +132,7 @@ fn copy(node: &Node) -> Result<Node, AllocError>
 #[cycle(copy)]
 fn copy_postfix(operator: &PostfixOperator) -> Result<PostfixOperator, AllocError>
     ensures tree { IfOk result (λ p. postfix_term p ≡ postfix_term operator.now) }
-    ensures patterns { IfOk result (λ p. KeepNone (postfix_operations p)) }
+    ensures patterns { IfOk result (λ p. postfix_operations p ≡ postfix_operations operator.now) }
 {
     match operator {
         PostfixOperator::Index { idx, optional } => {
@@ -149,7 +165,7 @@ fn copy_postfix(operator: &PostfixOperator) -> Result<PostfixOperator, AllocErro
 #[cycle(copy)]
 fn copy_boxed(node: &Box<Node>) -> Result<Box<Node>, AllocError>
     ensures tree { IfOk result (λ b. term_of b.value ≡ term_of node.now.value) }
-    ensures patterns { IfOk result (λ b. NodeKeepsNone b.value) }
+    ensures patterns { IfOk result (λ b. node_patterns b.value ≡ node_patterns node.now.value) }
 {
     let alloc = *Box::allocator(node);
     let node = copy(node.as_ref())?;
@@ -159,7 +175,7 @@ fn copy_boxed(node: &Box<Node>) -> Result<Box<Node>, AllocError>
 #[cycle(copy)]
 fn copy_bound(bound: &Option<Box<Node>>) -> Result<Option<Box<Node>>, AllocError>
     ensures tree { IfOk result (λ b. bound_term b ≡ bound_term bound.now) }
-    ensures patterns { IfOk result (λ b. KeepNone (bound_operations b)) }
+    ensures patterns { IfOk result (λ b. bound_operations b ≡ bound_operations bound.now) }
 {
     match bound {
         None => Ok(None),
@@ -174,7 +190,8 @@ fn copy_bound(bound: &Option<Box<Node>>) -> Result<Option<Box<Node>>, AllocError
 #[cycle(copy)]
 fn copy_block(program: &Box<Program>) -> Result<Box<Program>, AllocError>
     ensures tree { IfOk result (λ b. program_term b.value ≡ program_term program.now.value) }
-    ensures patterns { IfOk result (λ b. KeepNone (program_operations b.value)) }
+    ensures patterns { IfOk result (λ b. program_operations b.value
+        ≡ program_operations program.now.value) }
 {
     let alloc = *Box::allocator(program);
     let program = copy_program(program.as_ref())?;
@@ -184,7 +201,7 @@ fn copy_block(program: &Box<Program>) -> Result<Box<Program>, AllocError>
 #[cycle(copy)]
 fn copy_predicate(predicate: &Option<Box<Program>>) -> Result<Option<Box<Program>>, AllocError>
     ensures tree { IfOk result (λ p. predicate_term p ≡ predicate_term predicate.now) }
-    ensures patterns { IfOk result (λ p. KeepNone (predicate_operations p)) }
+    ensures patterns { IfOk result (λ p. predicate_operations p ≡ predicate_operations predicate.now) }
 {
     match predicate {
         None => Ok(None),
@@ -199,7 +216,8 @@ fn copy_predicate(predicate: &Option<Box<Program>>) -> Result<Option<Box<Program
 #[cycle(copy)]
 fn copy_nodes(nodes: &Vec<Node>) -> Result<Vec<Node>, AllocError>
     ensures tree { IfOk result (λ v. map term_of v.items ≡ map term_of nodes.now.items) }
-    ensures patterns { IfOk result (λ v. All NodeKeepsNone v.items) }
+    ensures patterns { IfOk result (λ v. map node_patterns v.items
+        ≡ map node_patterns nodes.now.items) }
 {
     let mut copies = Vec::with_capacity(*nodes.allocator(), nodes.len())?;
     for node in nodes {
@@ -211,7 +229,7 @@ fn copy_nodes(nodes: &Vec<Node>) -> Result<Vec<Node>, AllocError>
 #[cycle(copy)]
 fn copy_program(program: &Program) -> Result<Program, AllocError>
     ensures tree { IfOk result (λ p. program_term p ≡ program_term program.now) }
-    ensures patterns { IfOk result (λ p. KeepNone (program_operations p)) }
+    ensures patterns { IfOk result (λ p. program_operations p ≡ program_operations program.now) }
 {
     let lines = copy_lines(&program.lines)?;
     let expr = copy(&program.expr)?;
@@ -221,7 +239,8 @@ fn copy_program(program: &Program) -> Result<Program, AllocError>
 #[cycle(copy)]
 fn copy_lines(lines: &Vec<(String, Node)>) -> Result<Vec<(String, Node)>, AllocError>
     ensures tree { IfOk result (λ v. map line_term v.items ≡ map line_term lines.now.items) }
-    ensures patterns { IfOk result (λ v. All (λ l. NodeKeepsNone l.1) v.items) }
+    ensures patterns { IfOk result (λ v. map line_operations v.items
+        ≡ map line_operations lines.now.items) }
 {
     let mut copies = Vec::with_capacity(*lines.allocator(), lines.len())?;
     for (name, value) in lines {

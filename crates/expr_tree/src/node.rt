@@ -1,6 +1,6 @@
 //! The nodes of a program.
 ghost use Rattle.std.specs.Prelude.{◌+◌, ◌<◌, ◌≤◌, ◌≡◌, IfOk, IfErr, IfSome};
-ghost use Rattle.std.specs.Option.{option_copied};
+ghost use Rattle.std.specs.Option.{option_copied, option_map};
 ghost use Rattle.expr_tree.specs.KeptPatterns.{built_text};
 ghost use Rattle.expr_tree.specs.Weight.{weight};
 ghost use Rattle.expr_tree.specs.TermOf.{term_of};
@@ -12,7 +12,9 @@ use crate::chain::{
 use crate::operator::{Operator, UnaryOperator};
 pub use expr_pattern::{Pattern, Unbuilt};
 use expr_value::Value;
+use std::alloc::AllocError;
 use std::mem;
+use std::rc::Rc;
 
 /// An expression.
 #[cycle(tree)]
@@ -192,13 +194,13 @@ impl Node {
     }
 }
 
-/// What an operation keeps of the pattern on its right. A copy keeps nothing.
+/// What an operation keeps of the pattern on its right. A copy keeps the same, and shares the pattern.
 #[derive(Drop)]
 pub enum CompiledRegex {
     /// Nothing. Where the operation was read of a text, its operator isn't `matches`, or no text literal stands on the right, or the one there is no pattern, or nests too deep.
     None,
-    /// The pattern.
-    Built(Box<Pattern>),
+    /// The pattern, which copies and codes share.
+    Built(Rc<Pattern>),
     /// Nothing but that the text literal is a pattern, and its compiled form passes the limit of `regex`.
     TooBig,
 }
@@ -211,6 +213,20 @@ impl CompiledRegex {
         match self {
             CompiledRegex::Built(pattern) => Some(pattern.as_ref()),
             CompiledRegex::None | CompiledRegex::TooBig => None,
+        }
+    }
+
+    /// The pattern, if it was built, of which the caller is one more owner.
+    ///
+    /// # Errors
+    ///
+    /// `AllocError`, if there are as many owners as can be counted.
+    pub fn share(&self) -> Result<Option<Rc<Pattern>>, AllocError>
+        ensures { IfOk result (λ shared. option_map (λ p. p.value) shared ≡ built_text self.now) }
+    {
+        match self {
+            CompiledRegex::Built(pattern) => Ok(Some(pattern.clone()?)),
+            CompiledRegex::None | CompiledRegex::TooBig => Ok(None),
         }
     }
 }

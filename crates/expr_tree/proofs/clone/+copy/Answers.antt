@@ -1,12 +1,12 @@
-use Rattle.std.proofs.Common.{◌≡◌, ℕ, ◌+◌, ◌<◌, List, [], ◌∷◌, ◌++◌, map, take, length, get_or, Global, String, refl, sym, ap, ◌∙◌}
-use Rattle.std.proofs.lemmas.List.Elements.{All-nil, All-push, All-same}
+use Rattle.std.proofs.Common.{◌≡◌, ℕ, ◌+◌, ◌<◌, List, [], ◌∷◌, ◌++◌, map, take, length, get_or, sym, ap, ◌∙◌}
+use Rattle.std.specs.List.{flat_map}
+use Rattle.std.proofs.lemmas.List.Folds.{flat_map-map}
 use Rattle.std.proofs.lemmas.List.{take_more, map-append}
 use Rattle.expr_tree.specs.Term.{name, list, range, call, unary, operation, postfix, choice, block_with, mapping, pairs_of, index, slice, ternary, method}
-use Rattle.expr_tree.specs.KeptPatterns.{KeptPattern, NodeKeepsNone}
-use Rattle.expr_tree.specs.declared.node.CompiledRegex.TheVariants as compiled
+use Rattle.expr_tree.specs.KeptPatterns.{NodePatterns, line_operations, no_text, node_patterns, operations, postfix_operations, right_of}
 use Rattle.expr_tree.specs.declared.node.Node.{Node}
 use Rattle.expr_tree.specs.TermOf.{term_of, postfix_term, line_term, terms_of}
-use Rattle.expr_tree.proofs.KeptPatterns.{beside-Ident, all-Array, all-Map, all-Range, all-Func, all-Unary, all-Operation, all-Postfix, all-Conditional, all-Index, all-Slice, all-Default, all-Pipe, all-Ternary, all-Method, all-program}
+use Rattle.expr_tree.proofs.KeptPatterns.{patterns-Ident, patterns-Array, patterns-Map, patterns-Range, patterns-Func, patterns-Unary, patterns-Operation, patterns-Postfix, patterns-Conditional, beside-Index, beside-Slice, beside-Ternary, beside-Method, beside-program}
 use Rattle.expr_tree.proofs.Programs.{term_of-parts}
 use Rattle.expr_tree.proofs.Shapes.{term_of-Ident, term_of-Array, term_of-Map, term_of-Range, term_of-Func, term_of-Unary, term_of-Operation, term_of-Postfix, term_of-Conditional, term_of-Index, term_of-Slice, term_of-Ternary, term_of-Method}
 use Rattle.expr_tree.proofs.clone.+copy.Goals as goal
@@ -17,23 +17,25 @@ copied_next f xs ys next i x y within at before pushed same =
     ap (map f) pushed ∙ map-append f ys (y ∷ []) ∙ (λ j. before j ++ same j ∷ [])
     ∙ sym (ap (map f) (take_more xs i x within ∙ ap (λ z. take i xs ++ z ∷ []) (sym at)) ∙ map-append f (take i xs) (x ∷ []))
 
--- that no pattern is kept beside an operation
-abbrev none_kept : KeptPattern → Type 0
-none_kept b = b.kept ≡ compiled.None
+-- what lists have in turn is the same where it is the same of each item
+flat_same : {X Y : Type 0} (f : X → List Y) (xs ys : List X) → map f xs ≡ map f ys → flat_map f xs ≡ flat_map f ys
+flat_same f xs ys e = sym (flat_map-map (λ bs. bs) f xs) ∙ ap (flat_map (λ bs. bs)) e ∙ flat_map-map (λ bs. bs) f ys
 
-abbrev line_keeps_none : String Global × Node → Type 0
-line_keeps_none l = NodeKeepsNone l.1
+items_same : (ns ms : List Node) → map node_patterns ns ≡ map node_patterns ms → flat_map operations ns ≡ flat_map operations ms
+items_same ns ms e =
+    sym (flat_map-map (λ (p : NodePatterns). p.operations) node_patterns ns) ∙ ap (flat_map (λ (p : NodePatterns). p.operations)) e
+    ∙ flat_map-map (λ (p : NodePatterns). p.operations) node_patterns ms
 
 pub copy_nodes-loop-node-preserved : goal.copy_nodes-loop-node-preserved
 copy_nodes-loop-node-preserved t c = (
   copied_next term_of _ _ _ _ _ _ c.loop-node-test.true c.node-item.is c.loop-node.invariant.0 c.in_ok-push.ensures.items c.in_ok-copy.ensures.tree,
-  All-same NodeKeepsNone _ _ c.in_ok-push.ensures.items (All-push NodeKeepsNone _ _ c.loop-node.invariant.1 c.in_ok-copy.ensures.patterns),
+  copied_next node_patterns _ _ _ _ _ _ c.loop-node-test.true c.node-item.is c.loop-node.invariant.1 c.in_ok-push.ensures.items c.in_ok-copy.ensures.patterns,
 )
 
 pub copy_lines-loop-name-preserved : goal.copy_lines-loop-name-preserved
 copy_lines-loop-name-preserved t c = (
   copied_next line_term _ _ _ _ _ _ c.loop-name-test.true c.loop-name-item.is c.loop-name.invariant.0 c.in_ok-push.ensures.items (λ i. (c.in_ok-name.ensures.cases i, c.in_ok-value.ensures.tree i)),
-  All-same line_keeps_none _ _ c.in_ok-push.ensures.items (All-push line_keeps_none _ _ c.loop-name.invariant.1 c.in_ok-value.ensures.patterns),
+  copied_next line_operations _ _ _ _ _ _ c.loop-name-test.true c.loop-name-item.is c.loop-name.invariant.1 c.in_ok-push.ensures.items (ap (λ (p : NodePatterns). p.operations) c.in_ok-value.ensures.patterns),
 )
 
 pub copy_program-returns-clause-tree : goal.copy_program-returns-clause-tree
@@ -64,8 +66,8 @@ pub copy-returns-in_ok-node-in-Unary-clause-tree : goal.copy-returns-in_ok-node-
 copy-returns-in_ok-node-in-Unary-clause-tree t c =
     term_of-Unary _ _ ∙ ap (unary c.in-Unary.operator) c.in_ok-node-in-Unary.ensures.tree ∙ sym (ap term_of c.in-Unary.is ∙ term_of-Unary c.in-Unary.operator c.in-Unary.node)
 
-pub copy-returns-in_ok-right-in-Operation-clause-tree : goal.copy-returns-in_ok-right-in-Operation-clause-tree
-copy-returns-in_ok-right-in-Operation-clause-tree t c =
+pub copy-returns-in_ok-compiled_regex-in-Operation-clause-tree : goal.copy-returns-in_ok-compiled_regex-in-Operation-clause-tree
+copy-returns-in_ok-compiled_regex-in-Operation-clause-tree t c =
     term_of-Operation _ _ _ _ ∙ (λ i. operation c.in-Operation.operator (c.in_ok-left-in-Operation.ensures.tree i) (c.in_ok-right-in-Operation.ensures.tree i))
     ∙ sym (ap term_of c.in-Operation.is ∙ term_of-Operation c.in-Operation.operator c.in-Operation.left c.in-Operation.right c.in-Operation.compiled_regex)
 
@@ -95,45 +97,69 @@ copy_postfix-returns-in_ok-args-in-Method-clause-tree t c =
     term_of-Method _ _ ∙ (λ i. method (c.in_ok-ident-in-Method.ensures.cases i) (terms_of (c.in_ok-args-in-Method.ensures.tree i))) ∙ sym (ap postfix_term c.in-Method.is ∙ term_of-Method c.in-Method.ident c.in-Method.args)
 
 pub copy_program-returns-clause-patterns : goal.copy_program-returns-clause-patterns
-copy_program-returns-clause-patterns t c = all-program none_kept _ _ c.in_ok-lines.ensures.patterns c.in_ok-expr.ensures.patterns
+copy_program-returns-clause-patterns t c =
+    beside-program _ _ ∙ (λ i. flat_same line_operations _ _ c.in_ok-lines.ensures.patterns i ++ (c.in_ok-expr.ensures.patterns i).operations)
+    ∙ sym (beside-program c.args.program.now.lines c.args.program.now.expr)
 
 pub copy-returns-in_ok-clone-in-Ident-clause-patterns : goal.copy-returns-in_ok-clone-in-Ident-clause-patterns
-copy-returns-in_ok-clone-in-Ident-clause-patterns t c = All-same none_kept _ _ (beside-Ident _) (All-nil none_kept)
+copy-returns-in_ok-clone-in-Ident-clause-patterns t c = patterns-Ident _ ∙ sym (ap node_patterns c.in-Ident.is ∙ patterns-Ident c.in-Ident.name)
 
 pub copy-returns-in_ok-copy_nodes-in-Array-clause-patterns : goal.copy-returns-in_ok-copy_nodes-in-Array-clause-patterns
-copy-returns-in_ok-copy_nodes-in-Array-clause-patterns t c = all-Array none_kept _ c.in_ok-copy_nodes-in-Array.ensures.patterns
+copy-returns-in_ok-copy_nodes-in-Array-clause-patterns t c =
+    patterns-Array _ ∙ ap no_text (items_same _ _ c.in_ok-copy_nodes-in-Array.ensures.patterns) ∙ sym (ap node_patterns c.in-Array.is ∙ patterns-Array c.in-Array.items)
 
 pub copy-returns-in_ok-copy_lines-in-Map-clause-patterns : goal.copy-returns-in_ok-copy_lines-in-Map-clause-patterns
-copy-returns-in_ok-copy_lines-in-Map-clause-patterns t c = all-Map none_kept _ c.in_ok-copy_lines-in-Map.ensures.patterns
+copy-returns-in_ok-copy_lines-in-Map-clause-patterns t c =
+    patterns-Map _ ∙ ap no_text (flat_same line_operations _ _ c.in_ok-copy_lines-in-Map.ensures.patterns) ∙ sym (ap node_patterns c.in-Map.is ∙ patterns-Map c.in-Map.pairs)
 
 pub copy-returns-in_ok-last-in-Range-clause-patterns : goal.copy-returns-in_ok-last-in-Range-clause-patterns
-copy-returns-in_ok-last-in-Range-clause-patterns t c = all-Range none_kept _ _ c.in_ok-first-in-Range.ensures.patterns c.in_ok-last-in-Range.ensures.patterns
+copy-returns-in_ok-last-in-Range-clause-patterns t c =
+    patterns-Range _ _ ∙ (λ i. no_text ((c.in_ok-first-in-Range.ensures.patterns i).operations ++ (c.in_ok-last-in-Range.ensures.patterns i).operations))
+    ∙ sym (ap node_patterns c.in-Range.is ∙ patterns-Range c.in-Range.first c.in-Range.last)
 
 pub copy-returns-in_ok-predicate-in-Func-clause-patterns : goal.copy-returns-in_ok-predicate-in-Func-clause-patterns
-copy-returns-in_ok-predicate-in-Func-clause-patterns t c = all-Func none_kept _ _ _ c.in_ok-args-in-Func.ensures.patterns c.in_ok-predicate-in-Func.ensures.patterns
+copy-returns-in_ok-predicate-in-Func-clause-patterns t c =
+    patterns-Func _ _ _ ∙ (λ i. no_text (items_same _ _ c.in_ok-args-in-Func.ensures.patterns i ++ c.in_ok-predicate-in-Func.ensures.patterns i))
+    ∙ sym (ap node_patterns c.in-Func.is ∙ patterns-Func c.in-Func.ident c.in-Func.args c.in-Func.predicate)
 
 pub copy-returns-in_ok-node-in-Unary-clause-patterns : goal.copy-returns-in_ok-node-in-Unary-clause-patterns
-copy-returns-in_ok-node-in-Unary-clause-patterns t c = all-Unary none_kept _ _ c.in_ok-node-in-Unary.ensures.patterns
+copy-returns-in_ok-node-in-Unary-clause-patterns t c =
+    patterns-Unary _ _ ∙ ap (λ (p : NodePatterns). no_text p.operations) c.in_ok-node-in-Unary.ensures.patterns
+    ∙ sym (ap node_patterns c.in-Unary.is ∙ patterns-Unary c.in-Unary.operator c.in-Unary.node)
 
-pub copy-returns-in_ok-right-in-Operation-clause-patterns : goal.copy-returns-in_ok-right-in-Operation-clause-patterns
-copy-returns-in_ok-right-in-Operation-clause-patterns t c =
-    all-Operation none_kept _ _ _ compiled.None refl c.in_ok-left-in-Operation.ensures.patterns c.in_ok-right-in-Operation.ensures.patterns
+pub copy-returns-in_ok-compiled_regex-in-Operation-clause-patterns : goal.copy-returns-in_ok-compiled_regex-in-Operation-clause-patterns
+copy-returns-in_ok-compiled_regex-in-Operation-clause-patterns t c =
+    patterns-Operation _ _ _ _
+    ∙ (λ i. no_text (record { literal = right_of c.in-Operation.operator (c.in_ok-right-in-Operation.ensures.patterns i).text; kept = c.in_ok-compiled_regex-in-Operation.ensures.cases i }
+    ∷ ((c.in_ok-left-in-Operation.ensures.patterns i).operations ++ (c.in_ok-right-in-Operation.ensures.patterns i).operations)))
+    ∙ sym (ap node_patterns c.in-Operation.is ∙ patterns-Operation c.in-Operation.operator c.in-Operation.left c.in-Operation.right c.in-Operation.compiled_regex)
 
 pub copy-returns-in_ok-node-in-Postfix-clause-patterns : goal.copy-returns-in_ok-node-in-Postfix-clause-patterns
-copy-returns-in_ok-node-in-Postfix-clause-patterns t c = all-Postfix none_kept _ _ c.in_ok-node-in-Postfix.ensures.patterns c.in_ok-operator-in-Postfix.ensures.patterns
+copy-returns-in_ok-node-in-Postfix-clause-patterns t c =
+    patterns-Postfix _ _ ∙ (λ i. no_text ((c.in_ok-node-in-Postfix.ensures.patterns i).operations ++ c.in_ok-operator-in-Postfix.ensures.patterns i))
+    ∙ sym (ap node_patterns c.in-Postfix.is ∙ patterns-Postfix c.in-Postfix.operator c.in-Postfix.node)
 
 pub copy-returns-in_ok-alternative-in-Conditional-clause-patterns : goal.copy-returns-in_ok-alternative-in-Conditional-clause-patterns
 copy-returns-in_ok-alternative-in-Conditional-clause-patterns t c =
-    all-Conditional none_kept _ _ _ c.in_ok-condition-in-Conditional.ensures.patterns c.in_ok-consequent-in-Conditional.ensures.patterns c.in_ok-alternative-in-Conditional.ensures.patterns
+    patterns-Conditional _ _ _
+    ∙ (λ i. no_text ((c.in_ok-condition-in-Conditional.ensures.patterns i).operations ++ (c.in_ok-consequent-in-Conditional.ensures.patterns i ++ c.in_ok-alternative-in-Conditional.ensures.patterns i)))
+    ∙ sym (ap node_patterns c.in-Conditional.is ∙ patterns-Conditional c.in-Conditional.condition c.in-Conditional.consequent c.in-Conditional.alternative)
 
 pub copy_postfix-returns-in_ok-idx-in-Index-clause-patterns : goal.copy_postfix-returns-in_ok-idx-in-Index-clause-patterns
-copy_postfix-returns-in_ok-idx-in-Index-clause-patterns t c = all-Index none_kept _ _ c.in_ok-idx-in-Index.ensures.patterns
+copy_postfix-returns-in_ok-idx-in-Index-clause-patterns t c =
+    beside-Index _ _ ∙ ap (λ (p : NodePatterns). p.operations) c.in_ok-idx-in-Index.ensures.patterns
+    ∙ sym (ap postfix_operations c.in-Index.is ∙ beside-Index c.in-Index.idx c.in-Index.optional)
 
 pub copy_postfix-returns-in_ok-end-in-Range-clause-patterns : goal.copy_postfix-returns-in_ok-end-in-Range-clause-patterns
-copy_postfix-returns-in_ok-end-in-Range-clause-patterns t c = all-Slice none_kept _ _ c.in_ok-start-in-Range.ensures.patterns c.in_ok-end-in-Range.ensures.patterns
+copy_postfix-returns-in_ok-end-in-Range-clause-patterns t c =
+    beside-Slice _ _ ∙ (λ i. c.in_ok-start-in-Range.ensures.patterns i ++ c.in_ok-end-in-Range.ensures.patterns i)
+    ∙ sym (ap postfix_operations c.in-Range.is ∙ beside-Slice c.in-Range.start c.in-Range.end)
 
 pub copy_postfix-returns-in_ok-right-in-Ternary-clause-patterns : goal.copy_postfix-returns-in_ok-right-in-Ternary-clause-patterns
-copy_postfix-returns-in_ok-right-in-Ternary-clause-patterns t c = all-Ternary none_kept _ _ c.in_ok-left-in-Ternary.ensures.patterns c.in_ok-right-in-Ternary.ensures.patterns
+copy_postfix-returns-in_ok-right-in-Ternary-clause-patterns t c =
+    beside-Ternary _ _ ∙ (λ i. (c.in_ok-left-in-Ternary.ensures.patterns i).operations ++ (c.in_ok-right-in-Ternary.ensures.patterns i).operations)
+    ∙ sym (ap postfix_operations c.in-Ternary.is ∙ beside-Ternary c.in-Ternary.left c.in-Ternary.right)
 
 pub copy_postfix-returns-in_ok-args-in-Method-clause-patterns : goal.copy_postfix-returns-in_ok-args-in-Method-clause-patterns
-copy_postfix-returns-in_ok-args-in-Method-clause-patterns t c = all-Method none_kept _ _ c.in_ok-args-in-Method.ensures.patterns
+copy_postfix-returns-in_ok-args-in-Method-clause-patterns t c =
+    beside-Method _ _ ∙ items_same _ _ c.in_ok-args-in-Method.ensures.patterns ∙ sym (ap postfix_operations c.in-Method.is ∙ beside-Method c.in-Method.ident c.in-Method.args)
