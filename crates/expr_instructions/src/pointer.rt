@@ -2,8 +2,9 @@
 ghost use Rattle.std.specs.Prelude.{◌≡◌};
 
 use expr_value::Value;
+use std::rc::Rc;
 
-/// What holds a literal, a name or a pattern: the code itself, in a box, or another, who lends it.
+/// What holds a literal, a name or a pattern: the code itself, in a box or as one owner of several, or another, who lends it.
 pub trait Pointer<T> {
     /// What is held.
     ghost held: { Self → T };
@@ -28,6 +29,15 @@ impl<T> Pointer<T> for Box<T> {
     #[inline(always)]
     fn get(&self) -> &T {
         &**self
+    }
+}
+
+impl<T> Pointer<T> for Rc<T> {
+    ghost held = { λ r. r.value };
+
+    #[inline(always)]
+    fn get(&self) -> &T {
+        self.as_ref()
     }
 }
 
