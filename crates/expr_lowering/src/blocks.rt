@@ -6,7 +6,8 @@ ghost use Rattle.expr_instructions.specs.Patterns.{KeepPatterns};
 ghost use Rattle.expr_lowering.specs.Leading.{Leads, Writes, at_block_start, with_jump, with_task};
 ghost use Rattle.expr_lowering.specs.Keeping.{BlockLentKeeps, Keeps, NextKeeps, WorkKeeps};
 ghost use Rattle.expr_lowering.specs.Kept.{NodeKeeps, ProgramKeeps};
-ghost use Rattle.expr_lowering.specs.Lent.{lent_built, lent_value, task_of, worklist_of};
+ghost use Rattle.expr_lowering.specs.Lent.{lent_value, task_of, worklist_of};
+ghost use Rattle.expr_lowering.specs.Owned.{shared_text};
 ghost use Rattle.expr_lowering.specs.States.{lent_blocks, lent_ops, state_of};
 ghost use Rattle.expr_lowering.specs.Tasks.{term_task};
 
@@ -173,7 +174,7 @@ impl<'p> Lowering<'p> {
         ensures code { IfOk result (λ blocks. IsCode (program_term program.now)
             (lent_blocks blocks.0 blocks.1)) }
         ensures kept { ProgramKeeps program.now
-            → IfOk result (λ blocks. KeepPatterns lent_value lent_built blocks.0 blocks.1) }
+            → IfOk result (λ blocks. KeepPatterns lent_value shared_text blocks.0 blocks.1) }
     {
         let first = self.block(program, 0)?;
         let mut later = Vec::with_capacity(self.alloc, self.promised.len())?;

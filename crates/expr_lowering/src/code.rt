@@ -7,6 +7,7 @@ use expr_pattern::PatternRoom;
 use expr_tree::node::{Pattern, Program};
 use expr_value::{Result, Value};
 use std::alloc::Global;
+use std::rc::Rc;
 
 /// Flat code: blocks of instructions, and nothing else. Each jump stays within its block, each call with a predicate asks a
 /// later block, and each instruction finds its operands and slots.
@@ -21,7 +22,7 @@ pub struct Code<L, N, P> {
     pub ghost safe: { IsSafeShape first later },
 }
 
-impl<'p> Code<&'p Value, &'p String, &'p Pattern> {
+impl<'p> Code<&'p Value, &'p String, Rc<Pattern>> {
     ghost use Rattle.std.specs.Prelude.{◌≡◌, IfOk, IfErr, string_bytes};
     ghost use Rattle.expr_code.specs.Codes.{IsCode};
     ghost use Rattle.expr_lowering.specs.Blocks.{CodeKeeps, blocks_of};
@@ -29,8 +30,8 @@ impl<'p> Code<&'p Value, &'p String, &'p Pattern> {
     ghost use Rattle.expr_tree.specs.TermOf.{program_term};
     ghost use Rattle.expr_error.specs.ErrorKind.{error_kind, memory};
 
-    /// The code of a program, which lends its literals, its names and the patterns that it keeps. What serves the second run
-    /// on and costs more than one run is made as well.
+    /// The code of a program, which lends its literals and its names, and shares the patterns that it keeps. What serves the
+    /// second run on and costs more than one run is made as well.
     ///
     /// # Errors
     ///
@@ -38,11 +39,11 @@ impl<'p> Code<&'p Value, &'p String, &'p Pattern> {
     pub fn lower(
         alloc: Global,
         program: &'p Program,
-    ) -> Result<Code<&'p Value, &'p String, &'p Pattern>>
+    ) -> Result<Code<&'p Value, &'p String, Rc<Pattern>>>
         ensures code { IfOk result (λ c. IsCode (program_term program.now)
             (blocks_of (λ v. v.now) (λ n. string_bytes n.now) c)) }
         ensures kept { ProgramKeeps program.now
-            → IfOk result (λ c. CodeKeeps (λ v. v.now) (λ p. p.now) c) }
+            → IfOk result (λ c. CodeKeeps (λ v. v.now) (λ p. p.value) c) }
         ensures refused { IfErr result (λ e. error_kind e ≡ memory) }
     {
         Self::lower_for(alloc, program, true)
@@ -56,11 +57,11 @@ impl<'p> Code<&'p Value, &'p String, &'p Pattern> {
     pub fn lower_once(
         alloc: Global,
         program: &'p Program,
-    ) -> Result<Code<&'p Value, &'p String, &'p Pattern>>
+    ) -> Result<Code<&'p Value, &'p String, Rc<Pattern>>>
         ensures code { IfOk result (λ c. IsCode (program_term program.now)
             (blocks_of (λ v. v.now) (λ n. string_bytes n.now) c)) }
         ensures kept { ProgramKeeps program.now
-            → IfOk result (λ c. CodeKeeps (λ v. v.now) (λ p. p.now) c) }
+            → IfOk result (λ c. CodeKeeps (λ v. v.now) (λ p. p.value) c) }
         ensures refused { IfErr result (λ e. error_kind e ≡ memory) }
     {
         Self::lower_for(alloc, program, false)
@@ -70,11 +71,11 @@ impl<'p> Code<&'p Value, &'p String, &'p Pattern> {
         alloc: Global,
         program: &'p Program,
         is_run_again: bool,
-    ) -> Result<Code<&'p Value, &'p String, &'p Pattern>>
+    ) -> Result<Code<&'p Value, &'p String, Rc<Pattern>>>
         ensures code { IfOk result (λ c. IsCode (program_term program.now)
             (blocks_of (λ v. v.now) (λ n. string_bytes n.now) c)) }
         ensures kept { ProgramKeeps program.now
-            → IfOk result (λ c. CodeKeeps (λ v. v.now) (λ p. p.now) c) }
+            → IfOk result (λ c. CodeKeeps (λ v. v.now) (λ p. p.value) c) }
         ensures refused { IfErr result (λ e. error_kind e ≡ memory) }
     {
         let mut lowering = Lowering::new(alloc, is_run_again);

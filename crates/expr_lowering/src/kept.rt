@@ -1,25 +1,26 @@
-//! Code that a host keeps: a copy that owns its literals, its names and its patterns.
+//! Code that a host keeps: a copy that owns its literals and its names, and shares the patterns.
 ghost use Rattle.std.specs.Prelude.{◌≡◌, map, IfOk, IfErr, string_bytes};
+ghost use Rattle.std.specs.Option.{option_map};
 ghost use Rattle.expr_instructions.specs.InMemory.{op_of};
 ghost use Rattle.expr_lowering.specs.Blocks.{blocks_of};
-ghost use Rattle.expr_lowering.specs.Owned.{own_text, own_value};
+ghost use Rattle.expr_lowering.specs.Owned.{own_text, own_value, shared_text};
 ghost use Rattle.expr_error.specs.ErrorKind.{error_kind, memory};
 
 use crate::code::Code;
 use expr_instructions::{Block, Instruction, Pointer, PredicateCall};
-use expr_pattern::{Pattern, PatternRoom, Unbuilt};
+use expr_pattern::{Pattern, PatternRoom};
 use expr_value::{Result, Value};
 use std::alloc::{AllocError, Global};
+use std::rc::Rc;
 
-/// Code that owns its literals, its names and its patterns, so that it outlives its program.
-pub type KeptCode = Code<Box<Value>, Box<String>, Box<Pattern>>;
+/// Code that owns its literals and its names, and is one owner of its patterns, so that it outlives its program.
+pub type KeptCode = Code<Box<Value>, Box<String>, Rc<Pattern>>;
 
-/// An instruction that owns what it holds.
-type OwnInstruction = Instruction<Box<Value>, Box<String>, Box<Pattern>>;
+/// An instruction that owns what it holds, its pattern as one of several owners.
+type OwnInstruction = Instruction<Box<Value>, Box<String>, Rc<Pattern>>;
 
-impl<L: Pointer<Value>, N: Pointer<String>, P: Pointer<Pattern>> Code<L, N, P> {
-    /// A copy that owns its literals, its names and its patterns. A pattern is built anew from its text, and isn't kept
-    /// where it doesn't build.
+impl<L: Pointer<Value>, N: Pointer<String>> Code<L, N, Rc<Pattern>> {
+    /// A copy that owns its literals and its names, and shares the patterns: none is built.
     ///
     /// # Errors
     ///
@@ -42,9 +43,9 @@ impl<L: Pointer<Value>, N: Pointer<String>, P: Pointer<Pattern>> Code<L, N, P> {
     }
 }
 
-fn kept_block<L: Pointer<Value>, N: Pointer<String>, P: Pointer<Pattern>>(
+fn kept_block<L: Pointer<Value>, N: Pointer<String>>(
     alloc: Global,
-    block: &Block<L, N, P>,
+    block: &Block<L, N, Rc<Pattern>>,
 ) -> std::result::Result<Vec<OwnInstruction>, AllocError>
     ensures { IfOk result (λ b. map (op_of own_value own_text) b.items
         ≡ map (op_of L.held (λ n. string_bytes (N.held n))) block.now.items) }
@@ -56,9 +57,9 @@ fn kept_block<L: Pointer<Value>, N: Pointer<String>, P: Pointer<Pattern>>(
     Ok(kept)
 }
 
-fn kept_instruction<L: Pointer<Value>, N: Pointer<String>, P: Pointer<Pattern>>(
+fn kept_instruction<L: Pointer<Value>, N: Pointer<String>>(
     alloc: Global,
-    instruction: &Instruction<L, N, P>,
+    instruction: &Instruction<L, N, Rc<Pattern>>,
 ) -> std::result::Result<OwnInstruction, AllocError>
     ensures { IfOk result (λ i. op_of own_value own_text i ≡ op_of L.held
         (λ n. string_bytes (N.held n)) instruction.now) }
@@ -80,7 +81,7 @@ fn kept_instruction<L: Pointer<Value>, N: Pointer<String>, P: Pointer<Pattern>>(
         }
         Instruction::Match => Ok(Instruction::Match),
         Instruction::MatchWith(value, pattern) => {
-            let pattern = kept_pattern(alloc, pattern)?;
+            let pattern = kept_pattern(pattern)?;
             Ok(Instruction::MatchWith(kept_value(alloc, value)?, pattern))
         }
         Instruction::Prefix(operator) => Ok(Instruction::Prefix(*operator)),
@@ -162,17 +163,14 @@ fn kept_call<N: Pointer<String>>(
     Ok(Box::new(alloc, call)?)
 }
 
-// The pattern of the same text, none where it doesn't build.
-fn kept_pattern<P: Pointer<Pattern>>(
-    alloc: Global,
-    pattern: &Option<P>,
-) -> std::result::Result<Option<Box<Pattern>>, AllocError> {
-    let Some(pattern) = pattern else {
-        return Ok(None);
-    };
-    match Pattern::kept(alloc, pattern.get().text()) {
-        Ok(Some(pattern)) => Ok(Some(Box::new(alloc, pattern)?)),
-        Ok(None) | Err(Unbuilt::TooBig) => Ok(None),
-        Err(Unbuilt::Memory) => Err(AllocError),
+// The same pattern, of which the copy is one more owner.
+fn kept_pattern(
+    pattern: &Option<Rc<Pattern>>,
+) -> std::result::Result<Option<Rc<Pattern>>, AllocError>
+    ensures { IfOk result (λ kept. option_map shared_text kept ≡ option_map shared_text pattern.now) }
+{
+    match pattern {
+        Some(pattern) => Ok(Some(pattern.clone()?)),
+        None => Ok(None),
     }
 }

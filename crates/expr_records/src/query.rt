@@ -14,6 +14,7 @@ use expr::{
 use expr_encoding::Members;
 use expr_meaning::Functions;
 use std::alloc::Global;
+use std::rc::Rc;
 
 /// What is done with the records.
 #[derive(Clone, Copy, Debug, PartialEq, Eq)]
@@ -64,7 +65,7 @@ pub struct Query<'h, H> {
     pub host: &'h H,
     /// The names that stand before those of each record.
     pub names: &'h Context,
-    pub machine: KeptMachine<'h, Box<Value>, Box<String>, Box<Pattern>>,
+    pub machine: KeptMachine<'h, Box<Value>, Box<String>, Rc<Pattern>>,
     pub purpose: Purpose,
 }
 

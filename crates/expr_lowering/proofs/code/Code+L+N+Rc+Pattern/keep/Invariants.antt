@@ -1,7 +1,7 @@
 use Rattle.std.proofs.Common.{◌≡◌, map, take, string_bytes}
 use Rattle.expr_instructions.specs.InMemory.{ops_of}
 use Rattle.expr_lowering.specs.Owned.{own_text, own_value}
-use Rattle.expr_lowering.proofs.code.Code.keep.Given as goal
+use Rattle.expr_lowering.proofs.code.Code+L+N+Rc+Pattern.keep.Given as goal
 
 abbrev pub invariant-loop-block : goal.invariant-loop-block
 invariant-loop-block g l =

@@ -3,7 +3,7 @@ use Rattle.expr_instructions.proofs.Safety.{shape_is_safe}
 use Rattle.expr_tree.specs.TermOf.{program_term}
 use Rattle.expr_lowering.specs.Lent.{lent_text, lent_value}
 use Rattle.expr_lowering.specs.States.{lent_blocks}
-use Rattle.expr_lowering.proofs.code.Code+ref+Value+ref+String+ref+Pattern.lower_for.Goals as goal
+use Rattle.expr_lowering.proofs.code.Code+ref+Value+ref+String+Rc+Pattern.lower_for.Goals as goal
 
 pub invariant_of-result : goal.invariant_of-result
 invariant_of-result c =

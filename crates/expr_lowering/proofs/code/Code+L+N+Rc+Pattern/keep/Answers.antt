@@ -6,7 +6,7 @@ use Rattle.expr_instructions.proofs.Safety.{code_is_safe, shape_is_safe}
 use Rattle.expr_lowering.specs.Owned.{own_text, own_value}
 use Rattle.expr_lowering.proofs.Keeping.{same-reversed}
 use Rattle.expr_lowering.proofs.AtPoint.{made_next}
-use Rattle.expr_lowering.proofs.code.Code.keep.Goals as goal
+use Rattle.expr_lowering.proofs.code.Code+L+N+Rc+Pattern.keep.Goals as goal
 
 pub loop-block-preserved : goal.loop-block-preserved
 loop-block-preserved g c =
