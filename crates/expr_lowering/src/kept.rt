@@ -2,7 +2,8 @@
 ghost use Rattle.std.specs.Prelude.{◌≡◌, map, IfOk, IfErr, string_bytes};
 ghost use Rattle.std.specs.Option.{option_map};
 ghost use Rattle.expr_instructions.specs.InMemory.{op_of};
-ghost use Rattle.expr_lowering.specs.Blocks.{blocks_of};
+ghost use Rattle.expr_instructions.specs.Patterns.{BlockKeepsPatterns, KeepsPattern};
+ghost use Rattle.expr_lowering.specs.Blocks.{CodeKeeps, blocks_of};
 ghost use Rattle.expr_lowering.specs.Owned.{own_text, own_value, shared_text};
 ghost use Rattle.expr_error.specs.ErrorKind.{error_kind, memory};
 
@@ -20,7 +21,8 @@ pub type KeptCode = Code<Box<Value>, Box<String>, Rc<Pattern>>;
 type OwnInstruction = Instruction<Box<Value>, Box<String>, Rc<Pattern>>;
 
 impl<L: Pointer<Value>, N: Pointer<String>> Code<L, N, Rc<Pattern>> {
-    /// A copy that owns its literals and its names, and shares the patterns: none is built.
+    /// A copy that owns its literals and its names, and shares the patterns: none is built, and each instruction keeps
+    /// what it kept.
     ///
     /// # Errors
     ///
@@ -28,6 +30,8 @@ impl<L: Pointer<Value>, N: Pointer<String>> Code<L, N, Rc<Pattern>> {
     pub fn keep(&self, alloc: Global) -> Result<KeptCode>
         ensures blocks { IfOk result (λ c. blocks_of own_value own_text c ≡ blocks_of L.held
             (λ n. string_bytes (N.held n)) self.now) }
+        ensures kept { CodeKeeps L.held shared_text self.now
+            → IfOk result (λ c. CodeKeeps own_value shared_text c) }
         ensures refused { IfErr result (λ e. error_kind e ≡ memory) }
     {
         let first = kept_block(alloc, &self.first)?;
@@ -47,8 +51,10 @@ fn kept_block<L: Pointer<Value>, N: Pointer<String>>(
     alloc: Global,
     block: &Block<L, N, Rc<Pattern>>,
 ) -> std::result::Result<Vec<OwnInstruction>, AllocError>
-    ensures { IfOk result (λ b. map (op_of own_value own_text) b.items
+    ensures ops { IfOk result (λ b. map (op_of own_value own_text) b.items
         ≡ map (op_of L.held (λ n. string_bytes (N.held n))) block.now.items) }
+    ensures kept { BlockKeepsPatterns L.held shared_text block.now.items
+        → IfOk result (λ b. BlockKeepsPatterns own_value shared_text b.items) }
 {
     let mut kept = Vec::with_capacity(alloc, block.len())?;
     for instruction in block {
@@ -61,8 +67,10 @@ fn kept_instruction<L: Pointer<Value>, N: Pointer<String>>(
     alloc: Global,
     instruction: &Instruction<L, N, Rc<Pattern>>,
 ) -> std::result::Result<OwnInstruction, AllocError>
-    ensures { IfOk result (λ i. op_of own_value own_text i ≡ op_of L.held
+    ensures op { IfOk result (λ i. op_of own_value own_text i ≡ op_of L.held
         (λ n. string_bytes (N.held n)) instruction.now) }
+    ensures kept { KeepsPattern L.held shared_text instruction.now
+        → IfOk result (λ i. KeepsPattern own_value shared_text i) }
 {
     match instruction {
         Instruction::Push(value) => Ok(Instruction::Push(kept_value(alloc, value)?)),
