@@ -45,7 +45,7 @@ patterns-Unary o n = search (rules, the_lemmas)
 
 pub patterns-Operation : (o : Operator) (l r : Box Node Global) (kept : CompiledRegex)
     → node_patterns (node.Operation o l r kept)
-    ≡ no_text (record { literal = right_of o (node_patterns r.value).text; kept = kept_of kept } ∷ (operations l.value ++ operations r.value))
+    ≡ no_text (record { operator = o; literal = right_of o (node_patterns r.value).text; kept = kept_of kept } ∷ (operations l.value ++ operations r.value))
 patterns-Operation o l r kept = search (rules, the_lemmas)
 
 pub patterns-Postfix : (p : PostfixOperator) (n : Box Node Global) → node_patterns (node.Postfix p n) ≡ no_text (operations n.value ++ postfix_operations p)
@@ -87,7 +87,7 @@ beside-Unary o n = beside _ _ (patterns-Unary o n)
 
 pub beside-Operation : (o : Operator) (l r : Box Node Global) (kept : CompiledRegex)
     → operations (node.Operation o l r kept)
-    ≡ record { literal = right_of o (node_patterns r.value).text; kept = kept_of kept } ∷ (operations l.value ++ operations r.value)
+    ≡ record { operator = o; literal = right_of o (node_patterns r.value).text; kept = kept_of kept } ∷ (operations l.value ++ operations r.value)
 beside-Operation o l r kept = beside _ _ (patterns-Operation o l r kept)
 
 pub beside-Postfix : (p : PostfixOperator) (n : Box Node Global) → operations (node.Postfix p n) ≡ operations n.value ++ postfix_operations p
@@ -148,7 +148,7 @@ module _ (P : KeptPattern → Type 0) where
   all-Unary o n h = All-same P _ _ (beside-Unary o n) h
 
   pub all-Operation : (o : Operator) (l r : Box Node Global) (kept : CompiledRegex)
-      → P (record { literal = right_of o (node_patterns r.value).text; kept = kept_of kept })
+      → P (record { operator = o; literal = right_of o (node_patterns r.value).text; kept = kept_of kept })
       → All P (operations l.value) → All P (operations r.value) → All P (operations (node.Operation o l r kept))
   all-Operation o l r kept own p q = All-same P _ _ (beside-Operation o l r kept) (All-cons P _ _ own (All-append P (operations l.value) (operations r.value) p q))
 

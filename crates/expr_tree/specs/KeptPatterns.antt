@@ -24,8 +24,9 @@ kept_of compiled.None = nothing
 kept_of (compiled.Built p) = built p.value
 kept_of compiled.TooBig = too_big
 
--- beside one operation: the text that is the literal on the right of `matches`, if one is, and what is kept
+-- one operation: its operator, the text that is the literal on the right of `matches`, if one is, and what is kept beside it
 pub record KeptPattern : Type 0 where
+  pub operator : Operator
   pub literal : Option (List ℕ)
   pub kept : Kept
 
@@ -70,7 +71,7 @@ node_beside (Node-F.Value v) = record { text = string_of v; operations = [] }
 node_beside (Node-F.Func s ns p) = no_text (flat_map (λ n. n.operations) ns.items ++ in_predicate p)
 node_beside (Node-F.Unary o n) = no_text n.value.operations
 node_beside (Node-F.Operation o l r kept) =
-    no_text (record { literal = right_of o r.value.text; kept = kept_of kept } ∷ (l.value.operations ++ r.value.operations))
+    no_text (record { operator = o; literal = right_of o r.value.text; kept = kept_of kept } ∷ (l.value.operations ++ r.value.operations))
 node_beside (Node-F.Postfix p n) = no_text (n.value.operations ++ p)
 node_beside (Node-F.Conditional c t e) = no_text (c.value.operations ++ (t.value ++ e.value))
 

@@ -130,7 +130,7 @@ copy-returns-in_ok-node-in-Unary-clause-patterns t c =
 pub copy-returns-in_ok-compiled_regex-in-Operation-clause-patterns : goal.copy-returns-in_ok-compiled_regex-in-Operation-clause-patterns
 copy-returns-in_ok-compiled_regex-in-Operation-clause-patterns t c =
     patterns-Operation _ _ _ _
-    ∙ (λ i. no_text (record { literal = right_of c.in-Operation.operator (c.in_ok-right-in-Operation.ensures.patterns i).text; kept = c.in_ok-compiled_regex-in-Operation.ensures.cases i }
+    ∙ (λ i. no_text (record { operator = c.in-Operation.operator; literal = right_of c.in-Operation.operator (c.in_ok-right-in-Operation.ensures.patterns i).text; kept = c.in_ok-compiled_regex-in-Operation.ensures.cases i }
     ∷ ((c.in_ok-left-in-Operation.ensures.patterns i).operations ++ (c.in_ok-right-in-Operation.ensures.patterns i).operations)))
     ∙ sym (ap node_patterns c.in-Operation.is ∙ patterns-Operation c.in-Operation.operator c.in-Operation.left c.in-Operation.right c.in-Operation.compiled_regex)
 
