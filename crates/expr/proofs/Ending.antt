@@ -1,12 +1,12 @@
 -- How a text ends within limits, by how a code of its program does, and what it may answer then.
-use Rattle.std.proofs.Common.{◌≡◌, ℕ, List, Result, Ok, Err, ◌⊎◌, inl, inr, refl, sym, ap, ◌∙◌, subst, arith}
+use Rattle.std.proofs.Common.{◌≡◌, ◌≤◌, ℕ, IfOk, List, Result, Ok, Err, ◌⊎◌, inl, inr, refl, sym, ap, ◌∙◌, subst, arith}
 use Rattle.std.specs.Result.{IsErrAnd}
 use Rattle.std.specs.Str.{IsCharBoundary}
 use Rattle.expr_code.proofs.Correct.{exact_code}
 use Rattle.expr_code.specs.Codes.{IsCode}
 use Rattle.expr_code.specs.Machine.{CodeAnswers, Op}
 use Rattle.expr_costs.specs.Costs.{costs_in}
-use Rattle.expr_limited.specs.Outcomes.{ReturnsOutcome}
+use Rattle.expr_limited.specs.Outcomes.{OnAnswer, ReturnsOutcome}
 use Rattle.expr_meaning.specs.Allows.{AllowsBlock}
 use Rattle.expr_meter.proofs.Forgotten.{code_forgets}
 use Rattle.expr_meter.specs.Counting.{ending_of}
@@ -17,6 +17,7 @@ use Rattle.expr_meter.specs.declared.limits.Limits.{Limits}
 use Rattle.expr_meter.specs.declared.outcome.Outcome.{Outcome}
 use Rattle.expr_meter.specs.declared.outcome.Outcome.TheVariants.{Answered, Stopped}
 use Rattle.expr_meaning.specs.World.{World}
+use Rattle.expr_sizes.specs.Sizes.{depth}
 use Rattle.expr_syntax.specs.Bounds.{IsCompiledBounded, IsHigher, IsLight}
 use Rattle.expr_syntax.specs.Texts.{IsPlaced, IsProgramOf, IsProgramWithin}
 use Rattle.expr_tree.specs.Term.{Block}
@@ -25,7 +26,7 @@ use Rattle.expr_error.specs.ErrorKind.{ErrorKind, evaluation, error_kind, litera
 use Rattle.expr_error.specs.declared.error.Error.{Error}
 use Rattle.expr_error.specs.declared.error.Error.TheVariants.{PestError, ParseError, ExprError, RegexError, MemoryError}
 use Rattle.expr_value.specs.declared.value.Value.{Value}
-use Rattle.expr.specs.Limited.{CodeEnds, EndsText, IsCompiledLimited, MayGive, TextEnds, room_of}
+use Rattle.expr.specs.Limited.{AnswersTextLimited, CodeEnds, EndsText, IsCompiledLimited, MayGive, TextEnds, room_of}
 use Rattle.expr_eval.specs.Texts.{IsOwnFault, IsRefused, IsRefusedWithin, MayAnswer, MayAnswerWithin}
 use Rattle.expr_eval.proofs.Faults.{boundary_of_run, place_of_run, same_place}
 use Rattle.expr.proofs.Stopping.{stops_of_runs}
@@ -139,6 +140,15 @@ module _ (world : World) where
     text_answers (Ok (Answered v)) (left, p) = run_answers (Ok v) left p
     text_answers (Ok (Stopped limit)) p = tt
     text_answers (Err e) p = λ m. either_answers (error_kind e) (p m)
+
+    passed_depth : (e : Error) (r : Result (Outcome Value) Error) → IsErrAnd r (λ x. x ≡ e) → IfOk r (λ o. OnAnswer o (λ v. depth v ≤ limits.depth))
+    passed_depth e (Ok o) is = absurd is
+    passed_depth e (Err x) is = tt
+
+    -- what a text comes to that is refused before its code is run
+    pub text_refused : (e : Error) (r : Result (Outcome Value) Error) → IsErrAnd r (λ x. x ≡ e) → EndsText world text limits r → (IsOwnFault text world.host → IsPlaced text r)
+        → (IsOwnFault text world.host → (place : ℕ) → r ≡ Err (PestError place) → IsCharBoundary text place) → AnswersTextLimited world text limits r
+    text_refused e r is ends placed bounded = record { outcome = ends; answer = text_answers r ends; depth = passed_depth e r is; place = placed; boundary = bounded }
 
     -- and so it may where no tree is higher than is allowed
     module _ (height : ℕ) (same : limits.height ≡ height) where

@@ -83,7 +83,7 @@ module _ (counting : Counting) (such : Limit → Type 0) (by : AllPass counting 
         ) p
 
     start_stops : (s : Result FoldOver ErrorKind) (now : Tally) (e : Ending Tally) → CountsFoldStart counting s asks now e → In e
-    start_stops (Ok s) now e p = keeping (retained_first s.task) now (λ kept. CountsFold counting s.task now asks s.items [] kept) e (λ u q. asks_stop s.task now s.items [] u e q) p
+    start_stops (Ok s) now e p = keeping (retained_first s.fold) now (λ kept. CountsFold counting s.fold now asks s.items [] kept) e (λ u q. asks_stop s.fold now s.items [] u e q) p
     start_stops (Err b) now e p = subst In (sym p) tt
 
     call_stops : (host : Host) (key : List ℕ) (vs : List Value) (now : Tally) (e : Ending Tally) → CountsCall counting host key vs asks now e → In e

@@ -1,6 +1,6 @@
 -- What an environment has added.
 use Rattle.jiff.specs.Types.{TimeZone as Rules}
-use Rattle.std.specs.Prelude.{◌≡◌, ℕ, List, Result, Ok, Err, Option, Some, IfSome, bytes_eq, if◌then◌else◌, is_some, string_bytes}
+use Rattle.std.specs.Prelude.{◌≡◌, ℕ, List, Result, Ok, Err, Option, None, Some, IfSome, bytes_eq, if◌then◌else◌, is_some, option_map, string_bytes}
 use Rattle.std.specs.HashMap.{get_by_text}
 use Rattle.expr_value.specs.Answers.{Answer}
 use Rattle.expr_error.specs.ErrorKind.{error_kind}
@@ -39,6 +39,18 @@ relation_of {g = g} r call result = g.post (r.function.vtable, r.function.value)
 -- the zone of a name
 abbrev pub zone_at : {x f g : _} → Environment x f g → List ℕ → Option TimezoneValue
 zone_at env key = get_by_text env.zones key
+
+-- nothing stands under any name
+abbrev pub FindsNothing : {A : Type 0} → (List ℕ → Option A) → Type 0
+FindsNothing found = (key : List ℕ) → found key ≡ None
+
+-- the same stands under each name
+abbrev pub FindSame : {A : Type 0} → (List ℕ → Option A) → (List ℕ → Option A) → Type 0
+FindSame old new = (key : List ℕ) → new key ≡ old key
+
+-- Under one name there is this now, as a part of what stands there shows, and under each other what there was.
+abbrev pub IsAdded : {A B : Type 0} → (A → B) → List ℕ → B → (List ℕ → Option A) → (List ℕ → Option A) → Type 0
+IsAdded part name added old new = (key : List ℕ) → option_map part (new key) ≡ (if bytes_eq name key then Some added else option_map part (old key))
 
 -- Under one name there is a zone of that name and these rules now, and under each other what there was.
 pub record IsZoneAdded (name : List ℕ) (rules : Rules) (old new : List ℕ → Option TimezoneValue) : Type 0 where

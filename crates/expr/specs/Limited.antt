@@ -1,8 +1,10 @@
 -- Calls within limits: what they answer, and where they stop.
-use Rattle.std.specs.Prelude.{◌≢◌, ℕ, List, Result, Ok, Err, ◌⊎◌}
+use Rattle.std.specs.Prelude.{◌≡◌, ◌≢◌, ◌≤◌, ℕ, IfOk, List, Result, Ok, Err, ◌⊎◌}
+use Rattle.std.specs.Str.{IsCharBoundary}
 use Rattle.expr_code.specs.Codes.{IsCode}
-use Rattle.expr_code.specs.Machine.{Op}
+use Rattle.expr_code.specs.Machine.{CodeAnswers, Op}
 use Rattle.expr_costs.specs.Costs.{costs_in}
+use Rattle.expr_limited.specs.Outcomes.{OnAnswer, ReturnsOutcome}
 use Rattle.expr_meter.specs.Counting.{Ending, gives, refuses, stops}
 use Rattle.expr_meter.specs.Counts.{CodeCounts}
 use Rattle.expr_meter.specs.Rooms.{Room, rooms, limited}
@@ -11,8 +13,9 @@ use Rattle.expr_meter.specs.declared.limits.Limits.{Limits}
 use Rattle.expr_meter.specs.declared.outcome.Outcome.{Outcome}
 use Rattle.expr_meter.specs.declared.outcome.Outcome.TheVariants.{Answered, Stopped}
 use Rattle.expr_meaning.specs.World.{World}
+use Rattle.expr_sizes.specs.Sizes.{depth as depth_of}
 use Rattle.expr_syntax.specs.Bounds.{IsHeavier, IsHigher, IsLight}
-use Rattle.expr_syntax.specs.Texts.{HasLargeLiteral, HasNoTree, IsProgramWithin}
+use Rattle.expr_syntax.specs.Texts.{HasLargeLiteral, HasNoTree, IsPlaced, IsProgramWithin}
 use Rattle.expr_tree.specs.Term.{Block}
 use Rattle.expr_tree.specs.TermOf.{program_term}
 use Rattle.expr_tree.specs.declared.node.Program.{Program}
@@ -21,7 +24,7 @@ use Rattle.expr_error.specs.ErrorKind.{error_kind, memory}
 use Rattle.expr_error.specs.declared.error.Error.{Error}
 use Rattle.expr_error.specs.declared.error.Error.TheVariants.{PestError, ParseError, ExprError, RegexError, MemoryError}
 use Rattle.expr_value.specs.declared.value.Value.{Value}
-use Rattle.expr_eval.specs.Texts.{IsRefused}
+use Rattle.expr_eval.specs.Texts.{IsOwnFault, IsRefused, MayAnswer}
 
 -- what each answer of `compile_limited` says of the text
 abbrev pub IsCompiledLimited : List ℕ → Limits → Result (Outcome Program) Error → Type 0
@@ -34,11 +37,6 @@ IsCompiledLimited text limits (Err (ParseError message)) = HasLargeLiteral text
 IsCompiledLimited text limits (Err (ExprError message)) = ⊥
 IsCompiledLimited text limits (Err (RegexError error)) = ⊥
 IsCompiledLimited text limits (Err MemoryError) = Unit {0}
-
--- this is said of a program
-abbrev pub OnProgram : Outcome Program → (Program → Type 0) → Type 0
-OnProgram (Answered p) said = said p
-OnProgram (Stopped limit) said = Unit {0}
 
 -- what limits leave a run
 abbrev pub room_of : Limits → Room
@@ -67,3 +65,27 @@ abbrev pub MayGive : Result (Outcome Value) Error → (Answer → Type 0) → Ty
 MayGive (Ok (Answered v)) allowed = allowed (Ok v)
 MayGive (Ok (Stopped limit)) allowed = Unit {0}
 MayGive (Err e) allowed = error_kind e ≢ memory → allowed (Err (error_kind e))
+
+-- what executing code in a world comes to within limits
+pub record RunsCodeLimited (world : World) (blocks : List (List Op)) (limits : Limits) (result : Result (Outcome Value) Error) : Type 0 where
+  -- it ends as a run of the code does that counts within these limits: where one answers, refuses or stops
+  pub outcome : ReturnsOutcome result (CodeEnds world blocks limits)
+  -- what it answers, `execute` may answer
+  pub answer : MayGive result (CodeAnswers world blocks)
+  -- no answer is deeper than is allowed
+  pub depth : IfOk result (λ o. OnAnswer o (λ v. depth_of v ≤ limits.depth))
+
+-- what answering a text in a world comes to within limits
+pub record AnswersTextLimited (world : World) (text : List ℕ) (limits : Limits) (result : Result (Outcome Value) Error) : Type 0 where
+  -- it ends as a run does of a code of the text's program that counts within these limits, where the text is
+  -- within them; it stops where the text isn't, and is refused what the text deserves
+  pub outcome : EndsText world text limits result
+  -- what it answers, `eval` may answer
+  pub answer : MayGive result (MayAnswer text world)
+  -- no answer is deeper than is allowed
+  pub depth : IfOk result (λ o. OnAnswer o (λ v. depth_of v ≤ limits.depth))
+  -- a syntax fault that no function of the host answers is at the text's first fault, where the text may be
+  -- cut
+  pub place : IsOwnFault text world.host → IsPlaced text result
+  pub boundary : IsOwnFault text world.host → (place : ℕ) → result ≡ Err (PestError place)
+      → IsCharBoundary text place

@@ -1,17 +1,15 @@
 //! Texts and code within limits, for hosts that evaluate what strangers wrote.
-ghost use Rattle.std.specs.Prelude.{◌≡◌, ◌≤◌, ℕ, Err, IfOk, string_bytes};
+ghost use Rattle.std.specs.Prelude.{◌≡◌, ℕ, Err, IfOk, string_bytes};
 ghost use Rattle.std.specs.Str.{IsCharBoundary};
 ghost use Rattle.expr.specs.Hosted.{host_of};
-ghost use Rattle.expr.specs.Limited.{CodeEnds, EndsText, IsCompiledLimited, MayGive, OnProgram};
-ghost use Rattle.expr_eval.specs.Texts.{IsOwnFault, MayAnswer};
-ghost use Rattle.expr_code.specs.Machine.{CodeAnswers};
-ghost use Rattle.expr_limited.specs.Outcomes.{ReturnsOutcome, OnAnswer};
+ghost use Rattle.expr.specs.Limited.{AnswersTextLimited, IsCompiledLimited, RunsCodeLimited};
+ghost use Rattle.expr_eval.specs.Texts.{IsOwnFault};
+ghost use Rattle.expr_limited.specs.Outcomes.{OnAnswer};
 ghost use Rattle.expr_lowering.specs.Blocks.{blocks_of};
 ghost use Rattle.expr_meaning.specs.Host.{no_host};
 ghost use Rattle.expr_meaning.specs.World.{world_of};
 ghost use Rattle.expr_machine.specs.Here.{here};
 ghost use Rattle.expr_parts.specs.Kept.{KeepPatterns};
-ghost use Rattle.expr_sizes.specs.Sizes.{depth};
 ghost use Rattle.expr_syntax.specs.Texts.{IsPlaced};
 ghost use Rattle.expr_tree.specs.KeptPatterns.{program_operations};
 ghost use Rattle.expr_error.specs.declared.error.Error.{Error as declared};
@@ -42,7 +40,7 @@ pub fn compile_limited(alloc: Global, code: &str, limits: &Limits) -> Result<Out
     ensures place { IsPlaced code.now result }
     ensures boundary { (place : ℕ) → result ≡ Err (declared.PestError place) → IsCharBoundary code.now place }
     // Each literal on the right of `matches` has its pattern kept beside it, if it is one that isn't too big.
-    ensures patterns { IfOk result (λ o. OnProgram o (λ program. KeepPatterns (program_operations program))) }
+    ensures patterns { IfOk result (λ o. OnAnswer o (λ program. KeepPatterns (program_operations program))) }
 {
     let compiled = compile_bounded(alloc, code, limits.height, limits.patterns)?;
     match compiled {
@@ -64,14 +62,8 @@ pub fn execute_limited<L: Pointer<Value>, N: Pointer<String>, P: Pointer<Pattern
     ctx: &dyn ContextProvider,
     limits: &Limits,
 ) -> Result<Outcome<Value>>
-    // It ends as a run of the code does that counts within these limits: where one answers, refuses or stops.
-    ensures outcome { ReturnsOutcome result (CodeEnds (world_of no_host (context ctx.now))
-        (blocks_of L.held (λ n. string_bytes (N.held n)) code.now) limits.now) }
-    // What it answers, `execute` may answer.
-    ensures answer { MayGive result (CodeAnswers (world_of no_host (context ctx.now))
-        (blocks_of L.held (λ n. string_bytes (N.held n)) code.now)) }
-    // No answer is deeper than is allowed.
-    ensures depth { IfOk result (λ o. OnAnswer o (λ v. depth v ≤ limits.now.depth)) }
+    ensures { RunsCodeLimited (world_of no_host (context ctx.now))
+        (blocks_of L.held (λ n. string_bytes (N.held n)) code.now) limits.now result }
 {
     let machine = Machine {
         alloc,
@@ -93,16 +85,9 @@ pub fn eval_limited(
     ctx: &dyn ContextProvider,
     limits: &Limits,
 ) -> Result<Outcome<Value>>
-    // It ends as a run does of a code of the text's program that counts within these limits, where the text is within
-    // them; it stops where the text isn't, and is refused what the text deserves.
-    ensures outcome { EndsText (world_of no_host (context ctx.now)) code.now limits.now result }
-    // What it answers, `eval` may answer.
-    ensures answer { MayGive result (MayAnswer code.now (world_of no_host (context ctx.now))) }
-    // No answer is deeper than is allowed.
-    ensures depth { IfOk result (λ o. OnAnswer o (λ v. depth v ≤ limits.now.depth)) }
-    // A syntax fault is at the text's first fault, where the text may be cut.
-    ensures place { IsPlaced code.now result }
-    ensures boundary { (place : ℕ) → result ≡ Err (declared.PestError place) → IsCharBoundary code.now place }
+    ensures text { AnswersTextLimited (world_of no_host (context ctx.now)) code.now limits.now result }
+    // No function of the host answers a syntax fault.
+    ensures own { IsOwnFault code.now no_host }
 {
     let machine = Machine {
         alloc,
@@ -125,14 +110,8 @@ impl Environment {
         ctx: &dyn ContextProvider,
         limits: &Limits,
     ) -> Result<Outcome<Value>>
-        // It ends as a run of the code does that counts within these limits: where one answers, refuses or stops.
-        ensures outcome { ReturnsOutcome result (CodeEnds (world_of (host_of self.now) (context ctx.now))
-            (blocks_of L.held (λ n. string_bytes (N.held n)) code.now) limits.now) }
-        // What it answers, `execute` may answer.
-        ensures answer { MayGive result (CodeAnswers (world_of (host_of self.now) (context ctx.now))
-            (blocks_of L.held (λ n. string_bytes (N.held n)) code.now)) }
-        // No answer is deeper than is allowed.
-        ensures depth { IfOk result (λ o. OnAnswer o (λ v. depth v ≤ limits.now.depth)) }
+        ensures { RunsCodeLimited (world_of (host_of self.now) (context ctx.now))
+            (blocks_of L.held (λ n. string_bytes (N.held n)) code.now) limits.now result }
     {
         let machine = Machine {
             alloc,
@@ -154,18 +133,8 @@ impl Environment {
         ctx: &dyn ContextProvider,
         limits: &Limits,
     ) -> Result<Outcome<Value>>
-        // It ends as a run does of a code of the text's program that counts within these limits, where the text is within
-        // them; it stops where the text isn't, and is refused what the text deserves.
-        ensures outcome { EndsText (world_of (host_of self.now) (context ctx.now)) code.now limits.now
+        ensures { AnswersTextLimited (world_of (host_of self.now) (context ctx.now)) code.now limits.now
             result }
-        // What it answers, `eval` may answer.
-        ensures answer { MayGive result (MayAnswer code.now (world_of (host_of self.now) (context ctx.now))) }
-        // No answer is deeper than is allowed.
-        ensures depth { IfOk result (λ o. OnAnswer o (λ v. depth v ≤ limits.now.depth)) }
-        // A syntax fault that no function of the host answers is at the text's first fault, where the text may be cut.
-        ensures place { IsOwnFault code.now (host_of self.now) → IsPlaced code.now result }
-        ensures boundary { IsOwnFault code.now (host_of self.now) → (place : ℕ)
-            → result ≡ Err (declared.PestError place) → IsCharBoundary code.now place }
     {
         let machine = Machine {
             alloc,
@@ -186,12 +155,7 @@ fn answer_text<H: Functions, P: ContextProvider>(
     code: &str,
     limits: &Limits,
 ) -> Result<Outcome<Value>>
-    ensures outcome { EndsText (here H.host P.context machine.now)
-        code.now limits.now result }
-    ensures depth { IfOk result (λ o. OnAnswer o (λ v. depth v ≤ limits.now.depth)) }
-    ensures place { IsOwnFault code.now (H.host machine.now.host.now) → IsPlaced code.now result }
-    ensures boundary { IsOwnFault code.now (H.host machine.now.host.now) → (place : ℕ)
-        → result ≡ Err (declared.PestError place) → IsCharBoundary code.now place }
+    ensures { AnswersTextLimited (here H.host P.context machine.now) code.now limits.now result }
 {
     let compiled = compile_limited(machine.alloc, code, limits)?;
     match compiled {

@@ -1,13 +1,9 @@
 //! The older way in: a parser that holds an environment.
-ghost use Rattle.std.specs.Prelude.{◌≡◌, ℕ, List, None, Err, Some, IfOk, OnErr, OnOk, bytes_eq, if◌then◌else◌, option_map};
-ghost use Rattle.expr.specs.Hosted.{host_of, moment_at, function_named, zone_at};
+ghost use Rattle.std.specs.Prelude.{◌≡◌, None, OnErr, OnOk};
+ghost use Rattle.expr.specs.Hosted.{FindSame, FindsNothing, IsAdded, host_of, moment_at, function_named, zone_at};
 ghost use Rattle.expr.specs.Parsers.{environment_of};
-ghost use Rattle.std.specs.Str.{IsCharBoundary};
-ghost use Rattle.expr_grammar.specs.Grammar.{TreeProgram};
 ghost use Rattle.expr_meaning.specs.World.{world_of};
-ghost use Rattle.expr_parts.specs.Kept.{KeepPatterns};
-ghost use Rattle.expr_syntax.specs.Texts.{IsAnswerFor, IsCompiled, IsPlaced, IsTreeOf};
-ghost use Rattle.expr_tree.specs.KeptPatterns.{program_operations};
+ghost use Rattle.expr_syntax.specs.Promises.{CompilesText};
 ghost use Rattle.expr_error.specs.ErrorKind.{OnlyMemory};
 ghost use Rattle.expr_value.specs.declared.value.Value.{Value};
 ghost use Rattle.expr_machine.specs.Promises.{RunsProgram};
@@ -18,7 +14,7 @@ use crate::boxed_function::Function;
 use crate::environment::Environment;
 use expr_context::ContextProvider;
 use expr_tree::node::{Node, Program};
-use expr_value::{Error, Result, Value};
+use expr_value::{Result, Value};
 use std::alloc::Global;
 
 /// An environment, and `compile` beside it.
@@ -32,8 +28,8 @@ pub struct Parser {
 impl Parser {
     /// A parser without additions. It takes no memory.
     pub fn new(alloc: Global) -> Parser
-        ensures functions { (key : List ℕ) → function_named (environment_of result) key ≡ None }
-        ensures zones { (key : List ℕ) → zone_at (environment_of result) key ≡ None }
+        ensures functions { FindsNothing (function_named (environment_of result)) }
+        ensures zones { FindsNothing (zone_at (environment_of result)) }
         ensures moment { moment_at (environment_of result) ≡ None }
     {
         Parser {
@@ -49,14 +45,11 @@ impl Parser {
     /// `MemoryError` alone.
     pub fn add_function(&mut self, name: &str, function: Function) -> Result<()>
         requires { Function.IsAlwaysCallable function }
-        ensures added { OnOk result ((key : List ℕ)
-            → option_map (λ r. r.function) (function_named (environment_of self.new) key)
-            ≡ (if bytes_eq name.now key then Some function else option_map
-            (λ r. r.function) (function_named (environment_of self.old) key))) }
-        ensures err { OnErr result ((key : List ℕ) →
-            function_named (environment_of self.new) key ≡ function_named (environment_of self.old) key) }
-        ensures zones { (key : List ℕ)
-            → zone_at (environment_of self.new) key ≡ zone_at (environment_of self.old) key }
+        ensures added { OnOk result (IsAdded (λ r. r.function) name.now function
+            (function_named (environment_of self.old)) (function_named (environment_of self.new))) }
+        ensures err { OnErr result (FindSame (function_named (environment_of self.old))
+            (function_named (environment_of self.new))) }
+        ensures zones { FindSame (zone_at (environment_of self.old)) (zone_at (environment_of self.new)) }
         ensures moment { moment_at (environment_of self.new) ≡ moment_at (environment_of self.old) }
         ensures refusal { OnlyMemory result }
     {
@@ -69,12 +62,7 @@ impl Parser {
     ///
     /// What `compile` refuses.
     pub fn compile(&self, alloc: Global, code: &str) -> Result<Program>
-        ensures answer { IsCompiled code.now result }
-        ensures only { (t : TreeProgram) → IsTreeOf code.now t → IsAnswerFor t result }
-        ensures place { IsPlaced code.now result }
-        ensures boundary { (place : ℕ) → result ≡ Err (Error.PestError place)
-            → IsCharBoundary code.now place }
-        ensures patterns { IfOk result (λ program. KeepPatterns (program_operations program)) }
+        ensures { CompilesText code.now result }
     {
         expr_syntax::compile(alloc, code)
     }

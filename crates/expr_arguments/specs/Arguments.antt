@@ -1,12 +1,12 @@
 -- The arguments of a call, by number and kinds. A call with others is refused.
-use Rattle.std.specs.Prelude.{ℤ, negsuc, ℕ, List, [], ◌∷◌, Option, Some, None, Ok, Err}
+use Rattle.std.specs.Prelude.{ℤ, negsuc, ℕ, List, [], ◌∷◌, Option, Some, None, Result, Ok, Err}
 use Rattle.std.specs.Option.{option_and_then, option_map}
-use Rattle.expr_error.specs.ErrorKind.{evaluation}
+use Rattle.expr_error.specs.ErrorKind.{ErrorKind, evaluation}
 use Rattle.expr_value.specs.Values.{duration_of, string_of, integer_of, items_of}
 use Rattle.expr_value.specs.declared.value.Value.{Value}
 use Rattle.expr_value.specs.Answers.{Answer}
 
--- what a call answers on arguments of its kinds
+-- what a call answers on arguments of its kinds, and a refusal without them
 abbrev pub answer_on : {A : Type 0} → Option A → (A → Answer) → Answer
 answer_on None answers = Err evaluation
 answer_on (Some x) answers = answers x
@@ -94,3 +94,13 @@ array_and_text [] = None
 array_and_text (v ∷ []) = option_map (λ xs. (xs, [])) (items_of v)
 array_and_text (v ∷ t ∷ []) = both (items_of v) (string_of t)
 array_and_text (v ∷ t ∷ u ∷ more) = None
+
+-- an array, and one more argument if there is one
+abbrev pub array_then : Option (List Value) → Option Value → Result (List Value × Option Value) ErrorKind
+array_then (Some items) more = Ok (items, more)
+array_then None more = Err evaluation
+
+abbrev pub array_and_more : List Value → Result (List Value × Option Value) ErrorKind
+array_and_more (v ∷ []) = array_then (items_of v) None
+array_and_more (v ∷ w ∷ []) = array_then (items_of v) (Some w)
+array_and_more vs = Err evaluation

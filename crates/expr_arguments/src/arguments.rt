@@ -1,14 +1,15 @@
 //! The arguments of a call, by number and kinds.
-ghost use Rattle.std.specs.Prelude.{◌≡◌};
+ghost use Rattle.std.specs.Prelude.{◌≡◌, IfOk, Ok, Err, Some, None};
 ghost use Rattle.expr_value.specs.Answers.{ReturnsExactly};
 ghost use Rattle.std.specs.Option.{option_copied, option_map};
+ghost use Rattle.expr_error.specs.ErrorKind.{evaluation, RefusesWith};
 ghost use Rattle.expr_value.specs.Values.{integer_of, items_of};
 ghost use Rattle.expr_arguments.specs.Arrays.{array_items};
-ghost use Rattle.expr_arguments.specs.Arguments.{without_arguments, one_duration, one_integer, two_integers, one_text, two_texts, two_texts_and_limit, one_or_two_texts, text_and_integer, three_texts_and_limit, array_and_text, one_of, two_of, any_value};
+ghost use Rattle.expr_arguments.specs.Arguments.{without_arguments, one_duration, one_integer, two_integers, one_text, two_texts, two_texts_and_limit, one_or_two_texts, text_and_integer, three_texts_and_limit, array_and_text, array_and_more, one_of, two_of, any_value};
 
 use crate::array::{Array, array_of};
 use expr_cow::CowValue;
-use expr_value::{Result, Value, refusal};
+use expr_value::{Items, Result, Value, refusal};
 use std::alloc::Global;
 
 /// An answer that goes with no arguments; with any it is a refusal.
@@ -177,4 +178,42 @@ pub fn array_and_integer<'a>(arguments: &mut [CowValue<'a>]) -> Option<(Array<'a
     };
     let number = number.get().as_integer()?;
     Some((array_of(arguments[0].take_cow())?, number))
+}
+
+/// An array, and one more argument if there is one. Other arguments are refused.
+pub fn array_and_more<'s>(
+    alloc: Global,
+    args: Items<CowValue<'s>>,
+) -> Result<(Array<'s>, Option<CowValue<'s>>)>
+    ensures value { IfOk result (λ p. array_and_more args.entry ≡ Ok (array_items p.0, p.1)) }
+    ensures refusal { RefusesWith result (λ k. array_and_more args.entry ≡ Err k) }
+{
+    let mut args = args.into_vec();
+    if args.len() == 1 {
+        if let Some(array) = args.pop() {
+            return Ok((array_or_refusal(alloc, array)?, None));
+        }
+    }
+    if args.len() == 2 {
+        if let Some(more) = args.pop() {
+            if let Some(array) = args.pop() {
+                return Ok((array_or_refusal(alloc, array)?, Some(more)));
+            }
+        }
+    }
+    Err(refusal(
+        alloc,
+        "the function takes an array and at most one more argument",
+    ))
+}
+
+// The array that a value is; any other value is refused.
+fn array_or_refusal<'s>(alloc: Global, value: CowValue<'s>) -> Result<Array<'s>>
+    ensures value { IfOk result (λ array. items_of value.entry ≡ Some (array_items array)) }
+    ensures refusal { RefusesWith result (λ k. (items_of value.entry ≡ None) × (k ≡ evaluation)) }
+{
+    match array_of(value.into_cow()) {
+        Some(array) => Ok(array),
+        None => Err(refusal(alloc, "the function takes an array")),
+    }
 }

@@ -64,6 +64,15 @@ pub fn each_cow(alloc: Global, array: Array<'_>) -> Result<Vec<CowValue<'_>>>
     }
 }
 
+/// The call's own values, as values that are owned or borrowed.
+pub fn cows_of_values<'a>(alloc: Global, values: Vec<Value>) -> Result<Items<CowValue<'a>>>
+    ensures ok { IfOk result (λ held. held ≡ values.items) }
+    ensures err { OnlyMemory result }
+{
+    let held = each_own(alloc, values)?;
+    Ok(Items::from_vec(held))
+}
+
 fn each_own<'a>(alloc: Global, items: Vec<Value>) -> Result<Vec<CowValue<'a>>>
     ensures ok { IfOk result (λ held. held.items ≡ items.items) }
     ensures err { OnlyMemory result }
@@ -86,7 +95,7 @@ fn each_lent(alloc: Global, items: &[Value]) -> Result<Vec<CowValue<'_>>>
     Ok(held)
 }
 
-/// Values that are held, to be kept.
+/// Values that are owned or borrowed, to be kept: those that are borrowed are copied.
 pub fn values_of_cows(alloc: Global, held: Vec<CowValue<'_>>) -> Result<Vec<Value>>
     ensures ok { IfOk result (λ values. values.items ≡ held.entry.items) }
     ensures err { OnlyMemory result }

@@ -24,10 +24,11 @@ fn put_pattern(alloc: Global, pattern: &Pattern, page: &mut Page) -> Result<()> 
 fn put_patterns(alloc: Global, page: &mut Page) -> Result<()> {
     let pattern = Pattern::new(alloc, "^f")?;
     put_pattern(alloc, &pattern, page)?;
-    match Pattern::kept(alloc, "^f") {
-        Ok(kept) => page.put_fact("Pattern::kept", kept.is_some()),
+    page.put_named("Pattern::share", pattern.share()?.text());
+    match Pattern::of_text(alloc, "^f") {
+        Ok(built) => page.put_fact("Pattern::of_text", built.is_some()),
         Err(Unbuilt::Memory) => return Err(Error::MemoryError),
-        Err(Unbuilt::TooBig) => page.put_fact("Pattern::kept", false),
+        Err(Unbuilt::TooBig) => page.put_fact("Pattern::of_text", false),
     }
     Ok(())
 }

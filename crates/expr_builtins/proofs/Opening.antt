@@ -62,9 +62,6 @@ weights-append : (vs ws : List Value) → weights (vs ++ ws) ≡ weights vs + we
 weights-append [] ws = omega arith
 weights-append (v ∷ vs) ws = omega (arith, weights-append vs ws)
 
-weights-cons : (v : Value) (vs : List Value) → weights (v ∷ vs) ≡ weights (v ∷ []) + weights vs
-weights-cons v vs = omega arith
-
 weights-reverse : (vs : List Value) → weights (reverse vs) ≡ weights vs
 weights-reverse [] = refl
 weights-reverse (v ∷ vs) = omega (arith, ap weights (reverse-append (v ∷ []) vs), weights-append (reverse vs) (v ∷ []), weights-reverse vs)

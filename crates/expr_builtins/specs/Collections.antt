@@ -1,18 +1,18 @@
 -- What the calls on arrays and maps give.
-use Rattle.std.specs.Prelude.{◌≡◌, ℕ, ◌-◌, ◌==◌, if◌then◌else◌, ℤ, pos, negsuc, List, [], ◌∷◌, length, take, map, reverse, slice_get, Option, None, Some, unwrap_or, flat_map, Ok, Err}
+use Rattle.std.specs.Prelude.{◌≡◌, ℕ, ◌-◌, ◌==◌, if◌then◌else◌, ℤ, pos, negsuc, List, [], ◌∷◌, length, take, map, reverse, slice_get, false, Option, None, Some, unwrap_or, flat_map, Ok, Err}
 use Rattle.std.specs.Int.{w64, cast_signed}
 use Rattle.std.specs.Map.{keys_of, values_of}
 use Rattle.std.specs.Option.{option_and_then, option_map}
 use Rattle.std.specs.Str.{chars}
 use Rattle.expr_error.specs.ErrorKind.{evaluation}
 use Rattle.expr_value.specs.Keys.{key_put_all}
-use Rattle.expr_value.specs.Names.{find}
-use Rattle.expr_value.specs.Values.{joined_text, string_of, integer_of, items_of, of_key, at_key, scalar_pairs}
+use Rattle.expr_value.specs.Values.{joined_text, string_of, integer_of, items_of, of_key, scalar_pairs}
 use Rattle.expr_value.specs.declared.key.Key.{Key}
 use Rattle.expr_value.specs.declared.value.Value as value
 use Rattle.expr_value.specs.declared.value.Value.{Value, out-Value}
 use Rattle.expr_value.specs.declared.value.Value.TheOpen.{Value-F}
 use Rattle.expr_value.specs.Answers.{Answer}
+use Rattle.expr_cow.specs.Parts.{index_answer}
 use Rattle.expr_arguments.specs.Arguments.{answer_on, one_of, two_of, any_value, all_of, array_and_text}
 use Rattle.expr_builtins.specs.Distinct as distinct
 use Rattle.expr_builtins.specs.Nested as nested
@@ -103,24 +103,9 @@ pair_of v = option_and_then two_items (items_of v)
 abbrev pub from_pairs : List Value → Answer
 from_pairs arguments = answer_on (option_and_then (all_of pair_of) (one_of items_of arguments)) (λ ps. answer_on (option_map (key_put_all []) (scalar_pairs ps)) (λ m. Ok (value.KeyedMap m)))
 
--- the item at a place: from the front, or from the end if the place is negative, so that -1 is the last
-abbrev pub item_from : {X : Type 0} → List X → ℤ → Option X
-item_from xs (pos n) = slice_get xs n
-item_from xs (negsuc n) = slice_get (reverse xs) n
-
-abbrev pub or_nil : Option Value → Answer
-or_nil found = Ok (unwrap_or found value.Nil)
-
 -- an array or bytes by an integer, a map by a text, a map by keys by any value; nil where there is none
-abbrev pub get_layer : Value-F Value → Value → Value-F Value → Answer
-get_layer (Value-F.Array xs) k (Value-F.Integer n) = or_nil (item_from xs n)
-get_layer (Value-F.Bytes bs) k (Value-F.Integer n) = or_nil (option_map (λ b. value.Integer (pos b)) (item_from bs n))
-get_layer (Value-F.Map m) k (Value-F.String name) = or_nil (find name m)
-get_layer (Value-F.KeyedMap m) k key = or_nil (at_key k m)
-get_layer v k key = Err evaluation
-
 abbrev pub get : List Value → Answer
-get arguments = answer_on (two_of any_value any_value arguments) (λ a. get_layer (out-Value a.0) a.1 (out-Value a.1))
+get arguments = answer_on (two_of any_value any_value arguments) (λ a. index_answer a.0 a.1 false)
 
 -- the texts of an array, with a separator between
 abbrev pub join : List Value → Answer

@@ -21,19 +21,19 @@ abbrev pub of_fractions : List Value → Answer
 of_fractions arguments = Err evaluation
 
 -- one of some integers by the choice between two, or nil where there are none
-abbrev pub chosen : (ℤ → ℤ → ℤ) → List ℤ → Value
-chosen choice [] = value.Nil
-chosen choice (n ∷ ns) = value.Integer (fold choice n ns)
+abbrev pub choice_of : (ℤ → ℤ → ℤ) → List ℤ → Value
+choice_of choice [] = value.Nil
+choice_of choice (n ∷ ns) = value.Integer (fold choice n ns)
 
 -- of integers and of arrays of them, at every depth; at least one argument
-abbrev pub chosen_among : (ℤ → ℤ → ℤ) → List Value → Answer
-chosen_among choice arguments = if length arguments == 0 then Err evaluation else answer_on (all_of integer_of (all_flat_items arguments)) (λ ns. Ok (chosen choice ns))
+abbrev pub choice_among : (ℤ → ℤ → ℤ) → List Value → Answer
+choice_among choice arguments = if length arguments == 0 then Err evaluation else answer_on (all_of integer_of (all_flat_items arguments)) (λ ns. Ok (choice_of choice ns))
 
 abbrev pub greatest : List Value → Answer
-greatest = chosen_among int_max
+greatest = choice_among int_max
 
 abbrev pub least : List Value → Answer
-least = chosen_among int_min
+least = choice_among int_min
 
 -- what a call on numbers may answer
 abbrev pub Called : NumberCall → List Value → Answer → Type 0

@@ -1,13 +1,14 @@
 //! The calls on arrays and maps.
-ghost use Rattle.std.specs.Prelude.{◌≡◌, ◌≢◌, ◌-◌, ◌++◌, None, Some, Ok, map, length, unwrap_or, IfOk, OnOk};
+ghost use Rattle.std.specs.Prelude.{◌≡◌, ◌-◌, ◌++◌, None, Some, Ok, map, length, IfOk, OnOk};
 ghost use Rattle.std.specs.Option.{option_copied, option_map};
 ghost use Rattle.std.specs.Str.{chars};
-ghost use Rattle.expr_error.specs.ErrorKind.{error_kind, memory, evaluation, OnlyMemory};
+ghost use Rattle.expr_error.specs.ErrorKind.{OnlyMemory};
 ghost use Rattle.expr_value.specs.Values.{of_key, string_of, items_of};
 ghost use Rattle.expr_value.specs.Answers.{Returns};
 ghost use Rattle.expr_arguments.specs.Arguments.{all_of};
 ghost use Rattle.expr_arguments.specs.Arrays.{array_items};
-ghost use Rattle.expr_builtins.specs.Collections.{Called, len, size_of, first, last, item_or_nil, take_items, taken_items, reversed_array, keys, values, to_pairs, from_pairs, get, join, concat, pair_of, two_items, in_a_row, item_from, or_nil, pair, named_pair, keyed_pair};
+ghost use Rattle.expr_cow.specs.Parts.{or_nil};
+ghost use Rattle.expr_builtins.specs.Collections.{Called, len, size_of, first, last, take_items, reversed_array, keys, values, to_pairs, from_pairs, get, join, concat, pair_of, two_items, in_a_row, pair, named_pair, keyed_pair};
 
 use crate::array::{first_items, item_at};
 use crate::{distinct, nested};
@@ -15,7 +16,7 @@ use expr_arguments::{
     Array, array_and_integer, array_and_text, array_of, count_items, each_cow, into_items,
     one_array, one_value, two_values,
 };
-use expr_cow::CowValue;
+use expr_cow::{CowValue, item};
 use expr_functions::CollectionCall;
 use expr_strings::join_texts;
 use expr_value::{Items, Key, KeyedMap, Result, Text, Value, ValueMap, refusal};
@@ -219,17 +220,6 @@ fn copied_or_nil(found: Option<&Value>) -> Result<Value>
     }
 }
 
-// The item at a place, from the end if the place is negative.
-fn item<T>(items: &[T], place: i64) -> Option<&T>
-    ensures { option_copied result ≡ item_from items.now place }
-{
-    if place >= 0 {
-        return items.get(place as usize);
-    }
-    let place = items.len().checked_sub(place.unsigned_abs() as usize)?;
-    items.get(place)
-}
-
 /// The texts of an array, with a separator between.
 fn join(alloc: Global, arguments: &[CowValue<'_>]) -> Result<Value>
     ensures { Returns result (λ answer. answer ≡ join arguments.now) }
@@ -346,13 +336,13 @@ fn pair_of_item(value: CowValue<'_>) -> Result<Option<(Value, Value)>>
     ensures err { OnlyMemory result }
 {
     match array_of(value.into_cow()) {
-        Some(Array::Owned(items)) => Ok(both_moved(&mut items.into_vec())),
-        Some(Array::Borrowed(items)) => both_copied(items.as_slice()),
+        Some(Array::Owned(items)) => Ok(take_two_items(&mut items.into_vec())),
+        Some(Array::Borrowed(items)) => copy_two_items(items.as_slice()),
         None => Ok(None),
     }
 }
 
-fn both_moved(items: &mut [Value]) -> Option<(Value, Value)>
+fn take_two_items(items: &mut [Value]) -> Option<(Value, Value)>
     ensures { result ≡ two_items items.old }
 {
     if items.len() != 2 {
@@ -361,7 +351,7 @@ fn both_moved(items: &mut [Value]) -> Option<(Value, Value)>
     Some((std::mem::take(&mut items[0]), std::mem::take(&mut items[1])))
 }
 
-fn both_copied(items: &[Value]) -> Result<Option<(Value, Value)>>
+fn copy_two_items(items: &[Value]) -> Result<Option<(Value, Value)>>
     ensures ok { IfOk result (λ found. found ≡ two_items items.now) }
     ensures err { OnlyMemory result }
 {

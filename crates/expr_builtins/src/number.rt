@@ -7,7 +7,7 @@ ghost use Rattle.expr_error.specs.ErrorKind.{evaluation, OnlyMemory};
 ghost use Rattle.expr_value.specs.Values.{integer_of};
 ghost use Rattle.expr_arguments.specs.Arguments.{all_of};
 ghost use Rattle.expr_builtins.specs.Nested.{all_flat_items};
-ghost use Rattle.expr_builtins.specs.Numbers.{Called, abs, chosen, greatest, least};
+ghost use Rattle.expr_builtins.specs.Numbers.{Called, abs, choice_of, greatest, least};
 
 use crate::nested::flat_items;
 use expr_arguments::one_integer;
@@ -109,7 +109,7 @@ fn integers(alloc: Global, values: &[CowValue<'_>]) -> Result<Option<Vec<i64>>>
 }
 
 fn greatest_of(numbers: &[i64]) -> Value
-    ensures { result ≡ chosen int_max numbers.now }
+    ensures { result ≡ choice_of int_max numbers.now }
 {
     let [first, rest @ ..] = numbers else {
         return Value::Nil;
@@ -122,7 +122,7 @@ fn greatest_of(numbers: &[i64]) -> Value
 }
 
 fn least_of(numbers: &[i64]) -> Value
-    ensures { result ≡ chosen int_min numbers.now }
+    ensures { result ≡ choice_of int_min numbers.now }
 {
     let [first, rest @ ..] = numbers else {
         return Value::Nil;

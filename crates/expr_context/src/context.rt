@@ -1,5 +1,5 @@
 //! Where the names of an expression get their values.
-ghost use Rattle.std.specs.Prelude.{◌≡◌, [], List, ℕ, Option, Some, map, string_bytes, IfOk, OnOk, OnErr, IsOk, IsSome, IsTrue, ◌↔◌, length};
+ghost use Rattle.std.specs.Prelude.{◌≡◌, [], List, ℕ, Some, map, string_bytes, IfOk, OnOk, OnErr, IsOk, IsSome, IsTrue, ◌↔◌, length};
 ghost use Rattle.std.specs.Iterator.Adapters.{ZipsRuns, zip_first, zip_second};
 ghost use Rattle.std.specs.Map.{keys_of, values_of};
 ghost use Rattle.std.specs.Option.{option_copied};

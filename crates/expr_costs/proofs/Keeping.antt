@@ -22,7 +22,7 @@ keeps_of b = Nothing
 
 -- the start that a result is, if it is one
 abbrev IfStart : Retention → Result FoldOver ErrorKind → Type 0
-IfStart k (Ok s) = RetainsAs k s.task
+IfStart k (Ok s) = RetainsAs k s.fold
 IfStart k (Err e) = Unit {0}
 
 sorted : (items : List Value) (r : Result Bool ErrorKind) → IfStart Both (sort_in_direction items r)
@@ -41,5 +41,5 @@ begins b items None = (refl, λ r. refl)
 begins b items (Some w) = tt
 
 -- each task that a built-in begins with keeps what is told by its name
-pub keeps_so : (b : HigherOrderCall) (items : List Value) (more : Option Value) (s : FoldOver) → fold_of b items more ≡ Ok s → RetainsAs (keeps_of b) s.task
+pub keeps_so : (b : HigherOrderCall) (items : List Value) (more : Option Value) (s : FoldOver) → fold_of b items more ≡ Ok s → RetainsAs (keeps_of b) s.fold
 keeps_so b items more s e = subst (IfStart (keeps_of b)) e (begins b items more)

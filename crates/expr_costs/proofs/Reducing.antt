@@ -11,12 +11,12 @@ use Rattle.expr_value.specs.declared.value.Value.{Value}
 
 -- what is kept first, if anything is begun with
 abbrev pub KeptFirst : {B : Type 0} → (B → Value) → Result FoldOver ErrorKind → Option B → Type 0
-KeptFirst now start r = MatchOption r ((s : FoldOver) → start ≡ Ok s → retained_first s.task ≡ []) (λ v. (s : FoldOver) × (start ≡ Ok s) × (retained_first s.task ≡ now v ∷ []))
+KeptFirst now start r = MatchOption r ((s : FoldOver) → start ≡ Ok s → retained_first s.fold ≡ []) (λ v. (s : FoldOver) × (start ≡ Ok s) × (retained_first s.fold ≡ now v ∷ []))
 
 -- on an array and a value to begin with
-pub reduced_with : (b : HigherOrderCall) (vs items : List Value) (a m : Value) → b ≡ Reduce → vs ≡ a ∷ m ∷ [] → items_of a ≡ Some items → (s : FoldOver) × (fold_of_call b vs true ≡ Ok s) × (retained_first s.task ≡ m ∷ [])
+pub reduced_with : (b : HigherOrderCall) (vs items : List Value) (a m : Value) → b ≡ Reduce → vs ≡ a ∷ m ∷ [] → items_of a ≡ Some items → (s : FoldOver) × (fold_of_call b vs true ≡ Ok s) × (retained_first s.fold ≡ m ∷ [])
 reduced_with b vs items a m e f g =
-    (record { task = reducing m 0; items = items }, (λ i. fold_of_call (e i) (f i) true) ∙ ap (λ o. fold_of_array Reduce (array_then o (Some m))) g, refl)
+    (record { fold = reducing m 0; items = items }, (λ i. fold_of_call (e i) (f i) true) ∙ ap (λ o. fold_of_array Reduce (array_then o (Some m))) g, refl)
 
 abbrev IsBegun : Result FoldOver ErrorKind → Type 0
 IsBegun (Ok s) = Unit {0}
@@ -32,7 +32,7 @@ first_of : {B : Type 0} (now : B → Value) (start : Result FoldOver ErrorKind) 
 first_of now start [] None e f = λ s h. absurd (subst IsBegun (sym h ∙ e) tt)
 first_of now start [] (Some v) e f = absurd (subst IsThere f tt)
 first_of now start (x ∷ items) None e f = absurd (subst IsThere (sym f) tt)
-first_of now start (x ∷ items) (Some v) e f = (record { task = reducing x 1; items = items }, e, ap (λ o. elim o [ Some y ↦ y ∷ [] | None ↦ [] ]) (sym f))
+first_of now start (x ∷ items) (Some v) e f = (record { fold = reducing x 1; items = items }, e, ap (λ o. elim o [ Some y ↦ y ∷ [] | None ↦ [] ]) (sym f))
 
 pub reduced_from : {B : Type 0} (now : B → Value) (b : HigherOrderCall) (vs items : List Value) (a : Value) (r : Option B)
     → b ≡ Reduce → vs ≡ a ∷ [] → items_of a ≡ Some items → option_map now r ≡ slice_get items 0 → KeptFirst now (fold_of_call b vs true) r

@@ -24,12 +24,12 @@ use Rattle.expr_costs.specs.declared.cost_kind.CostKind.{CostKind}
 use Rattle.expr_costs.specs.declared.cost_kind.CostKind.TheVariants.{Finds, Reads, Times, Trims, Cases, Splits, Replaces, Repeats, Joins, Copies, Seeks, Pairs, Compares, Sorts, Groups, Walks, Weighs, Prints, Writes, Parses, Recodes}
 
 -- the kind of a built-in that asks a predicate, beside what it asks
-abbrev pub kind_of_asking : HigherOrderCall → CostKind
-kind_of_asking higher_order_call.Count = Walks
-kind_of_asking higher_order_call.Sum = Walks
-kind_of_asking higher_order_call.GroupBy = Groups
-kind_of_asking higher_order_call.SortBy = Sorts
-kind_of_asking a = Finds
+abbrev pub kind_of_higher_order : HigherOrderCall → CostKind
+kind_of_higher_order higher_order_call.Count = Walks
+kind_of_higher_order higher_order_call.Sum = Walks
+kind_of_higher_order higher_order_call.GroupBy = Groups
+kind_of_higher_order higher_order_call.SortBy = Sorts
+kind_of_higher_order a = Finds
 
 -- a call on arrays and maps copies them, unless it is told otherwise
 abbrev pub kind_on_collections : CollectionCall → CostKind
@@ -84,7 +84,7 @@ kind_on_values (call.Time t) = Times
 
 -- by the built-in that is called, if there is one
 abbrev pub kind_of : Option Builtin → CostKind
-kind_of (Some (builtin.HigherOrder a)) = kind_of_asking a
+kind_of (Some (builtin.HigherOrder a)) = kind_of_higher_order a
 kind_of (Some (builtin.OnValues v)) = kind_on_values v
 kind_of None = Finds
 

@@ -1,5 +1,5 @@
 //! What calls cost.
-ghost use Rattle.std.specs.Prelude.{◌≡◌, ◌+◌, ◌*◌, ◌∷◌, ◌<◌, ◌^◌, IfSome, length};
+ghost use Rattle.std.specs.Prelude.{◌+◌, ◌*◌, ◌∷◌, ◌<◌, ◌^◌, IfSome, length};
 ghost use Rattle.expr_costs.specs.Calls.{call_room, call_work, room_of, work_of};
 ghost use Rattle.expr_costs.specs.Measures.{CostUpTo, all_byte_units as reads, insertion_work as puts};
 ghost use Rattle.expr_sizes.specs.Sizes.{name_weights, weights as all_weigh};
@@ -8,7 +8,7 @@ use crate::arguments::{
     all_byte_units, byte_units_at, bytes_at, colons_at, first_count, first_pairwise,
     lookup_work_of, pieces, times_of, weights,
 };
-use crate::cost::Cost;
+use crate::cost::{Cost, work_and_room, work_cost};
 use crate::cost_kind::CostKind;
 use crate::measures::{byte_units_of, insertion_work, product, times};
 use expr_cow::CowValue;
@@ -77,38 +77,20 @@ fn cost_of(kind: CostKind, arguments: &[CowValue<'_>], bound: u64) -> Option<Cos
             let loads = all_byte_units(arguments, bound)?;
             work_and_room(2 * loads, 2 + 3 * loads)
         }
-        CostKind::Splits => {
-            let loads = all_byte_units(arguments, bound)?;
-            work_and_room(2 * loads, 4 + (2 * loads + 3 * (pieces(arguments) as u128)))
-        }
-        CostKind::Replaces => {
-            let loads = all_byte_units(arguments, bound)?;
-            let pieces = pieces(arguments);
-            let made = times(pieces, 1 + byte_units_at(arguments, 2), bound)? as u128;
-            work_and_room(2 * loads + pieces as u128, 2 + (2 * loads + made))
-        }
+        CostKind::Splits => split_cost(arguments, bound)?,
+        CostKind::Replaces => replacement_cost(arguments, bound)?,
         CostKind::Repeats => {
             let bytes = product(bytes_at(arguments, 0), times_of(arguments));
             work_and_room(0, 2 + bytes / 16)
         }
-        CostKind::Joins => {
-            let weight = weights(arguments, bound)? as u128;
-            let count = first_count(arguments);
-            let marks = times(count, 1 + byte_units_at(arguments, 1), bound)? as u128;
-            work_and_room(count as u128, 2 + (weight + marks))
-        }
+        CostKind::Joins => join_cost(arguments, bound)?,
         CostKind::Copies => work_and_room(0, 2 * (weights(arguments, bound)? as u128)),
         CostKind::Seeks => work_cost(lookup_work_of(arguments) as u128),
         CostKind::Pairs => {
             let weight = weights(arguments, bound)? as u128;
             work_and_room(insertion_work(first_count(arguments)), weight)
         }
-        CostKind::Compares => {
-            let weight = weights(arguments, bound)? as u128;
-            let keys = insertion_work(first_count(arguments));
-            let pairs = first_pairwise(arguments, bound)?;
-            work_and_room(32 * weight + (keys + pairs), weight)
-        }
+        CostKind::Compares => comparison_cost(arguments, bound)?,
         CostKind::Sorts => {
             let weight = weights(arguments, bound)? as u128;
             work_and_room(16 * weight, weight)
@@ -124,31 +106,66 @@ fn cost_of(kind: CostKind, arguments: &[CowValue<'_>], bound: u64) -> Option<Cos
             let weight = weights(arguments, bound)? as u128;
             work_and_room(8 * weight, 8 * weight)
         }
-        CostKind::Parses => {
-            let loads = all_byte_units(arguments, bound)?;
-            let keys = insertion_work(colons_at(arguments, 0));
-            let bytes = bytes_at(arguments, 0) as u128;
-            work_and_room(4 * loads + keys, 8 + 4 * bytes)
-        }
+        CostKind::Parses => parse_cost(arguments, bound)?,
         CostKind::Recodes => work_and_room(0, 2 + 2 * all_byte_units(arguments, bound)?),
     };
     Some(cost)
 }
 
-/// So much work, and room for nothing.
-#[inline(always)]
-fn work_cost(work: u128) -> Cost
-    ensures work { result.work ≡ work }
-    ensures room { result.room ≡ 0 }
+/// What cutting a text to pieces costs.
+fn split_cost(arguments: &[CowValue<'_>], bound: u64) -> Option<Cost>
+    ensures cost { CostUpTo bound (work_of CostKind.Splits arguments.now)
+        (room_of CostKind.Splits arguments.now) result }
+    ensures small { IfSome result (λ c. c.work < 2 ^ 127) }
 {
-    Cost { work, room: 0 }
+    let loads = all_byte_units(arguments, bound)?;
+    Some(work_and_room(2 * loads, 4 + (2 * loads + 3 * (pieces(arguments) as u128))))
 }
 
-/// So much work, and room for so much.
-#[inline(always)]
-fn work_and_room(work: u128, room: u128) -> Cost
-    ensures work { result.work ≡ work }
-    ensures room { result.room ≡ room }
+/// What putting one text in the place of another costs.
+fn replacement_cost(arguments: &[CowValue<'_>], bound: u64) -> Option<Cost>
+    ensures cost { CostUpTo bound (work_of CostKind.Replaces arguments.now)
+        (room_of CostKind.Replaces arguments.now) result }
+    ensures small { IfSome result (λ c. c.work < 2 ^ 127) }
 {
-    Cost { work, room }
+    let loads = all_byte_units(arguments, bound)?;
+    let pieces = pieces(arguments);
+    let made = times(pieces, 1 + byte_units_at(arguments, 2), bound)? as u128;
+    Some(work_and_room(2 * loads + pieces as u128, 2 + (2 * loads + made)))
+}
+
+/// What joining texts costs.
+fn join_cost(arguments: &[CowValue<'_>], bound: u64) -> Option<Cost>
+    ensures cost { CostUpTo bound (work_of CostKind.Joins arguments.now)
+        (room_of CostKind.Joins arguments.now) result }
+    ensures small { IfSome result (λ c. c.work < 2 ^ 127) }
+{
+    let weight = weights(arguments, bound)? as u128;
+    let count = first_count(arguments);
+    let marks = times(count, 1 + byte_units_at(arguments, 1), bound)? as u128;
+    Some(work_and_room(count as u128, 2 + (weight + marks)))
+}
+
+/// What comparing the items of an array with each other costs.
+fn comparison_cost(arguments: &[CowValue<'_>], bound: u64) -> Option<Cost>
+    ensures cost { CostUpTo bound (work_of CostKind.Compares arguments.now)
+        (room_of CostKind.Compares arguments.now) result }
+    ensures small { IfSome result (λ c. c.work < 2 ^ 127) }
+{
+    let weight = weights(arguments, bound)? as u128;
+    let keys = insertion_work(first_count(arguments));
+    let pairs = first_pairwise(arguments, bound)?;
+    Some(work_and_room(32 * weight + (keys + pairs), weight))
+}
+
+/// What reading a text as JSON costs.
+fn parse_cost(arguments: &[CowValue<'_>], bound: u64) -> Option<Cost>
+    ensures cost { CostUpTo bound (work_of CostKind.Parses arguments.now)
+        (room_of CostKind.Parses arguments.now) result }
+    ensures small { IfSome result (λ c. c.work < 2 ^ 127) }
+{
+    let loads = all_byte_units(arguments, bound)?;
+    let keys = insertion_work(colons_at(arguments, 0));
+    let bytes = bytes_at(arguments, 0) as u128;
+    Some(work_and_room(4 * loads + keys, 8 + 4 * bytes))
 }

@@ -16,6 +16,24 @@ pub struct Cost {
     pub room: u128,
 }
 
+/// So much work, and room for nothing.
+#[inline(always)]
+pub(crate) fn work_cost(work: u128) -> Cost
+    ensures work { result.work ≡ work }
+    ensures room { result.room ≡ 0 }
+{
+    Cost { work, room: 0 }
+}
+
+/// So much work, and room for so much.
+#[inline(always)]
+pub(crate) fn work_and_room(work: u128, room: u128) -> Cost
+    ensures work { result.work ≡ work }
+    ensures room { result.room ≡ room }
+{
+    Cost { work, room }
+}
+
 /// Counts what is about to be done, by what it costs; that is told up to a bound, which is how many steps are left.
 #[inline(always)]
 #[tactic(auto, using(crate::proofs::Charging::overrun_begins))]

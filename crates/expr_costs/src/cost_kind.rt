@@ -1,6 +1,6 @@
 //! What kind of work a call is.
 ghost use Rattle.std.specs.Prelude.{◌≡◌};
-ghost use Rattle.expr_costs.specs.Calls.{cost_kind_named, kind_of_asking, kind_on_collections, kind_on_numbers, kind_on_texts, kind_on_values};
+ghost use Rattle.expr_costs.specs.Calls.{cost_kind_named, kind_of_higher_order, kind_on_collections, kind_on_numbers, kind_on_texts, kind_on_values};
 
 use expr_functions::{
     Builtin, CollectionCall, ConversionCall, EncodingCall, HigherOrderCall, NumberCall, TextCall,
@@ -60,7 +60,7 @@ impl CostKind {
         ensures { result ≡ cost_kind_named name.now }
     {
         match Builtin::from_name(name) {
-            Some(Builtin::HigherOrder(asking)) => of_asking(asking),
+            Some(Builtin::HigherOrder(call)) => of_higher_order(call),
             Some(Builtin::OnValues(call)) => on_values(call),
             None => CostKind::Finds,
         }
@@ -68,10 +68,10 @@ impl CostKind {
 }
 
 /// The kind of a built-in that asks a predicate, beside what it asks.
-fn of_asking(asking: HigherOrderCall) -> CostKind
-    ensures { result ≡ kind_of_asking asking }
+fn of_higher_order(call: HigherOrderCall) -> CostKind
+    ensures { result ≡ kind_of_higher_order call }
 {
-    match asking {
+    match call {
         HigherOrderCall::Count | HigherOrderCall::Sum => CostKind::Walks,
         HigherOrderCall::GroupBy => CostKind::Groups,
         HigherOrderCall::SortBy => CostKind::Sorts,

@@ -13,6 +13,6 @@ mod retention;
 pub use calls::{array_cost, call_cost, map_cost, method_cost};
 pub use cost::{Cost, charge};
 pub use cost_kind::CostKind;
-pub use measures::{look_work, lookup_work};
+pub use measures::{length_of, look_work, lookup_work};
 pub use operators::{operator_cost, short_work, span_room};
 pub use retention::{Retention, first_retained};

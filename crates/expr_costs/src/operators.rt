@@ -1,11 +1,11 @@
 //! What operators cost.
-ghost use Rattle.std.specs.Prelude.{◌≡◌, ◌+◌, ◌*◌, ◌<◌, ◌^◌, IfSome};
+ghost use Rattle.std.specs.Prelude.{◌≡◌, ◌+◌, ◌*◌, ◌<◌, ◌^◌, IfSome, IsTrue};
 ghost use Rattle.expr_costs.specs.Operators.{range_count, comparison_work, membership_work, sum_room, operator_room, operator_work, pattern_weight, match_work};
-ghost use Rattle.expr_costs.specs.Measures.{CostUpTo, UpTo};
+ghost use Rattle.expr_costs.specs.Measures.{CostUpTo, UpTo, content_work};
 ghost use Rattle.expr_operators.specs.Positions.{how_many};
 ghost use Rattle.expr_value.specs.declared.value.Value.{out-Value};
 
-use crate::cost::Cost;
+use crate::cost::{Cost, work_and_room, work_cost};
 use crate::measures::{byte_units_of, content_work_of, length_of, lookup_work, times};
 use expr_sizes::weigh_pattern;
 use expr_tree::operator::Operator;
@@ -16,30 +16,69 @@ pub fn operator_cost(operator: Operator, left: &Value, right: &Value, bound: u64
     ensures { CostUpTo bound (operator_work operator left.now right.now)
         (operator_room operator left.now right.now) result }
 {
-    let work = match operator {
-        Operator::Equal | Operator::NotEqual => comparison_work_of(left, right, bound)?,
+    match operator {
+        Operator::Equal | Operator::NotEqual => {
+            Some(work_cost(comparison_work_of(left, right, bound)?))
+        }
         Operator::GreaterThan
         | Operator::GreaterThanOrEqual
         | Operator::LessThan
-        | Operator::LessThanOrEqual => byte_units_of(left).min(byte_units_of(right)) as u128,
-        Operator::In | Operator::NotIn => membership_work_of(right, left, bound)?,
-        Operator::Contains => membership_work_of(left, right, bound)?,
-        Operator::StartsWith | Operator::EndsWith => byte_units_of(right) as u128,
-        Operator::Matches => match_work_of(left, right, bound)?,
-        _ => 0,
-    };
-    let room = match operator {
-        Operator::Add => sum_room_of(left, right),
-        Operator::Matches => weight_of_pattern(right, bound)? as u128,
-        _ => 0,
-    };
-    Some(Cost { work, room })
+        | Operator::LessThanOrEqual => {
+            Some(work_cost(byte_units_of(left).min(byte_units_of(right)) as u128))
+        }
+        Operator::In | Operator::NotIn => Some(work_cost(membership_work_of(right, left, bound)?)),
+        Operator::Contains => Some(work_cost(membership_work_of(left, right, bound)?)),
+        Operator::StartsWith | Operator::EndsWith => Some(work_cost(byte_units_of(right) as u128)),
+        Operator::Matches => match_cost(left, right, bound),
+        Operator::Add => Some(work_and_room(0, sum_room_of(left, right))),
+        _ => Some(work_cost(0)),
+    }
 }
 
-/// The work of an operator on two texts, each of less than 16 bytes. There is no room to be had for it. Nothing is told of
-/// other values, nor of a sum or a pattern.
+/// The work of an operator on a text of less than 16 bytes and on another, or of seeking it, or an integer, in an array of less
+/// than 32 items. There is no room to be had for it. Nothing is told of other values, nor of a sum or a pattern.
 #[inline(always)]
 pub fn short_work(operator: Operator, left: &Value, right: &Value) -> Option<u64>
+    ensures { IfSome result (λ work. (operator_work operator left.now right.now ≡ work)
+        × (operator_room operator left.now right.now ≡ 0)) }
+{
+    match right {
+        Value::Array(_) => work_among_items(operator, left, right),
+        _ => work_on_texts(operator, left, right),
+    }
+}
+
+/// The same of an array on the right.
+#[inline(always)]
+fn work_among_items(operator: Operator, left: &Value, right: &Value) -> Option<u64>
+    ensures { IfSome result (λ work. (operator_work operator left.now right.now ≡ work)
+        × (operator_room operator left.now right.now ≡ 0)) }
+{
+    let is_plain = is_text_or_integer(left);
+    if !is_plain {
+        return None;
+    }
+    let Value::Array(_) = right else {
+        return None;
+    };
+    let loads = byte_units_of(left);
+    if loads > 0 {
+        return None;
+    }
+    let count = length_of(right);
+    if count > 31 {
+        return None;
+    }
+    match operator {
+        Operator::In => Some(1 + count),
+        Operator::NotIn => Some(1 + count),
+        _ => None,
+    }
+}
+
+/// The same of two texts.
+#[inline(always)]
+fn work_on_texts(operator: Operator, left: &Value, right: &Value) -> Option<u64>
     ensures { IfSome result (λ work. (operator_work operator left.now right.now ≡ work)
         × (operator_room operator left.now right.now ≡ 0)) }
 {
@@ -53,6 +92,18 @@ pub fn short_work(operator: Operator, left: &Value, right: &Value) -> Option<u64
         Operator::Add | Operator::Matches => None,
         Operator::In | Operator::NotIn | Operator::Contains => Some(1),
         _ => Some(0),
+    }
+}
+
+/// Whether a value is of the kinds that are sought most: no more of it is read for a comparison than its bytes.
+#[inline(always)]
+fn is_text_or_integer(value: &Value) -> bool
+    ensures { IsTrue result → content_work value.now ≡ 0 }
+{
+    match value {
+        Value::String(_) => true,
+        Value::Integer(_) => true,
+        _ => false,
     }
 }
 
@@ -89,14 +140,13 @@ fn membership_work_of(value: &Value, sought: &Value, bound: u64) -> Option<u128>
     Some(texts + (one + others))
 }
 
-/// The work of making what searches for a pattern, and of leading it over a text, up to a bound.
-fn match_work_of(text: &Value, pattern: &Value, bound: u64) -> Option<u128>
-    ensures work { UpTo bound (match_work text.now pattern.now) (λ n. n) result }
-    ensures small { IfSome result (λ n. n < 2 ^ 66) }
+/// What it costs to make what searches for a pattern, and to lead it over a text, up to a bound. The pattern is weighed once.
+fn match_cost(text: &Value, pattern: &Value, bound: u64) -> Option<Cost>
+    ensures { CostUpTo bound (match_work text.now pattern.now) (pattern_weight pattern.now) result }
 {
     let weight = weight_of_pattern(pattern, bound)?;
     let reading = times(byte_units_of(text), 1 + weight / 64, bound)?;
-    Some(500 + (weight as u128 + reading as u128))
+    Some(work_and_room(500 + (weight as u128 + reading as u128), weight as u128))
 }
 
 /// How much a value weighs as a pattern, up to a bound: 0 what is no text.

@@ -24,11 +24,11 @@ pub enum Retention {
 impl Retention {
     /// What a built-in keeps of each answer of its predicate.
     #[tactic(auto, using(crate::proofs::Keeping::keeps_so))]
-    pub fn from_higher_order(asking: HigherOrderCall) -> Retention
+    pub fn from_higher_order(call: HigherOrderCall) -> Retention
         ensures { (items : List declared) (more : Option declared) (s : FoldOver)
-            → fold_of asking items more ≡ Ok s → RetainsAs result s.task }
+            → fold_of call items more ≡ Ok s → RetainsAs result s.fold }
     {
-        match asking {
+        match call {
             HigherOrderCall::Map => Retention::Answer,
             HigherOrderCall::Reduce => Retention::LastAnswer,
             HigherOrderCall::Filter | HigherOrderCall::Find | HigherOrderCall::FindLast =>
@@ -40,16 +40,13 @@ impl Retention {
 }
 
 /// What a built-in keeps before it asks: what `reduce` begins with, where its arguments aren't refused.
-pub fn first_retained<'v>(
-    asking: HigherOrderCall,
-    arguments: &'v [CowValue<'_>],
-) -> Option<&'v Value>
+pub fn first_retained<'v>(call: HigherOrderCall, arguments: &'v [CowValue<'_>]) -> Option<&'v Value>
     ensures { MatchOption result
-        ((s : FoldOver) → fold_of_call asking arguments.now true ≡ Ok s → retained_first s.task ≡ [])
-        (λ v. (s : FoldOver) × (fold_of_call asking arguments.now true ≡ Ok s)
-        × (retained_first s.task ≡ v.now ∷ [])) }
+        ((s : FoldOver) → fold_of_call call arguments.now true ≡ Ok s → retained_first s.fold ≡ [])
+        (λ v. (s : FoldOver) × (fold_of_call call arguments.now true ≡ Ok s)
+        × (retained_first s.fold ≡ v.now ∷ [])) }
 {
-    if !matches!(asking, HigherOrderCall::Reduce) {
+    if !matches!(call, HigherOrderCall::Reduce) {
         return None;
     }
     match arguments {

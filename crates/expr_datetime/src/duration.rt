@@ -1,5 +1,5 @@
 //! The texts of lengths of time.
-ghost use Rattle.std.specs.Prelude.{◌≡◌, ◌≤◌, ◌++◌};
+ghost use Rattle.std.specs.Prelude.{◌≤◌, ◌++◌};
 ghost use Rattle.std.specs.Fmt.{WritesOnOk};
 ghost use Rattle.expr_datetime.specs.Durations.{clock_text, duration_text, in_units, length_text};
 

@@ -10,7 +10,6 @@ mod zone;
 
 pub use digits::{power_of_ten, show_digits, show_fraction_digits};
 pub use duration::show_duration;
-pub use moment::{DateTimeValue, MomentZone, show_stamp_of};
-pub use moment_text::{show_moment, show_stamp, show_year};
-pub use offset::show_offset;
+pub use moment::{DateTimeValue, MomentZone, show_place, show_stamp_of};
+pub use moment_text::show_year;
 pub use zone::{TimezoneValue, utc};

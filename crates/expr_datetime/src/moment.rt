@@ -169,13 +169,14 @@ pub fn show_stamp_of<W: Write>(moment: &DateTimeValue, f: &mut Formatter<W>) -> 
 {
     show_stamp(moment.civil(), moment.offset(), f)?;
     f.write_str(" ")?;
-    show_place(&moment.place, f)
+    show_place(moment, f)
 }
 
-fn show_place<W: Write>(place: &MomentZone, f: &mut Formatter<W>) -> fmt::Result
-    ensures { WritesOnOk W.write_str_gives f.old result (moment_zone_text place.now) f.new }
+/// Prints the text of a moment's place: the name of a zone, `UTC` for no offset, and else the offset.
+pub fn show_place<W: Write>(moment: &DateTimeValue, f: &mut Formatter<W>) -> fmt::Result
+    ensures { WritesOnOk W.write_str_gives f.old result (moment_zone_text (moment_zone moment.now)) f.new }
 {
-    match place {
+    match &moment.place {
         MomentZone::Fixed(offset) => {
             if offset.seconds() == 0 {
                 f.write_str("UTC")

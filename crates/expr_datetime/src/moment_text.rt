@@ -1,5 +1,4 @@
 //! The texts of dates and times of day.
-ghost use Rattle.std.specs.Prelude.{◌≡◌};
 ghost use Rattle.std.specs.Fmt.{WritesOnOk};
 ghost use Rattle.jiff.specs.Words.{civil_nanos};
 ghost use Rattle.expr_datetime.specs.Calendar.{plain_clock, plain_day};
@@ -13,7 +12,11 @@ use std::fmt;
 use std::fmt::{Formatter, Write};
 
 /// Prints what a clock shows, and how far the clock is ahead of UTC: `2024-03-02T12:00:00.500+02:00`.
-pub fn show_moment<W: Write>(shown: DateTime, ahead: Offset, f: &mut Formatter<W>) -> fmt::Result
+pub(crate) fn show_moment<W: Write>(
+    shown: DateTime,
+    ahead: Offset,
+    f: &mut Formatter<W>,
+) -> fmt::Result
     ensures { WritesOnOk W.write_str_gives f.old result
         (moment_text (civil_nanos shown) ahead.seconds) f.new }
 {
@@ -22,7 +25,11 @@ pub fn show_moment<W: Write>(shown: DateTime, ahead: Offset, f: &mut Formatter<W
 
 /// Prints the same as a stamp, with spaces between, no trailing zeros in the fraction and no colon in the offset:
 /// `2024-03-02 12:00:00.5 +0200`.
-pub fn show_stamp<W: Write>(shown: DateTime, ahead: Offset, f: &mut Formatter<W>) -> fmt::Result
+pub(crate) fn show_stamp<W: Write>(
+    shown: DateTime,
+    ahead: Offset,
+    f: &mut Formatter<W>,
+) -> fmt::Result
     ensures { WritesOnOk W.write_str_gives f.old result (stamp_text (civil_nanos shown) ahead.seconds) f.new }
 {
     show_stamp_line(shown.date(), shown.time(), ahead, f)

@@ -1,5 +1,4 @@
 //! The texts of offsets.
-ghost use Rattle.std.specs.Prelude.{◌≡◌};
 ghost use Rattle.std.specs.Fmt.{WritesOnOk};
 ghost use Rattle.expr_datetime.specs.Moments.{offset_text, sign_of};
 
@@ -11,7 +10,11 @@ use std::fmt::{Formatter, Write};
 /// Prints an offset as hours and minutes, rounded to the nearest minute, with a text between them. Half a minute is
 /// rounded away from zero, and the sign is that of the offset before it is rounded.
 #[tactic(auto, unfolding(crate::specs::Moments::offset_text))]
-pub fn show_offset<W: Write>(ahead: Offset, between: &str, f: &mut Formatter<W>) -> fmt::Result
+pub(crate) fn show_offset<W: Write>(
+    ahead: Offset,
+    between: &str,
+    f: &mut Formatter<W>,
+) -> fmt::Result
     ensures { WritesOnOk W.write_str_gives f.old result (offset_text between.now ahead.seconds) f.new }
 {
     let seconds = ahead.seconds();

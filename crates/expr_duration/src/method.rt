@@ -1,5 +1,5 @@
 //! Methods of lengths of time, and the built-in that reads one.
-ghost use Rattle.std.specs.Prelude.{◌≡◌, ◌≢◌, ◌<◌, ◌≤◌, Some, IfOk, MatchOption, string_bytes};
+ghost use Rattle.std.specs.Prelude.{◌≡◌, ◌≢◌, ◌<◌, Some, IfOk, MatchOption, string_bytes};
 ghost use Rattle.expr_value.specs.Answers.{Returns, ReturnsExactly};
 ghost use Rattle.expr_arguments.specs.Arguments.{without_arguments, one_duration};
 ghost use Rattle.expr_datetime.specs.Durations.{duration_text};

@@ -1,5 +1,5 @@
 //! Reading lengths of time.
-ghost use Rattle.std.specs.Prelude.{◌≡◌, ◌≢◌, ◌⊎◌, ℕ, ℤ, pos, neg_ℤ, ◌<◌, ◌≤◌, ◌^◌, ◌∷◌, ◌++◌, List, Option, None, Some, length, take, MatchBool, MatchOption, FitsSigned};
+ghost use Rattle.std.specs.Prelude.{◌≡◌, ◌≢◌, ℕ, ℤ, pos, neg_ℤ, ◌<◌, ◌≤◌, ◌^◌, ◌++◌, List, Option, None, Some, length, take, MatchBool, MatchOption, FitsSigned};
 ghost use Rattle.std.specs.Int.{w64};
 ghost use Rattle.std.specs.Str.Parse.{AllDigits, digits_value};
 ghost use Rattle.expr_duration.specs.Durations.{LengthPart, Scale, Spells, fraction_digits_of, part_size, scale_name, scale_size, part_nanos};

@@ -1,5 +1,6 @@
 -- What the calls of encodings may answer on their arguments.
-use Rattle.std.specs.Prelude.{◌≡◌, List, [], ◌∷◌, Err, option_map}
+use Rattle.std.specs.Prelude.{◌≡◌, List, Option, Some, None, Err, option_map}
+use Rattle.expr_arguments.specs.Arguments.{any_value, one_of}
 use Rattle.expr_value.specs.Answers.{Answer}
 use Rattle.expr_error.specs.ErrorKind.{evaluation}
 use Rattle.expr_value.specs.declared.value.Value as value
@@ -31,8 +32,11 @@ Encodes is.ToJson v answer = answer ≡ in_json_text v
 Encodes is.ToBase64 v answer = answer ≡ in_base64 v
 Encodes is.FromBase64 v answer = FromBase64 v answer
 
+-- what it may answer of its argument, and a refusal without one
+abbrev pub EncodesArgument : EncodingCall → Option Value → Answer → Type 0
+EncodesArgument e None answer = answer ≡ Err evaluation
+EncodesArgument e (Some v) answer = Encodes e v answer
+
 -- each call takes one argument
 abbrev pub EncodingMayReturn : EncodingCall → List Value → Answer → Type 0
-EncodingMayReturn e [] answer = answer ≡ Err evaluation
-EncodingMayReturn e (v ∷ []) answer = Encodes e v answer
-EncodingMayReturn e (v ∷ w ∷ more) answer = answer ≡ Err evaluation
+EncodingMayReturn e arguments = EncodesArgument e (one_of any_value arguments)

@@ -5,6 +5,7 @@ ghost use Rattle.expr_encoding.specs.Calls.{EncodingMayReturn, Encodes, in_json_
 use crate::radix64::{from_base64, to_base64};
 use crate::reading::from_json;
 use crate::writing::to_json;
+use expr_arguments::one_value;
 use expr_cow::CowValue;
 use expr_functions::EncodingCall;
 use expr_value::{Result, Value, refusal};
@@ -15,10 +16,10 @@ use std::alloc::Global;
 pub fn call_encoding(alloc: Global, call: EncodingCall, arguments: &[CowValue<'_>]) -> Result<Value>
     ensures { Returns result (EncodingMayReturn call arguments.now) }
 {
-    match arguments {
-        [value] => encode(alloc, call, value.get()),
-        _ => Err(refusal(alloc, "this call takes one argument")),
-    }
+    let Some(value) = one_value(arguments) else {
+        return Err(refusal(alloc, "this call takes one argument"));
+    };
+    encode(alloc, call, value)
 }
 
 fn encode(alloc: Global, call: EncodingCall, value: &Value) -> Result<Value>

@@ -1,5 +1,4 @@
 //! Base64 of texts, by the standard alphabet with padding.
-ghost use Rattle.std.specs.Prelude.{◌≡◌};
 ghost use Rattle.expr_value.specs.Answers.{Returns, ReturnsExactly};
 ghost use Rattle.expr_encoding.specs.Base64.{Decodes, FromBase64, encoded_text, in_base64};
 

@@ -2,10 +2,10 @@
 //!
 //! The recursion follows the value's nesting, as that of `serde_json`'s writer does.
 ghost use Rattle.serde_json.specs.View.{view, members_view};
-ghost use Rattle.std.specs.Prelude.{◌≡◌, ◌≢◌, None, Some, map, IfOk, IfErr};
+ghost use Rattle.std.specs.Prelude.{◌≡◌, None, Some, map, IfOk, IfErr};
 ghost use Rattle.serde_json.specs.Data.{no_members, string};
 ghost use Rattle.expr_value.specs.Answers.{ReturnsExactly};
-ghost use Rattle.expr_error.specs.ErrorKind.{evaluation, error_kind, memory, OnlyMemory};
+ghost use Rattle.expr_error.specs.ErrorKind.{OnlyMemory};
 ghost use Rattle.expr_encoding.specs.Optional.{RefusesIfNone, value_or_refusal};
 ghost use Rattle.expr_layout.specs.Layouts.{stamp_text};
 ghost use Rattle.expr_encoding.specs.ReadBack.{ReadsEqual};

@@ -1,5 +1,5 @@
 -- The kinds of refusal. The text of a message and the place in a text are for people, and no clause speaks of them.
-use Rattle.std.specs.Prelude.{◌≡◌, ◌≢◌, IfErr, Result, Ok, Err}
+use Rattle.std.specs.Prelude.{◌≡◌, ◌≢◌, IfErr, Result}
 use Rattle.expr_error.specs.declared.error.Error.{Error}
 use Rattle.expr_error.specs.declared.error.Error.TheVariants.{PestError, ParseError, ExprError, RegexError, MemoryError}
 
@@ -29,6 +29,10 @@ OnlyMemory result = IfErr result (λ e. e ≡ MemoryError)
 -- A call is refused with a kind of which this holds, or for want of memory.
 abbrev pub RefusesWith : {A : Type 0} → Result A Error → (ErrorKind → Type 0) → Type 0
 RefusesWith result said = IfErr result (λ e. error_kind e ≢ memory → said (error_kind e))
+
+-- A call is never refused for a pattern that does not build.
+abbrev pub RefusesNoPattern : {A : Type 0} → Result A Error → Type 0
+RefusesNoPattern result = IfErr result (λ e. error_kind e ≢ pattern)
 
 -- an error is of this kind, or it says that memory was wanting
 abbrev pub IsOfKind : Error → ErrorKind → Type 0

@@ -1,7 +1,7 @@
 //! The refusals of the library.
 ghost use Rattle.expr_error.specs.declared.error.Error.TheVariants.{MemoryError, ExprError};
-ghost use Rattle.expr_error.specs.ErrorKind.{memory, evaluation, IsOfKind};
-ghost use Rattle.std.specs.Prelude.{◌≡◌, ◌≢◌};
+ghost use Rattle.expr_error.specs.ErrorKind.{evaluation, IsOfKind};
+ghost use Rattle.std.specs.Prelude.{◌≡◌};
 
 use std::alloc::{AllocError, AllocFailed, Global};
 use std::fmt;

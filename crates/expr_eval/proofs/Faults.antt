@@ -3,6 +3,7 @@ use Rattle.std.proofs.Common.{◌≡◌, ◌≢◌, ℕ, List, Result, Ok, Err, 
 use Rattle.std.specs.Result.{IsErrAnd}
 use Rattle.std.specs.Str.{IsCharBoundary}
 use Rattle.expr_syntax.specs.Texts.{HasNoTree, IsCompiled, IsPlaced, IsProgramOf}
+pub use Rattle.expr_syntax.proofs.Passed.{boundary_kept, place_kept, same_place}
 use Rattle.expr_tree.specs.Term.{Block}
 use Rattle.expr_tree.specs.declared.node.Program.{Program}
 use Rattle.expr_steps.specs.Context.{ContextView}
@@ -64,25 +65,7 @@ module _ (text : List ℕ) (world : World) (b : Block) (of : IsProgramOf text b)
   boundary_of_run (inl none) place e = has_tree text b of none
   boundary_of_run (inr never) place e = boundary_never world.host never world.context b text r gives place e
 
--- a refusal that is passed on keeps its place, whatever would have been given
-module _ (A B : Type 0) (text : List ℕ) where
-  pub same_place : (e : Error) → IsPlaced {A = A} text (Err e) → IsPlaced {A = B} text (Err e)
-  same_place (PestError place) p = p
-  same_place (ParseError message) p = p
-  same_place (ExprError message) p = p
-  same_place (RegexError error) p = p
-  same_place MemoryError p = p
-
-  pub place_kept : (e : Error) → IsPlaced {A = A} text (Err e) → (r : Result B Error) → IsErrAnd r (λ x. x ≡ e) → IsPlaced text r
-  place_kept e p (Ok v) h = absurd h
-  place_kept e p (Err x) h = subst (λ y. IsPlaced {A = B} text (Err y)) (sym h) (same_place e p)
-
-  pub boundary_kept : (e : Error) → ((place : ℕ) → ◌≡◌ {A = Result A Error} (Err e) (Err (PestError place)) → IsCharBoundary text place) → (r : Result B Error) → IsErrAnd r (λ x. x ≡ e)
-      → (place : ℕ) → r ≡ Err (PestError place) → IsCharBoundary text place
-  boundary_kept e p (Ok v) h place is = absurd h
-  boundary_kept e p (Err x) h place is = p place (let same : x ≡ PestError place = cc in ap Err (sym h ∙ same))
-
--- one for want of memory has none
+-- a refusal for want of memory has no place
 module _ (A : Type 0) (text : List ℕ) where
   memory_placed : (e : Error) → error_kind e ≡ memory → IsPlaced {A = A} text (Err e)
   memory_placed (PestError place) m = let no : syntax ≢ memory = λ e. cc in absurd (no m)

@@ -1,6 +1,6 @@
 -- A term that takes no memory has one answer, whatever the host and the names; and how nodes are written.
 use Rattle.std.proofs.Common.{◌≡◌, ◌≢◌, ◌&&◌, Bool, true, false, IsTrue, Option, Some, None, Result, Ok, Err, ap, sym, ◌∙◌, refl, subst, rules, String, Global, Vec}
-use Rattle.expr_evaluation.specs.AllocFree.{IsPlainly, IsPlainlyAfter, and_answer, answer_then, is_alloc_free_node, operation_answer, or_answer, plain_answer}
+use Rattle.expr_evaluation.specs.AllocFree.{FindsAllocFree, FindsAllocFreeAfter, and_answer, answer_then, is_alloc_free_node, operation_answer, or_answer, alloc_free_node_answer}
 use Rattle.expr_evaluation.specs.Promises.{TakesNoMemory}
 use Rattle.expr_evaluation.specs.Several.{field_terms}
 use Rattle.expr_meaning.specs.Allows.{Allows, AndThenLayer, OperationMayReturn, OperationMayReturnBy, OrElseLayer}
@@ -59,23 +59,23 @@ module _ (right : Answer → Type 0) (a : Answer) (allowed : (y : Value) → a �
   operator_allowed Pattern op x e = cc
 
 -- a term allows what it answers without names and calls
-pub plain_allowed : (world : World) (t : Term) (v : Value) → plain_answer t ≡ Ok v → Allows world t (Ok v)
-plain_allowed world (literal w) v e = sym e
-plain_allowed world (unary op t) v e =
-    let q = first_of (plain_answer t) (unary_answer op) v e in (Ok q.0, plain_allowed world t q.0 q.1, sym q.2)
-plain_allowed world (operation op l r) v e =
-    let q = first_of (plain_answer l) (λ x. operation_answer (operator_strictness op) op x (plain_answer r)) v e in (
+pub alloc_free_allowed : (world : World) (t : Term) (v : Value) → alloc_free_node_answer t ≡ Ok v → Allows world t (Ok v)
+alloc_free_allowed world (literal w) v e = sym e
+alloc_free_allowed world (unary op t) v e =
+    let q = first_of (alloc_free_node_answer t) (unary_answer op) v e in (Ok q.0, alloc_free_allowed world t q.0 q.1, sym q.2)
+alloc_free_allowed world (operation op l r) v e =
+    let q = first_of (alloc_free_node_answer l) (λ x. operation_answer (operator_strictness op) op x (alloc_free_node_answer r)) v e in (
       Ok q.0,
-      plain_allowed world l q.0 q.1,
-      operator_allowed (Allows world r) (plain_answer r) (λ y k. plain_allowed world r y k) v (operator_strictness op) op q.0 q.2,
+      alloc_free_allowed world l q.0 q.1,
+      operator_allowed (Allows world r) (alloc_free_node_answer r) (λ y k. alloc_free_allowed world r y k) v (operator_strictness op) op q.0 q.2,
     )
-plain_allowed world (name key) v e = cc
-plain_allowed world (list ts) v e = cc
-plain_allowed world (mapping ps) v e = cc
-plain_allowed world (range a b) v e = cc
-plain_allowed world (call key ts q) v e = cc
-plain_allowed world (postfix q t) v e = cc
-plain_allowed world (choice c a b) v e = cc
+alloc_free_allowed world (name key) v e = cc
+alloc_free_allowed world (list ts) v e = cc
+alloc_free_allowed world (mapping ps) v e = cc
+alloc_free_allowed world (range a b) v e = cc
+alloc_free_allowed world (call key ts q) v e = cc
+alloc_free_allowed world (postfix q t) v e = cc
+alloc_free_allowed world (choice c a b) v e = cc
 
 -- an operator answers what it allows
 module _ (right : Answer → Type 0) (a : Answer) (only : (y : Value) → right (Ok y) → a ≡ Ok y) (v : Value) where
@@ -105,72 +105,72 @@ asks_no_pattern : (op : Operator) → IsTrue (is_alloc_free_operator op) → ope
 asks_no_pattern Matches p e = cc
 asks_no_pattern op p e = cc
 
--- and a plain term answers what it allows
-pub plain_only : (world : World) (t : Term) (v : Value) → IsTrue (is_alloc_free_node t) → Allows world t (Ok v) → plain_answer t ≡ Ok v
-plain_only world (literal w) v p h = sym h
-plain_only world (unary op t) v p h =
-    one_next (Allows world t) (plain_answer t) (λ y k. plain_only world t y p k) v (unary_answer op) h
-plain_only world (operation op l r) v p h =
+-- and a term that takes no memory answers what it allows
+pub alloc_free_only : (world : World) (t : Term) (v : Value) → IsTrue (is_alloc_free_node t) → Allows world t (Ok v) → alloc_free_node_answer t ≡ Ok v
+alloc_free_only world (literal w) v p h = sym h
+alloc_free_only world (unary op t) v p h =
+    one_next (Allows world t) (alloc_free_node_answer t) (λ y k. alloc_free_only world t y p k) v (unary_answer op) h
+alloc_free_only world (operation op l r) v p h =
     let o = left-true (is_alloc_free_operator op) (is_alloc_free_node l && is_alloc_free_node r) p in
     let both = right-true (is_alloc_free_operator op) (is_alloc_free_node l && is_alloc_free_node r) p in
     let q = first_of-Then (Allows world l) (λ x. OperationMayReturn op x (Allows world r)) v h in
-    let first : plain_answer l ≡ Ok q.0 = plain_only world l q.0 (left-true (is_alloc_free_node l) (is_alloc_free_node r) both) q.1 in
-    subst (λ b. answer_then b (λ x. operation_answer (operator_strictness op) op x (plain_answer r)) ≡ Ok v) (sym first) (
-    operator_only (Allows world r) (plain_answer r) (λ y k. plain_only world r y (right-true (is_alloc_free_node l) (is_alloc_free_node r) both) k) v (operator_strictness op) op q.0 (asks_no_pattern op o) q.2
+    let first : alloc_free_node_answer l ≡ Ok q.0 = alloc_free_only world l q.0 (left-true (is_alloc_free_node l) (is_alloc_free_node r) both) q.1 in
+    subst (λ b. answer_then b (λ x. operation_answer (operator_strictness op) op x (alloc_free_node_answer r)) ≡ Ok v) (sym first) (
+    operator_only (Allows world r) (alloc_free_node_answer r) (λ y k. alloc_free_only world r y (right-true (is_alloc_free_node l) (is_alloc_free_node r) both) k) v (operator_strictness op) op q.0 (asks_no_pattern op o) q.2
     )
-plain_only world (name key) v p h = cc
-plain_only world (list ts) v p h = cc
-plain_only world (mapping ps) v p h = cc
-plain_only world (range a b) v p h = cc
-plain_only world (call key ts q) v p h = cc
-plain_only world (postfix q t) v p h = cc
-plain_only world (choice c a b) v p h = cc
+alloc_free_only world (name key) v p h = cc
+alloc_free_only world (list ts) v p h = cc
+alloc_free_only world (mapping ps) v p h = cc
+alloc_free_only world (range a b) v p h = cc
+alloc_free_only world (call key ts q) v p h = cc
+alloc_free_only world (postfix q t) v p h = cc
+alloc_free_only world (choice c a b) v p h = cc
 
 -- a value that is found of it is what it comes to, and where none is found it comes to none
-pub found_plainly : (world : World) (t : Term) (v : Value) → plain_answer t ≡ Ok v → TakesNoMemory world t (Ok v)
-found_plainly world t v found = λ w p h.
-    let same : v ≡ w = cc (sym found ∙ plain_only world t w p h) in ap Ok same
+pub found_alloc_free : (world : World) (t : Term) (v : Value) → alloc_free_node_answer t ≡ Ok v → TakesNoMemory world t (Ok v)
+found_alloc_free world t v found = λ w p h.
+    let same : v ≡ w = cc (sym found ∙ alloc_free_only world t w p h) in ap Ok same
 
-pub not_plainly : (world : World) (t : Term) (r : Result Value Error) → IsPlainly None t → TakesNoMemory world t r
-not_plainly world t r none = λ v p h. absurd (none p v (plain_only world t v p h))
+pub not_alloc_free : (world : World) (t : Term) (r : Result Value Error) → FindsAllocFree None t → TakesNoMemory world t r
+not_alloc_free world t r none = λ v p h. absurd (none p v (alloc_free_only world t v p h))
 
--- a plain term has a plain value
+-- a term that takes no memory has a value that takes none
 module _ (a : Answer) (of_right : (w : Value) → a ≡ Ok w → IsTrue (is_alloc_free_value w)) where
-  and_plain : (x : Value-F Value) (v : Value) → and_answer x a ≡ Ok v → IsTrue (is_alloc_free_value v)
-  and_plain (Value-F.Bool true) v e = let q = first_of a truth v e in plain-at (truth q.0) v (sym q.2) (bool-plain (out-Value q.0))
-  and_plain (Value-F.Bool false) v e = plain-at (Ok (value.Bool false)) v (sym e) (plain-Bool false)
-  and_plain x v e = cc
+  and_alloc_free : (x : Value-F Value) (v : Value) → and_answer x a ≡ Ok v → IsTrue (is_alloc_free_value v)
+  and_alloc_free (Value-F.Bool true) v e = let q = first_of a truth v e in plain-at (truth q.0) v (sym q.2) (bool-plain (out-Value q.0))
+  and_alloc_free (Value-F.Bool false) v e = plain-at (Ok (value.Bool false)) v (sym e) (plain-Bool false)
+  and_alloc_free x v e = cc
 
-  or_plain : (x : Value-F Value) (v : Value) → or_answer x a ≡ Ok v → IsTrue (is_alloc_free_value v)
-  or_plain (Value-F.Bool true) v e = plain-at (Ok (value.Bool true)) v (sym e) (plain-Bool true)
-  or_plain (Value-F.Bool false) v e = let q = first_of a truth v e in plain-at (truth q.0) v (sym q.2) (bool-plain (out-Value q.0))
-  or_plain x v e = cc
+  or_alloc_free : (x : Value-F Value) (v : Value) → or_answer x a ≡ Ok v → IsTrue (is_alloc_free_value v)
+  or_alloc_free (Value-F.Bool true) v e = plain-at (Ok (value.Bool true)) v (sym e) (plain-Bool true)
+  or_alloc_free (Value-F.Bool false) v e = let q = first_of a truth v e in plain-at (truth q.0) v (sym q.2) (bool-plain (out-Value q.0))
+  or_alloc_free x v e = cc
 
-  operator_plain : (c : Strictness) (op : Operator) (x v : Value) → IsTrue (is_alloc_free_operator op) → IsTrue (is_alloc_free_value x) → operation_answer c op x a ≡ Ok v → IsTrue (is_alloc_free_value v)
-  operator_plain Both op x v o p e =
+  operator_alloc_free : (c : Strictness) (op : Operator) (x v : Value) → IsTrue (is_alloc_free_operator op) → IsTrue (is_alloc_free_value x) → operation_answer c op x a ≡ Ok v → IsTrue (is_alloc_free_value v)
+  operator_alloc_free Both op x v o p e =
       let q = first_of a (operator_answer op x) v e in plain-at (operator_answer op x q.0) v (sym q.2) (operator_answer-plain op x q.0 o p (of_right q.0 q.1))
-  operator_plain EndsAtFalse op x v o p e = and_plain (out-Value x) v e
-  operator_plain EndsAtTrue op x v o p e = or_plain (out-Value x) v e
-  operator_plain Pattern op x v o p e = cc
+  operator_alloc_free EndsAtFalse op x v o p e = and_alloc_free (out-Value x) v e
+  operator_alloc_free EndsAtTrue op x v o p e = or_alloc_free (out-Value x) v e
+  operator_alloc_free Pattern op x v o p e = cc
 
-pub answers_plain : (t : Term) (v : Value) → IsTrue (is_alloc_free_node t) → plain_answer t ≡ Ok v → IsTrue (is_alloc_free_value v)
-answers_plain (literal w) v p e = plain-at (Ok w) v (sym e) p
-answers_plain (unary op t) v p e =
-    let q = first_of (plain_answer t) (unary_answer op) v e in plain-at (unary_answer op q.0) v (sym q.2) (prefixed-plain op (out-Value q.0))
-answers_plain (operation op l r) v p e =
+pub answers_alloc_free : (t : Term) (v : Value) → IsTrue (is_alloc_free_node t) → alloc_free_node_answer t ≡ Ok v → IsTrue (is_alloc_free_value v)
+answers_alloc_free (literal w) v p e = plain-at (Ok w) v (sym e) p
+answers_alloc_free (unary op t) v p e =
+    let q = first_of (alloc_free_node_answer t) (unary_answer op) v e in plain-at (unary_answer op q.0) v (sym q.2) (prefixed-plain op (out-Value q.0))
+answers_alloc_free (operation op l r) v p e =
     let o = left-true (is_alloc_free_operator op) (is_alloc_free_node l && is_alloc_free_node r) p in
     let both = right-true (is_alloc_free_operator op) (is_alloc_free_node l && is_alloc_free_node r) p in
-    let q = first_of (plain_answer l) (λ x. operation_answer (operator_strictness op) op x (plain_answer r)) v e in
-    operator_plain (plain_answer r) (λ w k. answers_plain r w (right-true (is_alloc_free_node l) (is_alloc_free_node r) both) k) (operator_strictness op) op q.0 v o (
-    answers_plain l q.0 (left-true (is_alloc_free_node l) (is_alloc_free_node r) both) q.1
+    let q = first_of (alloc_free_node_answer l) (λ x. operation_answer (operator_strictness op) op x (alloc_free_node_answer r)) v e in
+    operator_alloc_free (alloc_free_node_answer r) (λ w k. answers_alloc_free r w (right-true (is_alloc_free_node l) (is_alloc_free_node r) both) k) (operator_strictness op) op q.0 v o (
+    answers_alloc_free l q.0 (left-true (is_alloc_free_node l) (is_alloc_free_node r) both) q.1
     ) q.2
-answers_plain (name key) v p e = cc
-answers_plain (list ts) v p e = cc
-answers_plain (mapping ps) v p e = cc
-answers_plain (range a b) v p e = cc
-answers_plain (call key ts q) v p e = cc
-answers_plain (postfix q t) v p e = cc
-answers_plain (choice c a b) v p e = cc
+answers_alloc_free (name key) v p e = cc
+answers_alloc_free (list ts) v p e = cc
+answers_alloc_free (mapping ps) v p e = cc
+answers_alloc_free (range a b) v p e = cc
+answers_alloc_free (call key ts q) v p e = cc
+answers_alloc_free (postfix q t) v p e = cc
+answers_alloc_free (choice c a b) v p e = cc
 
 -- where what follows has no value, or what came first, there is none
 pub none_first : (a : Answer) (next : Value → Answer) → ((w : Value) → a ≢ Ok w) → (v : Value) → answer_then a next ≢ Ok v
@@ -183,17 +183,17 @@ none_next a next x r k is sure refused v e =
     absurd (cc (wrong, refused))
 
 -- so it is of an operator whose left side has none
-pub none_left : (op : Operator) (l r : Term) → IsPlainly None l → IsPlainly None (operation op l r)
+pub none_left : (op : Operator) (l r : Term) → FindsAllocFree None l → FindsAllocFree None (operation op l r)
 none_left op l r n = λ p v e.
     let both = right-true (is_alloc_free_operator op) (is_alloc_free_node l && is_alloc_free_node r) p in
-    none_first (plain_answer l) (λ x. operation_answer (operator_strictness op) op x (plain_answer r)) (n (left-true (is_alloc_free_node l) (is_alloc_free_node r) both)) v e
+    none_first (alloc_free_node_answer l) (λ x. operation_answer (operator_strictness op) op x (alloc_free_node_answer r)) (n (left-true (is_alloc_free_node l) (is_alloc_free_node r) both)) v e
 
 -- what an operator comes to with its left side's value, the operation does
-pub after_plainly : (o : Option Value) (op : Operator) (x : Value) (l r : Term) → plain_answer l ≡ Ok x → IsPlainlyAfter o op x r → IsPlainly o (operation op l r)
-after_plainly (Some v) op x l r is e = subst (λ b. answer_then b (λ y. operation_answer (operator_strictness op) op y (plain_answer r)) ≡ Ok v) (sym is) e
-after_plainly None op x l r is n = λ p v e.
+pub after_alloc_free : (o : Option Value) (op : Operator) (x : Value) (l r : Term) → alloc_free_node_answer l ≡ Ok x → FindsAllocFreeAfter o op x r → FindsAllocFree o (operation op l r)
+after_alloc_free (Some v) op x l r is e = subst (λ b. answer_then b (λ y. operation_answer (operator_strictness op) op y (alloc_free_node_answer r)) ≡ Ok v) (sym is) e
+after_alloc_free None op x l r is n = λ p v e.
     let o = left-true (is_alloc_free_operator op) (is_alloc_free_node l && is_alloc_free_node r) p in
     let both = right-true (is_alloc_free_operator op) (is_alloc_free_node l && is_alloc_free_node r) p in
-    n o (answers_plain l x (left-true (is_alloc_free_node l) (is_alloc_free_node r) both) is) (right-true (is_alloc_free_node l) (is_alloc_free_node r) both) v (
-    subst (λ b. answer_then b (λ y. operation_answer (operator_strictness op) op y (plain_answer r)) ≡ Ok v) is e
+    n o (answers_alloc_free l x (left-true (is_alloc_free_node l) (is_alloc_free_node r) both) is) (right-true (is_alloc_free_node l) (is_alloc_free_node r) both) v (
+    subst (λ b. answer_then b (λ y. operation_answer (operator_strictness op) op y (alloc_free_node_answer r)) ≡ Ok v) is e
     )

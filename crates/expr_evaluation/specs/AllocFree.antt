@@ -43,24 +43,24 @@ operation_answer EndsAtTrue op x right = or_answer (out-Value x) right
 operation_answer Pattern op x right = Err evaluation
 
 -- what literals answer under prefixes and between operators
-abbrev pub plain_answer : Term → Answer
-plain_answer (literal v) = Ok v
-plain_answer (unary op t) = answer_then (plain_answer t) (unary_answer op)
-plain_answer (operation op l r) = answer_then (plain_answer l) (λ x. operation_answer (operator_strictness op) op x (plain_answer r))
-plain_answer t = Err evaluation
+abbrev pub alloc_free_node_answer : Term → Answer
+alloc_free_node_answer (literal v) = Ok v
+alloc_free_node_answer (unary op t) = answer_then (alloc_free_node_answer t) (unary_answer op)
+alloc_free_node_answer (operation op l r) = answer_then (alloc_free_node_answer l) (λ x. operation_answer (operator_strictness op) op x (alloc_free_node_answer r))
+alloc_free_node_answer t = Err evaluation
 
--- a term's value is found, and none is found of a plain term that has none
-abbrev pub IsPlainly : Option Value → Term → Type 0
-IsPlainly (Some v) t = plain_answer t ≡ Ok v
-IsPlainly None t = IsTrue (is_alloc_free_node t) → (v : Value) → plain_answer t ≢ Ok v
+-- a term's value is found, and none is found of a term that takes no memory and has none
+abbrev pub FindsAllocFree : Option Value → Term → Type 0
+FindsAllocFree (Some v) t = alloc_free_node_answer t ≡ Ok v
+FindsAllocFree None t = IsTrue (is_alloc_free_node t) → (v : Value) → alloc_free_node_answer t ≢ Ok v
 
 -- so it is of an operator with this value on the left
-abbrev pub IsPlainlyAfter : Option Value → Operator → Value → Term → Type 0
-IsPlainlyAfter (Some v) op x right = operation_answer (operator_strictness op) op x (plain_answer right) ≡ Ok v
-IsPlainlyAfter None op x right =
-    IsTrue (is_alloc_free_operator op) → IsTrue (is_alloc_free_value x) → IsTrue (is_alloc_free_node right) → (v : Value) → operation_answer (operator_strictness op) op x (plain_answer right) ≢ Ok v
+abbrev pub FindsAllocFreeAfter : Option Value → Operator → Value → Term → Type 0
+FindsAllocFreeAfter (Some v) op x right = operation_answer (operator_strictness op) op x (alloc_free_node_answer right) ≡ Ok v
+FindsAllocFreeAfter None op x right =
+    IsTrue (is_alloc_free_operator op) → IsTrue (is_alloc_free_value x) → IsTrue (is_alloc_free_node right) → (v : Value) → operation_answer (operator_strictness op) op x (alloc_free_node_answer right) ≢ Ok v
 
 -- and so of a boolean
-abbrev pub IsPlainTruth : Option Value → Term → Type 0
-IsPlainTruth (Some v) t = answer_then (plain_answer t) truth ≡ Ok v
-IsPlainTruth None t = IsTrue (is_alloc_free_node t) → (v : Value) → answer_then (plain_answer t) truth ≢ Ok v
+abbrev pub FindsAllocFreeTruth : Option Value → Term → Type 0
+FindsAllocFreeTruth (Some v) t = answer_then (alloc_free_node_answer t) truth ≡ Ok v
+FindsAllocFreeTruth None t = IsTrue (is_alloc_free_node t) → (v : Value) → answer_then (alloc_free_node_answer t) truth ≢ Ok v

@@ -1,10 +1,10 @@
--- What evaluating a node promises, or an operator between two: said once for each call that evaluates one.
+-- What evaluating a node, an operator or a call promises: said once for each call that evaluates one.
 use Rattle.std.specs.Prelude.{◌≡◌, ℕ, IfErr, IsTrue, List, Option, Result, Ok, Err}
 use Rattle.expr_evaluation.specs.Handed.{IsHanded, IsKeeping}
 use Rattle.expr_evaluation.specs.AllocFree.{is_alloc_free_node}
-use Rattle.expr_meaning.specs.Allows.{Allows}
+use Rattle.expr_meaning.specs.Allows.{Allows, AllowsCall, AllowsPredicate, is_given}
 use Rattle.expr_meaning.specs.World.{World}
-use Rattle.expr_tree.specs.Term.{Term, operation}
+use Rattle.expr_tree.specs.Term.{Term, Postfix, Predicate, operation, postfix}
 use Rattle.expr_tree.specs.TermOf.{term_of}
 use Rattle.expr_tree.specs.declared.node.Node.{Node}
 use Rattle.expr_tree.specs.declared.operator.Operator.{Operator}
@@ -38,3 +38,11 @@ pub record AnswersOperation (world : World) (operator : Operator) (left right : 
   pub answer : Returns result (Allows world (operation operator (term_of left) (term_of right)))
   pub alloc_free : TakesNoMemory world (operation operator (term_of left) (term_of right)) result
   pub handed : IsHanded operator (term_of right) handed_in → PatternsAreOf world (term_of left) result
+
+-- what an operator behind a term is answered with
+abbrev pub AnswersPostfix : World → Postfix → Term → Result Value Error → Type 0
+AnswersPostfix world operator t result = Returns result (Allows world (postfix operator t))
+
+-- what a call on these values is answered with, where it is lent a program or none
+abbrev pub AnswersCall : World → List ℕ → List Value → Predicate → Result Value Error → Type 0
+AnswersCall world ident values lent result = Returns result (AllowsCall world.host ident values (is_given lent) (AllowsPredicate world lent))

@@ -23,9 +23,9 @@ use Rattle.expr_frames.specs.declared.frame.Reaching.TheVariants as reaching
 use Rattle.expr_frames.specs.declared.frame.OpenOperand.{OpenOperand}
 use Rattle.expr_frames.specs.declared.frame.OpenOperand.TheVariants as open_operand
 use Rattle.expr_frames.specs.declared.frame.ParseState.TheVariants as parse_state
-use Rattle.expr_grammar.specs.Grammar.{Word, Usual, ReservedWord, Key, WordKey, QuotedKey, EntryRow, Tree, Name, Paren, Map, Member, Infix, Index, Slice, Row, NoEntries, SomeEntries, SomeItems, SomeArguments, ArgumentRow, Argument, Expression, Braces, Bound, LeftOut, At, Else, ElseIf, TreeProgram, Program, NoLines, key_token}
+use Rattle.expr_grammar.specs.Grammar.{Word, Usual, ReservedWord, Key, WordKey, QuotedKey, EntryRow, Tree, Name, Paren, Map, Member, Index, Slice, Row, SomeEntries, SomeItems, SomeArguments, ArgumentRow, Argument, Expression, Braces, Bound, LeftOut, At, Else, ElseIf, TreeProgram, Program, NoLines, key_token}
 use Rattle.expr_grammar.specs.Machine as tree
-use Rattle.expr_grammar.specs.Machine.{role_of, role_level, word_at, key_at, push, push_argument, push_entry, items_end, arguments_end, entries_end, InArray, InMethod, holder_tree, InCall, InPipe, caller_tree, Branches, NoBranch, Branch, chosen, Top, Then, Last, Predicate, tree_of}
+use Rattle.expr_grammar.specs.Machine.{role_of, role_level, word_at, key_at, push, push_argument, push_entry, items_end, arguments_end, entries_end, InArray, InMethod, holder_tree, InCall, InPipe, caller_tree, Branches, NoBranch, Branch, choice_tree, Top, Then, Last, Predicate, tree_of}
 use Rattle.expr_grammar.specs.Height.{height, items_height, row_height, entries_height, entry_row_height, arguments_height, argument_row_height, else_height, program_height, lines_height}
 use Rattle.expr_frames.specs.Measures.{with_height, program_with_height, with_height_if_any}
 use Rattle.expr_frames.specs.Programs.{word_text, key_text, entry_row_pairs, entries_pairs, tree_term, items_terms, row_terms, argument_terms, argument_row_terms, last_predicate, last_predicate_in_row, infix_meaning, infix_term, else_block, line_terms}
@@ -182,7 +182,7 @@ joins (meaning.Operator o) l r = refl
 joins meaning.Range l r = refl
 joins meaning.Default l r = refl
 
-nests : (bs : Branches) (c : Tree) (a : TreeProgram) (e : Rattle.expr_grammar.specs.Grammar.ElsePart) → nest (branches bs) (chosen_part (with_height c) (program_with_height a) (record { block = else_block e; height = else_height e })) ≡ with_height (chosen bs c a e)
+nests : (bs : Branches) (c : Tree) (a : TreeProgram) (e : Rattle.expr_grammar.specs.Grammar.ElsePart) → nest (branches bs) (chosen_part (with_height c) (program_with_height a) (record { block = else_block e; height = else_height e })) ≡ with_height (choice_tree bs c a e)
 nests NoBranch c a e = refl
 nests (Branch bs d b) c a e =
     nest_more (branches bs) (with_height d) (program_with_height b) (chosen_part (with_height c) (program_with_height a) (record { block = else_block e; height = else_height e }))
@@ -190,9 +190,9 @@ nests (Branch bs d b) c a e =
     ∙ nests bs d b (ElseIf c a e)
 
 -- a choice is no name and no member
-chosen_head : (bs : Branches) (c : Tree) (a : TreeProgram) (e : Rattle.expr_grammar.specs.Grammar.ElsePart) → head (chosen bs c a e) ≡ open_operand.Whole (with_height (chosen bs c a e))
-chosen_head NoBranch c a e = refl
-chosen_head (Branch bs d b) c a e = chosen_head bs d b (ElseIf c a e)
+choice_head : (bs : Branches) (c : Tree) (a : TreeProgram) (e : Rattle.expr_grammar.specs.Grammar.ElsePart) → head (choice_tree bs c a e) ≡ open_operand.Whole (with_height (choice_tree bs c a e))
+choice_head NoBranch c a e = refl
+choice_head (Branch bs d b) c a e = choice_head bs d b (ElseIf c a e)
 
 -- tests of the token
 closes : (t : Token) (s : tree.State) → node.at_close t (state s) node.Fail ≡ state (tree.at_close t s)
@@ -257,7 +257,7 @@ braces_argue t (f ∷ k) p = refl
 after_section_same : (b : tree.Section) (p : TreeProgram) (k : List tree.Frame) → node.after_section (section_of b) (program_with_height p) (frames k) ≡ state (tree.after_section b p k)
 after_section_same Top p k = refl
 after_section_same (Then bs c) p k = refl
-after_section_same (Last bs c a) p k = ap (λ q. node.whole (frames k) q) (nests bs c a (Else p)) ∙ ap (λ q. node.On (frames k) (parse_state.Have q)) (sym (chosen_head bs c a (Else p)))
+after_section_same (Last bs c a) p k = ap (λ q. node.whole (frames k) q) (nests bs c a (Else p)) ∙ ap (λ q. node.On (frames k) (parse_state.Have q)) (sym (choice_head bs c a (Else p)))
 after_section_same Predicate p k = refl
 
 binds : (k : List tree.Frame) (w : List ℕ) (l : Tree) → node.bind (frames k) w (with_height l) ≡ state (tree.bind k w l)

@@ -11,7 +11,7 @@ use Rattle.expr_token.specs.declared.reserved.Reserved.{Reserved}
 use Rattle.expr_token.specs.declared.reserved.Reserved.TheVariants as reserved
 use Rattle.expr_token.specs.Spellings.{reserved_text}
 use Rattle.expr_tree.specs.Term.{name, literal}
-use Rattle.expr_parts.specs.Parts.{WithHeight, BlockWithHeight, LinesWithHeight, PairsWithHeight, ArgumentsWithHeight, leaf, brackets_of, unary_of, range_of, operation_of, coalesce_of, conditional_of, index_of, member_of, field_of, slice_of, pipe_of, ternary_of, method_of, array_of, function_of, map_of, block_of_lines, no_lines, no_arguments, no_pairs, line_more, argument_more, argument_program, pair_more}
+use Rattle.expr_parts.specs.Parts.{WithHeight, BlockWithHeight, PairsWithHeight, ArgumentsWithHeight, leaf, brackets_of, unary_of, range_of, operation_of, coalesce_of, conditional_of, index_of, member_of, field_of, slice_of, pipe_of, ternary_of, method_of, array_of, function_of, map_of, block_of_lines, no_lines, no_arguments, no_pairs, line_more, argument_more, argument_program, pair_more}
 use Rattle.expr_grammar.specs.declared.sign.PrefixSign.TheVariants as prefix
 use Rattle.expr_grammar.specs.declared.sign.InfixSign.TheVariants as infixed
 use Rattle.expr_grammar.specs.declared.role.Role.{Role}

@@ -1,6 +1,6 @@
 //! What a token is, where it stands.
 
-ghost use Rattle.std.specs.Prelude.{◌≡◌, ◌∷◌, [], ◌↔◌, IfOk, IsTrue, Some};
+ghost use Rattle.std.specs.Prelude.{◌≡◌};
 ghost use Rattle.expr_frames.specs.Programs.{integer_value};
 ghost use Rattle.expr_frames.specs.Nodes as machine;
 ghost use Rattle.expr_frames.specs.ReadErrors.{ReturnsOption};

@@ -24,7 +24,7 @@ builtin_named name =
 
 -- the one that asks a predicate
 abbrev pub higher_order_of : Option Builtin → Option HigherOrderCall
-higher_order_of (Some (HigherOrder asking)) = Some asking
+higher_order_of (Some (HigherOrder b)) = Some b
 higher_order_of o = None
 
 abbrev pub higher_order_named : List ℕ → Option HigherOrderCall

@@ -257,7 +257,7 @@ impl HigherOrderCall {
         ensures { result ≡ higher_order_named name.now }
     {
         match Builtin::from_name(name) {
-            Some(Builtin::HigherOrder(asking)) => Some(asking),
+            Some(Builtin::HigherOrder(call)) => Some(call),
             _ => None,
         }
     }
@@ -266,42 +266,42 @@ impl HigherOrderCall {
 fn of_three(name: &str) -> Option<Builtin>
     ensures { result ≡ found_in (λ word. word.now) OF_THREE name.now }
 {
-    found(&OF_THREE, name)
+    builtin_in(&OF_THREE, name)
 }
 
 fn of_four(name: &str) -> Option<Builtin>
     ensures { result ≡ found_in (λ word. word.now) OF_FOUR name.now }
 {
-    found(&OF_FOUR, name)
+    builtin_in(&OF_FOUR, name)
 }
 
 fn of_five(name: &str) -> Option<Builtin>
     ensures { result ≡ found_in (λ word. word.now) OF_FIVE name.now }
 {
-    found(&OF_FIVE, name)
+    builtin_in(&OF_FIVE, name)
 }
 
 fn of_six(name: &str) -> Option<Builtin>
     ensures { result ≡ found_in (λ word. word.now) OF_SIX name.now }
 {
-    found(&OF_SIX, name)
+    builtin_in(&OF_SIX, name)
 }
 
 fn of_seven(name: &str) -> Option<Builtin>
     ensures { result ≡ found_in (λ word. word.now) OF_SEVEN name.now }
 {
-    found(&OF_SEVEN, name)
+    builtin_in(&OF_SEVEN, name)
 }
 
 fn of_more(name: &str) -> Option<Builtin>
     ensures { result ≡ found_in (λ word. word.now) OF_MORE name.now }
 {
-    found(&OF_MORE, name)
+    builtin_in(&OF_MORE, name)
 }
 
 // The built-in beside a name in a part of the table.
 #[inline(always)]
-fn found(lines: &[(&str, Builtin)], name: &str) -> Option<Builtin>
+fn builtin_in(lines: &[(&str, Builtin)], name: &str) -> Option<Builtin>
     ensures { result ≡ found_in (λ word. word.now) lines.now name.now }
 {
     beside(line_of(lines, name))

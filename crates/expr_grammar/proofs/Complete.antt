@@ -10,7 +10,7 @@ use Rattle.expr_grammar.specs.declared.sign.PrefixSign.TheVariants as prefix
 use Rattle.expr_grammar.specs.declared.sign.InfixSign.{InfixSign}
 use Rattle.expr_grammar.specs.declared.sign.InfixSign.TheVariants as infixed
 use Rattle.expr_grammar.specs.Grammar.{Word, Usual, ReservedWord, Constant, True, Key, WordKey, QuotedKey, EntryRow, OneEntry, MoreEntries, Entries, NoEntries, SomeEntries, Tree, Literal, Name, HashName, Field, Paren, Array, Map, Call, If, Prefix, Infix, Member, Method, Index, Slice, Pipe, Ternary, Items, NoItems, SomeItems, Row, One, More, Arguments, NoArguments, SomeArguments, ArgumentRow, OneArgument, MoreArguments, Argument, Expression, Braces, Bound, LeftOut, At, ElsePart, Else, ElseIf, TreeProgram, Program, Lines, NoLines, MoreLines, word_token, constant_token, key_token, prefix_token, infix_tokens, comma_tokens, entry_row_tokens, entries_tokens, tokens_of, items_tokens, row_tokens, arguments_tokens, argument_row_tokens, argument_tokens, bound_tokens, else_tokens, program_tokens, lines_tokens, Spells, infix_level, TreeFits, ItemsFit, RowFits, EntriesFit, EntryRowFits, ArgumentsFit, ArgumentRowFits, ArgumentFits, BoundFits, ElseFits, Fits, LinesFit, OneTree}
-use Rattle.expr_grammar.specs.Machine.{role_of, role_level, level_at, word_at, key_at, push, push_argument, push_entry, items_end, Holder, InArray, InMethod, holder_tree, holder_end, Caller, InCall, InPipe, caller_tree, Branches, NoBranch, Branch, chosen, Section, Top, Then, Last, Predicate, Frame, Under, After, Otherwise, Inside, Middle, Listed, Calling, Indexed, Cut, Condition, Body, Value, Entry, reach, reach_of, plug, settle, State, Want, Have, Dotted, Questioned, Argued, Braced, BracedKey, Keys, Chosen, Fail, at_end_brace, after_section, begin_brace, after_operand, want, after_brace, step, step_on, whole, parse, first_state, tree_of}
+use Rattle.expr_grammar.specs.Machine.{role_of, role_level, level_at, word_at, key_at, push, push_argument, push_entry, items_end, Holder, InArray, InMethod, holder_tree, holder_end, Caller, InCall, InPipe, caller_tree, Branches, NoBranch, Branch, choice_tree, Section, Top, Then, Last, Predicate, Frame, Under, After, Otherwise, Inside, Middle, Listed, Calling, Indexed, Cut, Condition, Body, Value, Entry, reach, reach_of, plug, settle, State, Want, Have, Dotted, Questioned, Argued, Braced, BracedKey, Keys, Chosen, Fail, at_end_brace, after_section, begin_brace, after_operand, want, after_brace, step, step_on, whole, parse, first_state, tree_of}
 use Rattle.expr_grammar.proofs.Measures.{StartsAbove, EndsAbove, tight, captured_if, starts_loose, ends_closed, ends_of_none, captures_reach, level_of_sign}
 
 -- a frame that doesn't capture p is closed
@@ -393,7 +393,7 @@ mutual
   reads_to LeftOut l a k rest fits = refl
   reads_to (At t) l a k rest fits = reads t (Cut l a ∷ k) (token.Sign sign.SquareClose ∷ rest) fits (starts_loose 0 (omega arith) t) (ends_closed t)
 
-  reads_else : (e : ElsePart) (bs : Branches) (d : Tree) (b : TreeProgram) (k : List Frame) (rest : List Token) → ElseFits e → parse (Chosen k bs d b) (token.Reserved reserved.Else ∷ (else_tokens e ++ rest)) ≡ parse (Have k (chosen bs d b e)) rest
+  reads_else : (e : ElsePart) (bs : Branches) (d : Tree) (b : TreeProgram) (k : List Frame) (rest : List Token) → ElseFits e → parse (Chosen k bs d b) (token.Reserved reserved.Else ∷ (else_tokens e ++ rest)) ≡ parse (Have k (choice_tree bs d b e)) rest
   reads_else (Else p) bs d b k rest fits =
       ap (λ ts. parse (Want (Body (Last bs d b) NoLines ∷ k)) ts) (append_assoc (program_tokens p) (token.Sign sign.BraceClose ∷ []) rest)
       ∙ reads_body p (Last bs d b) k rest fits

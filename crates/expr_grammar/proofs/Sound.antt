@@ -8,7 +8,7 @@ use Rattle.expr_token.specs.declared.reserved.Reserved.TheVariants as reserved
 use Rattle.expr_grammar.specs.declared.sign.InfixSign.{InfixSign}
 use Rattle.expr_grammar.specs.declared.sign.InfixSign.TheVariants as infixed
 use Rattle.expr_grammar.specs.Grammar.{Word, Constant, True, False, Nil, Integer, Quoted, Raw, Bytes, Key, EntryRow, Entries, NoEntries, SomeEntries, Tree, Literal, Name, HashName, Field, Paren, Array, Map, Call, Member, Method, Index, Slice, Pipe, Items, SomeItems, Row, Arguments, SomeArguments, ArgumentRow, Argument, Expression, Braces, LeftOut, At, ElsePart, Else, ElseIf, TreeProgram, Program, NoLines, word_token, constant_token, key_token, prefix_token, infix_tokens, member_token, index_tokens, entry_row_tokens, entries_tokens, tokens_of, items_tokens, row_tokens, arguments_tokens, argument_row_tokens, argument_tokens, bound_tokens, else_tokens, program_tokens, lines_tokens, Spells, infix_level, TreeFits, ItemsFit, RowFits, EntriesFit, EntryRowFits, ArgumentsFit, ArgumentRowFits, ArgumentFits, BoundFits, ElseFits, Fits, LinesFit}
-use Rattle.expr_grammar.specs.Machine.{role_of, role_level, word_at, key_at, push, push_argument, push_entry, items_end, arguments_end, entries_end, Holder, InArray, InMethod, holder_tree, holder_end, Caller, InCall, InPipe, caller_tree, Branches, NoBranch, Branch, chosen, Section, Top, Then, Last, Predicate, Frame, Under, After, Otherwise, Inside, Middle, Listed, Calling, Indexed, Cut, Condition, Body, Value, Entry, reach, reach_of, plug, settle, State, Want, Have, Dotted, Questioned, Negated, Barred, Piped, Chosen, Alternate, NamesLine, Named, Argued, NamesField, Braced, BracedKey, Keys, Colons, Fail, at_close, at_square, at_colon, at_comma, at_semicolon, at_brace, at_end_brace, at_end, after_argument, after_section, bind, close, apply, after_operand, without_operand, begin_line, begin_brace, want, word_after_dot, at_square_open, in_after_not, word_after_bar, open_after_word, else_after, at_if, word_after_let, equals_after, word_of_field, after_brace, key_in, step_on, step, whole, finish, parse, first_state, tree_of}
+use Rattle.expr_grammar.specs.Machine.{role_of, role_level, word_at, key_at, push, push_argument, push_entry, items_end, arguments_end, entries_end, Holder, InArray, InMethod, holder_tree, holder_end, Caller, InCall, InPipe, caller_tree, Branches, NoBranch, Branch, choice_tree, Section, Top, Then, Last, Predicate, Frame, Under, After, Otherwise, Inside, Middle, Listed, Calling, Indexed, Cut, Condition, Body, Value, Entry, reach, reach_of, plug, settle, State, Want, Have, Dotted, Questioned, Negated, Barred, Piped, Chosen, Alternate, NamesLine, Named, Argued, NamesField, Braced, BracedKey, Keys, Colons, Fail, at_close, at_square, at_colon, at_comma, at_semicolon, at_brace, at_end_brace, at_end, after_argument, after_section, bind, close, apply, after_operand, without_operand, begin_line, begin_brace, want, word_after_dot, at_square_open, in_after_not, word_after_bar, open_after_word, else_after, at_if, word_after_let, equals_after, word_of_field, after_brace, key_in, step_on, step, whole, finish, parse, first_state, tree_of}
 use Rattle.expr_grammar.proofs.Measures.{StartsAbove, EndsAbove, infix_above, tight, captured_if, ends_of_none, none_of_ends, reach_captures}
 use Rattle.expr_grammar.proofs.Complete.{key_back}
 
@@ -245,21 +245,21 @@ entries_end_fit None a = tt
 entries_end_fit (Some r) a = a
 
 -- a choice of many branches
-chosen_tokens : (bs : Branches) (c : Tree) (a : TreeProgram) (e : ElsePart) → tokens_of (chosen bs c a e) ≡ branches_front bs ++ (tokens_of c ++ token.Sign sign.BraceOpen ∷ (program_tokens a ++ token.Sign sign.BraceClose ∷ token.Reserved reserved.Else ∷ else_tokens e))
-chosen_tokens NoBranch c a e = refl
-chosen_tokens (Branch bs d b) c a e = chosen_tokens bs d b (ElseIf c a e) ∙ simp append_assoc
+choice_tokens : (bs : Branches) (c : Tree) (a : TreeProgram) (e : ElsePart) → tokens_of (choice_tree bs c a e) ≡ branches_front bs ++ (tokens_of c ++ token.Sign sign.BraceOpen ∷ (program_tokens a ++ token.Sign sign.BraceClose ∷ token.Reserved reserved.Else ∷ else_tokens e))
+choice_tokens NoBranch c a e = refl
+choice_tokens (Branch bs d b) c a e = choice_tokens bs d b (ElseIf c a e) ∙ simp append_assoc
 
-chosen_fits : (bs : Branches) (c : Tree) (a : TreeProgram) (e : ElsePart) → BranchesFit bs → TreeFits c → Fits a → ElseFits e → TreeFits (chosen bs c a e)
-chosen_fits NoBranch c a e h f g i = (f, g, i)
-chosen_fits (Branch bs d b) c a e h f g i = chosen_fits bs d b (ElseIf c a e) h.0 h.1 h.2 (f, g, i)
+choice_fits : (bs : Branches) (c : Tree) (a : TreeProgram) (e : ElsePart) → BranchesFit bs → TreeFits c → Fits a → ElseFits e → TreeFits (choice_tree bs c a e)
+choice_fits NoBranch c a e h f g i = (f, g, i)
+choice_fits (Branch bs d b) c a e h f g i = choice_fits bs d b (ElseIf c a e) h.0 h.1 h.2 (f, g, i)
 
-chosen_starts : (n : ℕ) (bs : Branches) (c : Tree) (a : TreeProgram) (e : ElsePart) → StartsAbove n (chosen bs c a e)
-chosen_starts n NoBranch c a e = (tt, tt)
-chosen_starts n (Branch bs d b) c a e = chosen_starts n bs d b (ElseIf c a e)
+choice_starts : (n : ℕ) (bs : Branches) (c : Tree) (a : TreeProgram) (e : ElsePart) → StartsAbove n (choice_tree bs c a e)
+choice_starts n NoBranch c a e = (tt, tt)
+choice_starts n (Branch bs d b) c a e = choice_starts n bs d b (ElseIf c a e)
 
-chosen_ends : (p : ℕ) (bs : Branches) (c : Tree) (a : TreeProgram) (e : ElsePart) → EndsAbove p (chosen bs c a e)
-chosen_ends p NoBranch c a e = tt
-chosen_ends p (Branch bs d b) c a e = chosen_ends p bs d b (ElseIf c a e)
+choice_ends : (p : ℕ) (bs : Branches) (c : Tree) (a : TreeProgram) (e : ElsePart) → EndsAbove p (choice_tree bs c a e)
+choice_ends p NoBranch c a e = tt
+choice_ends p (Branch bs d b) c a e = choice_ends p bs d b (ElseIf c a e)
 
 -- a list is whole
 holder_done : (s : Holder) (k : List Frame) (xs : Items) (seen : List Token) → IsStack k → IsHolder k s → ItemsFit xs → seen ≡ before k ++ (holder_front s ++ (items_tokens xs ++ holder_end s ∷ [])) → IsState (Have k (holder_tree s xs)) seen
@@ -327,7 +327,7 @@ argues t k a seen st f e = tt
 section_done : (b : Section) (p : TreeProgram) (k : List Frame) (seen : List Token) → IsStack k → IsSection b → Fits p → seen ≡ before k ++ (section_front b ++ (program_tokens p ++ token.Sign sign.BraceClose ∷ [])) → IsState (after_section b p k) seen
 section_done Top p k seen st h f e = tt
 section_done (Then bs c) p k seen st h f e = (st, (h.0, h.1, f), e ∙ simp append_assoc)
-section_done (Last bs c a) p k seen st h f e = holds k (chosen bs c a (Else p)) seen st (chosen_fits bs c a (Else p) h.0 h.1 h.2 f) (chosen_starts (reach_of k) bs c a (Else p)) (λ q. chosen_ends q bs c a (Else p)) (e ∙ ap (λ q. before k ++ q) (simp append_assoc) ∙ ap (λ q. before k ++ q) (sym (chosen_tokens bs c a (Else p))))
+section_done (Last bs c a) p k seen st h f e = holds k (choice_tree bs c a (Else p)) seen st (choice_fits bs c a (Else p) h.0 h.1 h.2 f) (choice_starts (reach_of k) bs c a (Else p)) (λ q. choice_ends q bs c a (Else p)) (e ∙ ap (λ q. before k ++ q) (simp append_assoc) ∙ ap (λ q. before k ++ q) (sym (choice_tokens bs c a (Else p))))
 section_done Predicate p k seen st h f e = (st, f, e)
 
 line_done : (k : List Frame) (w : List ℕ) (l : Tree) (seen : List Token) → IsStack k → TreeFits l → seen ≡ before k ++ token.Reserved reserved.Let ∷ token.Word w ∷ token.Sign sign.Equal ∷ (tokens_of l ++ token.Sign sign.Semicolon ∷ []) → IsState (bind k w l) seen

@@ -189,9 +189,9 @@ pub data Branches : Type 0 where
   NoBranch : Branches
   Branch : (bs : Branches) (c : Tree) (a : TreeProgram) → Branches
 
-abbrev pub chosen : Branches → Tree → TreeProgram → ElsePart → Tree
-chosen NoBranch c a e = If c a e
-chosen (Branch bs d b) c a e = chosen bs d b (ElseIf c a e)
+abbrev pub choice_tree : Branches → Tree → TreeProgram → ElsePart → Tree
+choice_tree NoBranch c a e = If c a e
+choice_tree (Branch bs d b) c a e = choice_tree bs d b (ElseIf c a e)
 
 -- What a program is for.
 pub data Section : Type 0 where
@@ -301,7 +301,7 @@ after_argument t k a = Fail
 abbrev pub after_section : Section → TreeProgram → List Frame → State
 after_section Top p k = Fail
 after_section (Then bs c) p k = Chosen k bs c p
-after_section (Last bs c a) p k = Have k (chosen bs c a (Else p))
+after_section (Last bs c a) p k = Have k (choice_tree bs c a (Else p))
 after_section Predicate p k = Argued k p
 
 -- a line is whole

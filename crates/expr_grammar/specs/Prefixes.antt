@@ -15,5 +15,5 @@ abbrev pub NoneBegins : List Token → Type 0
 NoneBegins ts = (t : TreeProgram) (rest : List Token) → Spells t (ts ++ rest) → Fits t → ⊥
 
 -- a program begins with the tokens before this index, and none with those up to the one at it, if there is one there
-abbrev pub StopsAt : List Token → ℕ → Type 0
-StopsAt ts index = SomeBegins (take index ts) × (index < length ts → NoneBegins (take (index + 1) ts))
+abbrev pub FaultsAt : List Token → ℕ → Type 0
+FaultsAt ts index = SomeBegins (take index ts) × (index < length ts → NoneBegins (take (index + 1) ts))

@@ -1,5 +1,5 @@
 //! What tokens find in a text, and what is known of a moment by them.
-ghost use Rattle.std.specs.Prelude.{◌≡◌, ℕ, ℤ};
+ghost use Rattle.std.specs.Prelude.{◌≡◌};
 ghost use Rattle.expr_layout.specs.KnownFields.{agreement, offset_agreement, with_finding, no_fields};
 
 /// What a token finds.

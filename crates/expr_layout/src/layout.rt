@@ -185,51 +185,16 @@ fn offsets<'a>(
 ) -> Option<(LayoutToken, &'a str)>
     ensures { token_and_rest result ≡ first_of offsets text.now (token_and_rest others.entry) }
 {
-    let others = first_token("-07", LayoutToken::Offset(Spelling::Hours), text, others);
-    let others = first_token("Z07", LayoutToken::Zulu(Spelling::Hours), text, others);
-    let others = first_token(
-        "-07:00",
-        LayoutToken::Offset(Spelling::ColonMinutes),
-        text,
-        others,
-    );
-    let others = first_token(
-        "Z07:00",
-        LayoutToken::Zulu(Spelling::ColonMinutes),
-        text,
-        others,
-    );
-    let others = first_token(
-        "-0700",
-        LayoutToken::Offset(Spelling::Minutes),
-        text,
-        others,
-    );
-    let others = first_token("Z0700", LayoutToken::Zulu(Spelling::Minutes), text, others);
-    let others = first_token(
-        "-070000",
-        LayoutToken::Offset(Spelling::Seconds),
-        text,
-        others,
-    );
-    let others = first_token(
-        "Z070000",
-        LayoutToken::Zulu(Spelling::Seconds),
-        text,
-        others,
-    );
-    let others = first_token(
-        "-07:00:00",
-        LayoutToken::Offset(Spelling::ColonSeconds),
-        text,
-        others,
-    );
-    first_token(
-        "Z07:00:00",
-        LayoutToken::Zulu(Spelling::ColonSeconds),
-        text,
-        others,
-    )
+    let others = offset_token("-07", Spelling::Hours, text, others);
+    let others = zulu_token("Z07", Spelling::Hours, text, others);
+    let others = offset_token("-07:00", Spelling::ColonMinutes, text, others);
+    let others = zulu_token("Z07:00", Spelling::ColonMinutes, text, others);
+    let others = offset_token("-0700", Spelling::Minutes, text, others);
+    let others = zulu_token("Z0700", Spelling::Minutes, text, others);
+    let others = offset_token("-070000", Spelling::Seconds, text, others);
+    let others = zulu_token("Z070000", Spelling::Seconds, text, others);
+    let others = offset_token("-07:00:00", Spelling::ColonSeconds, text, others);
+    zulu_token("Z07:00:00", Spelling::ColonSeconds, text, others)
 }
 
 fn short_words<'a>(
@@ -253,78 +218,18 @@ fn numbers<'a>(
 ) -> Option<(LayoutToken, &'a str)>
     ensures { token_and_rest result ≡ first_of numbers text.now (token_and_rest others.entry) }
 {
-    let others = first_token(
-        "5",
-        LayoutToken::Number(Field::Second, Pad::Nothing),
-        text,
-        others,
-    );
-    let others = first_token(
-        "4",
-        LayoutToken::Number(Field::Minute, Pad::Nothing),
-        text,
-        others,
-    );
-    let others = first_token(
-        "3",
-        LayoutToken::Number(Field::HalfHour, Pad::Nothing),
-        text,
-        others,
-    );
-    let others = first_token(
-        "2",
-        LayoutToken::Number(Field::Day, Pad::Nothing),
-        text,
-        others,
-    );
-    let others = first_token(
-        "1",
-        LayoutToken::Number(Field::Month, Pad::Nothing),
-        text,
-        others,
-    );
-    let others = first_token(
-        "_2",
-        LayoutToken::Number(Field::Day, Pad::Space),
-        text,
-        others,
-    );
-    let others = first_token(
-        "05",
-        LayoutToken::Number(Field::Second, Pad::Zero),
-        text,
-        others,
-    );
-    let others = first_token(
-        "04",
-        LayoutToken::Number(Field::Minute, Pad::Zero),
-        text,
-        others,
-    );
-    let others = first_token(
-        "03",
-        LayoutToken::Number(Field::HalfHour, Pad::Zero),
-        text,
-        others,
-    );
-    let others = first_token(
-        "15",
-        LayoutToken::Number(Field::Hour, Pad::Zero),
-        text,
-        others,
-    );
-    let others = first_token(
-        "02",
-        LayoutToken::Number(Field::Day, Pad::Zero),
-        text,
-        others,
-    );
-    let others = first_token(
-        "01",
-        LayoutToken::Number(Field::Month, Pad::Zero),
-        text,
-        others,
-    );
+    let others = number_token("5", Field::Second, Pad::Nothing, text, others);
+    let others = number_token("4", Field::Minute, Pad::Nothing, text, others);
+    let others = number_token("3", Field::HalfHour, Pad::Nothing, text, others);
+    let others = number_token("2", Field::Day, Pad::Nothing, text, others);
+    let others = number_token("1", Field::Month, Pad::Nothing, text, others);
+    let others = number_token("_2", Field::Day, Pad::Space, text, others);
+    let others = number_token("05", Field::Second, Pad::Zero, text, others);
+    let others = number_token("04", Field::Minute, Pad::Zero, text, others);
+    let others = number_token("03", Field::HalfHour, Pad::Zero, text, others);
+    let others = number_token("15", Field::Hour, Pad::Zero, text, others);
+    let others = number_token("02", Field::Day, Pad::Zero, text, others);
+    let others = number_token("01", Field::Month, Pad::Zero, text, others);
     first_token("06", LayoutToken::ShortYear, text, others)
 }
 
@@ -342,4 +247,44 @@ fn first_token<'a>(
         Some(rest) => Some((token, rest)),
         None => others,
     }
+}
+
+// The same of a number.
+fn number_token<'a>(
+    name: &str,
+    field: Field,
+    pad: Pad,
+    text: &'a str,
+    others: Option<(LayoutToken, &'a str)>,
+) -> Option<(LayoutToken, &'a str)>
+    ensures { token_and_rest result ≡ first_or (LayoutToken.Number field pad)
+        (after_name name.now text.now) (token_and_rest others.entry) }
+{
+    first_token(name, LayoutToken::Number(field, pad), text, others)
+}
+
+// The same of an offset.
+fn offset_token<'a>(
+    name: &str,
+    spelling: Spelling,
+    text: &'a str,
+    others: Option<(LayoutToken, &'a str)>,
+) -> Option<(LayoutToken, &'a str)>
+    ensures { token_and_rest result ≡ first_or (LayoutToken.Offset spelling)
+        (after_name name.now text.now) (token_and_rest others.entry) }
+{
+    first_token(name, LayoutToken::Offset(spelling), text, others)
+}
+
+// The same of an offset that is `Z` where there is none.
+fn zulu_token<'a>(
+    name: &str,
+    spelling: Spelling,
+    text: &'a str,
+    others: Option<(LayoutToken, &'a str)>,
+) -> Option<(LayoutToken, &'a str)>
+    ensures { token_and_rest result ≡ first_or (LayoutToken.Zulu spelling)
+        (after_name name.now text.now) (token_and_rest others.entry) }
+{
+    first_token(name, LayoutToken::Zulu(spelling), text, others)
 }

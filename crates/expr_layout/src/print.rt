@@ -1,15 +1,15 @@
 //! Moments printed by the tokens of a layout.
-ghost use Rattle.std.specs.Prelude.{◌≡◌, ◌<◌, ◌≤◌, ◌^◌, ℕ, ℤ, min};
+ghost use Rattle.std.specs.Prelude.{◌≡◌, ◌<◌, min};
 ghost use Rattle.std.specs.Fmt.{WritesOnOk};
-ghost use Rattle.expr_datetime.specs.Moments.{sign_of, year_text};
+ghost use Rattle.expr_datetime.specs.Moments.{year_text};
 ghost use Rattle.expr_datetime.specs.Times.{offset_of};
 ghost use Rattle.expr_moment.specs.Fields.{date_at, time_at, year_day_at};
 ghost use Rattle.expr_layout.specs.Layouts.{fraction_of, fraction_places, half_hour, half_name, hours_of, minutes_of, number_of, pad_text, padded_number, padded_more, printed_text, seconds_of, short_places, short_year, signed_offset, offset_text, token_text, zulu};
 
 use crate::names::{short_month_name, short_weekday_name};
 use crate::token::{Field, LayoutToken, Pad, Spelling};
-use expr_datetime::{power_of_ten, show_digits, show_fraction_digits, show_year};
-use expr_moment::{date_shown, show_place, time_shown, weekday};
+use expr_datetime::{power_of_ten, show_digits, show_fraction_digits, show_place, show_year};
+use expr_moment::{date_shown, time_shown, weekday};
 use expr_value::{DateTimeValue, month_name, weekday_name};
 use std::fmt;
 use std::fmt::{Formatter, Write};

@@ -1,9 +1,9 @@
 //! Texts read by the tokens of a layout.
-ghost use Rattle.std.specs.Prelude.{◌≡◌, ℕ, pos, neg_ℤ, ◌+◌, ◌*◌, ◌<◌, ◌≤◌, IfSome, option_map};
+ghost use Rattle.std.specs.Prelude.{◌≡◌, pos, neg_ℤ, ◌+◌, ◌*◌, ◌<◌, ◌≤◌, IfSome, option_map};
 ghost use Rattle.std.specs.Char.{encode_utf8};
 ghost use Rattle.std.specs.Option.{option_and_then};
 ghost use Rattle.expr_layout.specs.Layouts.{after_name, either};
-ghost use Rattle.expr_layout.specs.KnownFields.{after_any_case, after_pad, after_space, number_below, digit_at, found_as, found_at, found_number, four_digits, fraction_found, full_year, with_next_unit, half_at, hours_at, if_more, in_units, mark_at, name_at, name_of, nothing_behind, offset_at, one_more, parts_at, parts_behind, read_all, seen_finding, seen_number, small_zulu_at, spelled_at, two_digits, no_fields, up_to_three, up_to_two, zulu_at};
+ghost use Rattle.expr_layout.specs.KnownFields.{after_any_case, after_pad, after_space, number_below, digit_at, found_as, found_at, found_number, four_digits, fraction_found, full_year, with_next_unit, half_at, hours_at, if_more, mark_at, name_at, name_of, nothing_behind, offset_at, one_more, parts_at, parts_behind, read_all, seen_finding, seen_number, small_zulu_at, spelled_at, two_digits, no_fields, up_to_three, up_to_two, zulu_at};
 
 use crate::found::{Finding, KnownFields, NameTable};
 use crate::names::{short_month_name, short_weekday_name};

@@ -15,6 +15,6 @@ ReturnsOutcome (Ok (Stopped limit)) allowed = allowed (stops limit)
 ReturnsOutcome (Err e) allowed = error_kind e ≢ memory → allowed (refuses (error_kind e))
 
 -- this is said of an answer
-abbrev pub OnAnswer : Outcome Value → (Value → Type 0) → Type 0
+abbrev pub OnAnswer : {A : Type 0} → Outcome A → (A → Type 0) → Type 0
 OnAnswer (Answered v) said = said v
 OnAnswer (Stopped limit) said = Unit {0}

@@ -27,30 +27,30 @@ pub fn keep_first<H: Functions>(
         (λ now r. KeepsAll rooms (firsts (H.host host.now) name.now arguments.now) now r)
         (⟦<Budget as Meter>⟧.metered budget.old) (⟦<Budget as Meter>⟧.metered budget.new) }
     ensures each { IfOk result (λ keeps. (H.host host.now).is_added name.now ≡ false
-        → (asking : declared) (s : FoldOver) → higher_order_named name.now ≡ Some asking
-        → fold_of_call asking arguments.now true ≡ Ok s → RetainsAs keeps s.task) }
+        → (call : declared) (s : FoldOver) → higher_order_named name.now ≡ Some call
+        → fold_of_call call arguments.now true ≡ Ok s → RetainsAs keeps s.fold) }
 {
     if host.has(name) {
         return Ok(Retention::Nothing);
     }
-    let Some(asking) = HigherOrderCall::from_name(name) else {
+    let Some(call) = HigherOrderCall::from_name(name) else {
         return Ok(Retention::Nothing);
     };
-    count_first(asking, arguments, budget)?;
-    Ok(Retention::from_higher_order(asking))
+    count_first(call, arguments, budget)?;
+    Ok(Retention::from_higher_order(call))
 }
 
 /// Counts what a built-in keeps before it asks.
 fn count_first(
-    asking: HigherOrderCall,
+    call: HigherOrderCall,
     arguments: &[CowValue<'_>],
     budget: &mut Budget,
 ) -> Result<(), AllocError>
     ensures { Charges result
-        (λ now r. KeepsAll rooms (firsts_of (fold_of_call asking arguments.now true)) now r)
+        (λ now r. KeepsAll rooms (firsts_of (fold_of_call call arguments.now true)) now r)
         (⟦<Budget as Meter>⟧.metered budget.old) (⟦<Budget as Meter>⟧.metered budget.new) }
 {
-    match first_retained(asking, arguments) {
+    match first_retained(call, arguments) {
         Some(value) => budget.keep(value),
         None => Ok(()),
     }

@@ -22,12 +22,12 @@ pub struct Code<L, N, P> {
 }
 
 impl<'p> Code<&'p Value, &'p String, &'p Pattern> {
-    ghost use Rattle.std.specs.Prelude.{◌≡◌, IfOk, IfErr, string_bytes};
+    ghost use Rattle.std.specs.Prelude.{IfOk, string_bytes};
     ghost use Rattle.expr_code.specs.Codes.{IsCode};
     ghost use Rattle.expr_lowering.specs.Blocks.{CodeKeeps, blocks_of};
     ghost use Rattle.expr_lowering.specs.Kept.{ProgramKeeps};
     ghost use Rattle.expr_tree.specs.TermOf.{program_term};
-    ghost use Rattle.expr_error.specs.ErrorKind.{error_kind, memory};
+    ghost use Rattle.expr_error.specs.ErrorKind.{OnlyMemory};
 
     /// The code of a program, which lends its literals, its names and the patterns that it keeps. What serves the second run
     /// on and costs more than one run is made as well.
@@ -43,7 +43,7 @@ impl<'p> Code<&'p Value, &'p String, &'p Pattern> {
             (blocks_of (λ v. v.now) (λ n. string_bytes n.now) c)) }
         ensures kept { ProgramKeeps program.now
             → IfOk result (λ c. CodeKeeps (λ v. v.now) (λ p. p.now) c) }
-        ensures refused { IfErr result (λ e. error_kind e ≡ memory) }
+        ensures refused { OnlyMemory result }
     {
         Self::lower_for(alloc, program, true)
     }
@@ -61,7 +61,7 @@ impl<'p> Code<&'p Value, &'p String, &'p Pattern> {
             (blocks_of (λ v. v.now) (λ n. string_bytes n.now) c)) }
         ensures kept { ProgramKeeps program.now
             → IfOk result (λ c. CodeKeeps (λ v. v.now) (λ p. p.now) c) }
-        ensures refused { IfErr result (λ e. error_kind e ≡ memory) }
+        ensures refused { OnlyMemory result }
     {
         Self::lower_for(alloc, program, false)
     }
@@ -75,7 +75,7 @@ impl<'p> Code<&'p Value, &'p String, &'p Pattern> {
             (blocks_of (λ v. v.now) (λ n. string_bytes n.now) c)) }
         ensures kept { ProgramKeeps program.now
             → IfOk result (λ c. CodeKeeps (λ v. v.now) (λ p. p.now) c) }
-        ensures refused { IfErr result (λ e. error_kind e ≡ memory) }
+        ensures refused { OnlyMemory result }
     {
         let mut lowering = Lowering::new(alloc, is_run_again);
         let (first, later) = lowering.blocks(program)?;

@@ -1,13 +1,13 @@
 //! Code that a host keeps: a copy that owns its literals, its names and its patterns.
-ghost use Rattle.std.specs.Prelude.{◌≡◌, map, IfOk, IfErr, string_bytes};
+ghost use Rattle.std.specs.Prelude.{◌≡◌, map, IfOk, string_bytes};
 ghost use Rattle.expr_instructions.specs.InMemory.{op_of};
 ghost use Rattle.expr_lowering.specs.Blocks.{blocks_of};
 ghost use Rattle.expr_lowering.specs.Owned.{own_text, own_value};
-ghost use Rattle.expr_error.specs.ErrorKind.{error_kind, memory};
+ghost use Rattle.expr_error.specs.ErrorKind.{OnlyMemory};
 
 use crate::code::Code;
 use expr_instructions::{Block, Instruction, Pointer, PredicateCall};
-use expr_pattern::{Pattern, PatternRoom, Unbuilt};
+use expr_pattern::{Pattern, PatternRoom};
 use expr_value::{Result, Value};
 use std::alloc::{AllocError, Global};
 
@@ -18,8 +18,7 @@ pub type KeptCode = Code<Box<Value>, Box<String>, Box<Pattern>>;
 type OwnInstruction = Instruction<Box<Value>, Box<String>, Box<Pattern>>;
 
 impl<L: Pointer<Value>, N: Pointer<String>, P: Pointer<Pattern>> Code<L, N, P> {
-    /// A copy that owns its literals, its names and its patterns. A pattern is built anew from its text, and isn't kept
-    /// where it doesn't build.
+    /// A copy that owns its literals, its names and its patterns. What is compiled of a pattern is shared with it.
     ///
     /// # Errors
     ///
@@ -27,7 +26,7 @@ impl<L: Pointer<Value>, N: Pointer<String>, P: Pointer<Pattern>> Code<L, N, P> {
     pub fn keep(&self, alloc: Global) -> Result<KeptCode>
         ensures blocks { IfOk result (λ c. blocks_of own_value own_text c ≡ blocks_of L.held
             (λ n. string_bytes (N.held n)) self.now) }
-        ensures refused { IfErr result (λ e. error_kind e ≡ memory) }
+        ensures refused { OnlyMemory result }
     {
         let first = kept_block(alloc, &self.first)?;
         let mut later = Vec::with_capacity(alloc, self.later.len())?;
@@ -162,7 +161,7 @@ fn kept_call<N: Pointer<String>>(
     Ok(Box::new(alloc, call)?)
 }
 
-// The pattern of the same text, none where it doesn't build.
+// The same pattern, if there is one: what is compiled of it is shared.
 fn kept_pattern<P: Pointer<Pattern>>(
     alloc: Global,
     pattern: &Option<P>,
@@ -170,9 +169,6 @@ fn kept_pattern<P: Pointer<Pattern>>(
     let Some(pattern) = pattern else {
         return Ok(None);
     };
-    match Pattern::kept(alloc, pattern.get().text()) {
-        Ok(Some(pattern)) => Ok(Some(Box::new(alloc, pattern)?)),
-        Ok(None) | Err(Unbuilt::TooBig) => Ok(None),
-        Err(Unbuilt::Memory) => Err(AllocError),
-    }
+    let shared = pattern.get().share()?;
+    Ok(Some(Box::new(alloc, shared)?))
 }

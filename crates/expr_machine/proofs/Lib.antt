@@ -10,6 +10,7 @@ pub mod Leading
 pub mod Others
 pub mod Patterns
 pub mod Rares
+pub mod Refused
 pub mod Reversed
 pub mod Running
 pub mod Turned

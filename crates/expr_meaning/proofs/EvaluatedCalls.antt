@@ -1,5 +1,5 @@
 -- Built-ins on values give a value or refuse to evaluate.
-use Rattle.std.proofs.Common.{◌≡◌, ℕ, ℤ, pos, negsuc, ◌==◌, ◌*◌, ◌^◌, nat_lt, cond, List, [], ◌∷◌, length, Option, Some, None, Ok, Err, refl, option_map, rules}
+use Rattle.std.proofs.Common.{◌≡◌, ℕ, ℤ, pos, negsuc, ◌==◌, ◌*◌, ◌^◌, nat_lt, cond, false, List, [], length, Option, Some, None, Ok, Err, refl, option_map, rules}
 use Rattle.std.specs.Option.{option_and_then}
 use Rattle.expr_arguments.specs.Arguments.{answer_on, any_value, array_and_text, all_of, one_of, one_text, text_and_integer, two_integers, two_of, two_texts}
 use Rattle.expr_builtins.specs.Bits as bits
@@ -10,7 +10,7 @@ use Rattle.expr_strings.specs.Trimmed as trimmed
 use Rattle.expr_builtins.specs.Collections as collections
 use Rattle.expr_builtins.specs.Conversions as conversions
 use Rattle.expr_encoding.specs.Base64.{FromBase64Layer, FromText, text_in_base64}
-use Rattle.expr_encoding.specs.Calls.{EncodingMayReturn as EncodingCalled, Encodes, of_json_layer}
+use Rattle.expr_encoding.specs.Calls.{EncodingMayReturn as EncodingCalled, Encodes, EncodesArgument, of_json_layer}
 use Rattle.expr_encoding.specs.Optional.{value_or_refusal as given_encoding}
 use Rattle.expr_encoding.specs.Reading.{json_value}
 use Rattle.expr_encoding.specs.Writing.{json_text}
@@ -33,7 +33,7 @@ use Rattle.expr_value.specs.Keys.{key_put_all}
 use Rattle.expr_value.specs.declared.value.Value as value
 use Rattle.expr_value.specs.declared.value.Value.{Value, out-Value}
 use Rattle.expr_value.specs.declared.value.Value.TheOpen.{Value-F}
-use Rattle.expr_meaning.proofs.Evaluated.{Evaluates, either-evaluates, same-evaluates}
+use Rattle.expr_meaning.proofs.Evaluated.{Evaluates, either-evaluates, index_answer-evaluates, same-evaluates}
 
 -- what a call answers on arguments of its kinds
 answer_on-evaluates : {A : Type 0} (o : Option A) (answers : A → Answer) → ((x : A) → Evaluates (answers x)) → Evaluates (answer_on o answers)
@@ -48,10 +48,10 @@ counted-evaluates : (shifted : ℕ → ℤ) (n : ℤ) → Evaluates (bits.shift_
 counted-evaluates shifted (pos n) = tt
 counted-evaluates shifted (negsuc n) = refl
 
-chosen-evaluates : (choice : ℤ → ℤ → ℤ) (vs : List Value) → Evaluates (numbers.chosen_among choice vs)
-chosen-evaluates choice vs =
-    either-evaluates (length vs == 0) (Err evaluation) (answer_on (all_of integer_of (all_flat_items vs)) (λ ns. Ok (numbers.chosen choice ns))) refl
-    (answer_on-evaluates (all_of integer_of (all_flat_items vs)) (λ ns. Ok (numbers.chosen choice ns)) (λ ns. tt))
+choice_among-evaluates : (choice : ℤ → ℤ → ℤ) (vs : List Value) → Evaluates (numbers.choice_among choice vs)
+choice_among-evaluates choice vs =
+    either-evaluates (length vs == 0) (Err evaluation) (answer_on (all_of integer_of (all_flat_items vs)) (λ ns. Ok (numbers.choice_of choice ns))) refl
+    (answer_on-evaluates (all_of integer_of (all_flat_items vs)) (λ ns. Ok (numbers.choice_of choice ns)) (λ ns. tt))
 
 -- texts
 repeated-evaluates : (s : List ℕ) (n : ℤ) → Evaluates (text.repeated_text s n)
@@ -89,13 +89,6 @@ to_pairs-evaluates (Value-F.Map m) = tt
 to_pairs-evaluates (Value-F.KeyedMap m) = tt
 to_pairs-evaluates v = refl
 
-get-evaluates : (v : Value-F Value) (k : Value) (key : Value-F Value) → Evaluates (collections.get_layer v k key)
-get-evaluates (Value-F.Array xs) k (Value-F.Integer n) = tt
-get-evaluates (Value-F.Bytes bs) k (Value-F.Integer n) = tt
-get-evaluates (Value-F.Map m) k (Value-F.String name) = tt
-get-evaluates (Value-F.KeyedMap m) k key = tt
-get-evaluates v k key = refl
-
 concat-evaluates : (vs : List Value) → Evaluates (collections.concat vs)
 concat-evaluates vs =
     either-evaluates (length vs == 0) (Err evaluation) (answer_on (option_map collections.in_a_row (all_of items_of vs)) (λ xs. Ok (value.Array xs))) refl
@@ -123,8 +116,8 @@ BitCalled-evaluates bit.Bitushr vs a p = on (two_integers vs) _ a p (λ x. count
 BitCalled-evaluates c vs a p = search (rules, same-evaluates)
 
 pub NumberCalled-evaluates : (c : NumberCall) (vs : List Value) (a : Answer) → numbers.Called c vs a → Evaluates a
-NumberCalled-evaluates number.Max vs a p = same-evaluates a _ p (chosen-evaluates _ vs)
-NumberCalled-evaluates number.Min vs a p = same-evaluates a _ p (chosen-evaluates _ vs)
+NumberCalled-evaluates number.Max vs a p = same-evaluates a _ p (choice_among-evaluates _ vs)
+NumberCalled-evaluates number.Min vs a p = same-evaluates a _ p (choice_among-evaluates _ vs)
 NumberCalled-evaluates c vs a p = search (rules, same-evaluates)
 
 pub TextCalled-evaluates : (c : TextCall) (vs : List Value) (a : Answer) → text.Called c vs a → Evaluates a
@@ -140,7 +133,7 @@ CollectionCalled-evaluates collection.Concat vs a p = same-evaluates a (collecti
 CollectionCalled-evaluates collection.Keys vs a p = on (one_of any_value vs) _ a p (λ v. keys-evaluates (out-Value v))
 CollectionCalled-evaluates collection.Values vs a p = on (one_of any_value vs) _ a p (λ v. values-evaluates (out-Value v))
 CollectionCalled-evaluates collection.ToPairs vs a p = on (one_of any_value vs) _ a p (λ v. to_pairs-evaluates (out-Value v))
-CollectionCalled-evaluates collection.Get vs a p = on (two_of any_value any_value vs) _ a p (λ x. get-evaluates (out-Value x.0) x.1 (out-Value x.1))
+CollectionCalled-evaluates collection.Get vs a p = on (two_of any_value any_value vs) _ a p (λ x. index_answer-evaluates x.0 x.1 false)
 CollectionCalled-evaluates collection.Join vs a p = on (array_and_text vs) _ a p (λ x. answer_on-evaluates (all_of string_of x.0) (λ ts. Ok (value.String (joined_text x.1 ts))) (λ ts. tt))
 CollectionCalled-evaluates collection.FromPairs vs a p =
     on (option_and_then (all_of collections.pair_of) (one_of items_of vs)) _ a p (
@@ -179,7 +172,9 @@ encodes-evaluates encoding.ToJson v a p = same-evaluates a (given_encoding (opti
 encodes-evaluates encoding.ToBase64 v a p = same-evaluates a (text_in_base64 (out-Value v)) p (in_base64-evaluates (out-Value v))
 encodes-evaluates encoding.FromBase64 v a p = from_base64-evaluates (out-Value v) a p
 
+encodes_argument-evaluates : (e : EncodingCall) (o : Option Value) (a : Answer) → EncodesArgument e o a → Evaluates a
+encodes_argument-evaluates e None a p = same-evaluates a (Err evaluation) p refl
+encodes_argument-evaluates e (Some v) a p = encodes-evaluates e v a p
+
 pub EncodingCalled-evaluates : (e : EncodingCall) (vs : List Value) (a : Answer) → EncodingCalled e vs a → Evaluates a
-EncodingCalled-evaluates e [] a p = same-evaluates a (Err evaluation) p refl
-EncodingCalled-evaluates e (v ∷ []) a p = encodes-evaluates e v a p
-EncodingCalled-evaluates e (v ∷ w ∷ more) a p = same-evaluates a (Err evaluation) p refl
+EncodingCalled-evaluates e vs a p = encodes_argument-evaluates e (one_of any_value vs) a p

@@ -1,6 +1,7 @@
 -- Methods, and calls of times, give a value or refuse to evaluate.
 use Rattle.std.proofs.Common.{◌≡◌, ℕ, ℤ, List, [], ◌∷◌, Option, Some, None, Ok, Err, inl, inr, refl}
-use Rattle.expr_arguments.specs.Arguments.{without_arguments, one_duration, one_text}
+use Rattle.expr_arguments.specs.Arguments.{answer_on, without_arguments, one_duration, one_text}
+use Rattle.expr_arguments.specs.Times.{one_moment, one_zone, three_integers, timezone_of}
 use Rattle.expr_duration.specs.Methods.{method_answer, by_step, ReadsLength, OfText}
 use Rattle.expr_duration.specs.declared.method.DurationMethod.{DurationMethod}
 use Rattle.expr_duration.specs.declared.method.DurationMethod.TheVariants as of_length
@@ -12,7 +13,7 @@ use Rattle.expr_moment.specs.Zones.{at_civil, moment_or_refusal}
 use Rattle.expr_steps.specs.Methods.{AllowsDurationMethod, AllowsMethod, AllowsMethodLayer, AllowsMomentMethod, AllowsNameMethod}
 use Rattle.expr_time.specs.Calls.{TimeCallMayReturn}
 use Rattle.expr_time.specs.Civil.{AllowsDate, Dates, DatesLayout, DatesNamed, DatesText, DatesThree, DatesTwo, MomentMayReturnIf, place_read, by_form}
-use Rattle.expr_time.specs.Moments.{AddsDates, AnsweredAt, answer_for, location_answer, name_answer, one_moment, one_zone, three_integers, timezone_of}
+use Rattle.expr_time.specs.Moments.{AddsDates, AnsweredAt, location_answer, name_answer}
 use Rattle.expr_time.specs.Zones.{now_answer, timezone_answer, zone_named}
 use Rattle.expr_functions.specs.declared.functions.TimeCall.{TimeCall}
 use Rattle.expr_functions.specs.declared.functions.TimeCall.TheVariants as call
@@ -41,12 +42,12 @@ without_arguments-evaluates : (vs : List Value) (v : Value) → Evaluates (witho
 without_arguments-evaluates [] v = tt
 without_arguments-evaluates (w ∷ more) v = refl
 
-answer_for-evaluates : {A : Type 0} (o : Option A) (f : A → Answer) → ((x : A) → Evaluates (f x)) → Evaluates (answer_for o f)
-answer_for-evaluates None f p = refl
-answer_for-evaluates (Some x) f p = p x
+answer_on-evaluates : {A : Type 0} (o : Option A) (f : A → Answer) → ((x : A) → Evaluates (f x)) → Evaluates (answer_on o f)
+answer_on-evaluates None f p = refl
+answer_on-evaluates (Some x) f p = p x
 
-on : {A : Type 0} (o : Option A) (f : A → Answer) (a : Answer) → answer_for o f ≡ a → ((x : A) → Evaluates (f x)) → Evaluates a
-on o f a e p = equal-evaluates a (answer_for o f) e (answer_for-evaluates o f p)
+on : {A : Type 0} (o : Option A) (f : A → Answer) (a : Answer) → answer_on o f ≡ a → ((x : A) → Evaluates (f x)) → Evaluates a
+on o f a e p = equal-evaluates a (answer_on o f) e (answer_on-evaluates o f p)
 
 -- methods of lengths of time
 by_step-evaluates : (o : Option ℤ) (f : ℤ → ℤ) → Evaluates (by_step o f)
@@ -179,8 +180,8 @@ now-evaluates (Some t) vs = without_arguments-evaluates vs _
 
 timezone-evaluates : (zones : List ℕ → Option TimezoneValue) (vs : List Value) → Evaluates (timezone_answer zones vs)
 timezone-evaluates zones vs =
-    answer_for-evaluates (one_text vs) (λ name. answer_for (zone_named zones name) (λ zone. Ok (value.Timezone zone))) (
-    λ name. answer_for-evaluates (zone_named zones name) (λ zone. Ok (value.Timezone zone)) (λ zone. tt)
+    answer_on-evaluates (one_text vs) (λ name. answer_on (zone_named zones name) (λ zone. Ok (value.Timezone zone))) (
+    λ name. answer_on-evaluates (zone_named zones name) (λ zone. Ok (value.Timezone zone)) (λ zone. tt)
     )
 
 pub TimeCalled-evaluates : (zones : List ℕ → Option TimezoneValue) (moment : Option DateTimeValue) (c : TimeCall) (vs : List Value) (a : Answer)

@@ -140,8 +140,8 @@ module _ (P : ErrorKind → Type 0) (of_evaluation : P evaluation) where
         ) a
         ) p
 
-    asking : (b : HigherOrderCall) (vs : List Value) (given : Bool) (a : Answer) → AllowsHigherOrder b vs given asks a → IfErr a P
-    asking b vs given a p = ThenIfOk-faults (fold_of_call b vs given) (λ s. FoldMayReturn s.task asks s.items []) (Evaluates-faults (fold_of_call b vs given) (fold_of_call-evaluates b vs given)) (λ s r. asked s.task s.items [] r) a p
+    higher_order : (b : HigherOrderCall) (vs : List Value) (given : Bool) (a : Answer) → AllowsHigherOrder b vs given asks a → IfErr a P
+    higher_order b vs given a p = ThenIfOk-faults (fold_of_call b vs given) (λ s. FoldMayReturn s.fold asks s.items []) (Evaluates-faults (fold_of_call b vs given) (fold_of_call-evaluates b vs given)) (λ s r. asked s.fold s.items [] r) a p
 
     module _ (host : Host) (key : List ℕ) (vs : List Value) (given : Bool) where
       on_values_faults : (c : ValueCall) (a : Answer) → AllowsOnValues host c vs a → IfErr a P
@@ -157,7 +157,7 @@ module _ (P : ErrorKind → Type 0) (of_evaluation : P evaluation) where
       by_builtin : (o : Option Builtin) (a : Answer) → ByBuiltin o (a ≡ Err evaluation) (λ c. AllowsOnValues host c vs a) (λ b. AllowsHigherOrder b vs given asks a) → IfErr a P
       by_builtin None a p = refusal a p
       by_builtin (Some (builtin.OnValues c)) a p = on_values_faults c a p
-      by_builtin (Some (builtin.HigherOrder b)) a p = asking b vs given a p
+      by_builtin (Some (builtin.HigherOrder b)) a p = higher_order b vs given a p
 
       -- a built-in refuses to evaluate, or with what its predicate was refused with
       pub AllowsBuiltin-faults : (a : Answer) → AllowsBuiltin host key vs given asks a → IfErr a P

@@ -1,11 +1,10 @@
 -- What an operator gives where its right side is a literal.
-use Rattle.std.proofs.Common.{◌≡◌, Ok, refl, sym, subst, ap, ◌∙◌}
+use Rattle.std.proofs.Common.{◌≡◌, Ok, refl, sym, subst}
 use Rattle.expr_tree.specs.Term.{Term, literal}
 use Rattle.expr_tree.specs.declared.operator.Operator.{Operator}
 use Rattle.expr_operators.specs.Operators.{operator_answer}
 use Rattle.expr_operators.specs.Strictness.{operator_strictness}
 use Rattle.expr_operators.specs.declared.strictness.Strictness.TheVariants.{Both}
-use Rattle.expr_value.proofs.Answered.{first_of-Then}
 use Rattle.expr_value.specs.declared.value.Value.{Value}
 use Rattle.expr_meaning.specs.Allows.{Allows, OperationMayReturn, OperationMayReturnBy}
 use Rattle.expr_meaning.specs.World.{World}
@@ -18,10 +17,3 @@ pub OnLiteral-continued : (world : World) (op : Operator) (x : Value) (t : Term)
     → OnLiteral op x t v → OperationMayReturn op x (Allows world t) (Ok v)
 OnLiteral-continued world op x t v p =
     subst (λ k. OperationMayReturnBy k op x (Allows world t) (Ok v)) (sym p.2) (Ok p.0, subst (λ s. Allows world s (Ok p.0)) (sym p.1) refl, sym p.3)
-
-pub OnLiteral-only : (world : World) (op : Operator) (x : Value) (t : Term) (v w : Value)
-    → OnLiteral op x t v → OperationMayReturn op x (Allows world t) (Ok w) → v ≡ w
-OnLiteral-only world op x t v w p h =
-    let q = first_of-Then (Allows world t) (λ y b. b ≡ operator_answer op x y) w (subst (λ k. OperationMayReturnBy k op x (Allows world t) (Ok w)) p.2 h) in
-    let same : q.0 ≡ p.0 = cc (subst (λ s. Allows world s (Ok q.0)) p.1 q.1) in
-    cc (q.2 ∙ ap (operator_answer op x) same ∙ p.3)

@@ -33,12 +33,12 @@ AllowsOnValues host (Time c) vs answer = TimeCalled host.zones host.moment c vs 
 
 -- a call is of no built-in, of one on values alone, or of one that asks a predicate
 abbrev pub ByBuiltin : Option Builtin → Type 0 → (ValueCall → Type 0) → (HigherOrderCall → Type 0) → Type 0
-ByBuiltin None unknown on_values asking = unknown
-ByBuiltin (Some (OnValues c)) unknown on_values asking = on_values c
-ByBuiltin (Some (HigherOrder b)) unknown on_values asking = asking b
+ByBuiltin None unknown on_values higher_order = unknown
+ByBuiltin (Some (OnValues c)) unknown on_values higher_order = on_values c
+ByBuiltin (Some (HigherOrder b)) unknown on_values higher_order = higher_order b
 
 abbrev pub ByName : List ℕ → Type 0 → (ValueCall → Type 0) → (HigherOrderCall → Type 0) → Type 0
-ByName key unknown on_values asking = ByBuiltin (builtin_named key) unknown on_values asking
+ByName key unknown on_values higher_order = ByBuiltin (builtin_named key) unknown on_values higher_order
 
 -- what a call of this name may answer on these values, with a predicate or without one, and with what that may answer
 abbrev pub AllowsBuiltin : Host → List ℕ → List Value → Bool → (PredicateArgsView → Answer → Type 0) → Answer → Type 0

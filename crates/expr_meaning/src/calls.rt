@@ -1,13 +1,14 @@
 //! Calls, up to where a predicate is asked.
-ghost use Rattle.std.specs.Prelude.{◌≡◌, ◌≢◌, IfErr, IfOk, false, true};
+ghost use Rattle.std.specs.Prelude.{◌≡◌, IfOk, false, true};
 ghost use Rattle.expr_meaning.specs.Allows.{AllowsCall};
 ghost use Rattle.expr_meaning.specs.Dispatch.{DispatchesTo, DispatchesToBuiltin, Refuses, RefusesBuiltin};
 ghost use Rattle.expr_meaning.specs.Calls.{AllowsOnValues};
 ghost use Rattle.expr_predicates.specs.Runs.{AnswersItself};
 ghost use Rattle.expr_value.specs.Answers.{Returns};
-ghost use Rattle.expr_error.specs.ErrorKind.{error_kind, memory, RefusesWith};
+ghost use Rattle.expr_error.specs.ErrorKind.{RefusesWith};
 
 use crate::environment::{AddedZones, ExprCall, Functions};
+use expr_arguments::values_of_cows;
 use expr_builtins::{call_conversion, call_on_bits, call_on_collections, call_on_numbers};
 use expr_encoding::call_encoding;
 use expr_functions::{Builtin, ValueCall};
@@ -42,7 +43,7 @@ pub fn dispatch_call<'s, H: Functions>(
         (λ k. Refuses (H.host host.now) ident.now args.entry given k) }
 {
     if host.has(ident) {
-        let args = values_of(alloc, args)?;
+        let args = values_of_cows(alloc, args.into_vec())?;
         let answer = call_added(alloc, host, ident, args)?;
         return Ok(Dispatch::Answered(answer));
     }
@@ -62,8 +63,8 @@ fn dispatch_builtin<'s, H: Functions>(
         (H.host host.now) ident.now args.entry given k) }
 {
     match Builtin::from_name(ident) {
-        Some(Builtin::HigherOrder(asking)) => {
-            Ok(Dispatch::Asks(PredicateRun::begin(alloc, asking, args, given)?))
+        Some(Builtin::HigherOrder(call)) => {
+            Ok(Dispatch::Asks(PredicateRun::begin(alloc, call, args, given)?))
         }
         Some(Builtin::OnValues(call)) => {
             Ok(Dispatch::Answered(call_on_values(alloc, host, call, args)?))
@@ -123,16 +124,4 @@ pub fn call_added<H: Functions>(
 {
     let ident = String::from_str(alloc, ident)?;
     host.ask(ExprCall { ident, args })
-}
-
-/// The values that are held, to be kept.
-fn values_of(alloc: Global, held: Items<CowValue<'_>>) -> Result<Vec<Value>>
-    ensures ok { IfOk result (λ vs. vs.items ≡ held.entry) }
-    ensures refusal { IfErr result (λ e. error_kind e ≡ memory) }
-{
-    let mut values = Vec::with_capacity(alloc, held.len())?;
-    for value in held.into_vec() {
-        values.push(value.into_value()?)?;
-    }
-    Ok(values)
 }

@@ -65,10 +65,10 @@ module _ (asks : Predicate Room) (asks' : PredicateArgsView → Answer → Type 
   asks_ample task [] rs a p = ample_answer a (FoldOutcome task rs) p
   asks_ample task (x ∷ left) rs a p = one task left rs x a (has_stopped task rs) (λ v. asks_ample task left (rs ++ (x, v) ∷ []) a) p
 
-  start_ample : (s : Result FoldOver ErrorKind) (a : Answer) → ThenIfOk s (λ s. FoldMayReturn s.task asks' s.items []) a → Ample a (Alone (CountsFoldStart rooms s asks))
+  start_ample : (s : Result FoldOver ErrorKind) (a : Answer) → ThenIfOk s (λ s. FoldMayReturn s.fold asks' s.items []) a → Ample a (Alone (CountsFoldStart rooms s asks))
   start_ample (Ok s) a p =
-      ample_anew a (λ first now. KeepAllThen rooms (retained_first s.task) now (λ kept. CountsFold rooms s.task first asks s.items [] kept)) (
-      ample_keeping (retained_first s.task) a (Runs_on s.task s.items []) (asks_ample s.task s.items [] a p)
+      ample_anew a (λ first now. KeepAllThen rooms (retained_first s.fold) now (λ kept. CountsFold rooms s.fold first asks s.items [] kept)) (
+      ample_keeping (retained_first s.fold) a (Runs_on s.fold s.items []) (asks_ample s.fold s.items [] a p)
       )
   start_ample (Err e) a p = ample_here a (Alone (CountsFoldStart rooms (Err e) asks)) (λ first now. ap (λ x. ending_of x now) p)
 

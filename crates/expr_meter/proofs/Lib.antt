@@ -6,7 +6,6 @@ pub mod Endings
 pub mod Enough
 pub mod Forgotten
 pub mod Kept
-pub mod Metered
 pub mod Stays
 pub mod Turning
 pub mod Turns

@@ -17,8 +17,8 @@ use Rattle.expr_meter.specs.Counting.{EndsWithAnswer, Charge, ChargeThen, Counti
 use Rattle.expr_meter.specs.Counts.{Costs, Counts, CountsEnd, CountsLater, CountsMade, CountsMove, CountsRest, CountsRuns, CountsTop, Next, Ownership, ChargeWorkThen, borrowed, owned, either, no_block, observed_values}
 
 -- what holds of a tally holds of the next
-abbrev pub Holding : {T : Type 0} → (T → Type 0) → Charge T → Type 0
-Holding {T} holds charge = (now next : T) → charge now (Ok next) → holds now → holds next
+abbrev pub Preserves : {T : Type 0} → (T → Type 0) → Charge T → Type 0
+Preserves {T} holds charge = (now next : T) → charge now (Ok next) → holds now → holds next
 
 -- what holds of what is counted where a part gives a value
 abbrev pub InEnding : {T : Type 0} → (T → Type 0) → Ending T → Type 0
@@ -27,10 +27,10 @@ InEnding holds (refuses e) = Unit {0}
 InEnding holds (stops limit) = Unit {0}
 
 pub record Keeps (counting : Counting) (holds : counting.Tally → Type 0) : Type 0 where
-  pub enters : (n : ℕ) → Holding holds (counting.enters n)
-  pub works : (n k : ℕ) → Holding holds (counting.works n k)
-  pub makes : (v : Value) → Holding holds (counting.makes v)
-  pub keeps : (v : Value) → Holding holds (counting.keeps v)
+  pub enters : (n : ℕ) → Preserves holds (counting.enters n)
+  pub works : (n k : ℕ) → Preserves holds (counting.works n k)
+  pub makes : (v : Value) → Preserves holds (counting.makes v)
+  pub keeps : (v : Value) → Preserves holds (counting.keeps v)
   pub freed : (first now : counting.Tally) → holds now → holds (counting.freed first now)
 
 module _ (counting : Counting) (holds : counting.Tally → Type 0) (by : Keeps counting holds) where
@@ -47,7 +47,7 @@ module _ (counting : Counting) (holds : counting.Tally → Type 0) (by : Keeps c
   answers : (allowed : Answer → Type 0) (now : Tally) (e : Ending Tally) → holds now → EndsWithAnswer allowed now e → In e
   answers allowed now e h (a, p, is) = subst In (sym is) (of_answer a now h)
 
-  counted : (charge : Charge Tally) → Holding holds charge → (now : Tally) (next : Tally → Ending Tally → Type 0) (e : Ending Tally) → holds now → ((u : Tally) → holds u → next u e → In e) → ChargeThen charge now next e → In e
+  counted : (charge : Charge Tally) → Preserves holds charge → (now : Tally) (next : Tally → Ending Tally → Type 0) (e : Ending Tally) → holds now → ((u : Tally) → holds u → next u e → In e) → ChargeThen charge now next e → In e
   counted charge k now next e h f (Ok u, c, p) = f u (k now u c h) p
   counted charge k now next e h f (Err limit, c, p) = subst In (sym p) tt
 
@@ -80,7 +80,7 @@ module _ (counting : Counting) (holds : counting.Tally → Type 0) (by : Keeps c
         ) p
 
     start_stays : (s : Result FoldOver ErrorKind) (now : Tally) (e : Ending Tally) → holds now → CountsFoldStart counting s asks now e → In e
-    start_stays (Ok s) now e h p = keeping (retained_first s.task) now (λ kept. CountsFold counting s.task now asks s.items [] kept) e h (λ u g q. asks_stay s.task now s.items [] u e g q) p
+    start_stays (Ok s) now e h p = keeping (retained_first s.fold) now (λ kept. CountsFold counting s.fold now asks s.items [] kept) e h (λ u g q. asks_stay s.fold now s.items [] u e g q) p
     start_stays (Err b) now e h p = subst In (sym p) tt
 
     call_stays : (host : Host) (key : List ℕ) (vs : List Value) (now : Tally) (e : Ending Tally) → holds now → CountsCall counting host key vs asks now e → In e

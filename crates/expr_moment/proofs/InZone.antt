@@ -1,34 +1,21 @@
 -- Moments, places and zones by their parts.
-use Rattle.std.proofs.Common.{◌≡◌, ℕ, ℤ, List, refl, sym, ap, ◌∙◌, Some, None, true, false}
-use Rattle.std.specs.Prelude.{Bool, Result, Ok, Err, IfOk, if◌then◌else◌}
-use Rattle.std.proofs.lemmas.Bool.{false≢true}
+use Rattle.std.proofs.Common.{◌≡◌, ℤ, refl, sym, ap, ◌∙◌, Some, None, true, false}
+use Rattle.std.specs.Prelude.{Bool, if◌then◌else◌}
 use Rattle.std.proofs.Math.Path.{subst}
 use Rattle.std.proofs.Props.{props}
 use Rattle.std.specs.Ordering.{int_eq}
 use Rattle.std.proofs.lemmas.Bool.Decides.{Decides-int_eq}
 use mathlib.Core.HLevel.{is_prop→PathP}
-use Rattle.jiff.specs.Types.{DateTime, Offset, UTC}
+use Rattle.jiff.specs.Types.{DateTime, Offset}
 use Rattle.jiff.specs.Words.{IsOffsetSeconds, IsTimestampNanos}
 unfoldable use Rattle.jiff.specs.Words.{civil_nanos}
-use Rattle.expr_datetime.specs.ShiftedMoments.{at_instant, at_instant_is, moment_at, moment_in, same_moment}
-use Rattle.expr_datetime.specs.Times.{zone_offset, in_zone, instant, zone_rules, local_nanos, moment_zone, rules_of, zone_name}
+use Rattle.expr_datetime.specs.ShiftedMoments.{at_instant, at_instant_is, moment_in, same_moment}
+use Rattle.expr_datetime.specs.Times.{zone_offset, in_zone, instant, local_nanos, moment_zone}
 use Rattle.expr_datetime.specs.declared.moment.DateTimeValue.{DateTimeValue}
 use Rattle.expr_datetime.specs.declared.moment.MomentZone.{MomentZone}
 use Rattle.expr_datetime.specs.declared.moment.MomentZone.TheVariants.{Fixed, Named}
-use Rattle.expr_datetime.specs.declared.zone.ZoneRules.{ZoneRules}
 use Rattle.expr_datetime.specs.declared.zone.TimezoneValue.{TimezoneValue}
 use Rattle.expr_moment.specs.Zones.{at_civil, if_shows, picked_in}
-
--- the rules of UTC are kept in one way
-kept_utc : (kept : ZoneRules) → zone_rules kept ≡ UTC → kept ≡ ZoneRules.Utc
-kept_utc ZoneRules.Utc e = refl
-kept_utc ZoneRules.Unknown e = absurd (cc)
-kept_utc (ZoneRules.Always offset) e = absurd (cc)
-kept_utc (ZoneRules.Posix rule) e = absurd (cc)
-
--- the zone UTC by its name and its rules
-pub zone_same : (z : TimezoneValue) (name : List ℕ) → zone_name z ≡ name → rules_of z ≡ UTC → z ≡ record { name = name; rules = ZoneRules.Utc }
-zone_same z name e p = λ i. record { name = e i; rules = kept_utc z.rules p i }
 
 pub same_offset : (o p : Offset) → o.seconds ≡ p.seconds → o ≡ p
 same_offset o p e = λ i. record { seconds = e i; in_range = is_prop→PathP (λ j. IsOffsetSeconds (e j)) (λ j. hlevel props) o.in_range p.in_range i }
@@ -46,22 +33,10 @@ fixed_place (Named z) n offset none e = absurd (cc)
 pub placed_same : (t u : DateTimeValue) (place : MomentZone) → instant u ≡ instant t → moment_zone u ≡ place → u ≡ moment_in t place
 placed_same t u place e p = same_moment u (instant t) t.timestamp.in_range place e p
 
--- an instant that is in range, and one that isn't
-pub at_instant_in : (n : ℤ) (h : IsTimestampNanos n) (place : MomentZone) → at_instant n place ≡ Some (moment_at n h place)
-at_instant_in n h place = sym (at_instant_is (Some (moment_at n h place)) n place ((λ _. h), (λ _. refl)) (refl, refl))
-
-pub at_instant_out : (n : ℤ) (place : MomentZone) → ¬ (IsTimestampNanos n) → at_instant n place ≡ None
-at_instant_out n place out = sym (at_instant_is None n place ((λ h. absurd (false≢true h)), (λ h. absurd (out h))) tt)
-
 -- a moment that is found at an instant
 pub found_at : (u : DateTimeValue) (n : ℤ) (place : MomentZone) → instant u ≡ n → moment_zone u ≡ place → Some u ≡ at_instant n place
 found_at u n place e p =
     at_instant_is (Some u) n place ((λ _. let In : ℤ → Type 0 = IsTimestampNanos in subst In e u.timestamp.in_range), (λ _. refl)) (e, p)
-
--- a zone that was made by its name and its rules
-pub zone_made : {E : Type 0} (r : Result TimezoneValue E) (name : List ℕ) → IfOk r (λ z. zone_name z ≡ name) → IfOk r (λ z. rules_of z ≡ UTC) → IfOk r (λ z. z ≡ record { name = name; rules = ZoneRules.Utc })
-zone_made (Ok z) name e p = zone_same z name e p
-zone_made (Err e) name h p = tt
 
 when_false_of : (b : Bool) → ¬ (b ≡ true) → b ≡ false
 when_false_of true h = absurd (h refl)
@@ -70,16 +45,9 @@ when_false_of false h = refl
 pub not_equal : (m n : ℤ) → ¬ (m ≡ n) → int_eq m n ≡ false
 not_equal m n other = when_false_of (int_eq m n) (λ t. other ((Decides-int_eq m n).0 t))
 
--- the moment of a civil time where it is in range, and where it isn't
-pub civil_out : (place : MomentZone) (dt : DateTime) → ¬ (IsTimestampNanos (picked_in place dt)) → None ≡ at_civil place dt
-civil_out place dt out = ap (if_shows dt) (sym (at_instant_out (picked_in place dt) place out))
-
 civil_in : (place : MomentZone) (dt : DateTime) (t : DateTimeValue) → instant t ≡ picked_in place dt → moment_zone t ≡ place → if_shows dt (Some t) ≡ at_civil place dt
 civil_in place dt t e p = ap (if_shows dt) (found_at t (picked_in place dt) place e p)
 
--- the clock shows that time, or it doesn't
+-- a moment whose clock shows that time
 pub civil_shown : (place : MomentZone) (dt : DateTime) (t : DateTimeValue) → instant t ≡ picked_in place dt → moment_zone t ≡ place → local_nanos t ≡ civil_nanos dt → Some t ≡ at_civil place dt
 civil_shown place dt t e p same = sym (ap (λ b. if b then Some t else None) ((Decides-int_eq (local_nanos t) (civil_nanos dt)).1 same)) ∙ civil_in place dt t e p
-
-pub civil_hidden : (place : MomentZone) (dt : DateTime) (t : DateTimeValue) → instant t ≡ picked_in place dt → moment_zone t ≡ place → ¬ (local_nanos t ≡ civil_nanos dt) → None ≡ at_civil place dt
-civil_hidden place dt t e p other = sym (ap (λ b. if b then Some t else None) (not_equal (local_nanos t) (civil_nanos dt) other)) ∙ civil_in place dt t e p

@@ -3,7 +3,7 @@ ghost use Rattle.std.specs.Prelude.{◌≡◌, ◌≢◌, ◌+◌, ◌%◌, pos,
 ghost use Rattle.std.specs.Int.{int_div_euclid};
 ghost use Rattle.jiff.specs.Words.{weekday_of};
 ghost use Rattle.expr_datetime.specs.Calendar.{plain_clock, plain_day};
-ghost use Rattle.expr_datetime.specs.Times.{instant, local_nanos};
+ghost use Rattle.expr_datetime.specs.Times.{instant};
 ghost use Rattle.expr_moment.specs.Fields.{date_at, field_name, field_of, time_at, weekday_at, within_64, year_day_at};
 
 use expr_value::{DateTimeValue, Value};

@@ -10,5 +10,4 @@ pub use dates::date_after;
 pub use fields::{DateTimeField, ZERO_INSTANT, date_shown, time_shown, weekday};
 pub use zones::{
     at_instant, civil_at_offset, civil_beside, civil_in_zone, in_zone, location, moment_or_refusal,
-    show_place,
 };

@@ -1,21 +1,18 @@
 //! Moments in other places, and the moments at which the clock of a place shows a civil time.
 ghost use Rattle.std.specs.Prelude.{◌≡◌, Some, IfOk};
-ghost use Rattle.std.specs.Fmt.{WritesOnOk};
 ghost use Rattle.expr_value.specs.Answers.{ReturnsExactly};
 ghost use Rattle.expr_datetime.specs.ShiftedMoments.{at_instant, moment_in};
-ghost use Rattle.expr_datetime.specs.Times.{instant, moment_zone, moment_zone_text, utc};
+ghost use Rattle.expr_datetime.specs.Times.{instant, moment_zone, utc};
 ghost use Rattle.expr_datetime.specs.declared.moment.MomentZone.TheVariants.{Fixed, Named};
 ghost use Rattle.expr_moment.specs.Zones.{at_civil, moment_or_refusal, location_of};
 ghost use Rattle.expr_error.specs.ErrorKind.{OnlyMemory};
 
-use expr_datetime::{show_offset, utc};
+use expr_datetime::utc;
 use expr_value::{DateTimeValue, Result, TimezoneValue, Value, refusal};
 use jiff::Timestamp;
 use jiff::civil::DateTime;
 use jiff::tz::Offset;
 use std::alloc::Global;
-use std::fmt;
-use std::fmt::{Formatter, Write};
 
 /// A moment, or a refusal where there is none.
 pub fn moment_or_refusal(alloc: Global, moment: Option<DateTimeValue>) -> Result<Value>
@@ -105,25 +102,5 @@ pub fn civil_beside(moment: &DateTimeValue, civil: DateTime) -> Result<Option<Da
     match moment.timezone() {
         Some(zone) => civil_in_zone(zone, civil),
         None => Ok(civil_at_offset(moment.offset(), civil)),
-    }
-}
-
-/// Prints the text of a moment's place: the name of a zone, `UTC` for no offset, and else the offset.
-pub fn show_place<W: Write>(moment: &DateTimeValue, f: &mut Formatter<W>) -> fmt::Result
-    ensures { WritesOnOk W.write_str_gives f.old result (moment_zone_text (moment_zone moment.now)) f.new }
-{
-    match moment.timezone() {
-        Some(zone) => f.write_str(zone.name()),
-        None => show_unnamed(moment.offset(), f),
-    }
-}
-
-fn show_unnamed<W: Write>(offset: Offset, f: &mut Formatter<W>) -> fmt::Result
-    ensures { WritesOnOk W.write_str_gives f.old result (moment_zone_text (Fixed offset)) f.new }
-{
-    if offset.seconds() == 0 {
-        f.write_str("UTC")
-    } else {
-        show_offset(offset, "", f)
     }
 }

@@ -1,15 +1,14 @@
 -- What a range, an index and a slice give on values. Kinds that no line names are refused.
-use Rattle.std.specs.Prelude.{ℕ, ◌+◌, ◌-◌, min, ℤ, pos, negsuc, ◌+ℤ◌, ◌-ℤ◌, int_le, unsigned_abs, Bool, List, length, map, take, drop, reverse, slice_get, Option, option_map, unwrap_or, Result, Ok, Err, encode_utf8_all, if◌then◌else◌}
+use Rattle.std.specs.Prelude.{ℕ, ◌+◌, ◌-◌, min, ℤ, pos, negsuc, ◌+ℤ◌, ◌-ℤ◌, int_le, unsigned_abs, List, length, map, take, drop, Option, Result, Ok, Err, encode_utf8_all, if◌then◌else◌}
 use Rattle.std.specs.List.{range_with_len}
 use Rattle.std.specs.Option.{option_map_or}
 use Rattle.bstr.specs.Utf8.{lossy_chars}
 use Rattle.expr_error.specs.ErrorKind.{ErrorKind, evaluation}
-use Rattle.expr_value.specs.Names.{find}
-use Rattle.expr_value.specs.Values.{at_key}
 use Rattle.expr_value.specs.declared.value.Value as value
 use Rattle.expr_value.specs.declared.value.Value.{Value, out-Value}
 use Rattle.expr_value.specs.declared.value.Value.TheOpen.{Value-F}
 use Rattle.expr_value.specs.Answers.{Answer}
+pub use Rattle.expr_cow.specs.Parts.{index_answer, index_answer_layers, item_from, or_nil}
 
 -- how many integers there are from the first to the last, both counted: none if the first is greater
 unfoldable pub how_many : ℤ → ℤ → ℕ
@@ -29,25 +28,6 @@ range_answer_layers a b = Err evaluation
 
 abbrev pub range_answer : Value → Value → Answer
 range_answer a b = range_answer_layers (out-Value a) (out-Value b)
-
--- the item at a place: from the front, or from the end if the place is negative, so that -1 is the last
-abbrev pub item_from : {X : Type 0} → List X → ℤ → Option X
-item_from xs (pos n) = slice_get xs n
-item_from xs (negsuc n) = slice_get (reverse xs) n
-
-abbrev pub or_nil : Option Value → Answer
-or_nil found = Ok (unwrap_or found value.Nil)
-
--- An integer is a place in an array or in bytes, a text is a name of a map, and any value may be sought as a key. What isn't there is nil.
-abbrev pub index_answer_layers : Value-F Value → Value → Value-F Value → Bool → Answer
-index_answer_layers (Value-F.Array items) k (Value-F.Integer n) optional = or_nil (item_from items n)
-index_answer_layers (Value-F.Bytes bytes) k (Value-F.Integer n) optional = or_nil (option_map (λ b. value.Integer (pos b)) (item_from bytes n))
-index_answer_layers (Value-F.Map m) k (Value-F.String name) optional = or_nil (find name m)
-index_answer_layers (Value-F.KeyedMap m) k key optional = or_nil (at_key k m)
-index_answer_layers v k key optional = if optional then Ok value.Nil else Err evaluation
-
-abbrev pub index_answer : Value → Value → Bool → Answer
-index_answer v key optional = index_answer_layers (out-Value v) key (out-Value key) optional
 
 -- a bound of a slice is an integer
 abbrev pub checked_bound_layer : Value-F Value → Result ℤ ErrorKind

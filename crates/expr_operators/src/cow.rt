@@ -1,5 +1,4 @@
 //! Parts of values that are held.
-ghost use Rattle.std.specs.Prelude.{◌≡◌};
 ghost use Rattle.expr_value.specs.Answers.{ReturnsExactly};
 ghost use Rattle.expr_operators.specs.Positions.{index_answer, slice_answer};
 

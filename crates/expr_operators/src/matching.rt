@@ -1,9 +1,9 @@
 //! `matches`: whether a pattern matches somewhere in a text.
-ghost use Rattle.std.specs.Prelude.{◌≡◌, ◌≢◌, ℕ, List, Some, IfErr};
+ghost use Rattle.std.specs.Prelude.{◌≡◌, ℕ, List, Some};
 ghost use Rattle.std.specs.Option.{option_copied};
 ghost use Rattle.expr_operators.specs.Matching.{MatchMayReturn};
 ghost use Rattle.expr_value.specs.Answers.{Returns};
-ghost use Rattle.expr_error.specs.ErrorKind.{error_kind, pattern as bad_pattern};
+ghost use Rattle.expr_error.specs.ErrorKind.{RefusesNoPattern};
 
 use crate::messages::mismatch;
 use expr_pattern::{Matchers, Pattern};
@@ -29,7 +29,7 @@ pub fn match_pattern<'p>(
 ) -> Result<Value>
     ensures answer { Returns result (MatchMayReturn text.now source.now) }
     ensures kept { (s : List ℕ) → source.now ≡ Value.String s → option_copied kept.entry ≡ Some s
-        → IfErr result (λ e. error_kind e ≢ bad_pattern) }
+        → RefusesNoPattern result }
 {
     match (text, source) {
         (Value::String(text), Value::String(source)) => {

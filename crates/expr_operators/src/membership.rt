@@ -1,8 +1,8 @@
 //! Whether a value has another among its parts. Kinds that are not asked for this give none.
-ghost use Rattle.std.specs.Prelude.{◌≡◌, nat_eq};
-ghost use Rattle.std.specs.List.{starts_with, ends_with};
+ghost use Rattle.std.specs.Prelude.{◌≡◌};
 ghost use Rattle.expr_operators.specs.Operators.{begins_with, belongs, containment, ends_in, occurs};
 
+use expr_error::{has_back, has_front};
 use expr_value::Value;
 
 /// Whether the left value is a name or key of the right map, or equal to an item of the right array.
@@ -55,16 +55,4 @@ fn has_part(text: &str, part: &str) -> bool
     ensures { result ≡ occurs part.now text.now }
 {
     text.contains(part)
-}
-
-fn has_front(text: &str, front: &str) -> bool
-    ensures { result ≡ starts_with nat_eq text.now front.now }
-{
-    text.starts_with(front)
-}
-
-fn has_back(text: &str, back: &str) -> bool
-    ensures { result ≡ ends_with nat_eq text.now back.now }
-{
-    text.ends_with(back)
 }

@@ -1,5 +1,5 @@
 //! The texts of refusals: what was met, for people.
-ghost use Rattle.std.specs.Prelude.{◌≡◌, ◌≢◌, Err};
+ghost use Rattle.std.specs.Prelude.{Err};
 ghost use Rattle.expr_value.specs.Answers.{ReturnsExactly};
 ghost use Rattle.expr_error.specs.ErrorKind.{evaluation, IsOfKind};
 

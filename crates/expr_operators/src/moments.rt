@@ -1,5 +1,4 @@
 //! Moments moved by lengths of time, and what lies between two of them.
-ghost use Rattle.std.specs.Prelude.{◌≡◌};
 ghost use Rattle.expr_value.specs.Answers.{ReturnsExactly};
 ghost use Rattle.expr_datetime.specs.ShiftedMoments.{moment_later, moment_earlier};
 ghost use Rattle.expr_moment.specs.Fields.{between};

@@ -1,5 +1,5 @@
 //! The operators, on values.
-ghost use Rattle.std.specs.Prelude.{◌≡◌, ◌≢◌, IfOk, Err, IsTrue};
+ghost use Rattle.std.specs.Prelude.{◌≡◌, IfOk, Err, IsTrue};
 ghost use Rattle.expr_value.specs.Answers.{ReturnsExactly};
 ghost use Rattle.expr_operators.specs.Operators.{operator_answer, unary_answer, truth, truth_answer, verdict};
 ghost use Rattle.expr_operators.specs.AllocFree.{is_alloc_free_operator, is_alloc_free_value, ReturnsAllocFree};

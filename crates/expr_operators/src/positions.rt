@@ -8,7 +8,7 @@ ghost use Rattle.expr_error.specs.ErrorKind.{OnlyMemory};
 
 use crate::messages::{not_indexed, refuse, unexpected_kind};
 use bstr::ByteSlice;
-use expr_cow::CowValue;
+use expr_cow::{CowValue, item};
 use expr_value::{Error, Items, Result, Text, Value};
 use std::alloc::{AllocError, Global};
 
@@ -81,17 +81,6 @@ fn lent_or_nil<'v>(found: Option<&'v Value>) -> CowValue<'v>
         Some(value) => CowValue::from_borrowed(value),
         None => CowValue::from_owned(Value::Nil),
     }
-}
-
-/// The item at a place, from the end if the place is negative.
-fn item<T>(items: &[T], place: i64) -> Option<&T>
-    ensures { option_copied result ≡ item_from items.now place }
-{
-    if place >= 0 {
-        return items.get(place as usize);
-    }
-    let place = items.len().checked_sub(place.unsigned_abs() as usize)?;
-    items.get(place)
 }
 
 /// The item at a place of a list that is given, from the end if the place is negative.

@@ -7,7 +7,7 @@ use Rattle.expr_frames.specs.declared.frame.ParseState.{ParseState}
 use Rattle.expr_frames.specs.Nodes as node
 use Rattle.expr_frames.proofs.Erase.{state, steps as kept_steps}
 use Rattle.expr_grammar.specs.Machine.{State, step, first_state}
-use Rattle.expr_grammar.specs.Prefixes.{SomeBegins, StopsAt}
+use Rattle.expr_grammar.specs.Prefixes.{SomeBegins, FaultsAt}
 use Rattle.expr_grammar.proofs.Closing.{goes_on as begins_where}
 use Rattle.expr_parser.proofs.Whole.{after, stuck_place}
 
@@ -27,5 +27,5 @@ module _ (ts seen : List Token) (i : ℕ) (k : List NodeFrame) (p : ParseState) 
       let same : take i ts ≡ seen = ap (λ m. take m ts) counted ∙ ap (λ us. take (length seen) us) e ∙ take-append_seam seen rest in
       subst SomeBegins (sym same) (goes_on seen k p at)
 
-  pub stops : (rest : List Token) (t : Token) → ts ≡ seen ++ t ∷ rest → after (seen ++ t ∷ []) ≡ node.Fail → (i ≤ length ts) × StopsAt ts i
+  pub stops : (rest : List Token) (t : Token) → ts ≡ seen ++ t ∷ rest → after (seen ++ t ∷ []) ≡ node.Fail → (i ≤ length ts) × FaultsAt ts i
   stops rest t e f = let s = stuck_place ts seen rest t i e counted f in (s.0, (begun (t ∷ rest) e, s.1))

@@ -45,18 +45,18 @@ pub enum ParseError {
 const DEPTH: usize = 8;
 
 #[derive(Drop)]
-struct Parser {
+struct FrameParser {
     alloc: Global,
     frames: Vec<Frame>,
 }
 
-impl Parser {
-    fn new(alloc: Global) -> Result<Parser, ReadError>
+impl FrameParser {
+    fn new(alloc: Global) -> Result<FrameParser, ReadError>
         ensures { IfOk result (λ p. stack p.frames.items ≡ frame.Body section.Top no_lines ∷ []) }
     {
         let mut frames = Vec::with_capacity(alloc, DEPTH)?;
         frames.push(Frame::Body(Section::Top, Lines::new(alloc)))?;
-        Ok(Parser { alloc, frames })
+        Ok(FrameParser { alloc, frames })
     }
 
     // Reads one token.
@@ -156,7 +156,7 @@ pub fn parse(alloc: Global, text: &str) -> Result<AnnotatedProgram, ParseError>
     // A syntax fault's place is that of the first: some program begins with the tokens before it, and none goes on there.
     ensures place { IsParsedAt text.now result }
 {
-    let Ok(mut parser) = Parser::new(alloc) else {
+    let Ok(mut parser) = FrameParser::new(alloc) else {
         return Err(ParseError::Memory);
     };
     let mut place = ParseState::Want;

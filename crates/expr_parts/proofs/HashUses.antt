@@ -48,18 +48,18 @@ reducer_is [] = refl
 reducer_is (t ∷ []) = last_one (has_free_hash t) t
 reducer_is (t ∷ u ∷ ts) = reducer_two (has_free_hash t) (has_free_hash u) t u ts
 
-chosen : (reduces takes : Bool) (a b : Option ℕ) (ts : List Term)
+without_argument-if : (reduces takes : Bool) (a b : Option ℕ) (ts : List Term)
     → (if reduces then without_argument a ts else (if takes then without_argument b ts else without_argument None ts)) ≡ without_argument (if reduces then a else (if takes then b else None)) ts
-chosen true true a b ts = refl
-chosen true false a b ts = refl
-chosen false true a b ts = refl
-chosen false false a b ts = refl
+without_argument-if true true a b ts = refl
+without_argument-if true false a b ts = refl
+without_argument-if false true a b ts = refl
+without_argument-if false false a b ts = refl
 
 promoted_is : (key : List ℕ) (ts : List Term) → promotion_of key ts ≡ without_argument (promoted_place key (hash_uses_of ts) (length ts)) ts
 promoted_is key ts =
     let asking : Option HigherOrderCall = higher_order_named key in
     (λ i. if reduces asking then reducer_is ts i else (if is_some asking then last_is ts i else without_argument None ts))
-    ∙ chosen (reduces asking) (is_some asking) _ _ ts
+    ∙ without_argument-if (reduces asking) (is_some asking) _ _ ts
 
 -- a hash name is free in what is promoted
 free_if : (ts : List Term) (i j : ℕ) (b : Bool) → b ≡ is_free_at ts i → place_if b i ≡ Some j → is_free_at ts j ≡ true

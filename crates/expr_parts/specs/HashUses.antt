@@ -20,9 +20,9 @@ place_if is_free i = if is_free then Some i else None
 -- where the argument stands that is promoted, of so many
 abbrev pub promoted_place : List ℕ → HashUses → ℕ → Option ℕ
 promoted_place key marks count =
-    let asking = higher_order_named key in
-    if reduces asking then (if marks.second then Some 1 else place_if marks.first 0)
-    else (if is_some asking then place_if marks.last (count - 1) else None)
+    let b = higher_order_named key in
+    if reduces b then (if marks.second then Some 1 else place_if marks.first 0)
+    else (if is_some b then place_if marks.last (count - 1) else None)
 
 -- the arguments but the one at a place, and that one as the program of the call
 abbrev pub without_argument : Option ℕ → List Term → Promotion

@@ -2,7 +2,7 @@
 use Rattle.std.specs.Prelude.{ℕ, suc, max, Bool, false, codes, List, [], ◌∷◌, ◌++◌, Option, Some, None, refl}
 use Rattle.std.specs.Coded.{Coded, code_by, coded×, coded_ℕ, coded_list}
 use Rattle.expr_value.specs.declared.value.Value.TheVariants as value
-use Rattle.expr_tree.specs.Codes.{term_code, block_code, predicate_code}
+use Rattle.expr_tree.specs.Codes.{coded_term, coded_block, coded_predicate}
 use Rattle.expr_tree.specs.Term.{Term, name, literal, list, range, unary, operation, postfix, choice, index, slice, coalesce, pipe, ternary, method, Bound, unbounded, bound, Predicate, no_predicate, predicate, Block, LineTerms, block_with}
 use Rattle.expr_tree.specs.TermOf.{terms_of}
 use Rattle.expr_tree.specs.declared.operator.Operator.{Operator}
@@ -36,23 +36,23 @@ pub record ArgumentsWithHeight : Type 0 where
   pub program : Predicate
   pub height : ℕ
 
-abbrev pub with_height_code : Coded WithHeight
-with_height_code = code_by (Term × ℕ) (coded× term_code coded_ℕ) (λ m. (m.term, m.height)) (λ p. record { term = p.0; height = p.1 }) (λ _. refl)
+abbrev pub coded_with_height : Coded WithHeight
+coded_with_height = code_by (Term × ℕ) (coded× coded_term coded_ℕ) (λ m. (m.term, m.height)) (λ p. record { term = p.0; height = p.1 }) (λ _. refl)
 
-abbrev pub block_with_height_code : Coded BlockWithHeight
-block_with_height_code = code_by (Block × ℕ) (coded× block_code coded_ℕ) (λ m. (m.block, m.height)) (λ p. record { block = p.0; height = p.1 }) (λ _. refl)
+abbrev pub coded_block_with_height : Coded BlockWithHeight
+coded_block_with_height = code_by (Block × ℕ) (coded× coded_block coded_ℕ) (λ m. (m.block, m.height)) (λ p. record { block = p.0; height = p.1 }) (λ _. refl)
 
-abbrev pub named_code : Coded LineTerms
-named_code = coded_list (coded× (coded_list coded_ℕ) term_code)
+abbrev pub coded_line_terms : Coded LineTerms
+coded_line_terms = coded_list (coded× (coded_list coded_ℕ) coded_term)
 
-abbrev pub lines_code : Coded LinesWithHeight
-lines_code = code_by (LineTerms × ℕ) (coded× named_code coded_ℕ) (λ m. (m.lines, m.height)) (λ p. record { lines = p.0; height = p.1 }) (λ _. refl)
+abbrev pub coded_lines : Coded LinesWithHeight
+coded_lines = code_by (LineTerms × ℕ) (coded× coded_line_terms coded_ℕ) (λ m. (m.lines, m.height)) (λ p. record { lines = p.0; height = p.1 }) (λ _. refl)
 
-abbrev pub pairs_code : Coded PairsWithHeight
-pairs_code = code_by (LineTerms × ℕ) (coded× named_code coded_ℕ) (λ m. (m.pairs, m.height)) (λ p. record { pairs = p.0; height = p.1 }) (λ _. refl)
+abbrev pub coded_pairs : Coded PairsWithHeight
+coded_pairs = code_by (LineTerms × ℕ) (coded× coded_line_terms coded_ℕ) (λ m. (m.pairs, m.height)) (λ p. record { pairs = p.0; height = p.1 }) (λ _. refl)
 
-abbrev pub arguments_code : Coded ArgumentsWithHeight
-arguments_code = code_by (List Term × (Predicate × ℕ)) (coded× (coded_list term_code) (coded× predicate_code coded_ℕ)) (λ g. (g.terms, (g.program, g.height))) (λ (terms, (program, height)). record { terms = terms; program = program; height = height }) (λ _. refl)
+abbrev pub coded_arguments : Coded ArgumentsWithHeight
+coded_arguments = code_by (List Term × (Predicate × ℕ)) (coded× (coded_list coded_term) (coded× coded_predicate coded_ℕ)) (λ g. (g.terms, (g.program, g.height))) (λ (terms, (program, height)). record { terms = terms; program = program; height = height }) (λ _. refl)
 
 -- Expressions.
 abbrev pub leaf : Term → WithHeight

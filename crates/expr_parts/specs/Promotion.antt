@@ -57,7 +57,7 @@ lines_have_free_hash ls = list_any (λ l. has_free_hash l.1) ls
 -- whether it is the built-in that tells its predicate what it has made so far
 abbrev pub reduces : Option HigherOrderCall → Bool
 reduces (Some Reduce) = true
-reduces asking = false
+reduces b = false
 
 -- the arguments but one, and that one as the program of the call, if one is promoted
 pub record Promotion : Type 0 where
@@ -80,9 +80,9 @@ reducer_promotion (t ∷ u ∷ ts) =
 
 -- by the built-in of the call's name that asks a predicate, if there is one
 abbrev pub promoted_by : Option HigherOrderCall → List Term → Promotion
-promoted_by asking ts =
-    if reduces asking then reducer_promotion ts
-    else (if is_some asking then last_promotion ts else record { arguments = ts; program = no_predicate })
+promoted_by b ts =
+    if reduces b then reducer_promotion ts
+    else (if is_some b then last_promotion ts else record { arguments = ts; program = no_predicate })
 
 abbrev pub promotion_of : List ℕ → List Term → Promotion
 promotion_of key ts = promoted_by (higher_order_named key) ts

@@ -36,11 +36,11 @@ impl Drop for AnnotatedNode {
 }
 
 impl Model for AnnotatedNode {
-    ghost use Rattle.expr_parts.specs.Parts.{WithHeight, with_height_code};
+    ghost use Rattle.expr_parts.specs.Parts.{WithHeight, coded_with_height};
 
     ghost Value = { WithHeight };
 
-    ghost coded = { with_height_code };
+    ghost coded = { coded_with_height };
 
     ghost use Rattle.std.specs.Prelude.{◌≡◌};
     ghost use Rattle.expr_tree.specs.KeptPatterns.{operations};
@@ -437,7 +437,7 @@ fn kept_pattern(
 fn pattern_of(alloc: Global, text: &str) -> Result<CompiledRegex, AllocError>
     ensures { IfOk result (IsKeptOf text.now) }
 {
-    match Pattern::kept(alloc, text) {
+    match Pattern::of_text(alloc, text) {
         Ok(Some(pattern)) => Ok(CompiledRegex::Built(Box::new(alloc, pattern)?)),
         Ok(None) => Ok(CompiledRegex::None),
         Err(Unbuilt::TooBig) => Ok(CompiledRegex::TooBig),

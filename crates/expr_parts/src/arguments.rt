@@ -39,12 +39,12 @@ impl Model for Arguments {
     ghost use Rattle.expr_tree.specs.KeptPatterns.{predicate_operations};
     ghost use Rattle.expr_tree.specs.TermOf.{predicate_term, term_of};
     ghost use Rattle.expr_parts.specs.Kept.{KeepPatterns, NodesKeepPatterns};
-    ghost use Rattle.expr_parts.specs.Parts.{ArgumentsWithHeight, arguments_code};
+    ghost use Rattle.expr_parts.specs.Parts.{ArgumentsWithHeight, coded_arguments};
     ghost use Rattle.expr_parts.specs.HashUses.{hash_uses_of};
 
     ghost Value = { ArgumentsWithHeight };
 
-    ghost coded = { arguments_code };
+    ghost coded = { coded_arguments };
 
     ghost view = { λ a. record {
       terms = map term_of a.nodes.items;

@@ -39,12 +39,12 @@ impl Model for Entries {
     ghost use Rattle.expr_tree.specs.TermOf.{line_term};
     ghost use Rattle.expr_parts.specs.Kept.{LinesKeepPatterns};
     ghost use Rattle.expr_parts.specs.Maps as maps;
-    ghost use Rattle.expr_parts.specs.Parts.{PairsWithHeight, pairs_code};
+    ghost use Rattle.expr_parts.specs.Parts.{PairsWithHeight, coded_pairs};
     ghost use Rattle.expr_parts.specs.Promotion.{lines_have_free_hash};
 
     ghost Value = { PairsWithHeight };
 
-    ghost coded = { pairs_code };
+    ghost coded = { coded_pairs };
 
     ghost view = { λ e. record { pairs = map line_term e.pairs.items; height = e.height } };
 

@@ -29,11 +29,11 @@ impl Drop for AnnotatedProgram {
 }
 
 impl Model for AnnotatedProgram {
-    ghost use Rattle.expr_parts.specs.Parts.{BlockWithHeight, block_with_height_code};
+    ghost use Rattle.expr_parts.specs.Parts.{BlockWithHeight, coded_block_with_height};
 
     ghost Value = { BlockWithHeight };
 
-    ghost coded = { block_with_height_code };
+    ghost coded = { coded_block_with_height };
 
     ghost use Rattle.std.specs.Prelude.{◌≡◌};
     ghost use Rattle.expr_tree.specs.KeptPatterns.{program_operations};
@@ -88,11 +88,11 @@ impl Drop for Lines {
 }
 
 impl Model for Lines {
-    ghost use Rattle.expr_parts.specs.Parts.{LinesWithHeight, lines_code};
+    ghost use Rattle.expr_parts.specs.Parts.{LinesWithHeight, coded_lines};
 
     ghost Value = { LinesWithHeight };
 
-    ghost coded = { lines_code };
+    ghost coded = { coded_lines };
 
     ghost use Rattle.std.specs.Prelude.{◌≡◌, map};
     ghost use Rattle.expr_tree.specs.TermOf.{line_term};

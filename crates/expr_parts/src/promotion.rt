@@ -49,15 +49,15 @@ impl HashUses {
     pub(crate) fn promoted_place(self, ident: &str, count: usize) -> Option<usize>
         ensures { result ≡ places.promoted_place ident.now self count }
     {
-        let asking = HigherOrderCall::from_name(ident);
-        if reduces(asking) {
+        let call = HigherOrderCall::from_name(ident);
+        if reduces(call) {
             return if self.second {
                 Some(1)
             } else {
                 place_if(self.first, 0)
             };
         }
-        if asking.is_some() {
+        if call.is_some() {
             return place_if(self.last, count.saturating_sub(1));
         }
         None
@@ -65,10 +65,10 @@ impl HashUses {
 }
 
 // Whether it is `reduce`, which takes its program as the second argument, or else as the first.
-fn reduces(asking: Option<HigherOrderCall>) -> bool
-    ensures { result ≡ promotion.reduces asking }
+fn reduces(call: Option<HigherOrderCall>) -> bool
+    ensures { result ≡ promotion.reduces call }
 {
-    matches!(asking, Some(HigherOrderCall::Reduce))
+    matches!(call, Some(HigherOrderCall::Reduce))
 }
 
 fn place_if(is_free: bool, place: usize) -> Option<usize>

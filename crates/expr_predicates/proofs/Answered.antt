@@ -1,5 +1,5 @@
 -- One answer in a run of a predicate, and what follows it.
-use Rattle.std.proofs.Common.{◌≡◌, ℕ, suc, List, [], ◌∷◌, ◌++◌, Bool, true, false, Result, Some, None, Ok, Err, MatchBool, cond, refl, sym, subst, arith}
+use Rattle.std.proofs.Common.{◌≡◌, suc, List, [], ◌∷◌, ◌++◌, Bool, true, false, Result, Some, None, Ok, Err, MatchBool, cond, refl, sym, subst, arith}
 use Rattle.std.specs.List.{Contains}
 use Rattle.expr_error.specs.ErrorKind.{ErrorKind, evaluation}
 use Rattle.expr_value.specs.declared.value.Value.{Value}
@@ -98,8 +98,8 @@ module _ (t : Fold) (asks asks' : PredicateArgsView → Answer → Type 0) where
       ) p
 
 module _ (asks asks' : PredicateArgsView → Answer → Type 0) (keeps : (q : PredicateArgsView) (a : Answer) → asks q a → asks' q a) where
-  starts_keeps : (s : Result FoldOver ErrorKind) (a : Answer) → ThenIfOk s (λ s. FoldMayReturn s.task asks s.items []) a → ThenIfOk s (λ s. FoldMayReturn s.task asks' s.items []) a
-  starts_keeps (Ok s) a p = FoldMayReturn-carried s.task asks asks' s.items [] (λ rs x c. keeps (args_about s.task rs x)) a p
+  starts_keeps : (s : Result FoldOver ErrorKind) (a : Answer) → ThenIfOk s (λ s. FoldMayReturn s.fold asks s.items []) a → ThenIfOk s (λ s. FoldMayReturn s.fold asks' s.items []) a
+  starts_keeps (Ok s) a p = FoldMayReturn-carried s.fold asks asks' s.items [] (λ rs x c. keeps (args_about s.fold rs x)) a p
   starts_keeps (Err e) a p = p
 
   pub AllowsHigherOrder-keeps : (b : HigherOrderCall) (vs : List Value) (given : Bool) (a : Answer) → AllowsHigherOrder b vs given asks a → AllowsHigherOrder b vs given asks' a

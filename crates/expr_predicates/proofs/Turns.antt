@@ -1,26 +1,15 @@
 -- One turn of a loop that runs a predicate, for whoever runs it.
 use Rattle.std.proofs.Common.{◌≡◌, ◌≢◌, List, [], ◌∷◌, ◌++◌, true, false, Result, Some, None, Ok, Err, sym, ap, ◌∙◌, subst}
-use Rattle.std.specs.Result.{IsErrAnd}
 use Rattle.expr_error.specs.ErrorKind.{ErrorKind, error_kind, memory, evaluation}
 use Rattle.expr_error.specs.declared.error.Error.{Error}
 use Rattle.expr_value.specs.declared.value.Value.{Value}
 use Rattle.expr_value.specs.Answers.{Answer, Returns}
+use Rattle.expr_value.proofs.Answered.{Returns-under}
 use Rattle.expr_predicates.specs.Accumulators.{Awaits, RunRepresents, remaining_items}
 use Rattle.expr_predicates.specs.Runs.{FoldMayReturn, next_args}
 use Rattle.expr_predicates.specs.Folds.{Fold, ItemAnswer, PredicateArgsView, FoldOutcome, args_about, refuses_answer}
 use Rattle.expr_predicates.specs.declared.run.PredicateRun.{PredicateRun}
 use Rattle.expr_predicates.proofs.Answered.{IsNext, next_is, FoldMayReturn-answered, FoldMayReturn-misanswered, FoldMayReturn-refuses_answer, FoldMayReturn-done}
-
--- a refusal that a `?` passes on
-pub Returns-passed : {A : Type 0} (r : Result A Error) (e : Error) (R : Result A ErrorKind → Type 0)
-    → IsErrAnd r (λ x. x ≡ e) → (error_kind e ≢ memory → R (Err (error_kind e))) → Returns r R
-Returns-passed (Ok v) e R is p = absurd is
-Returns-passed (Err x) e R is p = subst (λ y. error_kind y ≢ memory → R (Err (error_kind y))) (sym is) p
-
--- a result under another relation that allows as much
-pub Returns-under : {A : Type 0} (r : Result A Error) (P Q : Result A ErrorKind → Type 0) → ((a : Result A ErrorKind) → P a → Q a) → Returns r P → Returns r Q
-Returns-under (Ok v) P Q f p = f (Ok v) p
-Returns-under (Err e) P Q f p = λ m. f (Err (error_kind e)) (p m)
 
 -- a run stands somewhere from which all that it may come to is allowed
 abbrev pub Leads : (PredicateArgsView → Answer → Type 0) → (Answer → Type 0) → Fold → PredicateRun → Type 0

@@ -77,7 +77,7 @@ remaining_count run = length (remaining_items run)
 
 -- a run stands at its beginning, where this is what its built-in begins with
 abbrev pub StartsWith : PredicateRun → Result FoldOver ErrorKind → Type 0
-StartsWith run start = (t : Fold) × (start ≡ Ok (record { task = t; items = remaining_items run })) × RunRepresents run t []
+StartsWith run start = (t : Fold) × (start ≡ Ok (record { fold = t; items = remaining_items run })) × RunRepresents run t []
 
 -- what a run tells beside the item that is out, until it is taken
 abbrev pub index_out : PredicateRun → Option Value

@@ -1,7 +1,7 @@
 -- What the built-ins that ask a predicate make of their arguments.
 use Rattle.std.specs.Prelude.{ℕ, Bool, true, false, ◌||◌, List, [], ◌∷◌, length, reverse, Option, Some, None, Result, Ok, Err, bytes_eq, codes, if◌then◌else◌}
 use Rattle.expr_error.specs.ErrorKind.{ErrorKind, evaluation}
-use Rattle.expr_value.specs.Values.{items_of, string_of}
+use Rattle.expr_value.specs.Values.{string_of}
 use Rattle.expr_value.specs.declared.value.Value.{Value}
 use Rattle.expr_value.specs.Answers.{Answer, ThenIfOk}
 use Rattle.expr_predicates.specs.Runs.{FoldMayReturn}
@@ -9,21 +9,12 @@ use Rattle.expr_sorting.specs.Sorting.{Sorts, own_answers}
 use Rattle.expr_predicates.specs.Folds.{Fold, PredicateArgsView, finding, finding_last_place, front_fold, reducing, sorting}
 use Rattle.expr_functions.specs.declared.functions.HigherOrderCall.{HigherOrderCall}
 use Rattle.expr_functions.specs.declared.functions.HigherOrderCall.TheVariants.{Count, FindLast, FindLastIndex, Reduce, SortBy, Sum}
+pub use Rattle.expr_arguments.specs.Arguments.{array_and_more, array_then}
 
 -- what is made of which items, in the order in which they are asked about
 pub record FoldOver : Type 0 where
-  pub task : Fold
+  pub fold : Fold
   pub items : List Value
-
--- an array, and one more argument if there is one
-abbrev pub array_then : Option (List Value) → Option Value → Result (List Value × Option Value) ErrorKind
-array_then (Some items) more = Ok (items, more)
-array_then None more = Err evaluation
-
-abbrev pub array_and_more : List Value → Result (List Value × Option Value) ErrorKind
-array_and_more (v ∷ []) = array_then (items_of v) None
-array_and_more (v ∷ w ∷ []) = array_then (items_of v) (Some w)
-array_and_more vs = Err evaluation
 
 -- `"desc"` is downward and `"asc"` upward
 abbrev pub direction_named : Option (List ℕ) → Result Bool ErrorKind
@@ -31,16 +22,16 @@ direction_named (Some text) = if bytes_eq text (codes "desc") then Ok true else 
 direction_named None = Err evaluation
 
 abbrev pub sort_in_direction : List Value → Result Bool ErrorKind → Result FoldOver ErrorKind
-sort_in_direction items (Ok down) = Ok (record { task = sorting down; items = items })
+sort_in_direction items (Ok down) = Ok (record { fold = sorting down; items = items })
 sort_in_direction items (Err e) = Err e
 
 -- without a value to begin with, the first item is it
 abbrev pub reduce_from_first : List Value → Result FoldOver ErrorKind
 reduce_from_first [] = Err evaluation
-reduce_from_first (x ∷ items) = Ok (record { task = reducing x 1; items = items })
+reduce_from_first (x ∷ items) = Ok (record { fold = reducing x 1; items = items })
 
 abbrev pub fold_over : Fold → List Value → Result FoldOver ErrorKind
-fold_over t items = Ok (record { task = t; items = items })
+fold_over t items = Ok (record { fold = t; items = items })
 
 -- the same, where there is anything to make of them
 abbrev pub fold_over_if : Option Fold → List Value → Result FoldOver ErrorKind
@@ -72,7 +63,7 @@ fold_of_call b vs given = if given || runs_alone b then fold_of_array b (array_a
 
 -- what a built-in may answer on these arguments, with a predicate or without one, and with what that may answer
 abbrev pub AllowsHigherOrder : HigherOrderCall → List Value → Bool → (PredicateArgsView → Answer → Type 0) → Answer → Type 0
-AllowsHigherOrder b vs given asks answer = ThenIfOk (fold_of_call b vs given) (λ s. FoldMayReturn s.task asks s.items []) answer
+AllowsHigherOrder b vs given asks answer = ThenIfOk (fold_of_call b vs given) (λ s. FoldMayReturn s.fold asks s.items []) answer
 
 -- upward, where no direction is given
 abbrev pub direction_of : Option Value → Result Bool ErrorKind

@@ -1,8 +1,9 @@
 -- What a built-in makes of the items that it asks a predicate about, and of the answers.
-use Rattle.std.specs.Prelude.{◌≡◌, ℕ, ◌+◌, ◌-◌, ◌==◌, ℤ, pos, negsuc, nat_lt, Bool, true, false, not, List, [], ◌∷◌, length, map, count_by, Option, Some, None, option_map, unwrap_or, Ok}
+use Rattle.std.specs.Prelude.{◌≡◌, ℕ, ◌+◌, ◌-◌, ◌==◌, ℤ, pos, negsuc, nat_lt, Bool, true, false, not, List, length, map, count_by, Option, Some, None, option_map, unwrap_or, Ok}
 use Rattle.std.specs.Int.{w64, int_wrapping_add, cast_signed}
 use Rattle.std.specs.List.{filter, filter_map, find, fold, list_any, position_from}
 use Rattle.std.specs.Option.{is_some, option_or}
+use Rattle.expr_value.specs.FirstPlaces.{first_places}
 use Rattle.expr_value.specs.Keys.{key_eq}
 use Rattle.expr_value.specs.Values.{integer_of, key_of, truth_of}
 use Rattle.expr_value.specs.declared.key.Key.{Key}
@@ -121,14 +122,9 @@ total rs = fold (λ n r. int_wrapping_add w64 n (unwrap_or (integer_of r.1) (pos
 abbrev pub items_by_key : List ItemAnswer → List (Key × Value)
 items_by_key rs = filter_map (λ r. option_map (λ k. (k, r.0)) (key_of r.1)) rs
 
--- each key where it is first seen
-abbrev pub firsts : {K : Type 0} → (K → K → Bool) → List K → List K
-firsts eq [] = []
-firsts eq (k ∷ ks) = k ∷ filter (λ l. not (eq k l)) (firsts eq ks)
-
 -- each key once, as first seen and in that order, with the items that have it
 abbrev pub groups_of : List (Key × Value) → List (Key × Value)
-groups_of ps = map (λ k. (k, value.Array (map (λ p. p.1) (filter (λ p. key_eq k p.0) ps)))) (firsts key_eq (map (λ p. p.0) ps))
+groups_of ps = map (λ k. (k, value.Array (map (λ p. p.1) (filter (λ p. key_eq k p.0) ps)))) (first_places key_eq (map (λ p. p.0) ps))
 
 -- what the replies come to, but for sorting
 abbrev pub fold_outcome : Fold → List ItemAnswer → Value

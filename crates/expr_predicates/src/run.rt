@@ -1,17 +1,17 @@
 //! A run of a predicate over the items of an array.
-ghost use Rattle.std.specs.Prelude.{◌≡◌, ◌≢◌, ℕ, ◌+◌, ◌<◌, ◌^◌, ◌∷◌, ◌++◌, [], List, reverse, length, IfOk, IfSome, IsSomeAnd, Ok, Err, Some, None, option_map, true, false};
+ghost use Rattle.std.specs.Prelude.{◌≡◌, ℕ, ◌+◌, ◌<◌, ◌^◌, ◌∷◌, ◌++◌, [], List, reverse, length, IfOk, IfSome, IsSomeAnd, Ok, Err, Some, None, option_map, true, false};
 ghost use Rattle.expr_value.specs.Answers.{Returns};
 ghost use Rattle.expr_error.specs.ErrorKind.{evaluation, RefusesWith};
 ghost use Rattle.expr_arguments.specs.Arrays.{array_items};
 ghost use Rattle.expr_predicates.specs.Calls.{SortsItems};
 ghost use Rattle.expr_predicates.specs.Remaining.{items_remaining};
 
-use crate::arguments::{array_and_more, direction, is_downward, runs_alone};
+use crate::arguments::{direction, is_downward, runs_alone};
 use crate::predicate_args::PredicateArgs;
 use crate::remaining::Remaining;
 use crate::scalar_accumulator::ScalarAccumulator;
 use crate::value_accumulator::ValueAccumulator;
-use expr_arguments::{Array, count_items, into_items};
+use expr_arguments::{Array, array_and_more, count_items, into_items};
 use expr_cow::CowValue;
 use expr_functions::HigherOrderCall;
 use expr_sorting::sort_items;
@@ -30,14 +30,14 @@ impl Accumulator {
     ghost use Rattle.expr_predicates.specs.Accumulators.{Represents, RepresentsRest, acc_arg, index_arg};
 
     /// What is kept before any answer, for a built-in that asks about the items of an array alone, from the front.
-    fn at_start(alloc: Global, asking: HigherOrderCall) -> Option<Accumulator>
-        ensures begun { IfSome result (λ a. IsSomeAnd (front_fold asking) (λ t. Represents a t [])) }
-        ensures none { result ≡ None → front_fold asking ≡ None }
+    fn at_start(alloc: Global, call: HigherOrderCall) -> Option<Accumulator>
+        ensures begun { IfSome result (λ a. IsSomeAnd (front_fold call) (λ t. Represents a t [])) }
+        ensures none { result ≡ None → front_fold call ≡ None }
     {
-        if let Some(noted) = ScalarAccumulator::at_start(asking) {
+        if let Some(noted) = ScalarAccumulator::at_start(call) {
             return Some(Accumulator::Scalar(noted));
         }
-        let kept = ValueAccumulator::at_start(alloc, asking)?;
+        let kept = ValueAccumulator::at_start(alloc, call)?;
         Some(Accumulator::Values(kept))
     }
 
@@ -166,33 +166,33 @@ impl<'s> PredicateRun<'s> {
     /// [`Error::ExprError`](expr_value::Error::ExprError).
     pub fn begin(
         alloc: Global,
-        asking: HigherOrderCall,
+        call: HigherOrderCall,
         args: Items<CowValue<'s>>,
         given: bool,
     ) -> Result<PredicateRun<'s>>
-        ensures begun { IfOk result (λ r. StartsWith r (fold_of_call asking args.entry given)) }
-        ensures refused { RefusesWith result (λ k. fold_of_call asking args.entry given ≡ Err k) }
+        ensures begun { IfOk result (λ r. StartsWith r (fold_of_call call args.entry given)) }
+        ensures refused { RefusesWith result (λ k. fold_of_call call args.entry given ≡ Err k) }
     {
-        if !given && !runs_alone(asking) {
+        if !given && !runs_alone(call) {
             return Err(refusal(alloc, "the function takes a predicate"));
         }
         let (array, more) = array_and_more(alloc, args)?;
         match more {
-            None => PredicateRun::over_array(alloc, asking, array),
-            Some(more) => PredicateRun::over_array_with(alloc, asking, array, more),
+            None => PredicateRun::over_array(alloc, call, array),
+            Some(more) => PredicateRun::over_array_with(alloc, call, array, more),
         }
     }
 
     /// A built-in on an array alone.
     fn over_array(
         alloc: Global,
-        asking: HigherOrderCall,
+        call: HigherOrderCall,
         array: Array<'s>,
     ) -> Result<PredicateRun<'s>>
-        ensures begun { IfOk result (λ r. StartsWith r (fold_of asking (array_items array.entry) None)) }
-        ensures refused { RefusesWith result (λ k. fold_of asking (array_items array.entry) None ≡ Err k) }
+        ensures begun { IfOk result (λ r. StartsWith r (fold_of call (array_items array.entry) None)) }
+        ensures refused { RefusesWith result (λ k. fold_of call (array_items array.entry) None ≡ Err k) }
     {
-        match asking {
+        match call {
             HigherOrderCall::FindLast => Ok(PredicateRun::backward(
                 array,
                 Accumulator::Values(ValueAccumulator::Find(None)),
@@ -205,22 +205,22 @@ impl<'s> PredicateRun<'s> {
                 ))
             }
             HigherOrderCall::Reduce => PredicateRun::from_first(alloc, array),
-            _ => PredicateRun::from_front(alloc, asking, array),
+            _ => PredicateRun::from_front(alloc, call, array),
         }
     }
 
     /// A built-in that asks about the items of an array alone, from the front.
     fn from_front(
         alloc: Global,
-        asking: HigherOrderCall,
+        call: HigherOrderCall,
         array: Array<'s>,
     ) -> Result<PredicateRun<'s>>
         ensures begun { IfOk result (λ r. StartsWith r
-            (fold_over_if (front_fold asking) (array_items array.entry))) }
-        ensures refused { RefusesWith result (λ k. fold_over_if (front_fold asking) (array_items array.entry)
+            (fold_over_if (front_fold call) (array_items array.entry))) }
+        ensures refused { RefusesWith result (λ k. fold_over_if (front_fold call) (array_items array.entry)
             ≡ Err k) }
     {
-        match Accumulator::at_start(alloc, asking) {
+        match Accumulator::at_start(alloc, call) {
             Some(gathered) => Ok(PredicateRun::forward(array, gathered)),
             None => Err(refusal(alloc, "the function takes one more argument")),
         }
@@ -229,16 +229,16 @@ impl<'s> PredicateRun<'s> {
     /// A built-in on an array and one more argument.
     fn over_array_with(
         alloc: Global,
-        asking: HigherOrderCall,
+        call: HigherOrderCall,
         array: Array<'s>,
         more: CowValue<'_>,
     ) -> Result<PredicateRun<'s>>
         ensures begun { IfOk result (λ r. StartsWith r
-            (fold_of asking (array_items array.entry) (Some more.entry))) }
-        ensures refused { RefusesWith result (λ k. fold_of asking (array_items array.entry) (Some more.entry)
+            (fold_of call (array_items array.entry) (Some more.entry))) }
+        ensures refused { RefusesWith result (λ k. fold_of call (array_items array.entry) (Some more.entry)
             ≡ Err k) }
     {
-        match asking {
+        match call {
             HigherOrderCall::Reduce => {
                 let init = more.into_value()?;
                 Ok(PredicateRun::forward(

@@ -1,5 +1,5 @@
 //! What is kept of the answers where neither an item nor an answer is.
-ghost use Rattle.std.specs.Prelude.{◌≡◌, ◌≢◌, ◌+◌, ◌-◌, ◌<◌, ◌^◌, ◌∷◌, ◌++◌, [], List, length, IfOk, IfSome, IsSomeAnd, Ok, Some, None, true, false, not, unwrap_or, if◌then◌else◌};
+ghost use Rattle.std.specs.Prelude.{◌≡◌, ◌+◌, ◌-◌, ◌<◌, ◌^◌, ◌∷◌, ◌++◌, [], List, length, IfOk, IfSome, IsSomeAnd, Ok, Some, None, true, false, not, unwrap_or, if◌then◌else◌};
 ghost use Rattle.std.specs.Option.{option_map, option_or};
 ghost use Rattle.expr_value.specs.Values.{truth_of};
 ghost use Rattle.expr_error.specs.ErrorKind.{evaluation, RefusesWith, IsOfKind};
@@ -33,11 +33,11 @@ impl ScalarAccumulator {
     ghost use Rattle.expr_predicates.specs.Accumulators.{ScalarRepresents};
 
     /// What is kept before any answer, for a built-in that keeps no more.
-    pub(crate) fn at_start(asking: HigherOrderCall) -> Option<ScalarAccumulator>
-        ensures begun { IfSome result (λ a. IsSomeAnd (scalar_fold asking) (λ t. ScalarRepresents a t [])) }
-        ensures none { result ≡ None → scalar_fold asking ≡ None }
+    pub(crate) fn at_start(call: HigherOrderCall) -> Option<ScalarAccumulator>
+        ensures begun { IfSome result (λ a. IsSomeAnd (scalar_fold call) (λ t. ScalarRepresents a t [])) }
+        ensures none { result ≡ None → scalar_fold call ≡ None }
     {
-        match asking {
+        match call {
             HigherOrderCall::All => Some(ScalarAccumulator::All(false)),
             HigherOrderCall::Any => Some(ScalarAccumulator::Any(false)),
             HigherOrderCall::NoneOf => Some(ScalarAccumulator::NoneOf(false)),

@@ -1,5 +1,5 @@
 //! What is kept of the answers where items or answers are.
-ghost use Rattle.std.specs.Prelude.{◌≡◌, ◌≢◌, ◌∷◌, ◌++◌, [], List, IfOk, IfSome, IsSomeAnd, OnOk, Some, None, true, false, if◌then◌else◌};
+ghost use Rattle.std.specs.Prelude.{◌≡◌, ◌∷◌, ◌++◌, [], List, IfOk, IfSome, IsSomeAnd, OnOk, Some, None, true, false, if◌then◌else◌};
 ghost use Rattle.std.specs.Option.{option_or};
 ghost use Rattle.expr_value.specs.Answers.{Returns};
 ghost use Rattle.expr_value.specs.Values.{key_of};
@@ -37,11 +37,11 @@ impl ValueAccumulator {
     ghost use Rattle.expr_predicates.specs.Accumulators.{ValuesRepresent, ValuesRepresentRest};
 
     /// What is kept before any answer, for a built-in that keeps items or answers.
-    pub(crate) fn at_start(alloc: Global, asking: HigherOrderCall) -> Option<ValueAccumulator>
-        ensures begun { IfSome result (λ a. IsSomeAnd (values_fold asking) (λ t. ValuesRepresent a t [])) }
-        ensures none { result ≡ None → values_fold asking ≡ None }
+    pub(crate) fn at_start(alloc: Global, call: HigherOrderCall) -> Option<ValueAccumulator>
+        ensures begun { IfSome result (λ a. IsSomeAnd (values_fold call) (λ t. ValuesRepresent a t [])) }
+        ensures none { result ≡ None → values_fold call ≡ None }
     {
-        match asking {
+        match call {
             HigherOrderCall::Map => Some(ValueAccumulator::Map(Vec::new(alloc))),
             HigherOrderCall::Filter => Some(ValueAccumulator::Filter(Vec::new(alloc))),
             HigherOrderCall::Find => Some(ValueAccumulator::Find(None)),

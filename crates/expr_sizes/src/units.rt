@@ -1,5 +1,5 @@
 //! What is taken of a room, in units.
-ghost use Rattle.std.specs.Prelude.{◌≡◌, ◌+◌, ◌<◌, ◌≤◌, ◌^◌, IfOk, IfErr, List, length};
+ghost use Rattle.std.specs.Prelude.{◌≡◌, ◌+◌, ◌<◌, ◌^◌, IfOk, IfErr};
 ghost use Rattle.expr_sizes.specs.Sizes.{key_weight, key_weights, byte_units as units, name_weights};
 ghost use Rattle.expr_sizes.specs.declared.value_limit.ValueLimit.{ValueLimit as passed};
 

@@ -1,9 +1,9 @@
 //! Many top values at once, the deepest of them first.
-ghost use Rattle.std.specs.Prelude.{◌≡◌, ◌≤◌, [], Ok, IfErr, IfOk, drop, length, reverse, take, vec_len};
+ghost use Rattle.std.specs.Prelude.{◌≡◌, ◌≤◌, [], Ok, IfOk, drop, length, reverse, take, vec_len};
 ghost use Rattle.expr_code.specs.Machine.{zip_names};
 ghost use Rattle.expr_stack.specs.Cells.{cell_values};
 ghost use Rattle.expr_stack.specs.Pushes.{Pushes, OnMany};
-ghost use Rattle.expr_error.specs.ErrorKind.{error_kind, memory};
+ghost use Rattle.expr_error.specs.ErrorKind.{OnlyMemory};
 ghost use Rattle.expr_value.specs.Names.{put_all};
 ghost use Rattle.expr_value.specs.declared.value.Value as value;
 
@@ -26,7 +26,7 @@ impl<'s, A: Allocator + Copy> Stack<'s, A> {
         requires { count ≤ length self.old }
         ensures taken { OnMany count kept.now self.old
             (λ vs rest. IfOk result (λ hs. (hs.items ≡ vs) × (self.new ≡ rest))) }
-        ensures refusal { IfErr result (λ e. error_kind e ≡ memory) }
+        ensures refusal { OnlyMemory result }
     {
         let mut values = Vec::with_capacity(alloc, count)?;
         while values.len() < count {
@@ -47,7 +47,7 @@ impl<'s, A: Allocator + Copy> Stack<'s, A> {
         requires { count ≤ length self.old }
         ensures taken { OnMany count kept.now self.old
             (λ vs rest. IfOk result (λ hs. (hs.items ≡ vs) × (self.new ≡ rest))) }
-        ensures refusal { IfErr result (λ e. error_kind e ≡ memory) }
+        ensures refusal { OnlyMemory result }
     {
         let mut values = Vec::with_capacity(alloc, count)?;
         while values.len() < count {
@@ -63,7 +63,7 @@ impl<'s, A: Allocator + Copy> Stack<'s, A> {
         requires { count ≤ length self.old }
         ensures taken { OnMany count kept.now self.old
             (λ vs rest. IfOk result (λ got. (got.items ≡ vs) × (self.new ≡ rest))) }
-        ensures refusal { IfErr result (λ e. error_kind e ≡ memory) }
+        ensures refusal { OnlyMemory result }
     {
         let mut values = Vec::with_capacity(alloc, count)?;
         while values.len() < count {
@@ -107,7 +107,7 @@ impl<'s, A: Allocator + Copy> Stack<'s, A> {
 /// The map of these values, each under its key.
 pub fn map_under(alloc: Global, keys: Vec<Text>, values: Vec<Value>) -> Result<ValueMap>
     ensures ok { IfOk result (λ map. map ≡ put_all [] (zip_names keys.items values.items)) }
-    ensures refusal { IfErr result (λ e. error_kind e ≡ memory) }
+    ensures refusal { OnlyMemory result }
 {
     let mut map = ValueMap::with_capacity(alloc, keys.len())?;
     for (key, value) in keys.into_iter().zip(values.into_iter()) {

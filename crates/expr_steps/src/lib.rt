@@ -10,6 +10,6 @@ pub use integers::of_literal;
 pub use messages::{unknown_function, unknown_method, unknown_name};
 pub use scope::{Binding, Scope, look_up};
 pub use steps::{
-    apply_cow, bound_at, call_method, cow_values, holds, list_of, map_of, match_cow, name_value,
-    part_at, prefix_cow, range_between, slice_of, truth_of,
+    apply_cow, bound_at, call_method, holds, list_of, map_of, match_cow, name_value, part_at,
+    prefix_cow, range_between, slice_of, truth_of,
 };

@@ -21,7 +21,7 @@ pub struct Binding<'s> {
 #[derive(Drop)]
 pub struct Scope<'s> {
     pub bindings: Vec<Binding<'s>>,
-    pub question: Option<PredicateArgsRef<'s>>,
+    pub predicate_args: Option<PredicateArgsRef<'s>>,
     pub outer: Option<&'s Scope<'s>>,
 }
 
@@ -32,7 +32,7 @@ impl<'s> Scope<'s> {
     {
         Scope {
             bindings: Vec::new(alloc),
-            question: None,
+            predicate_args: None,
             outer: None,
         }
     }
@@ -51,8 +51,8 @@ pub fn look_up<'s, P: ContextProvider>(
         if let Some(value) = binding_of(&at.bindings, key) {
             return Some(value);
         }
-        if let Some(question) = &at.question {
-            if let Some(value) = argument_of(question, key) {
+        if let Some(args) = &at.predicate_args {
+            if let Some(value) = argument_of(args, key) {
                 return Some(value);
             }
         }
@@ -81,19 +81,19 @@ fn binding_of<'s>(bindings: &'s [Binding<'s>], key: &str) -> Option<&'s Value>
 }
 
 // What a predicate is asked about under a name.
-fn argument_of<'s>(question: &'s PredicateArgsRef<'s>, key: &str) -> Option<&'s Value>
+fn argument_of<'s>(args: &'s PredicateArgsRef<'s>, key: &str) -> Option<&'s Value>
     ensures { MatchOption result
-        ((ctx : ContextView) → (predicate_context ctx (args_ref_view question.now)).value_of key.now
+        ((ctx : ContextView) → (predicate_context ctx (args_ref_view args.now)).value_of key.now
         ≡ ctx.value_of key.now)
         (λ v. (ctx : ContextView)
-        → (predicate_context ctx (args_ref_view question.now)).value_of key.now ≡ Some v.now) }
+        → (predicate_context ctx (args_ref_view args.now)).value_of key.now ≡ Some v.now) }
 {
     if is_hash(key) {
-        return Some(question.item);
+        return Some(args.item);
     }
     match key {
-        "#index" => question.index,
-        "#acc" => question.acc,
+        "#index" => args.index,
+        "#acc" => args.acc,
         _ => None,
     }
 }

@@ -1,5 +1,5 @@
 //! What an evaluation does with the values of parts.
-ghost use Rattle.std.specs.Prelude.{◌≡◌, ◌≢◌, ℕ, List, [], Ok, Err, Some, IfErr, IfOk, IsTrue, bytes_eq, codes};
+ghost use Rattle.std.specs.Prelude.{◌≡◌, ℕ, List, [], Ok, Err, Some, IfOk, IsTrue, bytes_eq, codes};
 ghost use Rattle.std.specs.Option.{option_copied};
 ghost use Rattle.expr_steps.specs.Options.{some_bound, option_list};
 ghost use Rattle.expr_steps.specs.Methods.{AllowsDurationMethod, AllowsMethod, AllowsMomentMethod, AllowsNameMethod};
@@ -10,7 +10,7 @@ ghost use Rattle.expr_operators.specs.Operators.{operator_answer, unary_answer, 
 ghost use Rattle.expr_operators.specs.AllocFree.{is_alloc_free_operator, is_alloc_free_value, ReturnsAllocFree};
 ghost use Rattle.expr_operators.specs.Positions.{checked_bound, index_answer, range_answer, slice_answer};
 ghost use Rattle.expr_value.specs.Answers.{Returns, ReturnsExactly};
-ghost use Rattle.expr_error.specs.ErrorKind.{error_kind, memory, pattern as bad_pattern, RefusesWith};
+ghost use Rattle.expr_error.specs.ErrorKind.{OnlyMemory, RefusesNoPattern, RefusesWith};
 ghost use Rattle.expr_value.specs.Names.{put_all};
 ghost use Rattle.expr_value.specs.declared.value.Value as value;
 
@@ -98,7 +98,7 @@ pub fn match_cow<'s>(
 ) -> Result<CowValue<'s>>
     ensures answer { Returns result (MatchMayReturn text.now source.now) }
     ensures kept { (s : List ℕ) → source.now ≡ value.String s → option_copied kept.entry ≡ Some s
-        → IfErr result (λ e. error_kind e ≢ bad_pattern) }
+        → RefusesNoPattern result }
 {
     let mut matchers = Matchers::new(alloc);
     let value = match_pattern(alloc, &mut matchers, text.get(), source.get(), kept)?;
@@ -181,7 +181,7 @@ pub fn list_of<'s>(
     more: usize,
 ) -> Result<Vec<CowValue<'s>>>
     ensures ok { IfOk result (λ vs. vs.items ≡ option_list first.entry) }
-    ensures refusal { IfErr result (λ e. error_kind e ≡ memory) }
+    ensures refusal { OnlyMemory result }
 {
     let Some(value) = first else {
         return Ok(Vec::with_capacity(alloc, more)?);
@@ -265,16 +265,4 @@ fn call_of_name(alloc: Global, ident: &str, value: &Value, args: &[CowValue<'_>]
         Some(method) => method.call(alloc, value, args),
         None => Err(unknown_method(alloc, ident)),
     }
-}
-
-/// Values that are given, to be held.
-pub fn cow_values<'s>(alloc: Global, values: Vec<Value>) -> Result<Items<CowValue<'s>>>
-    ensures ok { IfOk result (λ hs. hs ≡ values.items) }
-    ensures refusal { IfErr result (λ e. error_kind e ≡ memory) }
-{
-    let mut held = Vec::with_capacity(alloc, values.len())?;
-    for value in values {
-        held.push(CowValue::from_owned(value))?;
-    }
-    Ok(Items::from_vec(held))
 }

@@ -5,14 +5,17 @@ use Rattle.std.specs.declared.alloc.Global.{Global}
 use Rattle.std.specs.HashSet.{contains_text}
 use Rattle.expr_code.specs.Machine.{CodeAnswers, Op}
 use Rattle.expr_costs.specs.Costs.{costs_in}
+use Rattle.expr_meaning.specs.Allows.{AllowsBlock}
 use Rattle.expr_meaning.specs.Host.{Host}
+use Rattle.expr_meaning.specs.Independence.{AgreeAt}
 use Rattle.expr_meter.specs.Counting.{Ending, gives, refuses, stops as stops_at}
 use Rattle.expr_meter.specs.Counts.{CodeCounts}
 use Rattle.expr_meter.specs.Rooms.{Room, rooms, limited}
 use Rattle.expr_meter.specs.declared.limits.Limits.{Limits}
 use Rattle.expr_meter.specs.declared.outcome.Outcome.{Outcome}
 use Rattle.expr_meter.specs.declared.outcome.Outcome.TheVariants as outcome
-use Rattle.expr_meaning.specs.World.{World}
+use Rattle.expr_meaning.specs.World.{World, with_context}
+use Rattle.expr_steps.specs.Context.{ContextView}
 use Rattle.expr_stops.specs.declared.replies.CallReply.{CallReply}
 use Rattle.expr_stops.specs.declared.replies.Reply.{Reply}
 use Rattle.expr_stops.specs.declared.replies.Reply.TheVariants as reply
@@ -21,6 +24,8 @@ use Rattle.expr_stops.specs.declared.replay.Stop.{Stop}
 use Rattle.expr_stops.specs.declared.stops.Stops.{Stops}
 use Rattle.expr_stops.specs.declared.stops.Turn.{Turn}
 use Rattle.expr_stops.specs.declared.stops.Turn.TheVariants.{Ended, Asks, Differs, Stopped}
+use Rattle.expr_tree.specs.Names.{AreNamesOf}
+use Rattle.expr_tree.specs.Term.{Block}
 use Rattle.expr_value.specs.Answers.{Answer}
 use Rattle.expr_error.specs.ErrorKind.{evaluation, error_kind, memory}
 use Rattle.expr_value.specs.Values.{equals}
@@ -78,6 +83,10 @@ ComesTo allowed (gives v left) = allowed (Ok v)
 ComesTo allowed (refuses e) = allowed (Err e)
 ComesTo allowed (stops_at limit) = ⊥
 
+-- A program may answer this in each context that agrees with the world's at the program's names.
+abbrev pub AllowedWhereAgreed : World → Block → Answer → Type 0
+AllowedWhereAgreed world b answer = (other : ContextView) (keys : List (List ℕ)) → AreNamesOf keys b → AgreeAt keys b world.context other → AllowsBlock (with_context world other) b answer
+
 -- What a run of code may come to: within limits what one does that counts, and where there are none one of its answers.
 abbrev pub CodeComes : Option Limits → World → List (List Op) → Ending Room → Type 0
 CodeComes (Some limits) world code end = CodeCounts rooms (costs_in world.host) world code (limited limits.steps limits.size limits.depth) end
@@ -130,8 +139,8 @@ pub record IsReplied (old new : Stops) (reply : Reply) : Type 0 where
   pub given : replies_of new ≡ replies_of old ++ (record { call = stop.call; reply = reply } ∷ [])
   pub asked : waiting_call_of new ≡ None
 
--- The call that waited is refused with this text.
-pub record IsRefused (old new : Stops) (text : List ℕ) : Type 0 where
+-- The call that waited has a refusal with this text for its reply.
+pub record IsRepliedRefusal (old new : Stops) (text : List ℕ) : Type 0 where
   pub message : String Global
   pub says : string_bytes message ≡ text
   pub replied : IsReplied old new (reply.Refusal message)

@@ -1,11 +1,11 @@
 //! Code within limits, or where there are none.
-ghost use Rattle.std.specs.Prelude.{◌≡◌, ◌≢◌, IfErr, None};
+ghost use Rattle.std.specs.Prelude.{◌≡◌, None};
 ghost use Rattle.expr_limited.specs.Outcomes.{ReturnsOutcome};
 ghost use Rattle.expr_lowering.specs.Blocks.{CodeKeeps, blocks_of};
 ghost use Rattle.expr_machine.specs.Texts.{text_of};
 ghost use Rattle.expr_meaning.specs.Refusals.{NeverRefusesWith};
 ghost use Rattle.expr_stops.specs.Stops.{CodeComes};
-ghost use Rattle.expr_error.specs.ErrorKind.{error_kind, pattern as bad_pattern};
+ghost use Rattle.expr_error.specs.ErrorKind.{RefusesNoPattern, pattern as bad_pattern};
 ghost use Rattle.expr_meaning.specs.World.{world_of};
 
 use expr_context::ContextProvider;
@@ -40,7 +40,7 @@ pub fn execute_in<
     ensures ends { ReturnsOutcome result (CodeComes limits (world_of (H.host host.now) (P.context provider))
         (blocks_of L.held (text_of N.held) code.now)) }
     ensures pattern { limits ≡ None → NeverRefusesWith (H.host host.now) bad_pattern
-        → CodeKeeps L.held K.held code.now → IfErr result (λ e. error_kind e ≢ bad_pattern) }
+        → CodeKeeps L.held K.held code.now → RefusesNoPattern result }
 {
     let machine = Machine {
         alloc,

@@ -1,18 +1,15 @@
 //! One run in a host that answers from replies.
-ghost use Rattle.std.specs.Prelude.{◌≡◌, ◌≢◌, ℕ, List, IfErr, None};
+ghost use Rattle.std.specs.Prelude.{◌≡◌, None};
 ghost use Rattle.expr_limited.specs.Outcomes.{ReturnsOutcome};
 ghost use Rattle.expr_lowering.specs.Blocks.{CodeKeeps, blocks_of};
 ghost use Rattle.expr_lowering.specs.Kept.{ProgramKeeps};
 ghost use Rattle.expr_machine.specs.Texts.{text_of};
 ghost use Rattle.expr_meaning.specs.Allows.{AllowsBlock};
-ghost use Rattle.expr_meaning.specs.Independence.{AgreeAt};
 ghost use Rattle.expr_meaning.specs.Refusals.{NeverRefusesWith};
-ghost use Rattle.expr_steps.specs.Context.{ContextView};
 ghost use Rattle.expr_meaning.specs.World.{world_of};
-ghost use Rattle.expr_stops.specs.Stops.{CodeComes, ComesTo, host_replying, is_named};
-ghost use Rattle.expr_tree.specs.Names.{AreNamesOf};
+ghost use Rattle.expr_stops.specs.Stops.{AllowedWhereAgreed, CodeComes, ComesTo, host_replying, is_named};
 ghost use Rattle.expr_tree.specs.TermOf.{program_term};
-ghost use Rattle.expr_error.specs.ErrorKind.{error_kind, pattern as bad_pattern};
+ghost use Rattle.expr_error.specs.ErrorKind.{RefusesNoPattern, pattern as bad_pattern};
 
 use crate::limited::execute_in;
 use crate::names::StopNames;
@@ -47,13 +44,11 @@ pub fn play<'a, H: Functions>(
     ensures answer { ReturnsOutcome result.went (ComesTo (AllowsBlock
         (world_of (host_replying (H.host host.now) (is_named names.now) given.now) (context ctx.now))
         (program_term program.now))) }
-    ensures independent { ReturnsOutcome result.went (ComesTo
-        (λ a. (other : ContextView) (keys : List (List ℕ)) → AreNamesOf keys (program_term program.now)
-        → AgreeAt keys (program_term program.now) (context ctx.now) other
-        → AllowsBlock (world_of (host_replying (H.host host.now) (is_named names.now) given.now) other)
-        (program_term program.now) a)) }
+    ensures independent { ReturnsOutcome result.went (ComesTo (AllowedWhereAgreed
+        (world_of (host_replying (H.host host.now) (is_named names.now) given.now) (context ctx.now))
+        (program_term program.now))) }
     ensures pattern { NeverRefusesWith (H.host host.now) bad_pattern → ProgramKeeps program.now
-        → IfErr result.went (λ e. error_kind e ≢ bad_pattern) }
+        → RefusesNoPattern result.went }
 {
     let replay = Replay::new(host, names, given);
     let went = run_in(alloc, &replay, program, ctx);
@@ -82,7 +77,7 @@ pub fn play_code<
         (world_of (host_replying (H.host host.now) (is_named names.now) given.now) (P.context provider))
         (blocks_of L.held (text_of N.held) code.now)) }
     ensures pattern { limits ≡ None → NeverRefusesWith (H.host host.now) bad_pattern
-        → CodeKeeps L.held K.held code.now → IfErr result.went (λ e. error_kind e ≢ bad_pattern) }
+        → CodeKeeps L.held K.held code.now → RefusesNoPattern result.went }
 {
     let replay = Replay::new(host, names, given);
     let went = execute_in(alloc, &replay, code, provider, limits);
@@ -100,12 +95,11 @@ fn run_in<H: Functions>(
     ensures answer { ReturnsOutcome result
         (ComesTo (AllowsBlock (world_of (H.host host.now) (context ctx.now))
         (program_term program.now))) }
-    ensures independent { ReturnsOutcome result (ComesTo
-        (λ a. (other : ContextView) (keys : List (List ℕ)) → AreNamesOf keys (program_term program.now)
-        → AgreeAt keys (program_term program.now) (context ctx.now) other
-        → AllowsBlock (world_of (H.host host.now) other) (program_term program.now) a)) }
+    ensures independent { ReturnsOutcome result
+        (ComesTo (AllowedWhereAgreed (world_of (H.host host.now) (context ctx.now))
+        (program_term program.now))) }
     ensures pattern { NeverRefusesWith (H.host host.now) bad_pattern → ProgramKeeps program.now
-        → IfErr result (λ e. error_kind e ≢ bad_pattern) }
+        → RefusesNoPattern result }
 {
     let machine = Machine {
         alloc,

@@ -1,22 +1,19 @@
 //! Runs that stop at a host's functions.
-ghost use Rattle.std.specs.Prelude.{◌≡◌, ◌≢◌, ◌∷◌, ◌++◌, [], ℕ, Bool, List, IfErr, None, OnErr, OnOk, Some, true, option_map};
+ghost use Rattle.std.specs.Prelude.{◌≡◌, [], ℕ, Bool, List, None, OnErr, OnOk};
 ghost use Rattle.std.specs.Option.{option_copied};
 ghost use Rattle.expr_code.specs.Machine.{CodeAnswers};
 ghost use Rattle.expr_lowering.specs.Blocks.{CodeKeeps, blocks_of};
 ghost use Rattle.expr_lowering.specs.Kept.{ProgramKeeps};
 ghost use Rattle.expr_machine.specs.Texts.{text_of};
 ghost use Rattle.expr_meaning.specs.Allows.{AllowsBlock};
-ghost use Rattle.expr_meaning.specs.Independence.{AgreeAt};
 ghost use Rattle.expr_meaning.specs.Refusals.{NeverRefusesWith};
-ghost use Rattle.expr_steps.specs.Context.{ContextView};
 ghost use Rattle.expr_meaning.specs.World.{world_of};
-ghost use Rattle.expr_stops.specs.Stops.{CodeComes, ComesTo, EndsTurn, IfEnded, IsAsItWent, IsRefused, IsReplied, IsSame, StopsWell, host_replying, waiting_call_of, replies_of, is_named};
+ghost use Rattle.expr_stops.specs.Stops.{AllowedWhereAgreed, CodeComes, ComesTo, EndsTurn, IfEnded, IsAsItWent, IsRepliedRefusal, IsReplied, IsSame, StopsWell, host_replying, waiting_call_of, replies_of, is_named};
 ghost use Rattle.expr_stops.specs.declared.replies.CallReply.{CallReply};
 ghost use Rattle.expr_stops.specs.declared.replies.Reply.{Reply};
-ghost use Rattle.expr_tree.specs.Names.{AreNamesOf};
 ghost use Rattle.expr_tree.specs.TermOf.{program_term};
 ghost use Rattle.expr_value.specs.Answers.{Returns};
-ghost use Rattle.expr_error.specs.ErrorKind.{error_kind, pattern as bad_pattern, RefusesWith};
+ghost use Rattle.expr_error.specs.ErrorKind.{RefusesNoPattern, RefusesWith, pattern as bad_pattern};
 
 use crate::names::StopNames;
 use crate::replay::Stop;
@@ -96,15 +93,12 @@ impl Stops {
             (world_of (host_replying (H.host host.now) (is_named names.now) (replies_of self.old))
             (context ctx.now)) (program_term program.now))) }
         // The answer is allowed in each context that agrees with this one at the program's names.
-        ensures independent { EndsTurn result (ComesTo
-            (λ a. (other : ContextView) (keys : List (List ℕ)) → AreNamesOf keys (program_term program.now)
-            → AgreeAt keys (program_term program.now) (context ctx.now) other
-            → AllowsBlock (world_of (host_replying (H.host host.now)
-            (is_named names.now) (replies_of self.old))
-            other) (program_term program.now) a)) }
+        ensures independent { EndsTurn result (ComesTo (AllowedWhereAgreed
+            (world_of (host_replying (H.host host.now) (is_named names.now) (replies_of self.old))
+            (context ctx.now)) (program_term program.now))) }
         // Where each `matches` keeps the pattern of the text on its right, none is built.
         ensures pattern { NeverRefusesWith (H.host host.now) bad_pattern → ProgramKeeps program.now
-            → IfEnded result (λ r. IfErr r (λ e. error_kind e ≢ bad_pattern)) }
+            → IfEnded result (λ r. RefusesNoPattern r) }
         ensures stops { StopsWell (is_named names.now) (replies_of self.old) result
             (waiting_call_of self.new) }
         ensures given { replies_of self.new ≡ replies_of self.old }
@@ -139,8 +133,7 @@ impl Stops {
             (world_of (host_replying (H.host host.now) (is_named names.now) (replies_of self.old))
             (P.context provider)) (blocks_of L.held (text_of N.held) code.now))) }
         ensures pattern { limits ≡ None → NeverRefusesWith (H.host host.now) bad_pattern
-            → CodeKeeps L.held K.held code.now
-            → IfEnded result (λ r. IfErr r (λ e. error_kind e ≢ bad_pattern)) }
+            → CodeKeeps L.held K.held code.now → IfEnded result (λ r. RefusesNoPattern r) }
         ensures stops { StopsWell (is_named names.now) (replies_of self.old) result
             (waiting_call_of self.new) }
         ensures given { replies_of self.new ≡ replies_of self.old }
@@ -207,7 +200,7 @@ impl Stops {
     ///
     /// `ExprError` where no call waits, or `MemoryError`; the run stays where it was.
     pub fn refuse(&mut self, text: &str) -> Result<()>
-        ensures given { OnOk result (IsRefused self.old self.new text.now) }
+        ensures given { OnOk result (IsRepliedRefusal self.old self.new text.now) }
         ensures err { OnErr result (IsSame self.old self.new) }
         ensures waits { RefusesWith result (λ k. waiting_call_of self.old ≡ None) }
     {

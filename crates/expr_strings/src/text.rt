@@ -1,6 +1,5 @@
 //! The calls on texts.
-ghost use Rattle.std.specs.Prelude.{◌≡◌, nat_eq, map, IfOk};
-ghost use Rattle.std.specs.List.{starts_with, ends_with};
+ghost use Rattle.std.specs.Prelude.{◌≡◌, map, IfOk};
 ghost use Rattle.expr_value.specs.Answers.{Returns};
 ghost use Rattle.expr_strings.specs.Text.{Called, has_prefix, has_suffix, trim_prefix, trim_suffix, without_front, without_back, split, split_after, replace, repeat_text, repeated_text, Upper, Lower};
 ghost use Rattle.expr_error.specs.ErrorKind.{OnlyMemory};
@@ -13,6 +12,7 @@ use expr_arguments::{
     two_texts_and_limit,
 };
 use expr_cow::CowValue;
+use expr_error::{has_back, has_front};
 use expr_functions::TextCall;
 use expr_value::{Items, Result, Text, Value, refusal};
 use std::alloc::Global;
@@ -46,7 +46,7 @@ fn has_prefix(alloc: Global, arguments: &[CowValue<'_>]) -> Result<Value>
     let Some((text, front)) = two_texts(arguments) else {
         return Err(refusal(alloc, "hasPrefix takes two texts"));
     };
-    Ok(Value::Bool(begins_with(text, front)))
+    Ok(Value::Bool(has_front(text, front)))
 }
 
 /// Whether a text ends with another.
@@ -56,19 +56,7 @@ fn has_suffix(alloc: Global, arguments: &[CowValue<'_>]) -> Result<Value>
     let Some((text, back)) = two_texts(arguments) else {
         return Err(refusal(alloc, "hasSuffix takes two texts"));
     };
-    Ok(Value::Bool(ends_in(text, back)))
-}
-
-fn begins_with(text: &str, front: &str) -> bool
-    ensures { result ≡ starts_with nat_eq text.now front.now }
-{
-    text.starts_with(front)
-}
-
-fn ends_in(text: &str, back: &str) -> bool
-    ensures { result ≡ ends_with nat_eq text.now back.now }
-{
-    text.ends_with(back)
+    Ok(Value::Bool(has_back(text, back)))
 }
 
 /// A text without another at its front, once, if it is there.

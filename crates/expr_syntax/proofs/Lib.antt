@@ -1,5 +1,6 @@
 mod Compiled
 mod Matches
+pub mod Passed
 pub mod Printed
 mod Refused
 mod Weighing

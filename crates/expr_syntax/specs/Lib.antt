@@ -1,3 +1,4 @@
 pub mod Bounds
 pub mod Printed
+pub mod Promises
 pub mod Texts

@@ -1,9 +1,8 @@
 //! From a text to its program.
-ghost use Rattle.std.specs.Prelude.{◌≡◌, ℕ, Err, IfOk};
+ghost use Rattle.std.specs.Prelude.{◌≡◌, ℕ, Err};
 ghost use Rattle.expr_grammar.specs.Grammar.{TreeProgram};
-ghost use Rattle.expr_parts.specs.Kept.{KeepPatterns};
-ghost use Rattle.expr_syntax.specs.Texts.{IsAnswerFor, IsAnswerWithin, IsCompiled, IsCompiledWithin, IsParseRefusal, IsPlaced, IsRead, IsReadFor, IsTreeOf};
-ghost use Rattle.expr_tree.specs.KeptPatterns.{program_operations};
+ghost use Rattle.expr_syntax.specs.Promises.{CompilesText, CompilesTextWithin};
+ghost use Rattle.expr_syntax.specs.Texts.{IsParseRefusal, IsPlaced, IsRead, IsReadFor, IsTreeOf};
 ghost use Rattle.std.specs.Str.{IsCharBoundary};
 ghost use Rattle.expr_error.specs.declared.error.Error.{Error};
 
@@ -22,16 +21,7 @@ use std::alloc::Global;
 /// or else the text's end. `ParseError` where it has a tree, but an integer literal is 2^63 or more. `MemoryError` where
 /// a growth is refused.
 pub fn compile(alloc: Global, code: &str) -> Result<Program>
-    // Each answer says of the text what it means: a program that of a tree, a syntax fault that there is none.
-    ensures answer { IsCompiled code.now result }
-    // Where the text has a tree, no other answer is given but that tree's.
-    ensures only { (t : TreeProgram) → IsTreeOf code.now t → IsAnswerFor t result }
-    // A syntax fault's place is that of the first: some program begins with the tokens before it, and none goes on there.
-    ensures place { IsPlaced code.now result }
-    // The text may be cut at that place: a character begins there, or the text ends.
-    ensures boundary { (place : ℕ) → result ≡ Err (Error.PestError place) → IsCharBoundary code.now place }
-    // Each literal on the right of `matches` has its pattern kept beside it, if it is one that isn't too big.
-    ensures patterns { IfOk result (λ program. KeepPatterns (program_operations program)) }
+    ensures { CompilesText code.now result }
 {
     let program = read_program(alloc, code)?;
     Ok(program.into_program())
@@ -45,19 +35,11 @@ pub fn compile(alloc: Global, code: &str) -> Result<Program>
 /// Those of [`compile`], and `ParseError` where the text's tree is higher. A text without a tree is a `PestError`
 /// whatever the bound.
 pub fn compile_within(alloc: Global, code: &str, height: usize) -> Result<Program>
-    // Each answer says of the text what it means: a program that of a tree within the bound, a syntax fault that there is no tree.
-    ensures answer { IsCompiledWithin code.now height result }
-    // Where the text has a tree, no other answer is given but that tree's.
-    ensures only { (t : TreeProgram) → IsTreeOf code.now t → IsAnswerWithin t height result }
-    // A syntax fault's place is that of the first: some program begins with the tokens before it, and none goes on there.
-    ensures place { IsPlaced code.now result }
-    // The text may be cut at that place: a character begins there, or the text ends.
-    ensures boundary { (place : ℕ) → result ≡ Err (Error.PestError place) → IsCharBoundary code.now place }
-    // Each literal on the right of `matches` has its pattern kept beside it, if it is one that isn't too big.
-    ensures patterns { IfOk result (λ program. KeepPatterns (program_operations program)) }
+    ensures { CompilesTextWithin code.now height result }
 {
     let program = read_program(alloc, code)?;
-    if program.height() > height {
+    let tree_height = program.height();
+    if tree_height > height {
         return Err(refusal(alloc, "the expression nests deeper than is allowed"));
     }
     Ok(program.into_program())

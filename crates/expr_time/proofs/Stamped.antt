@@ -204,23 +204,24 @@ spelled_read n h whole =
 abbrev zulu_read_of : List ℕ → FindingAndRest
 zulu_read_of text = either (zulu_at text) (offset_at spelling.ColonMinutes text)
 
-abbrev Stands : ℤ → List ℕ → Type 0
-Stands off text = (zulu_read_of text ≡ Some (finding.Offset off, [])) × EndsFraction text
+-- a text is read as an offset to its end, and ends a fraction
+abbrev IsReadAsOffset : ℤ → List ℕ → Type 0
+IsReadAsOffset off text = (zulu_read_of text ≡ Some (finding.Offset off, [])) × EndsFraction text
 
 other_offset : (off : ℤ) → ¬ (off ≡ pos 0) → zulu spelling.ColonMinutes off ≡ signed_offset spelling.ColonMinutes off
 other_offset off other = ap (λ (b : Bool). cond b (codes "Z") (signed_offset spelling.ColonMinutes off)) (not_equal off (pos 0) other)
 
-ahead_stands : (n : ℕ) → suc n < 86400 → suc n % 60 ≡ 0 → Stands (pos (suc n)) (43 ∷ offset_text spelling.ColonMinutes (suc n))
+ahead_is_read : (n : ℕ) → suc n < 86400 → suc n % 60 ≡ 0 → IsReadAsOffset (pos (suc n)) (43 ∷ offset_text spelling.ColonMinutes (suc n))
 unfolding Rattle.expr_layout.specs.Layouts.after_name encode_utf8
-ahead_stands n h whole = (ap (found_as (λ m. finding.Offset (pos m))) (spelled_read (suc n) h whole), (refl, refl, refl))
+ahead_is_read n h whole = (ap (found_as (λ m. finding.Offset (pos m))) (spelled_read (suc n) h whole), (refl, refl, refl))
 
-behind_stands : (n : ℕ) → suc n < 86400 → suc n % 60 ≡ 0 → Stands (negsuc n) (45 ∷ offset_text spelling.ColonMinutes (suc n))
+behind_is_read : (n : ℕ) → suc n < 86400 → suc n % 60 ≡ 0 → IsReadAsOffset (negsuc n) (45 ∷ offset_text spelling.ColonMinutes (suc n))
 unfolding Rattle.expr_layout.specs.Layouts.after_name encode_utf8
-behind_stands n h whole = (ap (found_as (λ m. finding.Offset (neg_ℤ (pos m)))) (spelled_read (suc n) h whole), (refl, refl, refl))
+behind_is_read n h whole = (ap (found_as (λ m. finding.Offset (neg_ℤ (pos m)))) (spelled_read (suc n) h whole), (refl, refl, refl))
 
-none_stands : Stands (pos 0) (codes "Z")
+none_is_read : IsReadAsOffset (pos 0) (codes "Z")
 unfolding Rattle.expr_layout.specs.Layouts.after_name encode_utf8
-none_stands = (refl, (refl, refl, refl))
+none_is_read = (refl, (refl, refl, refl))
 
 some_seconds : (n : ℕ) → ¬ (pos (suc n) ≡ pos 0)
 some_seconds n e = absurd (omega (arith, ints, e))
@@ -233,10 +234,10 @@ behind_sign : (n : ℕ) → signed_offset spelling.ColonMinutes (negsuc n) ≡ 4
 unfolding Rattle.expr_layout.specs.Layouts.signed_offset
 behind_sign n = refl
 
-zulu_stands : (off : ℤ) → unsigned_abs off < 86400 → unsigned_abs off % 60 ≡ 0 → Stands off (zulu spelling.ColonMinutes off)
-zulu_stands (pos zero) h whole = none_stands
-zulu_stands (pos (suc n)) h whole = subst (Stands (pos (suc n))) (sym (other_offset (pos (suc n)) (λ e. absurd (some_seconds n e)) ∙ ahead_sign (suc n))) (ahead_stands n h whole)
-zulu_stands (negsuc n) h whole = subst (Stands (negsuc n)) (sym (other_offset (negsuc n) (λ e. absurd (cc)) ∙ behind_sign n)) (behind_stands n h whole)
+zulu_is_read : (off : ℤ) → unsigned_abs off < 86400 → unsigned_abs off % 60 ≡ 0 → IsReadAsOffset off (zulu spelling.ColonMinutes off)
+zulu_is_read (pos zero) h whole = none_is_read
+zulu_is_read (pos (suc n)) h whole = subst (IsReadAsOffset (pos (suc n))) (sym (other_offset (pos (suc n)) (λ e. absurd (some_seconds n e)) ∙ ahead_sign (suc n))) (ahead_is_read n h whole)
+zulu_is_read (negsuc n) h whole = subst (IsReadAsOffset (negsuc n)) (sym (other_offset (negsuc n) (λ e. absurd (cc)) ∙ behind_sign n)) (behind_is_read n h whole)
 
 -- what each token finds of what it prints
 year_found : (u : DateTimeValue) (y : ℕ) (rest : List ℕ) → (date_at u).year ≡ pos y → y < 10000 → found_at layout_token.Year (token_text u layout_token.Year ++ rest) ≡ Some (finding.Year y, rest)
@@ -262,15 +263,15 @@ unfolding Rattle.expr_layout.specs.KnownFields.found_at Rattle.expr_layout.specs
 fraction_found_at u n rest e h ends =
     ap (λ (k : ℕ). parts_behind (short_places 46 9 k ++ rest) (after_name (encode_utf8 46) (short_places 46 9 k ++ rest))) e ∙ fraction_read n rest h ends
 
-offset_stands : (u : DateTimeValue) (off : ℤ) → offset_of u ≡ off → unsigned_abs off < 86400 → unsigned_abs off % 60 ≡ 0 → Stands off (token_text u (layout_token.Zulu spelling.ColonMinutes) ++ [])
+offset_is_read : (u : DateTimeValue) (off : ℤ) → offset_of u ≡ off → unsigned_abs off < 86400 → unsigned_abs off % 60 ≡ 0 → IsReadAsOffset off (token_text u (layout_token.Zulu spelling.ColonMinutes) ++ [])
 unfolding Rattle.expr_layout.specs.Layouts.token_text
-offset_stands u off e h whole =
-    subst (Stands off) (sym (append-nil (zulu spelling.ColonMinutes (offset_of u)) ∙ ap (zulu spelling.ColonMinutes) e)) (zulu_stands off h whole)
+offset_is_read u off e h whole =
+    subst (IsReadAsOffset off) (sym (append-nil (zulu spelling.ColonMinutes (offset_of u)) ∙ ap (zulu spelling.ColonMinutes) e)) (zulu_is_read off h whole)
 
-offset_found : (u : DateTimeValue) (off : ℤ) → Stands off (token_text u (layout_token.Zulu spelling.ColonMinutes) ++ [])
+offset_found : (u : DateTimeValue) (off : ℤ) → IsReadAsOffset off (token_text u (layout_token.Zulu spelling.ColonMinutes) ++ [])
     → found_at (layout_token.Zulu spelling.ColonMinutes) (token_text u (layout_token.Zulu spelling.ColonMinutes) ++ []) ≡ Some (finding.Offset off, [])
 unfolding Rattle.expr_layout.specs.KnownFields.found_at
-offset_found u off stands = stands.0
+offset_found u off read = read.0
 
 -- one token after another
 step : (t : LayoutToken) (ts : List LayoutToken) (f g : KnownFields) (x : Finding) (text rest : List ℕ) → found_at t text ≡ Some (x, rest) → with_finding x f ≡ Some g → read_all (t ∷ ts) f text ≡ read_all ts g rest
@@ -395,10 +396,10 @@ stamp_read u y m d h i s n off is =
     let k6 = known (Some y) (Some m) (Some d) (Some h) (Some i) (Some s) None None in
     let k7 = known (Some y) (Some m) (Some d) (Some h) (Some i) (Some s) (fraction_known n) None in
     let k8 = known (Some y) (Some m) (Some d) (Some h) (Some i) (Some s) (fraction_known n) (Some off) in
-    let stands = offset_stands u off is.offset is.offset_in is.offset_whole in
+    let read = offset_is_read u off is.offset is.offset_in is.offset_whole in
     date_read u y m d h i s n off is ∙ time_read u y m d h i s n off is
-    ∙ one u (layout_token.ShortFraction 46 9) s12 k6 k7 (fraction_finding n) (fraction_found_at u n (printed_text u s12) is.nanosecond is.nanosecond_in stands.1) (noted_fraction y m d h i s n)
-    ∙ step (layout_token.Zulu spelling.ColonMinutes) [] k7 k8 (finding.Offset off) (printed_text u s12) [] (offset_found u off stands) refl
+    ∙ one u (layout_token.ShortFraction 46 9) s12 k6 k7 (fraction_finding n) (fraction_found_at u n (printed_text u s12) is.nanosecond is.nanosecond_in read.1) (noted_fraction y m d h i s n)
+    ∙ step (layout_token.Zulu spelling.ColonMinutes) [] k7 k8 (finding.Offset off) (printed_text u s12) [] (offset_found u off read) refl
 
 -- the tokens of the form that is read without a layout find the same
 two_found : (u : DateTimeValue) (f : Field) (n : ℕ) (rest : List ℕ) → number_of f u ≡ n → n < 100
@@ -412,7 +413,7 @@ mark_found : (u : DateTimeValue) (rest : List ℕ) → found_at layout_token.Mar
 unfolding Rattle.expr_layout.specs.KnownFields.found_at Rattle.expr_layout.specs.Layouts.token_text encode_utf8
 mark_found u rest = refl
 
-form_offset_found : (u : DateTimeValue) (off : ℤ) → Stands off (token_text u (layout_token.Zulu spelling.ColonMinutes) ++ [])
+form_offset_found : (u : DateTimeValue) (off : ℤ) → IsReadAsOffset off (token_text u (layout_token.Zulu spelling.ColonMinutes) ++ [])
     → found_at layout_token.StampOffset (token_text u (layout_token.Zulu spelling.ColonMinutes) ++ []) ≡ Some (finding.Offset off, [])
 unfolding Rattle.expr_layout.specs.KnownFields.found_at
 form_offset_found u off (read, (_, _, no_zulu)) =
@@ -491,9 +492,9 @@ form_read u y m d h i s n off is =
     let k6 = known (Some y) (Some m) (Some d) (Some h) (Some i) (Some s) None None in
     let k7 = known (Some y) (Some m) (Some d) (Some h) (Some i) (Some s) (fraction_known n) None in
     let k8 = known (Some y) (Some m) (Some d) (Some h) (Some i) (Some s) (fraction_known n) (Some off) in
-    let stands = offset_stands u off is.offset is.offset_in is.offset_whole in
+    let read = offset_is_read u off is.offset is.offset_in is.offset_whole in
     let whole : read_all stamp_form no_fields text ≡ Some k8 =
     form_date_read u y m d h i s n off is ∙ form_time_read u y m d h i s n off is
-    ∙ by_other u (layout_token.ShortFraction 46 9) (layout_token.ShortFraction 46 9) f12 s12 k6 k7 (fraction_finding n) (fraction_found_at u n (printed_text u s12) is.nanosecond is.nanosecond_in stands.1) (noted_fraction y m d h i s n)
-    ∙ step layout_token.StampOffset [] k7 k8 (finding.Offset off) (printed_text u s12) [] (form_offset_found u off stands) refl in
+    ∙ by_other u (layout_token.ShortFraction 46 9) (layout_token.ShortFraction 46 9) f12 s12 k6 k7 (fraction_finding n) (fraction_found_at u n (printed_text u s12) is.nanosecond is.nanosecond_in read.1) (noted_fraction y m d h i s n)
+    ∙ step layout_token.StampOffset [] k7 k8 (finding.Offset off) (printed_text u s12) [] (form_offset_found u off read) refl in
     ap (λ (o : Option KnownFields). either o (either (read_all date_form no_fields text) (either (read_all time_form no_fields text) (read_all both_form no_fields text)))) whole

@@ -14,7 +14,8 @@ use Rattle.expr_value.specs.Values.{string_of}
 use Rattle.expr_value.specs.declared.value.Value.{Value}
 use Rattle.expr_layout.specs.KnownFields.{read_all, no_fields}
 use Rattle.expr_layout.specs.Layouts.{IsLayout, either}
-use Rattle.expr_time.specs.Moments.{answer_for, timezone_of}
+use Rattle.expr_arguments.specs.Arguments.{answer_on}
+use Rattle.expr_arguments.specs.Times.{timezone_of}
 use Rattle.expr_moment.specs.Zones.{at_civil, moment_or_refusal}
 use Rattle.expr_datetime.specs.Times.{utc}
 use Rattle.expr_time.specs.Zones.{zone_named}
@@ -84,7 +85,7 @@ place_read (Some seconds) zone = place_at seconds
 
 -- what a civil time answers in a place: its moment, and a refusal where there is none or no such place
 abbrev pub answer_in : Option MomentZone → DateTime → Answer
-answer_in place dt = answer_for place (λ p. moment_or_refusal (at_civil p dt))
+answer_in place dt = answer_on place (λ p. moment_or_refusal (at_civil p dt))
 
 abbrev pub IsCivil : KnownFields → DateTime → Type 0
 IsCivil f dt = IsDated f dt.date × IsTimed f dt.time

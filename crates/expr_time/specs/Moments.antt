@@ -1,5 +1,5 @@
 -- What the methods of moments answer.
-use Rattle.std.specs.Prelude.{◌≡◌, ℕ, ℤ, pos, neg_ℤ, ◌+ℤ◌, ◌-ℤ◌, int_lt, int_le, int_div, List, [], ◌∷◌, Option, None, Some, Ok, Err, codes, if◌then◌else◌}
+use Rattle.std.specs.Prelude.{◌≡◌, ℕ, ℤ, pos, neg_ℤ, ◌+ℤ◌, ◌-ℤ◌, int_lt, int_le, int_div, List, Option, None, Some, Ok, Err, codes, if◌then◌else◌}
 use Rattle.std.specs.Int.{int_rem_euclid}
 use Rattle.std.specs.Ordering.{int_eq}
 use Rattle.expr_value.specs.Answers.{Answer}
@@ -7,50 +7,21 @@ use Rattle.expr_error.specs.ErrorKind.{evaluation}
 use Rattle.expr_datetime.specs.ShiftedMoments.{at_instant, moment_in, moment_later}
 use Rattle.expr_value.specs.Strings.{string_text}
 use Rattle.expr_datetime.specs.Times.{instant, moment_string, moment_zone, utc}
-use Rattle.expr_value.specs.Values.{integer_of, moment_of}
 use Rattle.expr_datetime.specs.declared.moment.DateTimeValue.{DateTimeValue}
 use Rattle.expr_datetime.specs.declared.moment.MomentZone.TheVariants.{Named}
 use Rattle.expr_value.specs.declared.value.Value as value
-use Rattle.expr_value.specs.declared.value.Value.{Value, out-Value}
-use Rattle.expr_value.specs.declared.value.Value.TheOpen.{Value-F}
+use Rattle.expr_value.specs.declared.value.Value.{Value}
 use Rattle.expr_datetime.specs.declared.zone.TimezoneValue.{TimezoneValue}
 use Rattle.expr_moment.specs.Dates.{AddsDate}
 use Rattle.expr_moment.specs.Fields.{between, field_name, field_of, zero_instant}
 use Rattle.expr_layout.specs.Layouts.{Formats}
-use Rattle.expr_arguments.specs.Arguments.{without_arguments, one_duration, one_of, one_text}
+use Rattle.expr_arguments.specs.Arguments.{answer_on, without_arguments, one_duration, one_text}
+use Rattle.expr_arguments.specs.Times.{one_moment, one_zone, three_integers}
 use Rattle.expr_moment.specs.Zones.{moment_or_refusal, location_of}
 use Rattle.expr_time.specs.declared.moments.DateTimeMethod.{DateTimeMethod}
 use Rattle.expr_time.specs.declared.moments.DateTimeMethod.TheVariants as is
 use Rattle.expr_time.specs.declared.moments.TextMethod.{TextMethod}
 use Rattle.expr_time.specs.declared.moments.TextMethod.TheVariants as named
-
--- the zone of a zone
-abbrev pub timezone_of : Value → Option TimezoneValue
-timezone_of v = elim (out-Value v) [ Value-F.Timezone z ↦ Some z | _ ↦ None ]
-
--- the argument, if it is one moment or one zone
-abbrev pub one_moment : List Value → Option DateTimeValue
-one_moment = one_of moment_of
-
-abbrev pub one_zone : List Value → Option TimezoneValue
-one_zone = one_of timezone_of
-
--- three integers
-abbrev pub all_integers : Option ℤ → Option ℤ → Option ℤ → Option (ℤ × ℤ × ℤ)
-all_integers (Some a) (Some b) (Some c) = Some (a, b, c)
-all_integers a b c = None
-
-abbrev pub three_integers : List Value → Option (ℤ × ℤ × ℤ)
-three_integers [] = None
-three_integers (u ∷ []) = None
-three_integers (u ∷ v ∷ []) = None
-three_integers (u ∷ v ∷ w ∷ []) = all_integers (integer_of u) (integer_of v) (integer_of w)
-three_integers (u ∷ v ∷ w ∷ x ∷ more) = None
-
--- an answer for an argument, and a refusal without one
-abbrev pub answer_for : {A : Type 0} → Option A → (A → Answer) → Answer
-answer_for None f = Err evaluation
-answer_for (Some a) f = f a
 
 -- which of two moments is the later one
 abbrev pub comparison : DateTimeValue → DateTimeValue → ℤ
@@ -80,15 +51,15 @@ AnsweredAt (is.Field field) t arguments answer = without_arguments arguments (fi
 AnsweredAt is.String t arguments answer = without_arguments arguments (value.String (moment_string t)) ≡ answer
 AnsweredAt is.Location t arguments answer = location_answer arguments (location_of t) ≡ answer
 AnsweredAt is.Utc t arguments answer = without_arguments arguments (value.DateTime (moment_in t (Named utc))) ≡ answer
-AnsweredAt is.In t arguments answer = answer_for (one_zone arguments) (λ zone. Ok (value.DateTime (moment_in t (Named zone)))) ≡ answer
-AnsweredAt is.Add t arguments answer = answer_for (one_duration arguments) (λ n. moment_or_refusal (moment_later t n)) ≡ answer
-AnsweredAt is.Sub t arguments answer = answer_for (one_moment arguments) (between t) ≡ answer
-AnsweredAt is.Round t arguments answer = answer_for (one_duration arguments) (λ step. moment_or_refusal (at_instant (instant_rounded (instant t) step) (moment_zone t))) ≡ answer
-AnsweredAt is.Truncate t arguments answer = answer_for (one_duration arguments) (λ step. moment_or_refusal (at_instant (instant_truncated (instant t) step) (moment_zone t))) ≡ answer
-AnsweredAt is.After t arguments answer = answer_for (one_moment arguments) (λ u. Ok (value.Bool (int_lt (instant u) (instant t)))) ≡ answer
-AnsweredAt is.Before t arguments answer = answer_for (one_moment arguments) (λ u. Ok (value.Bool (int_lt (instant t) (instant u)))) ≡ answer
-AnsweredAt is.Equal t arguments answer = answer_for (one_moment arguments) (λ u. Ok (value.Bool (int_eq (instant t) (instant u)))) ≡ answer
-AnsweredAt is.Compare t arguments answer = answer_for (one_moment arguments) (λ u. Ok (value.Integer (comparison t u))) ≡ answer
+AnsweredAt is.In t arguments answer = answer_on (one_zone arguments) (λ zone. Ok (value.DateTime (moment_in t (Named zone)))) ≡ answer
+AnsweredAt is.Add t arguments answer = answer_on (one_duration arguments) (λ n. moment_or_refusal (moment_later t n)) ≡ answer
+AnsweredAt is.Sub t arguments answer = answer_on (one_moment arguments) (between t) ≡ answer
+AnsweredAt is.Round t arguments answer = answer_on (one_duration arguments) (λ step. moment_or_refusal (at_instant (instant_rounded (instant t) step) (moment_zone t))) ≡ answer
+AnsweredAt is.Truncate t arguments answer = answer_on (one_duration arguments) (λ step. moment_or_refusal (at_instant (instant_truncated (instant t) step) (moment_zone t))) ≡ answer
+AnsweredAt is.After t arguments answer = answer_on (one_moment arguments) (λ u. Ok (value.Bool (int_lt (instant u) (instant t)))) ≡ answer
+AnsweredAt is.Before t arguments answer = answer_on (one_moment arguments) (λ u. Ok (value.Bool (int_lt (instant t) (instant u)))) ≡ answer
+AnsweredAt is.Equal t arguments answer = answer_on (one_moment arguments) (λ u. Ok (value.Bool (int_eq (instant t) (instant u)))) ≡ answer
+AnsweredAt is.Compare t arguments answer = answer_on (one_moment arguments) (λ u. Ok (value.Integer (comparison t u))) ≡ answer
 AnsweredAt is.AddDate t arguments answer = AddsDates t (three_integers arguments) answer
 AnsweredAt is.Format t arguments answer = Formats t (one_text arguments) answer
 

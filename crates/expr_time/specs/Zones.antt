@@ -7,8 +7,7 @@ use Rattle.expr_datetime.specs.declared.moment.MomentZone.TheVariants.{Named}
 use Rattle.expr_value.specs.declared.value.Value as value
 use Rattle.expr_value.specs.declared.value.Value.{Value}
 use Rattle.expr_datetime.specs.declared.zone.TimezoneValue.{TimezoneValue}
-use Rattle.expr_arguments.specs.Arguments.{without_arguments, one_text}
-use Rattle.expr_time.specs.Moments.{answer_for}
+use Rattle.expr_arguments.specs.Arguments.{answer_on, without_arguments, one_text}
 use Rattle.expr_datetime.specs.ShiftedMoments.{moment_in}
 use Rattle.expr_datetime.specs.Times.{utc}
 
@@ -18,7 +17,7 @@ zone_named zones name = if bytes_eq name (codes "UTC") then Some utc else zones 
 
 -- what `timezone` answers
 abbrev pub timezone_answer : (List ℕ → Option TimezoneValue) → List Value → Answer
-timezone_answer zones arguments = answer_for (one_text arguments) (λ name. answer_for (zone_named zones name) (λ zone. Ok (value.Timezone zone)))
+timezone_answer zones arguments = answer_on (one_text arguments) (λ name. answer_on (zone_named zones name) (λ zone. Ok (value.Timezone zone)))
 
 -- what `now` answers where a moment is set, and where none is
 abbrev pub now_answer : Option DateTimeValue → List Value → Answer

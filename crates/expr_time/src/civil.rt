@@ -1,8 +1,8 @@
 //! Civil times by what is known of them.
-ghost use Rattle.std.specs.Prelude.{◌≡◌, ℕ, pos, Some, ◌<◌, ◌≤◌, ◌↔◌, IsTrue, true, MatchBool, MatchOption};
+ghost use Rattle.std.specs.Prelude.{◌≡◌, ℕ, pos, Some, ◌<◌, true, MatchBool, MatchOption};
 ghost use Rattle.jiff.specs.Types.{Date, DateTime, Time};
 ghost use Rattle.jiff.specs.Words.{ordinal};
-ghost use Rattle.expr_time.specs.Civil.{Agrees, HasHour, HasParts, IsOrZero, IsCivil, IsDated, IsHour, IsTimed, has_date, names_date};
+ghost use Rattle.expr_time.specs.Civil.{Agrees, HasHour, HasParts, IsCivil, IsDated, IsHour, IsTimed, has_date, names_date};
 
 use expr_layout::KnownFields;
 use jiff::civil::{Date, DateTime, Time};

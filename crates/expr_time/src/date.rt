@@ -6,11 +6,11 @@ ghost use Rattle.expr_datetime.specs.declared.moment.MomentZone.TheVariants.{Nam
 ghost use Rattle.expr_time.specs.Civil.{AllowsDate, ByLayout, DatesLayout, DatesText, DatesThree, DatesTwo, MomentMayReturn, MomentMayReturnIf, answer_in, both_form, by_form, date_form, place_at, stamp_form, time_form};
 ghost use Rattle.expr_layout.specs.KnownFields.{read_all, no_fields};
 ghost use Rattle.expr_layout.specs.Layouts.{either};
-ghost use Rattle.expr_time.specs.Moments.{timezone_of};
+ghost use Rattle.expr_arguments.specs.Times.{timezone_of};
 
 use crate::civil::civil_of;
-use crate::moments::timezone_in;
 use crate::zones::{Zones, zone_named};
+use expr_arguments::timezone_in;
 use expr_cow::CowValue;
 use expr_datetime::utc;
 use expr_layout::{Field, KnownFields, LayoutToken, Pad, read_all, tokens_of};

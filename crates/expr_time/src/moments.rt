@@ -1,7 +1,5 @@
 //! Methods of moments, of zones, of months and of days of the week.
-ghost use Rattle.std.specs.Prelude.{◌≡◌, ◌≢◌, ℤ, int_lt, Some, None, Ok, IfOk, MatchOption, string_bytes, ◌-ℤ◌};
-ghost use Rattle.std.specs.Option.{option_copied};
-ghost use Rattle.std.specs.Fmt.{WritesOnOk};
+ghost use Rattle.std.specs.Prelude.{◌≡◌, ◌≢◌, int_lt, Some, None, Ok, IfOk, MatchOption, string_bytes};
 ghost use Rattle.std.specs.Ordering.{int_eq};
 ghost use Rattle.jiff.specs.Words.{IsTimestampNanos, IsWithin};
 ghost use Rattle.expr_value.specs.Answers.{Returns, ReturnsExactly};
@@ -10,21 +8,22 @@ ghost use Rattle.expr_value.specs.Strings.{string_text};
 ghost use Rattle.expr_datetime.specs.Times.{instant, moment_string, moment_zone, utc};
 ghost use Rattle.expr_datetime.specs.declared.moment.MomentZone.TheVariants.{Named};
 ghost use Rattle.expr_moment.specs.Dates.{AddsDate};
-ghost use Rattle.expr_moment.specs.Fields.{between, field_of};
-ghost use Rattle.expr_arguments.specs.Arguments.{without_arguments, one_duration};
-ghost use Rattle.expr_time.specs.Moments.{AddsDates, AnsweredAt, answer_for, comparison, instant_rounded, instant_truncated, location_answer, moment_method, name_answer, name_method, one_moment, one_zone, three_integers, timezone_of};
+ghost use Rattle.expr_moment.specs.Fields.{between};
+ghost use Rattle.expr_arguments.specs.Arguments.{answer_on, without_arguments, one_duration};
+ghost use Rattle.expr_arguments.specs.Times.{one_moment, one_zone, three_integers};
+ghost use Rattle.expr_time.specs.Moments.{AddsDates, AnsweredAt, comparison, instant_rounded, instant_truncated, location_answer, moment_method, name_answer, name_method};
 ghost use Rattle.expr_moment.specs.Zones.{moment_or_refusal, location_of};
 ghost use Rattle.expr_error.specs.ErrorKind.{OnlyMemory};
 
-use expr_arguments::{one_duration, without_arguments};
+use expr_arguments::{one_duration, one_moment, one_zone, three_integers, without_arguments};
 use expr_cow::CowValue;
-use expr_datetime::{show_stamp, utc};
+use expr_datetime::{show_stamp_of, utc};
 use expr_layout::format;
 use expr_moment::{
     DateTimeField, ZERO_INSTANT, at_instant, civil_beside, date_after, date_shown, in_zone,
-    location, moment_or_refusal, show_place, time_shown,
+    location, moment_or_refusal, time_shown,
 };
-use expr_value::{DateTimeValue, Result, Text, TimezoneValue, Value, refusal};
+use expr_value::{DateTimeValue, Result, Text, Value, refusal};
 use jiff::civil::DateTime;
 use std::alloc::Global;
 use std::fmt;
@@ -98,7 +97,7 @@ impl DateTimeMethod {
             DateTimeMethod::String => string(alloc, moment, arguments),
             DateTimeMethod::Location => location_answer(alloc, moment, arguments),
             DateTimeMethod::Utc => in_utc(alloc, moment, arguments),
-            DateTimeMethod::In => moved_into(alloc, moment, arguments),
+            DateTimeMethod::In => in_given_zone(alloc, moment, arguments),
             DateTimeMethod::Add => add(alloc, moment, arguments),
             DateTimeMethod::Sub => subtract(alloc, moment, arguments),
             DateTimeMethod::AddDate => add_date(alloc, moment, arguments),
@@ -171,9 +170,7 @@ impl<'a> fmt::Display for Stamp<'a> {
     ghost output = { λ s. Some (moment_string s.moment.now) };
 
     fn fmt<W: Write>(&self, f: &mut Formatter<W>) -> fmt::Result {
-        show_stamp(self.moment.civil(), self.moment.offset(), f)?;
-        f.write_str(" ")?;
-        show_place(self.moment, f)
+        show_stamp_of(self.moment, f)
     }
 }
 
@@ -205,8 +202,8 @@ pub(crate) fn in_utc(
     without_arguments(alloc, arguments, answer)
 }
 
-fn moved_into(alloc: Global, moment: &DateTimeValue, arguments: &[CowValue<'_>]) -> Result<Value>
-    ensures { ReturnsExactly result (answer_for (one_zone arguments.now)
+fn in_given_zone(alloc: Global, moment: &DateTimeValue, arguments: &[CowValue<'_>]) -> Result<Value>
+    ensures { ReturnsExactly result (answer_on (one_zone arguments.now)
         (λ zone. Ok (Value.DateTime (moment_in moment.now (Named zone))))) }
 {
     let Some(zone) = one_zone(arguments) else {
@@ -218,7 +215,7 @@ fn moved_into(alloc: Global, moment: &DateTimeValue, arguments: &[CowValue<'_>])
 
 fn add(alloc: Global, moment: &DateTimeValue, arguments: &[CowValue<'_>]) -> Result<Value>
     ensures { ReturnsExactly result
-        (answer_for (one_duration arguments.now) (λ n. moment_or_refusal (moment_later moment.now n))) }
+        (answer_on (one_duration arguments.now) (λ n. moment_or_refusal (moment_later moment.now n))) }
 {
     let Some(nanoseconds) = one_duration(arguments) else {
         return Err(refusal(alloc, "Add takes a duration"));
@@ -228,7 +225,7 @@ fn add(alloc: Global, moment: &DateTimeValue, arguments: &[CowValue<'_>]) -> Res
 }
 
 fn subtract(alloc: Global, moment: &DateTimeValue, arguments: &[CowValue<'_>]) -> Result<Value>
-    ensures { ReturnsExactly result (answer_for (one_moment arguments.now) (between moment.now)) }
+    ensures { ReturnsExactly result (answer_on (one_moment arguments.now) (between moment.now)) }
 {
     let Some(other) = one_moment(arguments) else {
         return Err(refusal(alloc, "Sub takes a moment"));
@@ -266,7 +263,7 @@ fn later_date(
 }
 
 fn round(alloc: Global, moment: &DateTimeValue, arguments: &[CowValue<'_>]) -> Result<Value>
-    ensures { ReturnsExactly result (answer_for (one_duration arguments.now)
+    ensures { ReturnsExactly result (answer_on (one_duration arguments.now)
         (λ step. moment_or_refusal
         (at_instant (instant_rounded (instant moment.now) step) (moment_zone moment.now)))) }
 {
@@ -281,7 +278,7 @@ fn round(alloc: Global, moment: &DateTimeValue, arguments: &[CowValue<'_>]) -> R
 }
 
 fn truncate(alloc: Global, moment: &DateTimeValue, arguments: &[CowValue<'_>]) -> Result<Value>
-    ensures { ReturnsExactly result (answer_for (one_duration arguments.now)
+    ensures { ReturnsExactly result (answer_on (one_duration arguments.now)
         (λ step. moment_or_refusal
         (at_instant (instant_truncated (instant moment.now) step) (moment_zone moment.now)))) }
 {
@@ -296,7 +293,7 @@ fn truncate(alloc: Global, moment: &DateTimeValue, arguments: &[CowValue<'_>]) -
 }
 
 fn after(alloc: Global, moment: &DateTimeValue, arguments: &[CowValue<'_>]) -> Result<Value>
-    ensures { ReturnsExactly result (answer_for (one_moment arguments.now)
+    ensures { ReturnsExactly result (answer_on (one_moment arguments.now)
         (λ u. Ok (Value.Bool (int_lt (instant u) (instant moment.now))))) }
 {
     let Some(other) = one_moment(arguments) else {
@@ -307,7 +304,7 @@ fn after(alloc: Global, moment: &DateTimeValue, arguments: &[CowValue<'_>]) -> R
 }
 
 fn before(alloc: Global, moment: &DateTimeValue, arguments: &[CowValue<'_>]) -> Result<Value>
-    ensures { ReturnsExactly result (answer_for (one_moment arguments.now)
+    ensures { ReturnsExactly result (answer_on (one_moment arguments.now)
         (λ u. Ok (Value.Bool (int_lt (instant moment.now) (instant u))))) }
 {
     let Some(other) = one_moment(arguments) else {
@@ -318,7 +315,7 @@ fn before(alloc: Global, moment: &DateTimeValue, arguments: &[CowValue<'_>]) -> 
 }
 
 fn equal(alloc: Global, moment: &DateTimeValue, arguments: &[CowValue<'_>]) -> Result<Value>
-    ensures { ReturnsExactly result (answer_for (one_moment arguments.now)
+    ensures { ReturnsExactly result (answer_on (one_moment arguments.now)
         (λ u. Ok (Value.Bool (int_eq (instant moment.now) (instant u))))) }
 {
     let Some(other) = one_moment(arguments) else {
@@ -329,7 +326,7 @@ fn equal(alloc: Global, moment: &DateTimeValue, arguments: &[CowValue<'_>]) -> R
 }
 
 fn compare(alloc: Global, moment: &DateTimeValue, arguments: &[CowValue<'_>]) -> Result<Value>
-    ensures { ReturnsExactly result (answer_for (one_moment arguments.now)
+    ensures { ReturnsExactly result (answer_on (one_moment arguments.now)
         (λ u. Ok (Value.Integer (comparison moment.now u)))) }
 {
     let Some(other) = one_moment(arguments) else {
@@ -375,49 +372,4 @@ fn instant_truncated(nanoseconds: i128, step: i64) -> i128
         return nanoseconds;
     }
     nanoseconds - (nanoseconds - ZERO_INSTANT).rem_euclid(step as i128)
-}
-
-fn one_moment<'a>(arguments: &'a [CowValue<'_>]) -> Option<&'a DateTimeValue>
-    ensures { option_copied result ≡ one_moment arguments.now }
-{
-    match arguments {
-        [moment] => moment.get().as_datetime(),
-        _ => None,
-    }
-}
-
-fn one_zone<'a>(arguments: &'a [CowValue<'_>]) -> Option<&'a TimezoneValue>
-    ensures { option_copied result ≡ one_zone arguments.now }
-{
-    match arguments {
-        [zone] => timezone_in(zone.get()),
-        _ => None,
-    }
-}
-
-/// The zone of a zone.
-pub(crate) fn timezone_in(value: &Value) -> Option<&TimezoneValue>
-    ensures { option_copied result ≡ timezone_of value.now }
-{
-    match value {
-        Value::Timezone(zone) => Some(zone.get()),
-        _ => None,
-    }
-}
-
-fn three_integers(arguments: &[CowValue<'_>]) -> Option<(i64, i64, i64)>
-    ensures { result ≡ three_integers arguments.now }
-{
-    match arguments {
-        [years, months, days] => {
-            let years = years.get().as_integer();
-            let months = months.get().as_integer();
-            let days = days.get().as_integer();
-            match (years, months, days) {
-                (Some(years), Some(months), Some(days)) => Some((years, months, days)),
-                _ => None,
-            }
-        }
-        _ => None,
-    }
 }

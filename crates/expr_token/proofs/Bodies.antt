@@ -3,7 +3,7 @@ use Rattle.std.proofs.Common.{◌≡◌, ℕ, zero, suc, pred, ◌+◌, ◌<◌,
 use Rattle.std.specs.List.{list_all, flat_map}
 use Rattle.std.specs.Option.{option_map}
 use Rattle.std.proofs.lemmas.Bool.{cond-true, cond-false, and_parts, and_from, eqb-true, eq-eqb, ne_eqb, cases_Bool, false≢true}
-use Rattle.std.proofs.lemmas.List.{drop_at, drop_all, drop_more, drop-drop}
+use Rattle.std.proofs.lemmas.List.{drop_at, drop_more, drop-drop}
 use Rattle.std.proofs.lemmas.List.Prefix.{front_fits}
 use Rattle.expr_token.specs.Kinds.{first_is}
 use Rattle.expr_token.specs.Lexer.{body}
@@ -55,17 +55,6 @@ loop_part step quote i n value s below other e some within =
     let first : first_is (λ b. b == quote) (drop i s) ≡ false = ap (first_is (λ b. b == quote)) (drop_more s i 0 below) ∙ ne_eqb (get_or s i 0) quote other in
     body_part step quote n value (drop i s) first e some within ∙ ap (λ l. option_map (moved n value) (body step quote 0 l)) (drop-drop n i s)
 
-pub loop_none : (step : Step) (quote i : ℕ) (s : List ℕ) → i < length s → (get_or s i 0 ≡ quote → ⊥) → step (drop i s) ≡ None → body step quote 0 (drop i s) ≡ None
-loop_none step quote i s below other e =
-    body_none step quote (drop i s) (ap (first_is (λ b. b == quote)) (drop_more s i 0 below) ∙ ne_eqb (get_or s i 0) quote other) e
-
-pub loop_end : (step : Step) (quote i : ℕ) (s : List ℕ) → i < length s → get_or s i 0 ≡ quote → body step quote 0 (drop i s) ≡ Some (0, [])
-loop_end step quote i s below here =
-    body_end step quote (drop i s) (ap (first_is (λ b. b == quote)) (drop_more s i 0 below) ∙ eq-eqb (get_or s i 0) quote here)
-
-pub loop_all : (step : Step) (quote i : ℕ) (s : List ℕ) → length s ≤ i → body step quote 0 (drop i s) ≡ None
-loop_all step quote i s past = ap (body step quote 0) (drop_all i s past)
-
 abbrev pub length_from : ℕ → Option (ℕ × List ℕ) → Option ℕ
 length_from i o = option_map (λ r. i + r.0) o
 
@@ -77,17 +66,10 @@ some_step : (o : Option (ℕ × List ℕ)) (n : ℕ) → option_map (λ part. pa
 some_step None n e = cc
 some_step (Some f) n e = (f.1, (let h : f.0 ≡ n = cc in ap (λ k. Some (k, f.1)) h))
 
-none_step : (o : Option (ℕ × List ℕ)) → option_map (λ part. part.0) o ≡ None → o ≡ None
-none_step None e = refl
-none_step (Some f) e = cc
-
 pub length_more : (step : Step) (quote i n : ℕ) (s : List ℕ) → i < length s → (get_or s i 0 ≡ quote → ⊥) → option_map (λ part. part.0) (step (drop i s)) ≡ Some n → 0 < n → n ≤ length (drop i s) → length_from (i + n) (body step quote 0 (drop (i + n) s)) ≡ length_from i (body step quote 0 (drop i s))
 length_more step quote i n s below other e some within =
     let part = some_step (step (drop i s)) n e in
     length_moved i n part.0 (body step quote 0 (drop (i + n) s)) ∙ ap (length_from i) (sym (loop_part step quote i n part.0 s below other part.1 some within))
-
-pub length_none : (step : Step) (quote i : ℕ) (s : List ℕ) → i < length s → (get_or s i 0 ≡ quote → ⊥) → option_map (λ part. part.0) (step (drop i s)) ≡ None → length_from i (body step quote 0 (drop i s)) ≡ None
-length_none step quote i s below other e = ap (length_from i) (loop_none step quote i s below other (none_step (step (drop i s)) e))
 
 pub values_moved : (i n : ℕ) (values value : List ℕ) (o : Option (ℕ × List ℕ)) → option_map (moved (i + n) (values ++ value)) o ≡ option_map (moved i values) (option_map (moved n value) o)
 values_moved i n values value None = refl

@@ -10,6 +10,7 @@ use Rattle.expr_token.specs.Lexer.{body, text_step, byte_step, escape_step, esca
 use Rattle.expr_token.specs.Tokens.{IsQuoted, IsBytes, is_quote, is_line_end, pair_value, TextPart, PlainByte, Pair, text_part, text_value, text_fits, BytePart, Itself, Escape, Hex, Octal, byte_part, byte_value, byte_fits, escape_value, hex_value, octal_value}
 use Rattle.expr_token.proofs.Bodies.{PartAt, InParts, body_sound, body_complete}
 use Rattle.expr_token.proofs.Found.{Finds}
+use Rattle.expr_token.proofs.Unescaping.{unescaped_plain}
 use Rattle.expr_token.proofs.Words.{no_comment}
 use Rattle.expr_token.specs.declared.token.Token.{Token}
 
@@ -184,10 +185,6 @@ bytes_complete content s rest q =
     ∙ ap (λ n. Some (n, Token.Bytes content)) (let long : suc (suc (suc (length inner))) ≡ length s = omega (arith, ap length q.written, length-append inner (q.quote ∷ [])) in long)
 
 -- what the parts of a text give is what their bytes give, read one escape after another
-unescaped_plain : (b : ℕ) (s : List ℕ) → (b == 92) ≡ false → unescaped_bytes (b ∷ s) ≡ b ∷ unescaped_bytes s
-unescaped_plain b [] e = refl
-unescaped_plain b (c ∷ s) e = cond-false _ _ _ e
-
 unescaped_parts : (quote : ℕ) (parts : List TextPart) → list_all (text_fits quote) parts ≡ true → flat_map text_value parts ≡ unescaped_bytes (flat_map text_part parts)
 unescaped_parts quote [] fit = refl
 unescaped_parts quote (PlainByte b ∷ parts) fit =

@@ -178,8 +178,8 @@ mutual
   read_symbols-block (answers t) rest s = read_symbols-term t (form 19 ∷ rest) s
   read_symbols-block (line key t b) rest s = read_symbols-term t (block_symbols b (inl (20, key) ∷ rest)) s ∙ read_symbols-block b (inl (20, key) ∷ rest) (record s { terms = t ∷ s.terms })
 
-abbrev pub symbols_code : Coded Symbols
-symbols_code = coded_list (coded⊎ (coded× coded_ℕ (coded_list coded_ℕ)) (coded⊎ value_row.coded (coded⊎ unary_row.coded operator_row.coded)))
+abbrev pub coded_symbols : Coded Symbols
+coded_symbols = coded_list (coded⊎ (coded× coded_ℕ (coded_list coded_ℕ)) (coded⊎ value_row.coded (coded⊎ unary_row.coded operator_row.coded)))
 
 pub term-back : (t : Term) → last_term (read_symbols (term_symbols t []) empty_stacks) ≡ t
 term-back t = ap last_term (read_symbols-term t [] empty_stacks)
@@ -190,17 +190,11 @@ block-back b = ap last_block (read_symbols-block b [] empty_stacks)
 pub predicate-back : (p : Predicate) → top no_predicate (read_symbols (predicate_symbols p []) empty_stacks).predicates ≡ p
 predicate-back p = ap (λ (s : Stacks). top no_predicate s.predicates) (read_symbols-predicate p [] empty_stacks)
 
-abbrev pub term_code : Coded Term
-term_code = code_by Symbols symbols_code (λ t. term_symbols t []) (λ xs. last_term (read_symbols xs empty_stacks)) term-back
+abbrev pub coded_term : Coded Term
+coded_term = code_by Symbols coded_symbols (λ t. term_symbols t []) (λ xs. last_term (read_symbols xs empty_stacks)) term-back
 
-abbrev pub block_code : Coded Block
-block_code = code_by Symbols symbols_code (λ b. block_symbols b []) (λ xs. last_block (read_symbols xs empty_stacks)) block-back
+abbrev pub coded_block : Coded Block
+coded_block = code_by Symbols coded_symbols (λ b. block_symbols b []) (λ xs. last_block (read_symbols xs empty_stacks)) block-back
 
-abbrev pub predicate_code : Coded Predicate
-predicate_code = code_by Symbols symbols_code (λ p. predicate_symbols p []) (λ xs. top no_predicate (read_symbols xs empty_stacks).predicates) predicate-back
-
-pub bound-back : (b : Bound) → top unbounded (read_symbols (bound_symbols b []) empty_stacks).bounds ≡ b
-bound-back b = ap (λ (s : Stacks). top unbounded s.bounds) (read_symbols-bound b [] empty_stacks)
-
-abbrev pub bound_code : Coded Bound
-bound_code = code_by Symbols symbols_code (λ b. bound_symbols b []) (λ xs. top unbounded (read_symbols xs empty_stacks).bounds) bound-back
+abbrev pub coded_predicate : Coded Predicate
+coded_predicate = code_by Symbols coded_symbols (λ p. predicate_symbols p []) (λ xs. top no_predicate (read_symbols xs empty_stacks).predicates) predicate-back

@@ -84,10 +84,6 @@ postfix_operations = fold-PostfixOperator NodePatterns (List KeptPattern) (List 
 abbrev pub program_operations : Program → List KeptPattern
 program_operations = fold-Program NodePatterns (List KeptPattern) (List KeptPattern) node_beside postfix_beside program_beside
 
--- the text that is the literal on the right of `matches`, of an operator and the node on its right
-abbrev pub literal_right : Operator → Node → Option (List ℕ)
-literal_right o right = right_of o (node_patterns right).text
-
 -- no pattern is kept beside an operation
 abbrev pub KeepNone : List KeptPattern → Type 0
 KeepNone bs = All (λ b. b.kept ≡ compiled.None) bs

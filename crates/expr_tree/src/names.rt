@@ -6,8 +6,8 @@ ghost use Rattle.std.specs.Cmp.Lexicographic.{slice_cmp};
 ghost use Rattle.std.specs.Ordering.{nat_cmp};
 ghost use Rattle.expr_tree.specs.Children.{children, own_name};
 ghost use Rattle.expr_tree.specs.LentChildren.{lent_terms, maybe_child, program_children};
-ghost use Rattle.expr_tree.specs.Names.{operands, postfix_operands, bound_operands, all_operands, predicate_operands, block_operands, lines_operands, env, has_env, AreNamesOf, with_name, with_names};
-ghost use Rattle.expr_tree.specs.TermOf.{term_of, postfix_term, bound_term, predicate_term, program_term, line_term, terms_of};
+ghost use Rattle.expr_tree.specs.Names.{operands, all_operands, block_operands, lines_operands, env, has_env, AreNamesOf, with_name, with_names};
+ghost use Rattle.expr_tree.specs.TermOf.{term_of, program_term, line_term, terms_of};
 ghost use Rattle.expr_error.specs.ErrorKind.{OnlyMemory};
 
 use crate::children::{Children, children_of};

@@ -1,5 +1,5 @@
 -- What is counted of values that are kept.
-use Rattle.std.proofs.Common.{◌≡◌, ℕ, List, [], ◌∷◌, Result, Ok, Err, refl, ap, ◌∙◌, subst}
+use Rattle.std.proofs.Common.{◌≡◌, ℕ, List, [], ◌∷◌, Result, Ok, Err, refl, ◌∙◌, subst}
 use Rattle.std.specs.Result.{IsErrAnd}
 use Rattle.expr_meter.specs.Counting.{KeepsAll}
 use Rattle.expr_meter.specs.MeterView.{Charges, MeterView}
@@ -12,9 +12,6 @@ abbrev pub KeepsThese : {A E : Type 0} → List Value → ℕ → Result A E →
 KeepsThese vs size r was is = Charges r (λ now x. KeepsAll rooms vs (with_size size now) x) was is
 
 module _ (size : ℕ) (was mid : MeterView) (same : mid.stopped ≡ was.stopped) (room : mid.room ≡ with_size size was.room) where
-  pub none_kept : {A : Type 0} (E : Type 0) (a : A) → KeepsThese {A = A} {E = E} [] size (Ok a) was mid
-  none_kept E a = (same, ap (λ u. Ok u) room)
-
   pub one_kept : {A E : Type 0} (is : MeterView) (v : Value) (r : Result A E) → Charges r (Holds (weight v) (depth v)) mid is → KeepsThese (v ∷ []) size r was is
   one_kept is v (Ok a) p = (p.0 ∙ same, (Ok is.room, subst (λ m. Holds (weight v) (depth v) m (Ok is.room)) room p.1, refl))
   one_kept is v (Err e) p = (p.0, p.1, (Err p.0, subst (λ m. Holds (weight v) (depth v) m (Err p.0)) room p.2, refl))

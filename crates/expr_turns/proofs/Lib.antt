@@ -4,6 +4,8 @@ pub mod Kept
 pub mod Last
 pub mod Leaving
 pub mod Light
+pub mod OnIntegers
+pub mod Picked
 pub mod Plain
 pub mod Soon
 pub mod Turned

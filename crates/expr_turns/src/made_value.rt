@@ -1,7 +1,6 @@
 //! What an instruction has left, counted after it.
-ghost use Rattle.std.specs.Prelude.{◌<◌, ◌≡◌, ◌∷◌, [], List, length};
+ghost use Rattle.std.specs.Prelude.{◌<◌, ◌∷◌, [], List, length};
 ghost use Rattle.expr_costs.specs.Costs.{op_leaves};
-ghost use Rattle.expr_costs.specs.Measures.{length_of as items};
 ghost use Rattle.expr_instructions.specs.InMemory.{op_of};
 ghost use Rattle.expr_machine.specs.Texts.{text_of};
 ghost use Rattle.expr_meaning.specs.Host.{no_host};
@@ -13,6 +12,7 @@ ghost use Rattle.expr_stack.specs.Cells.{cell_values};
 ghost use Rattle.expr_turns.specs.Turns.{HasTop, IsCounted, IsFlat, CountsMadeBy, CountsMadeTop, SpansFlat};
 ghost use Rattle.expr_value.specs.declared.value.Value.{Value as declared};
 
+use expr_costs::length_of;
 use expr_lowering::{Instruction, Pointer};
 use expr_meter::{Budget, Meter};
 use expr_pattern::Pattern;
@@ -88,17 +88,6 @@ pub fn keep_flat(value: &Value, budget: &mut Budget) -> Result<(), AllocError>
         (⟦<Budget as Meter>⟧.metered budget.old) (⟦<Budget as Meter>⟧.metered budget.new) }
 {
     budget.keep_array(length_of(value))
-}
-
-/// How many items an array has.
-#[inline(always)]
-pub(crate) fn length_of(value: &Value) -> u64
-    ensures { result ≡ items value.now }
-{
-    match value {
-        Value::Array(items) => items.len() as u64,
-        _ => 0,
-    }
 }
 
 /// Counts the top, if it is the stack's own and no part that another lends.

@@ -20,6 +20,7 @@ pub struct RunResources<'c> {
 }
 
 /// Lets go of what was made for an answer, and counts what a built-in keeps of it and of its item.
+#[inline(always)]
 pub fn keep_reply(
     budget: &mut Budget,
     keeps: Retention,
@@ -61,6 +62,7 @@ fn keep_if(budget: &mut Budget, mark: u64, holds: bool, value: &Value) -> Result
 }
 
 /// Lets go of what was held since a mark was taken, and counts an item and its answer, which are kept.
+#[inline(never)]
 fn keep_both(budget: &mut Budget, mark: u64, item: &Value, answer: &Value) -> Result<(), AllocError>
     ensures { Charges result (λ now r. KeepsAll rooms
         (item.now ∷ answer.now ∷ []) (with_size mark now) r)

@@ -9,13 +9,13 @@ ghost use Rattle.expr_frames.specs.Nodes as machine;
 ghost use Rattle.expr_parser.specs.Reading.{stack, ReachesState};
 ghost use Rattle.expr_token.specs.declared.token.Token.TheVariants as token;
 
-use crate::parser::{Parser, whole};
+use crate::parser::{FrameParser, whole};
 use expr_frames::frame::{Frame, ParseState, ReadError, Section};
 use expr_frames::read;
 use expr_parts::{Entries, Lines};
 use expr_token::{Sign, Token};
 
-impl Parser {
+impl FrameParser {
     // An opening brace: of a predicate or a map where an argument begins, else of a map.
     pub(super) fn brace(&self) -> Result<ParseState, ReadError>
         ensures { ReachesState (machine.begin_brace (stack self.now.frames.items))

@@ -1,16 +1,18 @@
 //! The branches of a choice, and what a program between braces ends.
 
+ghost use Rattle.std.specs.Prelude.{◌∷◌};
+ghost use Rattle.expr_frames.specs.declared.frame.Frame.TheVariants as frame;
 ghost use Rattle.expr_frames.specs.Nodes as machine;
 ghost use Rattle.expr_parser.specs.Reading.{stack, ReachesState};
 
-use crate::parser::{Parser, whole};
+use crate::parser::{FrameParser, whole};
 use expr_frames::build::{nest, with_branch};
 use expr_frames::frame::{Branches, Frame, ParseState, ReadError, Section};
 use expr_parts::{AnnotatedNode, AnnotatedProgram, Lines};
 use expr_token::{Reserved, Sign, Token};
 use expr_value::Boxed;
 
-impl Parser {
+impl FrameParser {
     // A program between braces is whole.
     pub(super) fn end_section(
         &self,
@@ -33,6 +35,23 @@ impl Parser {
             }
             Section::Predicate => Ok(ParseState::Argued(body)),
         }
+    }
+
+    // The condition of an `if` is whole, and its program begins.
+    pub(super) fn end_condition(
+        &mut self,
+        branches: Branches,
+        condition: AnnotatedNode,
+        token: &Token,
+    ) -> Result<ParseState, ReadError>
+        ensures { ReachesState (machine.close token.now
+            (frame.Condition branches ∷ stack self.old.frames.items) condition) self.new.frames.items result }
+    {
+        let Token::Sign(Sign::BraceOpen) = token else {
+            return Err(ReadError::Syntax);
+        };
+        let condition = Boxed::new(self.alloc, condition)?;
+        self.enter(Frame::Body(Section::Then(branches, condition), Lines::new(self.alloc)))
     }
 
     // The `else` after a branch.

@@ -5,17 +5,15 @@ ghost use Rattle.expr_grammar.specs.Machine.{role_of, role_level};
 ghost use Rattle.expr_frames.specs.Nodes as machine;
 ghost use Rattle.expr_parser.specs.Reading.{stack, ReachesState};
 
-use crate::parser::{Parser, whole};
-use expr_frames::frame::{
-    Caller, Frame, Holder, OpenOperand, ParseState, Reaching, ReadError, Section,
-};
+use crate::parser::{FrameParser, whole};
+use expr_frames::frame::{Caller, Frame, Holder, OpenOperand, ParseState, Reaching, ReadError};
 use expr_grammar::role::Role;
 use expr_grammar::sign::InfixSign;
-use expr_parts::{AnnotatedNode, Arguments, Lines};
+use expr_parts::{AnnotatedNode, Arguments};
 use expr_token::{Reserved, Sign, Token};
 use expr_value::Boxed;
 
-impl Parser {
+impl FrameParser {
     // A token after an operand.
     pub(super) fn follow(
         &mut self,
@@ -141,13 +139,7 @@ impl Parser {
             Frame::Call(caller, arguments) => self.argument(caller, arguments, last, token),
             Frame::Index(left, optional) => self.end_index(left, optional, last, token),
             Frame::Cut(left, from) => self.end_slice(left.into_inner(), from, Some(last), token),
-            Frame::Condition(branches) => {
-                let Token::Sign(Sign::BraceOpen) = token else {
-                    return Err(ReadError::Syntax);
-                };
-                let condition = Boxed::new(self.alloc, last)?;
-                self.enter(Frame::Body(Section::Then(branches, condition), Lines::new(self.alloc)))
-            }
+            Frame::Condition(branches) => self.end_condition(branches, last, token),
             Frame::Body(section, lines) => {
                 let Token::Sign(Sign::BraceClose) = token else {
                     return Err(ReadError::Syntax);

@@ -3,13 +3,13 @@
 ghost use Rattle.expr_frames.specs.Nodes as machine;
 ghost use Rattle.expr_parser.specs.Reading.{stack, ReachesState};
 
-use crate::parser::Parser;
+use crate::parser::FrameParser;
 use expr_frames::frame::{Frame, ParseState, ReadError};
 use expr_parts::AnnotatedNode;
 use expr_token::{Sign, Token};
 use expr_value::Text;
 
-impl Parser {
+impl FrameParser {
     // A line begins, where the innermost frame is a program.
     pub(super) fn line(&self) -> Result<ParseState, ReadError>
         ensures { ReachesState (machine.begin_line (stack self.now.frames.items))

@@ -1,17 +1,17 @@
 //! Lists, and the arguments of calls.
 
-ghost use Rattle.std.specs.Prelude.{◌≡◌, ◌∷◌, IfOk};
+ghost use Rattle.std.specs.Prelude.{◌≡◌, IfOk};
 ghost use Rattle.expr_parts.specs.Parts.{argument_more, argument_program};
 ghost use Rattle.expr_frames.specs.Nodes as machine;
 ghost use Rattle.expr_parser.specs.Reading.{stack, ReachesState};
 
-use crate::parser::{Parser, whole};
+use crate::parser::{FrameParser, whole};
 use expr_frames::frame::{Caller, Frame, Holder, ParseState, ReadError};
 use expr_parts::{AnnotatedNode, AnnotatedProgram, Arguments};
 use expr_token::{Sign, Token};
 use std::alloc::AllocError;
 
-impl Parser {
+impl FrameParser {
     // A list after an element.
     pub(super) fn element(
         &mut self,

@@ -6,14 +6,14 @@ ghost use Rattle.expr_frames.specs.declared.frame.ParseState.TheVariants as pars
 ghost use Rattle.expr_frames.specs.Nodes as machine;
 ghost use Rattle.expr_parser.specs.Reading.{stack, ReachesState};
 
-use crate::parser::{Parser, whole};
+use crate::parser::{FrameParser, whole};
 use expr_frames::frame::{Frame, ParseState, ReadError};
 use expr_frames::read;
 use expr_parts::{AnnotatedNode, Entries};
 use expr_token::{Sign, Token};
 use expr_value::Text;
 
-impl Parser {
+impl FrameParser {
     // A key of a map literal, or its end.
     pub(super) fn map_key(&self, entries: Entries, token: Token) -> Result<ParseState, ReadError>
         ensures { ReachesState (machine.key_in (stack self.now.frames.items) entries

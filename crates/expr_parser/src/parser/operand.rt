@@ -4,7 +4,7 @@ ghost use Rattle.std.specs.Prelude.{◌∷◌};
 ghost use Rattle.expr_frames.specs.Nodes as machine;
 ghost use Rattle.expr_parser.specs.Reading.{stack, ReachesState};
 
-use crate::parser::{Parser, whole};
+use crate::parser::{FrameParser, whole};
 use expr_frames::frame::{
     Frame, Holder, OpenOperand, OperandStart, ParseState, Reaching, ReadError,
 };
@@ -13,7 +13,7 @@ use expr_parts::{AnnotatedNode, Arguments};
 use expr_token::{Sign, Token};
 use expr_value::{Boxed, Items};
 
-impl Parser {
+impl FrameParser {
     // A token where an operand is wanted.
     pub(super) fn want(&mut self, token: Token) -> Result<ParseState, ReadError>
         ensures { ReachesState (machine.want token (stack self.old.frames.items))

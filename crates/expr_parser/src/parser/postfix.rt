@@ -7,14 +7,14 @@ ghost use Rattle.expr_frames.specs.declared.frame.ParseState.TheVariants as pars
 ghost use Rattle.expr_frames.specs.Nodes as machine;
 ghost use Rattle.expr_parser.specs.Reading.{stack, ReachesState};
 
-use crate::parser::{Parser, whole};
+use crate::parser::{FrameParser, whole};
 use expr_frames::frame::{Caller, Frame, OpenOperand, ParseState, ReadError};
 use expr_frames::read;
 use expr_parts::{AnnotatedNode, Arguments};
 use expr_token::{Sign, Token};
 use expr_value::{Boxed, Text};
 
-impl Parser {
+impl FrameParser {
     // The word after a dot.
     pub(super) fn member(&self, left: AnnotatedNode, token: Token) -> Result<ParseState, ReadError>
         ensures { ReachesState (machine.word_after_dot (stack self.now.frames.items) left

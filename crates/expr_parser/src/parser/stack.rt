@@ -5,12 +5,12 @@ ghost use Rattle.expr_frames.specs.declared.frame.OperandStart.TheVariants as op
 ghost use Rattle.expr_frames.specs.Nodes as machine;
 ghost use Rattle.expr_parser.specs.Reading.{stack, with_frame, IsBodyOnTop, IsCallOnTop, ReachesState, PopsAbove};
 
-use crate::parser::Parser;
+use crate::parser::FrameParser;
 use expr_frames::frame::{Caller, Frame, OpenOperand, ParseState, Reaching, ReadError, Section};
 use expr_parts::{AnnotatedNode, Arguments, Lines};
 use std::alloc::AllocError;
 
-impl Parser {
+impl FrameParser {
     // The left part of an operator of this level.
     pub(super) fn settle_operand(
         &mut self,

@@ -1,62 +1,67 @@
-use Rattle.std.proofs.Common.{Ok, subst}
+use Rattle.std.proofs.Common.{Ok, ap, subst}
 use Rattle.expr_meter.specs.declared.outcome.Outcome.{Outcome}
 use Rattle.expr_meaning.specs.World.{World}
+use Rattle.expr_error.specs.ErrorKind.{error_kind}
 use Rattle.expr_machine.specs.Here.{here}
 use Rattle.expr_tree.specs.TermOf.{program_term}
 use Rattle.expr_tree.specs.declared.node.Program.{Program}
 use Rattle.expr_value.specs.declared.value.Value.{Value}
-use Rattle.expr.specs.Limited.{IsCompiledLimited}
-use Rattle.expr.proofs.Ending.{memory_ends, passed_ends, run_boundary, run_place, stopped_ends, text_ends}
+use Rattle.expr.specs.Limited.{EndsText, IsCompiledLimited}
+use Rattle.expr_meter.specs.declared.outcome.Outcome.TheVariants.{Stopped}
+use Rattle.expr.proofs.Ending.{memory_ends, passed_ends, run_boundary, run_place, stopped_ends, text_answers, text_ends, text_refused}
 use Rattle.expr_eval.proofs.Faults.{boundary_kept, memory_boundary, memory_place, place_kept}
 use Rattle.expr.proofs.limited.answer_text.Goals as goal
 
-pub returns-in_err-compiled-clause-outcome : goal.returns-in_err-compiled-clause-outcome
-returns-in_err-compiled-clause-outcome g c =
+pub returns-in_err-compiled : goal.returns-in_err-compiled
+returns-in_err-compiled g c =
     let world : World = here g.H.Functions.host g.P.ContextProvider.context c.args.machine.now in
-    passed_ends world c.args.code.now c.args.limits.now c.in_err-compiled.field-0.0 c.in_err-compiled.ensures.answer c.from_residual.result c.from_residual.ensures.1
+    let text = c.args.code.now in
+    let limits = c.args.limits.now in
+    let e = c.in_err-compiled.field-0.0 in
+    let r = c.from_residual.result in
+    let passed = c.from_residual.ensures.1 in
+    text_refused world text limits e r passed (passed_ends world text limits e c.in_err-compiled.ensures.answer r passed)
+    (λ own. place_kept (Outcome Program) (Outcome Value) text e c.in_err-compiled.ensures.place r passed)
+    (λ own. boundary_kept (Outcome Program) (Outcome Value) text e c.in_err-compiled.ensures.boundary r passed)
 
-pub returns-in_err-compiled-clause-place : goal.returns-in_err-compiled-clause-place
-returns-in_err-compiled-clause-place g c = λ own.
-    place_kept (Outcome Program) (Outcome Value) c.args.code.now c.in_err-compiled.field-0.0 c.in_err-compiled.ensures.place c.from_residual.result c.from_residual.ensures.1
-
-pub returns-in_err-compiled-clause-boundary : goal.returns-in_err-compiled-clause-boundary
-returns-in_err-compiled-clause-boundary g c = λ own.
-    boundary_kept (Outcome Program) (Outcome Value) c.args.code.now c.in_err-compiled.field-0.0 c.in_err-compiled.ensures.boundary c.from_residual.result c.from_residual.ensures.1
-
-pub returns-in_err-code-in-Answered-clause-outcome : goal.returns-in_err-code-in-Answered-clause-outcome
-returns-in_err-code-in-Answered-clause-outcome g c =
+pub returns-in_err-code-in-Answered : goal.returns-in_err-code-in-Answered
+returns-in_err-code-in-Answered g c =
     let world : World = here g.H.Functions.host g.P.ContextProvider.context c.args.machine.now in
-    memory_ends world c.args.code.now c.args.limits.now c.in_err-code-in-Answered.field-0.0 c.in_err-code-in-Answered.ensures.refused c.from_residual-in_err-code-in-Answered.result c.from_residual-in_err-code-in-Answered.ensures.1
-
-pub returns-in_err-code-in-Answered-clause-place : goal.returns-in_err-code-in-Answered-clause-place
-returns-in_err-code-in-Answered-clause-place g c = λ own.
-    memory_place (Outcome Value) c.args.code.now c.in_err-code-in-Answered.field-0.0 c.in_err-code-in-Answered.ensures.refused c.from_residual-in_err-code-in-Answered.result c.from_residual-in_err-code-in-Answered.ensures.1
-
-pub returns-in_err-code-in-Answered-clause-boundary : goal.returns-in_err-code-in-Answered-clause-boundary
-returns-in_err-code-in-Answered-clause-boundary g c = λ own.
-    memory_boundary (Outcome Value) c.args.code.now c.in_err-code-in-Answered.field-0.0 c.in_err-code-in-Answered.ensures.refused c.from_residual-in_err-code-in-Answered.result c.from_residual-in_err-code-in-Answered.ensures.1
-
-pub returns-in_ok-code-in-Answered-clause-outcome : goal.returns-in_ok-code-in-Answered-clause-outcome
-returns-in_ok-code-in-Answered-clause-outcome g c =
-    let world : World = here g.H.Functions.host g.P.ContextProvider.context c.args.machine.now in
-    let read = subst (λ o. IsCompiledLimited c.args.code.now c.args.limits.now (Ok o)) c.in-Answered.is c.in_ok-compiled.ensures.answer in
-    text_ends world c.args.code.now c.args.limits.now (program_term c.in-Answered.program) _ read.0 read.1 c.in_ok-code-in-Answered.ensures.code c.execute_limited.result c.execute_limited.ensures.outcome
-
-pub returns-in_ok-code-in-Answered-clause-place : goal.returns-in_ok-code-in-Answered-clause-place
-returns-in_ok-code-in-Answered-clause-place g c =
-    let world : World = here g.H.Functions.host g.P.ContextProvider.context c.args.machine.now in
-    let read = subst (λ o. IsCompiledLimited c.args.code.now c.args.limits.now (Ok o)) c.in-Answered.is c.in_ok-compiled.ensures.answer in
-    run_place world c.args.code.now c.args.limits.now (program_term c.in-Answered.program) _ read.0 read.1 c.in_ok-code-in-Answered.ensures.code c.execute_limited.result c.execute_limited.ensures.outcome
-
-pub returns-in_ok-code-in-Answered-clause-boundary : goal.returns-in_ok-code-in-Answered-clause-boundary
-returns-in_ok-code-in-Answered-clause-boundary g c =
-    let world : World = here g.H.Functions.host g.P.ContextProvider.context c.args.machine.now in
-    let read = subst (λ o. IsCompiledLimited c.args.code.now c.args.limits.now (Ok o)) c.in-Answered.is c.in_ok-compiled.ensures.answer in
-    run_boundary world c.args.code.now c.args.limits.now (program_term c.in-Answered.program) _ read.0 read.1 c.in_ok-code-in-Answered.ensures.code c.execute_limited.result c.execute_limited.ensures.outcome
-
-pub returns-in-Stopped-clause-outcome : goal.returns-in-Stopped-clause-outcome
-returns-in-Stopped-clause-outcome g c =
-    let world : World = here g.H.Functions.host g.P.ContextProvider.context c.args.machine.now in
-    stopped_ends world c.args.code.now c.args.limits.now c.in-Stopped.limit (
-    subst (λ o. IsCompiledLimited c.args.code.now c.args.limits.now (Ok o)) c.in-Stopped.is c.in_ok-compiled.ensures.answer
+    let text = c.args.code.now in
+    let limits = c.args.limits.now in
+    let e = c.in_err-code-in-Answered.field-0.0 in
+    let wanting = ap error_kind c.in_err-code-in-Answered.ensures.refused in
+    let r = c.from_residual-in_err-code-in-Answered.result in
+    let passed = c.from_residual-in_err-code-in-Answered.ensures.1 in
+    text_refused world text limits e r passed (memory_ends world text limits e wanting r passed) (λ own. memory_place (Outcome Value) text e wanting r passed) (
+    λ own. memory_boundary (Outcome Value) text e wanting r passed
     )
+
+pub returns-in_ok-code-in-Answered : goal.returns-in_ok-code-in-Answered
+returns-in_ok-code-in-Answered g c =
+    let world : World = here g.H.Functions.host g.P.ContextProvider.context c.args.machine.now in
+    let text = c.args.code.now in
+    let limits = c.args.limits.now in
+    let b = program_term c.in-Answered.program in
+    let read = subst (λ o. IsCompiledLimited text limits (Ok o)) c.in-Answered.is c.in_ok-compiled.ensures.answer in
+    let code = c.in_ok-code-in-Answered.ensures.code in
+    let r = c.execute_limited.result in
+    let ran = c.execute_limited.ensures.outcome in
+    let ends : EndsText world text limits r = text_ends world text limits b _ read.0 read.1 code r ran in
+    record {
+      outcome = ends;
+      answer = text_answers world text limits r ends;
+      depth = c.execute_limited.ensures.depth;
+      place = run_place world text limits b _ read.0 read.1 code r ran;
+      boundary = run_boundary world text limits b _ read.0 read.1 code r ran;
+    }
+
+pub returns-in-Stopped : goal.returns-in-Stopped
+returns-in-Stopped g c =
+    let world : World = here g.H.Functions.host g.P.ContextProvider.context c.args.machine.now in
+    let text = c.args.code.now in
+    let limits = c.args.limits.now in
+    let limit = c.in-Stopped.limit in
+    let ends : EndsText world text limits (Ok (Stopped limit)) =
+    stopped_ends world text limits limit (subst (λ o. IsCompiledLimited text limits (Ok o)) c.in-Stopped.is c.in_ok-compiled.ensures.answer) in
+    record { outcome = ends; answer = tt; depth = tt; place = λ own. tt; boundary = λ own place is. absurd (cc is) }

@@ -7,9 +7,13 @@ use Rattle.expr_meaning.specs.World.{world_of}
 use Rattle.expr.proofs.Ending.{code_answers}
 use Rattle.expr.proofs.limited.execute_limited.Goals as goal
 
-pub returns-clause-answer : goal.returns-clause-answer
-returns-clause-answer g c =
+pub returns : goal.returns
+returns g c =
     let asked = goal.ContextProvider-dyn g c.args.ctx.now in
     let base : ContextView = asked.context c.args.ctx.now.1 in
     let blocks : List (List Op) = blocks_of g.L.Pointer.held (λ n. string_bytes (g.N.Pointer.held n)) c.args.code.now in
-    code_answers (world_of no_host base) blocks c.args.limits.now c.execute_limited.result c.execute_limited.ensures.outcome
+    record {
+      outcome = c.execute_limited.ensures.outcome;
+      answer = code_answers (world_of no_host base) blocks c.args.limits.now c.execute_limited.result c.execute_limited.ensures.outcome;
+      depth = c.execute_limited.ensures.depth;
+    }

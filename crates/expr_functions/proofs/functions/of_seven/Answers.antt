@@ -1,4 +1,4 @@
 use Rattle.expr_functions.proofs.functions.of_seven.Goals as goal
 
 pub returns : goal.returns
-returns c = c.found.ensures
+returns c = c.builtin_in.ensures

@@ -2,7 +2,6 @@ use Rattle.std.proofs.Common.{◌≡◌, length, Ok, string_bytes, refl, sym, ap
 use Rattle.expr_code.specs.Machine.{jump, load, look, push, unless_nil}
 use Rattle.expr_costs.specs.Costs.{costs_in}
 use Rattle.expr_instructions.specs.InMemory.{op_of}
-use Rattle.expr_machine.specs.Leads.{passing_none}
 use Rattle.expr_machine.specs.Texts.{text_of}
 use Rattle.expr_machine.proofs.Leading.{values_as}
 use Rattle.expr_meter.specs.MeterView.{MeterView}
@@ -80,10 +79,8 @@ returns-in-Name g c =
     let was : MeterView = ghosts.metered c.args.carried.now.budget in
     let is : MeterView = ghosts.metered c.push_name.new.budget in
     let key : c.deref.result.now ≡ T c.in-Name.name = c.deref.ensures ∙ ap string_bytes c.get-in-Name.ensures in
-    subst (λ r. Turns world (costs_in world.host) (f x) now old was r new is) (sym c.after_step.ensures) (
-    subst (λ o. Turns world (costs_in world.host) o now old was (passing_none c.push_name.result) new is) (sym (ap f c.in-Name.is)) (
-    subst (λ k. Turns world (costs_in world.host) (look k) now old was (passing_none c.push_name.result) new is) key (c.push_name.ensures.turns now)
-    )
+    subst (λ o. Turns world (costs_in world.host) o now old was c.push_name.result new is) (sym (ap f c.in-Name.is)) (
+    subst (λ k. Turns world (costs_in world.host) (look k) now old was c.push_name.result new is) key (c.push_name.ensures.turns now)
     )
 
 pub returns-in-Jump : goal.returns-in-Jump

@@ -42,9 +42,9 @@ module _ (world : World) (array : Term) (block : Block) (items : List Value) (on
       let called : AllowsCall world.host key (value.Array items ∷ []) true asks (Ok v) = after_one (AllowsAll world (term array no_terms)) (λ vs. AllowsCall world.host key vs true asks) (value.Array items ∷ []) (Ok v) arguments p in
       subst (λ b. MatchBool b (world.host.calls key (value.Array items ∷ []) (Ok v)) (AllowsBuiltin world.host key (value.Array items ∷ []) true asks (Ok v))) added called
 
-  begins : (b : HigherOrderCall) (t : Fold) (v : Value) → fold_of_call b (value.Array items ∷ []) true ≡ Ok (record { task = t; items = items })
+  begins : (b : HigherOrderCall) (t : Fold) (v : Value) → fold_of_call b (value.Array items ∷ []) true ≡ Ok (record { fold = t; items = items })
       → AllowsHigherOrder b (value.Array items ∷ []) true asks (Ok v) → FoldMayReturn t asks items [] (Ok v)
-  begins b t v e p = subst (λ s. ThenIfOk s (λ s. FoldMayReturn s.task asks s.items []) (Ok v)) e p
+  begins b t v e p = subst (λ s. ThenIfOk s (λ s. FoldMayReturn s.fold asks s.items []) (Ok v)) e p
 
   run_of_any : (v : Value) → world.host.is_added (codes "any") ≡ false → Asked (codes "any") v → FoldMayReturn any_holds asks items [] (Ok v)
   unfolding builtin_named

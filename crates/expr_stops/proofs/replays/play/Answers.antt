@@ -1,13 +1,10 @@
-use Rattle.std.proofs.Common.{ℕ, List, subst, sym}
+use Rattle.std.proofs.Common.{subst, sym}
 use Rattle.expr_limited.specs.Outcomes.{ReturnsOutcome}
-use Rattle.expr_meaning.specs.Allows.{AllowsBlock}
-use Rattle.expr_meaning.specs.Independence.{AgreeAt}
 use Rattle.expr_meaning.specs.Refusals.{NeverRefusesWith}
 use Rattle.expr_steps.specs.Context.{ContextView}
 use Rattle.expr_meaning.specs.World.{world_of}
-use Rattle.expr_stops.specs.Stops.{ComesTo, is_named}
+use Rattle.expr_stops.specs.Stops.{AllowedWhereAgreed, ComesTo, is_named}
 use Rattle.expr_stops.proofs.Replied.{answered_never, same_replay}
-use Rattle.expr_tree.specs.Names.{AreNamesOf}
 use Rattle.expr_tree.specs.TermOf.{program_term}
 use Rattle.expr_error.specs.ErrorKind.{pattern}
 use Rattle.expr_stops.proofs.replays.play.Goals as goal
@@ -17,9 +14,7 @@ returns-clause-independent g c =
     let asked = goal.ContextProvider-dyn g c.args.ctx.now in
     let base : ContextView = asked.context c.args.ctx.now.1 in
     let b = program_term c.args.program.now in
-    same_replay (g.H.Functions.host) (λ h. ReturnsOutcome c.run_in-went.result (ComesTo (
-    λ a. (other : ContextView) (keys : List (List ℕ)) → AreNamesOf keys b → AgreeAt keys b base other → AllowsBlock (world_of h other) b a
-    ))) _ _ _ _ _ _ c.new-replay.ensures.host c.new-replay.ensures.names c.new-replay.ensures.given c.run_in-went.ensures.independent
+    same_replay (g.H.Functions.host) (λ h. ReturnsOutcome c.run_in-went.result (ComesTo (AllowedWhereAgreed (world_of h base) b))) _ _ _ _ _ _ c.new-replay.ensures.host c.new-replay.ensures.names c.new-replay.ensures.given c.run_in-went.ensures.independent
 
 pub returns-clause-pattern : goal.returns-clause-pattern
 returns-clause-pattern g c = λ never keeps.

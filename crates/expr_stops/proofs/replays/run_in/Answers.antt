@@ -1,10 +1,7 @@
-use Rattle.std.proofs.Common.{ℕ, List}
-use Rattle.expr_meaning.specs.Allows.{AllowsBlock}
-use Rattle.expr_meaning.specs.Independence.{AgreeAt}
 use Rattle.expr_steps.specs.Context.{ContextView}
 use Rattle.expr_meaning.specs.World.{world_of}
+use Rattle.expr_stops.specs.Stops.{AllowedWhereAgreed}
 use Rattle.expr_stops.proofs.Replied.{refused_so}
-use Rattle.expr_tree.specs.Names.{AreNamesOf}
 use Rattle.expr_tree.specs.TermOf.{program_term}
 use Rattle.expr_stops.proofs.replays.run_in.Goals as goal
 
@@ -13,6 +10,4 @@ returns-in_err-answer_program-clause-independent g c =
     let asked = goal.ContextProvider-dyn g c.args.ctx.now in
     let base : ContextView = asked.context c.args.ctx.now.1 in
     let b = program_term c.args.program.now in
-    refused_so c.in_err-answer_program.field-0.0 (
-    λ a. (other : ContextView) (keys : List (List ℕ)) → AreNamesOf keys b → AgreeAt keys b base other → AllowsBlock (world_of (g.H.Functions.host c.args.host.now) other) b a
-    ) c.from_residual.result c.in_err-answer_program.ensures.independent c.from_residual.ensures.1
+    refused_so c.in_err-answer_program.field-0.0 (AllowedWhereAgreed (world_of (g.H.Functions.host c.args.host.now) base) b) c.from_residual.result c.in_err-answer_program.ensures.independent c.from_residual.ensures.1

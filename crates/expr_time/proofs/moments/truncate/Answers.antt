@@ -7,7 +7,8 @@ use Rattle.std.proofs.Math.Path.{subst}
 use Rattle.expr_value.specs.Answers.{Answer, ReturnsExactly}
 use Rattle.expr_datetime.specs.ShiftedMoments.{at_instant}
 use Rattle.expr_datetime.specs.Times.{instant, moment_zone}
-use Rattle.expr_time.specs.Moments.{answer_for, instant_truncated}
+use Rattle.expr_arguments.specs.Arguments.{answer_on}
+use Rattle.expr_time.specs.Moments.{instant_truncated}
 use Rattle.expr_moment.specs.Zones.{moment_or_refusal}
 use Rattle.expr_time.proofs.moments.truncate.Goals as goal
 
@@ -23,4 +24,4 @@ returns c =
     let read : n ≡ instant m = c.as_nanosecond.ensures ∙ c.timestamp.ensures in
     let same : r ≡ instant_truncated (instant m) step = c.instant_truncated.ensures ∙ (λ i. instant_truncated ((to_z-of_z w128 n n_fits ∙ read) i) (to_z-of_z w64 step step_fits i)) in
     let found : c.in_ok-found.found ≡ at_instant (instant_truncated (instant m) step) (moment_zone m) = c.in_ok-found.ensures.ok ∙ ap (λ (k : ℤ). at_instant k (moment_zone m)) (to_z-of_z w128 r r_fits ∙ same) in
-    subst (λ (a : Answer). ReturnsExactly c.moment_or_refusal.result a) (ap moment_or_refusal found ∙ ap (λ (o : Option ℤ). answer_for o (λ k. moment_or_refusal (at_instant (instant_truncated (instant m) k) (moment_zone m)))) c.in-Some.ensures) c.moment_or_refusal.ensures
+    subst (λ (a : Answer). ReturnsExactly c.moment_or_refusal.result a) (ap moment_or_refusal found ∙ ap (λ (o : Option ℤ). answer_on o (λ k. moment_or_refusal (at_instant (instant_truncated (instant m) k) (moment_zone m)))) c.in-Some.ensures) c.moment_or_refusal.ensures

@@ -32,23 +32,27 @@ pub returns-in_err-first : goal.returns-in_err-first
 returns-in_err-first c = c.from_residual.ensures ∙ none_first c.args.bytes.now c.in_err-first.ensures.value
 
 pub returns-in_default : goal.returns-in_default
-returns-in_default c = c.single_sign.ensures ∙ one_alone c.args.bytes.now c.in_ok-first.field-0.now c.in_ok-first.ensures.value c.in_default.ensures.lookup.3
+returns-in_default c =
+    let (_, _, _, few, _) = c.in_default.ensures.lookup in
+    c.single_sign.ensures ∙ one_alone c.args.bytes.now c.in_ok-first.field-0.now c.in_ok-first.ensures.value few
 
 pub returns-then-second-eq42 : goal.returns-then-second-eq42
 returns-then-second-eq42 c =
     let a = c.in_ok-first.field-0.now in
     let b = c.in-Some.second.now in
+    let (_, at_one, _, stands, _) = c.in-Some.ensures.lookup in
     let test : (b == 47 || b == 42) ≡ true =
     elim c.if-second-eq47.branch [
       | then-second-eq47 w ↦ or_left _ _ (eq-eqb b 47 w.if-second-eq47.true)
       | else-second-eq47 w ↦ or_right _ _ (sym w.value-is ∙ c.if-second-eq42.true)
     ] in
-    sym (two_first c.args.bytes.now a b c.in_ok-first.ensures.value c.in-Some.ensures.lookup.3.0 c.in-Some.ensures.lookup.1 ∙ cond-true _ _ _ (and_from _ _ (eq-eqb a 47 c.if-first-eq47.true) test))
+    sym (two_first c.args.bytes.now a b c.in_ok-first.ensures.value stands.0 at_one ∙ cond-true _ _ _ (and_from _ _ (eq-eqb a 47 c.if-first-eq47.true) test))
 
 pub returns : goal.returns
 returns c =
     let a = c.in_ok-first.field-0.now in
     let b = c.in-Some.second.now in
+    let (_, at_one, _, stands, _) = c.in-Some.ensures.lookup in
     let test : (a == 47 && (b == 47 || b == 42)) ≡ false =
     elim c.else-first-eq47.branch [
       | else-first-eq47-via-then-first-eq47+else-second-eq42 w ↦ and_right (a == 47) _ (elim w.if-second-eq47.branch [
@@ -58,4 +62,4 @@ returns c =
       | else-first-eq47-via-else-first-eq47 w ↦ ap (λ x. x && (b == 47 || b == 42)) (ne_eqb a 47 w.if-first-eq47.false)
     ] in
     or_other c.double_sign.result c.or_else.result (single_sign a) (λ h. cc) c.or_else.ensures ∙ ap (λ o. option_or o (single_sign a)) c.double_sign.ensures
-    ∙ sym (two_first c.args.bytes.now a b c.in_ok-first.ensures.value c.in-Some.ensures.lookup.3.0 c.in-Some.ensures.lookup.1 ∙ cond-false _ _ _ test)
+    ∙ sym (two_first c.args.bytes.now a b c.in_ok-first.ensures.value stands.0 at_one ∙ cond-false _ _ _ test)

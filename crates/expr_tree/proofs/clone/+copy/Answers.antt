@@ -6,7 +6,7 @@ use Rattle.expr_tree.specs.KeptPatterns.{KeptPattern, NodeKeepsNone}
 use Rattle.expr_tree.specs.declared.node.CompiledRegex.TheVariants as compiled
 use Rattle.expr_tree.specs.declared.node.Node.{Node}
 use Rattle.expr_tree.specs.TermOf.{term_of, postfix_term, line_term, terms_of}
-use Rattle.expr_tree.proofs.KeptPatterns.{beside-Ident, all-Array, all-Map, all-Range, all-Func, all-Unary, all-Operation, all-Postfix, all-Conditional, all-Index, all-Slice, all-Default, all-Pipe, all-Ternary, all-Method, all-program}
+use Rattle.expr_tree.proofs.KeptPatterns.{beside-Ident, all-Array, all-Map, all-Range, all-Func, all-Unary, all-Operation, all-Postfix, all-Conditional, all-Index, all-Slice, all-Ternary, all-Method, all-program}
 use Rattle.expr_tree.proofs.Programs.{term_of-parts}
 use Rattle.expr_tree.proofs.Shapes.{term_of-Ident, term_of-Array, term_of-Map, term_of-Range, term_of-Func, term_of-Unary, term_of-Operation, term_of-Postfix, term_of-Conditional, term_of-Index, term_of-Slice, term_of-Ternary, term_of-Method}
 use Rattle.expr_tree.proofs.clone.+copy.Goals as goal

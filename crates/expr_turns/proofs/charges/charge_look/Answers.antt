@@ -12,5 +12,5 @@ returns c item is-at =
     let is : MeterView = ghosts.metered c.work.new.self in
     let both : Some c.slot_cow-item.result ≡ Some item = sym c.slot_cow-item.ensures ∙ is-at in
     let same : c.get.result.now ≡ item = c.get.ensures ∙ cc both in
-    let work = c.look_work.ensures.work ∙ ap (λ v. byte_units (length c.args.key.now) + entries_of v / 32) same in
+    let work = c.look_work-steps.ensures.work ∙ ap (λ v. byte_units (length c.args.key.now) + entries_of v / 32) same in
     subst (λ n. Charges c.work.result (TakesWork n 0) was is) work c.work.ensures

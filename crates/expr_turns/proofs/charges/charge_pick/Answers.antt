@@ -11,4 +11,4 @@ returns c =
     let was : MeterView = ghosts.metered c.args.budget.now in
     let is : MeterView = ghosts.metered c.work.new.self in
     on_two (λ u v. Charges c.work.result (TakesWork (lookup_work u v) 0) was is) c.args.kept.now c.args.stack.now c.get.result.now c.get-2.result.now
-    (subst (λ n. Charges c.work.result (TakesWork n 0) was is) c.lookup_work.ensures.work c.work.ensures) (λ x y rest e. c.get.ensures ∙ c.under_cow-value.ensures x y rest e) (c.get-2.ensures ∙ c.top_cow-key.ensures)
+    (subst (λ n. Charges c.work.result (TakesWork n 0) was is) c.lookup_work-steps.ensures.work c.work.ensures) (λ x y rest e. c.get.ensures ∙ c.under_cow-value.ensures x y rest e) (c.get-2.ensures ∙ c.top_cow-key.ensures)

@@ -11,4 +11,4 @@ returns c =
     let was : MeterView = ghosts.metered c.args.budget.now in
     let is : MeterView = ghosts.metered c.work.new.self in
     on_one (λ v. Charges c.work.result (TakesWork (lookup_work v c.args.key.now) 0) was is) c.args.kept.now c.args.stack.now c.get.result.now
-    (subst (λ n. Charges c.work.result (TakesWork n 0) was is) c.lookup_work.ensures.work c.work.ensures) (c.get.ensures ∙ c.top_cow-value.ensures)
+    (subst (λ n. Charges c.work.result (TakesWork n 0) was is) c.lookup_work-steps.ensures.work c.work.ensures) (c.get.ensures ∙ c.top_cow-value.ensures)

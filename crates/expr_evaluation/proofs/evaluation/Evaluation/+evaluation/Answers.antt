@@ -284,12 +284,12 @@ run_lines-loop-name-preserved g t c =
     subst (λ xs. drop i xs ≡ l ∷ drop (i + 1) xs) same (drop-at c.deref-name-items.result.now i l c.loop-name-item.is c.loop-name-test.true) in
     let b : Binding = record { name = c.deref.result; value = c.in_ok-value.value } in
     let named : b.name.now ≡ string_bytes l.0 = search rules in
-    let after : Scope-F Scope = record { bindings = c.push.new.self; question = (out-Scope inner).question; outer = (out-Scope inner).outer } in
+    let after : Scope-F Scope = record { bindings = c.push.new.self; predicate_args = (out-Scope inner).predicate_args; outer = (out-Scope inner).outer } in
     let rolled = out-roll-Scope after in
     λ answer p. c.loop-name.invariant answer (
     subst (λ ls. AllowsBlock (with_context world (context_in inner world.context)) (lines_of ls) answer) (sym at) (
     AllowsBlock-line world inner (roll-Scope after) b l.0 (term_of l.1) (lines_of (drop (i + 1) lines)) answer
-    (ap (λ (r : Scope-F Scope). r.bindings.items) rolled ∙ c.in_ok-push.ensures.items) (ap (λ (r : Scope-F Scope). r.question) rolled)
+    (ap (λ (r : Scope-F Scope). r.bindings.items) rolled ∙ c.in_ok-push.ensures.items) (ap (λ (r : Scope-F Scope). r.predicate_args) rolled)
     (ap (λ (r : Scope-F Scope). r.outer) rolled) named c.in_ok-value.ensures p
     )
     )

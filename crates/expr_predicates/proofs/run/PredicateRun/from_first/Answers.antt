@@ -1,5 +1,4 @@
 use Rattle.std.proofs.Common.{refl, sym, ap, ◌∙◌}
-use Rattle.expr_arguments.specs.Arrays.{array_items}
 use Rattle.expr_predicates.specs.Calls.{reduce_from_first}
 use Rattle.expr_predicates.specs.Folds.{reducing}
 use Rattle.expr_predicates.proofs.FoldStarts.{same_ok}

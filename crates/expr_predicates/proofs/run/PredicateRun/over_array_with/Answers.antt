@@ -13,10 +13,10 @@ pub returns-in-Reduce-clause-begun : goal.returns-in-Reduce-clause-begun
 returns-in-Reduce-clause-begun c =
     let init = c.in_ok-init-in-Reduce.init in
     let same = same_ok init c.args.more (sym c.in_ok-init-in-Reduce.ensures.answer) in
-    begun_as c.args.asking (array_items c.args.array) (Some c.args.more) c.forward.result higher_order_call.Reduce (reducing c.args.more 0) (array_items c.args.array) (accumulator.Values (value_accumulator.Reduce init)) c.in-Reduce.is refl c.forward.ensures.left c.forward.ensures.asked c.forward.ensures.gathered (c.args.more, 0, refl, same)
+    begun_as c.args.call (array_items c.args.array) (Some c.args.more) c.forward.result higher_order_call.Reduce (reducing c.args.more 0) (array_items c.args.array) (accumulator.Values (value_accumulator.Reduce init)) c.in-Reduce.is refl c.forward.ensures.left c.forward.ensures.asked c.forward.ensures.gathered (c.args.more, 0, refl, same)
 
 pub returns-in-SortBy-clause-begun : goal.returns-in-SortBy-clause-begun
 returns-in-SortBy-clause-begun c =
     let down = c.in_ok-down-in-SortBy.down in
-    begun_as c.args.asking (array_items c.args.array) (Some c.args.more) c.forward-in-SortBy.result higher_order_call.SortBy (sorting down) (array_items c.args.array) (accumulator.Values (value_accumulator.SortBy down c.new.result)) c.in-SortBy.is
+    begun_as c.args.call (array_items c.args.array) (Some c.args.more) c.forward-in-SortBy.result higher_order_call.SortBy (sorting down) (array_items c.args.array) (accumulator.Values (value_accumulator.SortBy down c.new.result)) c.in-SortBy.is
     (ap (λ v. sort_in_direction (array_items c.args.array) (direction_named (string_of v))) (sym c.get.ensures) ∙ ap (sort_in_direction (array_items c.args.array)) c.in_ok-down-in-SortBy.ensures) c.forward-in-SortBy.ensures.left c.forward-in-SortBy.ensures.asked c.forward-in-SortBy.ensures.gathered (refl, c.new.ensures.items)

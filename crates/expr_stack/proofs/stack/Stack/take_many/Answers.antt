@@ -7,7 +7,7 @@ loop-values-preserved g c =
     let one : length c.push_reserved.new.self.items ≡ length c.loop-values.values.items + 1 =
     ap length c.push_reserved.ensures.items ∙ length-append c.loop-values.values.items (c.in_ok-to_cow_slow.field-0 ∷ []) in
     record {
-      off = rw c.push_reserved.ensures.items (off_given _ _ _ _ _ _ _ c.loop-values.invariant.off c.take_top.ensures c.in_ok-to_cow_slow.ensures);
+      off = rw c.push_reserved.ensures.items (off_given _ _ _ _ _ _ _ c.loop-values.invariant.off c.take_top.ensures c.in_ok-to_cow_slow.ensures.answer);
       count = omega (arith, c.loop-values.values.ok.0);
       room = omega arith;
     }

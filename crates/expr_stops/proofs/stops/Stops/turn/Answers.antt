@@ -8,7 +8,8 @@ returns-in-Some-get-clause-stops c =
     let given = c.deref-2.result.now in
     let one = c.in-Some-get.given.now in
     let place = c.in-Some.stop.place in
-    let there : slice_get given place ≡ Some one = slice_get_read given (length given) place one refl c.in-Some-get.ensures.lookup.3.0 c.in-Some-get.ensures.lookup.1 in (
+    let (_, same, _, (within, _), _) = c.in-Some-get.ensures.lookup in
+    let there : slice_get given place ≡ Some one = slice_get_read given (length given) place one refl within same in (
       refl,
       record {
         is_named = ap (is_named c.args.names.now) (sym c.deref.ensures) ∙ sym c.has.ensures ∙ c.if-not-has.false;

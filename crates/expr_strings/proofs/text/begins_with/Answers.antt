@@ -1,5 +1,0 @@
-use Rattle.std.proofs.lemmas.Str.Pattern.{starts_text}
-use Rattle.expr_strings.proofs.text.begins_with.Goals as goal
-
-pub returns : goal.returns
-returns c = starts_text _ c.args.front.now c.args.text.now c.starts_with.ensures.cases
