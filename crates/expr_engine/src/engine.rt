@@ -4,7 +4,7 @@ ghost use Rattle.std.specs.Prelude.{◌≡◌, ◌≢◌, [], string_bytes, IfOk
 ghost use Rattle.std.specs.Option.{option_copied};
 ghost use Rattle.expr_engine.specs.Adding.{BecomesByRule, BecomesFixed, BecomesNow, GainsName};
 ghost use Rattle.expr_engine.specs.Effects.{Adds, AreSaid, Changes, ForgetsAll, IsStale};
-ghost use Rattle.expr_engine.specs.Engines.{IsPlacedRefusal, KeepsThings, KeepsRest, RunMayAnswer, MayEnd, NumbersRise, RefusesText, SameAdditions, additions_at, run_inputs, waiting_inputs, names_at};
+ghost use Rattle.expr_engine.specs.Engines.{IsPlacedRefusal, KeepsThings, KeepsRest, RunMayAnswer, MayEnd, NumbersRise, RefusesText, SameAdditions, additions_at, run_inputs, waiting_inputs, names_at, no_number};
 ghost use Rattle.expr_engine.specs.Faults.{IsNotedAt, fault_byte, refused_byte};
 ghost use Rattle.expr_engine.specs.Limiting.{IsProgramBy};
 ghost use Rattle.expr_engine.specs.Promised.{IsNew};
@@ -193,6 +193,9 @@ impl Engine {
         ensures built { self.new.built ≡ self.old.built }
         ensures limits { self.new.limits ≡ self.old.limits }
     {
+        if environment.number == NO_NUMBER {
+            return self.run_alone(program, environment, context);
+        }
         let mut stops = Stops::new(self.alloc);
         let answer = self.turn(&mut stops, program, environment, context);
         if finds_nothing(&answer) {
@@ -205,6 +208,55 @@ impl Engine {
             stops,
         };
         self.keep(answer)
+    }
+
+    /// Begins a run where there is no environment, so that it comes to no call that the host answers itself.
+    #[inline(always)]
+    fn run_alone(
+        &mut self,
+        program: Handle,
+        environment: Handle,
+        context: Handle,
+    ) -> Result<(), HostError>
+        requires alone { environment.number ≡ no_number }
+        ensures ended { MatchOption (run_inputs self.old program environment context)
+            (result ≡ Err HostError.Unknown) (λ q. RunServes q [] result (part_of self.new.answer)) }
+        ensures begun { MatchOption (run_inputs self.old program environment context)
+            (self.new.waits ≡ self.old.waits)
+            (λ q. IsNewRun q program environment context result self.new.waits) }
+        ensures way { OnOk result (way_of self.new.answer ≡ []) }
+        ensures err { OnErr result (self.new.answer ≡ self.old.answer) }
+        ensures kept { KeepsThings self.old self.new }
+        ensures built { self.new.built ≡ self.old.built }
+        ensures limits { self.new.limits ≡ self.old.limits }
+    {
+        let answer = self.answer_alone(program, context);
+        if finds_nothing(&answer) {
+            return Err(HostError::Unknown);
+        }
+        self.waits.begin(program, environment, context);
+        self.keep(answer)
+    }
+
+    /// What a program answers in a context within the limits, where there is no environment.
+    #[inline(always)]
+    fn answer_alone(&self, program: Handle, context: Handle) -> Result<Value, HostError>
+        ensures ended { (alone : Handle) → alone.number ≡ no_number
+            → MatchOption (run_inputs self.now program alone context) (result ≡ Err HostError.Unknown)
+            (λ q. ReturnsToHost result (RunMayAnswer q []) (λ limit. MayEnd q [] (stops_at limit))) }
+        ensures stops { (alone : Handle) → alone.number ≡ no_number
+            → MatchOption (run_inputs self.now program alone context) (result ≡ Err HostError.Unknown)
+            (λ q. WaitsIfAsks q [] result None) }
+    {
+        let Some(rule) = self.rules.get(program) else {
+            return Err(HostError::Unknown);
+        };
+        let names = self.names_of(context)?;
+        let nothing = LentHost { added: None };
+        match rule.run(self.alloc, &nothing, names, self.limits)? {
+            Outcome::Answered(value) => Ok(value),
+            Outcome::Stopped(limit) => Err(HostError::Stopped(limit)),
+        }
     }
 
     /// Refuses handles of which one finds nothing.

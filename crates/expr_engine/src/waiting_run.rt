@@ -1,6 +1,6 @@
 //! The run that waits for a host's reply.
-ghost use Rattle.std.specs.Prelude.{◌≡◌, None};
-ghost use Rattle.expr_stops.specs.Stops.{waiting_call_of};
+ghost use Rattle.std.specs.Prelude.{◌≡◌, [], None};
+ghost use Rattle.expr_stops.specs.Stops.{replies_of, waiting_call_of};
 
 use expr_handles::Handle;
 use expr_stops::Stops;
@@ -31,5 +31,20 @@ impl WaitingRun {
             context: nothing,
             stops: Stops::new(alloc),
         }
+    }
+
+    /// Begins a run under these handles, which has no replies yet.
+    #[inline(always)]
+    pub fn begin(&mut self, program: Handle, environment: Handle, context: Handle)
+        ensures program { self.new.program ≡ program }
+        ensures environment { self.new.environment ≡ environment }
+        ensures context { self.new.context ≡ context }
+        ensures given { replies_of self.new.stops ≡ [] }
+        ensures waits { waiting_call_of self.new.stops ≡ None }
+    {
+        self.program = program;
+        self.environment = environment;
+        self.context = context;
+        self.stops.forget();
     }
 }
