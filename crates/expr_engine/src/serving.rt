@@ -194,6 +194,9 @@ fn mark(call: &mut Call<'_>, noted: Option<TextPlace>)
 fn copy_into(from: &[u8], room: &mut [u8])
     ensures { room.new ≡ text_in_room from.now room.old }
 {
+    if from.is_empty() {
+        return;
+    }
     let n = from.len().min(room.len());
     room[..n].copy_from_slice(&from[..n]);
 }
