@@ -11,69 +11,37 @@ use std::alloc::Global;
 /// Puts the calls of an environment with a function `ten`, a zone and a moment.
 fn put_environment(alloc: Global, context: &Context, page: &mut Page) -> Result<()> {
     let mut host = Environment::new(alloc);
-    put_eval(alloc, "Environment::new", "1", &host, context, page);
+    let answer = host.eval(alloc, "1", context);
+    page.put_call("Environment::new", answer);
     host.add_function(
         "ten",
         Box::new(alloc, |_call: ExprCall| Ok(Value::Integer(10)))?,
     )?;
-    let name = "Environment::add_function";
-    put_eval(alloc, name, "ten() * a", &host, context, page);
+    let answer = host.eval(alloc, "ten() * a", context);
+    page.put_call("Environment::add_function", answer);
     host.add_timezone("Z", TimeZone::UTC)?;
-    let name = "Environment::add_timezone";
-    let code = r#"timezone("Z").String()"#;
-    put_eval(alloc, name, code, &host, context, page);
+    let answer = host.eval(alloc, r#"timezone("Z").String()"#, context);
+    page.put_call("Environment::add_timezone", answer);
     host.set_now(Timestamp::UNIX_EPOCH);
-    put_eval(alloc, "now", "now().Unix()", &host, context, page);
+    let answer = host.eval(alloc, "now().Unix()", context);
+    page.put_call("now", answer);
     Ok(())
-}
-
-/// Puts what a text answers in an environment, under a name.
-fn put_eval(
-    alloc: Global,
-    name: &str,
-    code: &str,
-    host: &Environment,
-    context: &Context,
-    page: &mut Page,
-) {
-    page.put_call(name, host.eval(alloc, code, context));
 }
 
 /// Puts the calls of a parser with a function `ten`, and of a program of it that is run without.
 fn put_parser(alloc: Global, context: &Context, page: &mut Page) -> Result<()> {
     let mut host = Parser::new(alloc);
-    put_parsed(alloc, "Parser::new", "1", &host, context, page);
+    let answer = host.eval(alloc, "1", context);
+    page.put_call("Parser::new", answer);
     host.add_function(
         "ten",
         Box::new(alloc, |_call: ExprCall| Ok(Value::Integer(10)))?,
     )?;
-    let name = "Parser::add_function";
-    put_parsed(alloc, name, "ten()", &host, context, page);
-    put_compiled(alloc, "ten() * a", &host, context, page)
-}
-
-/// Puts what a text answers by a parser, under a name.
-fn put_parsed(
-    alloc: Global,
-    name: &str,
-    code: &str,
-    host: &Parser,
-    context: &Context,
-    page: &mut Page,
-) {
-    page.put_call(name, host.eval(alloc, code, context));
-}
-
-/// Puts what the program of a text answers without the parser's functions.
-fn put_compiled(
-    alloc: Global,
-    code: &str,
-    host: &Parser,
-    context: &Context,
-    page: &mut Page,
-) -> Result<()> {
-    let program = host.compile(alloc, code)?;
-    page.put_call("Parser::compile", run(alloc, &program, context));
+    let answer = host.eval(alloc, "ten()", context);
+    page.put_call("Parser::add_function", answer);
+    let program = host.compile(alloc, "ten() * a")?;
+    let answer = run(alloc, &program, context);
+    page.put_call("Parser::compile", answer);
     Ok(())
 }
 

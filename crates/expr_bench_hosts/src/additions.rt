@@ -22,21 +22,9 @@ fn numbers(
     let mut page = Page::new(alloc);
     for name in NAMES {
         let code = format!(in alloc; "{front}{name}{back}")?;
-        put_number(alloc, name, &code, host, context, &mut page);
+        page.put_call(name, host.eval(alloc, &code, context));
     }
     page.into_text()
-}
-
-/// Puts what a text answers under a name.
-fn put_number(
-    alloc: Global,
-    name: &str,
-    code: &str,
-    host: &Environment,
-    context: &Context,
-    page: &mut Page,
-) {
-    page.put_call(name, host.eval(alloc, code, context));
 }
 
 /// What is printed of an addition by the numbers before and after it. One that is refused has to leave them as they were.
@@ -52,31 +40,16 @@ fn added_text(alloc: Global, added: Result<()>, before: String, after: String) -
 pub fn name_text(alloc: Global, row: &Row) -> Result<String> {
     let host = Environment::new(alloc);
     let mut context = Context::new(alloc);
-    name_text_in(alloc, row, &host, &mut context)
-}
-
-fn name_text_in(
-    alloc: Global,
-    row: &Row,
-    host: &Environment,
-    context: &mut Context,
-) -> Result<String> {
-    put_first_names(alloc, row.number(1), context)?;
-    let before = numbers(alloc, "", "", host, &*context)?;
-    let tried = String::from_str(alloc, row.text(0))?;
-    let added = context.insert(tried, Value::Integer(TRIED));
-    let after = numbers(alloc, "", "", host, &*context)?;
-    added_text(alloc, added, before, after)
-}
-
-/// Puts so many of the names into a context.
-fn put_first_names(alloc: Global, count: usize, context: &mut Context) -> Result<()> {
     let mut number = 0_i64;
-    for name in NAMES.iter().take(count) {
+    for name in NAMES.iter().take(row.number(1)) {
         context.insert(String::from_str(alloc, name)?, Value::Integer(number))?;
         number = number.wrapping_add(1);
     }
-    Ok(())
+    let before = numbers(alloc, "", "", &host, &context)?;
+    let tried = String::from_str(alloc, row.text(0))?;
+    let added = context.insert(tried, Value::Integer(TRIED));
+    let after = numbers(alloc, "", "", &host, &context)?;
+    added_text(alloc, added, before, after)
 }
 
 /// The numbers of functions where one of a row's name is added to an environment with the first ones.
@@ -118,22 +91,13 @@ const ZONE_BACK: &str = "\")).Minute()";
 pub fn zone_text(alloc: Global, row: &Row) -> Result<String> {
     let context = Context::new(alloc);
     let mut host = Environment::new(alloc);
-    zone_text_in(alloc, row, &mut host, &context)
-}
-
-fn zone_text_in(
-    alloc: Global,
-    row: &Row,
-    host: &mut Environment,
-    context: &Context,
-) -> Result<String> {
     let mut number = 0_i64;
     for name in NAMES.iter().take(row.number(1)) {
         host.add_timezone(name, zone_ahead(number))?;
         number = number.wrapping_add(1);
     }
-    let before = numbers(alloc, ZONE_FRONT, ZONE_BACK, &*host, context)?;
+    let before = numbers(alloc, ZONE_FRONT, ZONE_BACK, &host, &context)?;
     let added = host.add_timezone(row.text(0), zone_ahead(TRIED));
-    let after = numbers(alloc, ZONE_FRONT, ZONE_BACK, &*host, context)?;
+    let after = numbers(alloc, ZONE_FRONT, ZONE_BACK, &host, &context)?;
     added_text(alloc, added, before, after)
 }
