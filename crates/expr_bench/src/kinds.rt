@@ -1,7 +1,6 @@
 //! What is printed of a row of a kind: one function each, which says what its row is.
 use crate::topics::topic_text;
-use expr_bench_answers::{answers, deep, rows, values};
-use expr_bench_hosts::{additions, hosts, served};
+use expr_bench_hosts::{additions, answers, deep, hosts, rows, served, values};
 use expr_bench_programs::{parts, plain, programs, tokens};
 use expr_bench_values::lines::Row;
 use expr_value::Result;

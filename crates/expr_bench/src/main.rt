@@ -8,7 +8,7 @@ mod engine;
 mod kinds;
 mod topics;
 
-use expr_bench_answers::rows::row_text;
+use expr_bench_hosts::rows::row_text;
 use expr_bench_values::lines::{Row, escape};
 use expr_bench_values::page::word_of;
 use expr_value::Result;

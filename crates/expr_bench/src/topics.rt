@@ -1,6 +1,6 @@
 //! What only code can see of a topic.
 use crate::engine;
-use expr_bench_answers::{macros, reading_back, values};
+use expr_bench_hosts::{macros, reading_back, values};
 use expr_bench_programs::sizes;
 use expr_bench_values::calls::where_a_is_2;
 use expr_bench_values::page::Page;
@@ -16,7 +16,7 @@ fn put_topic(alloc: Global, topic: &str, page: &mut Page) -> Result<()> {
             expr_bench_programs::calls::put_calls(alloc, &where_a_is_2(alloc)?, page)?
         }
         "calls_on_texts" => {
-            expr_bench_answers::calls::put_calls(alloc, &where_a_is_2(alloc)?, page)?
+            expr_bench_hosts::calls::put_calls(alloc, &where_a_is_2(alloc)?, page)?
         }
         "collections" => collections::put_collections(alloc, page)?,
         "context" => values::put_context(alloc, page)?,
