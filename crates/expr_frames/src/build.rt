@@ -113,7 +113,7 @@ impl Reaching {
             Reaching::Under(sign) => AnnotatedNode::unary(alloc, operator(sign), last),
             Reaching::After(left, sign) => join(alloc, sign, left, last),
             Reaching::Otherwise(condition, then) => {
-                AnnotatedNode::ternary(alloc, condition.into_inner(), then, last)
+                AnnotatedNode::ternary(alloc, condition, then, last)
             }
         }
     }
@@ -179,7 +179,7 @@ impl OpenOperand {
         ensures { IfOk result (λ p. p ≡ machine.make self) }
     {
         match self {
-            OpenOperand::Name(name) => Ok(AnnotatedNode::name(name.into_string())),
+            OpenOperand::Name(name) => AnnotatedNode::name(alloc, name.into_string()),
             OpenOperand::Member(left, name) => AnnotatedNode::member(alloc, left, name, false),
             OpenOperand::Whole(part) => Ok(part),
         }
@@ -214,7 +214,7 @@ pub fn nest(
     let mut branches = before.into_vec();
     let mut inner = AnnotatedNode::conditional(alloc, condition, then, otherwise)?;
     while let Some((condition, then)) = branches.pop() {
-        let otherwise = Lines::new(alloc).finish(inner);
+        let otherwise = Lines::new(alloc).finish(inner)?;
         inner = AnnotatedNode::conditional(alloc, condition, then, otherwise)?;
     }
     Ok(inner)

@@ -42,7 +42,7 @@ pub enum Section {
 pub enum Reaching {
     Under(PrefixSign),
     After(AnnotatedNode, InfixSign),
-    Otherwise(Boxed<AnnotatedNode>, AnnotatedNode),
+    Otherwise(AnnotatedNode, AnnotatedNode),
 }
 
 /// What is open to the left of the reading point.
@@ -55,7 +55,7 @@ pub enum Frame {
     List(Holder, Arguments),
     Call(Caller, Arguments),
     Index(AnnotatedNode, bool),
-    Cut(Boxed<AnnotatedNode>, Option<AnnotatedNode>),
+    Cut(AnnotatedNode, Option<AnnotatedNode>),
     Condition(Branches),
     Body(Section, Lines),
     Value(Text),

@@ -126,7 +126,7 @@ impl FrameParser {
         };
         match section {
             Section::Top => match self.frames.last() {
-                None => Ok(lines.finish(last)),
+                None => Ok(lines.finish(last)?),
                 Some(_) => Err(ReadError::Syntax),
             },
             _ => Err(ReadError::Syntax),

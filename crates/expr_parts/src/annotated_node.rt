@@ -5,7 +5,7 @@ ghost use Rattle.expr_tree.specs.KeptPatterns.{bound_operations, operations, pos
 ghost use Rattle.expr_tree.specs.Term.{name, literal, postfix};
 ghost use Rattle.expr_tree.specs.TermOf.{term_of, postfix_term, bound_term};
 ghost use Rattle.expr_parts.specs.Kept.{IsKept, IsKeptOf, KeepPatterns};
-ghost use Rattle.expr_parts.specs.Promotion.{bound_has_free_hash, postfix_has_free_hash};
+ghost use Rattle.expr_parts.specs.Promotion.{bound_has_free_hash, has_free_hash as hash_stands_free, postfix_has_free_hash};
 ghost use Rattle.expr_parts.specs.Parts.{bound_with, leaf, brackets_of, unary_of, range_of, operation_of, coalesce_of, conditional_of, index_of, member_of, field_of, slice_of, pipe_of, ternary_of, method_of};
 ghost use Rattle.expr_parts.specs.Parts as parts;
 
@@ -18,8 +18,9 @@ use std::alloc::{AllocError, Global};
 use std::marker::Model;
 
 /// A node, whether a hash name is free in it, and the height of the tree that it was read from. Contracts see the node's tree and the height.
+/// It stands in memory of its own, so that a part is moved in a few words, and stays there where it becomes part of another.
 pub struct AnnotatedNode {
-    pub(crate) node: Node,
+    node: Box<Node>,
     pub(crate) has_free_hash: bool,
     pub(crate) height: usize,
 }
@@ -48,10 +49,10 @@ impl Model for AnnotatedNode {
     ghost use Rattle.expr_parts.specs.Kept.{KeepPatterns};
     ghost use Rattle.expr_parts.specs.Promotion.{has_free_hash as hash_stands_free};
 
-    ghost view = { λ p. record { term = term_of p.node; height = p.height } };
+    ghost view = { λ p. record { term = term_of p.node.value; height = p.height } };
 
-    ghost invariant = { λ p. (p.has_free_hash ≡ hash_stands_free (term_of p.node))
-        × KeepPatterns (operations p.node) };
+    ghost invariant = { λ p. (p.has_free_hash ≡ hash_stands_free (term_of p.node.value))
+        × KeepPatterns (operations p.node.value) };
 }
 
 // The height of a tree by that of the highest inside it. One that doesn't fit is refused, though no memory holds the tokens of so high a tree.
@@ -69,27 +70,44 @@ impl AnnotatedNode {
         self.height
     }
 
+    // A node in memory of its own, with what stands beside it.
+    pub(crate) fn made(
+        alloc: Global,
+        node: Node,
+        has_free_hash: bool,
+        height: usize,
+    ) -> Result<AnnotatedNode, AllocError>
+        requires hash { has_free_hash ≡ hash_stands_free (term_of node) }
+        requires patterns { KeepPatterns (operations node) }
+        ensures { IfOk result (λ p. p ≡ record { term = term_of node; height = height }) }
+    {
+        Ok(AnnotatedNode {
+            node: Box::new(alloc, node)?,
+            has_free_hash,
+            height,
+        })
+    }
+
+    // The node.
+    pub(crate) fn as_node(&self) -> &Node
+        ensures { term_of result.now ≡ self.now.term }
+    {
+        &self.node
+    }
+
     /// A name or hash name.
-    pub fn name(ident: String) -> AnnotatedNode
-        ensures { result ≡ leaf (name (string_bytes ident)) }
+    pub fn name(alloc: Global, ident: String) -> Result<AnnotatedNode, AllocError>
+        ensures { IfOk result (λ p. p ≡ leaf (name (string_bytes ident))) }
     {
         let has_free_hash = ident.as_bytes().first() == Some(&b'#');
-        AnnotatedNode {
-            node: Node::Ident(ident),
-            has_free_hash,
-            height: 1,
-        }
+        AnnotatedNode::made(alloc, Node::Ident(ident), has_free_hash, 1)
     }
 
     /// A literal.
-    pub fn literal(value: Value) -> AnnotatedNode
-        ensures { result ≡ leaf (literal value) }
+    pub fn literal(alloc: Global, value: Value) -> Result<AnnotatedNode, AllocError>
+        ensures { IfOk result (λ p. p ≡ leaf (literal value)) }
     {
-        AnnotatedNode {
-            node: Node::Value(value),
-            has_free_hash: false,
-            height: 1,
-        }
+        AnnotatedNode::made(alloc, Node::Value(value), false, 1)
     }
 
     /// A field of the item at hand: the member of `#`.
@@ -106,7 +124,7 @@ impl AnnotatedNode {
             idx,
             optional: false,
         };
-        AnnotatedNode::name(hash).with_postfix(alloc, operator, false, 1)
+        AnnotatedNode::name(alloc, hash)?.with_postfix(alloc, operator, false, 1)
     }
 
     /// An expression in brackets.
@@ -136,13 +154,8 @@ impl AnnotatedNode {
     {
         let has_free_hash = first.has_free_hash || last.has_free_hash;
         let height = height_above(first.height().max(last.height()))?;
-        let first = Box::new(alloc, first.into_node())?;
-        let last = Box::new(alloc, last.into_node())?;
-        Ok(AnnotatedNode {
-            node: Node::Range(first, last),
-            has_free_hash,
-            height,
-        })
+        let node = Node::Range(first.into_box(), last.into_box());
+        AnnotatedNode::made(alloc, node, has_free_hash, height)
     }
 
     /// An operator before its operand.
@@ -155,18 +168,27 @@ impl AnnotatedNode {
     {
         let has_free_hash = operand.has_free_hash;
         let height = height_above(operand.height())?;
-        let node = Box::new(alloc, operand.into_node())?;
-        Ok(AnnotatedNode {
-            node: Node::Unary { operator, node },
-            has_free_hash,
-            height,
-        })
+        let node = operand.into_box();
+        AnnotatedNode::made(alloc, Node::Unary { operator, node }, has_free_hash, height)
     }
 
     /// The node, alone.
     pub fn into_node(self) -> Node
         ensures term { term_of result ≡ self.term }
         ensures patterns { KeepPatterns (operations result) }
+    {
+        let AnnotatedNode {
+            node,
+            has_free_hash: _,
+            height: _,
+        } = self;
+        Box::into_inner(node)
+    }
+
+    /// The node, alone, in its own memory.
+    pub fn into_box(self) -> Box<Node>
+        ensures term { term_of result.value ≡ self.term }
+        ensures patterns { KeepPatterns (operations result.value) }
     {
         let AnnotatedNode {
             node,
@@ -187,20 +209,16 @@ impl AnnotatedNode {
     {
         let has_free_hash = left.has_free_hash || right.has_free_hash;
         let height = height_above(left.height().max(right.height()))?;
-        let right = right.into_node();
+        let right = right.into_box();
         let compiled_regex = kept_pattern(alloc, operator, &right)?;
-        let left = Box::new(alloc, left.into_node())?;
-        let right = Box::new(alloc, right)?;
-        Ok(AnnotatedNode {
-            node: Node::Operation {
-                operator,
-                left,
-                right,
-                compiled_regex,
-            },
-            has_free_hash,
-            height,
-        })
+        let left = left.into_box();
+        let node = Node::Operation {
+            operator,
+            left,
+            right,
+            compiled_regex,
+        };
+        AnnotatedNode::made(alloc, node, has_free_hash, height)
     }
 
     /// A choice between two programs.
@@ -217,18 +235,12 @@ impl AnnotatedNode {
             || alternative.has_free_hash;
         let highest = condition.height().max(consequent.height());
         let height = height_above(highest.max(alternative.height()))?;
-        let condition = Box::new(alloc, condition.into_node())?;
-        let consequent = Box::new(alloc, consequent.into_program())?;
-        let alternative = Box::new(alloc, alternative.into_program())?;
-        Ok(AnnotatedNode {
-            node: Node::Conditional {
-                condition,
-                consequent,
-                alternative,
-            },
-            has_free_hash,
-            height,
-        })
+        let node = Node::Conditional {
+            condition: condition.into_box(),
+            consequent: consequent.into_box(),
+            alternative: alternative.into_box(),
+        };
+        AnnotatedNode::made(alloc, node, has_free_hash, height)
     }
 
     /// An operand and its index.
@@ -242,7 +254,7 @@ impl AnnotatedNode {
     {
         let in_key = key.has_free_hash;
         let height = height_above(operand.height().max(key.height()))?;
-        let idx = Box::new(alloc, key.into_node())?;
+        let idx = key.into_box();
         operand.with_postfix(
             alloc,
             PostfixOperator::Index { idx, optional },
@@ -282,8 +294,8 @@ impl AnnotatedNode {
         let in_bounds = is_free_in(&start) || is_free_in(&end);
         let bounds = bound_height(&start).max(bound_height(&end));
         let height = height_above(operand.height().max(bounds))?;
-        let start = box_of(alloc, start)?;
-        let end = box_of(alloc, end)?;
+        let start = box_of(start);
+        let end = box_of(end);
         operand.with_postfix(
             alloc,
             PostfixOperator::Range { start, end },
@@ -302,7 +314,7 @@ impl AnnotatedNode {
     {
         let in_other = other.has_free_hash;
         let height = height_above(operand.height().max(other.height()))?;
-        let other = Box::new(alloc, other.into_node())?;
+        let other = other.into_box();
         operand.with_postfix(alloc, PostfixOperator::Default(other), in_other, height)
     }
 
@@ -316,7 +328,7 @@ impl AnnotatedNode {
     {
         let in_call = call.has_free_hash;
         let height = height_above(operand.height().max(call.height()))?;
-        let call = Box::new(alloc, call.into_node())?;
+        let call = call.into_box();
         operand.with_postfix(alloc, PostfixOperator::Pipe(call), in_call, height)
     }
 
@@ -331,8 +343,8 @@ impl AnnotatedNode {
     {
         let in_parts = left.has_free_hash || right.has_free_hash;
         let height = height_above(condition.height().max(left.height().max(right.height())))?;
-        let left = Box::new(alloc, left.into_node())?;
-        let right = Box::new(alloc, right.into_node())?;
+        let left = left.into_box();
+        let right = right.into_box();
         condition.with_postfix(
             alloc,
             PostfixOperator::Ternary { left, right },
@@ -378,12 +390,13 @@ impl AnnotatedNode {
         }) }
     {
         let has_free_hash = self.has_free_hash || in_operator;
-        let node = Box::new(alloc, self.into_node())?;
-        Ok(AnnotatedNode {
-            node: Node::Postfix { operator, node },
+        let node = self.into_box();
+        AnnotatedNode::made(
+            alloc,
+            Node::Postfix { operator, node },
             has_free_hash,
             height,
-        })
+        )
     }
 }
 
@@ -446,12 +459,12 @@ fn pattern_of(alloc: Global, text: &str) -> Result<CompiledRegex, AllocError>
 }
 
 // A bound of a slice, in its own memory.
-fn box_of(alloc: Global, bound: Option<AnnotatedNode>) -> Result<Option<Box<Node>>, AllocError>
-    ensures bound { IfOk result (λ n. bound_term n ≡ bound_with bound) }
-    ensures patterns { IfOk result (λ n. KeepPatterns (bound_operations n)) }
+fn box_of(bound: Option<AnnotatedNode>) -> Option<Box<Node>>
+    ensures bound { bound_term result ≡ bound_with bound }
+    ensures patterns { KeepPatterns (bound_operations result) }
 {
     match bound {
-        None => Ok(None),
-        Some(part) => Ok(Some(Box::new(alloc, part.into_node())?)),
+        None => None,
+        Some(part) => Some(part.into_box()),
     }
 }

@@ -89,9 +89,8 @@ impl Arguments {
         ensures ok { OnOk result (self.new ≡ argument_program self.old program) }
         ensures err { OnErr result (self.new ≡ self.old) }
     {
-        let alloc = *self.nodes.allocator();
         let height = program.height();
-        self.program = Some(Box::new(alloc, program.into_program())?);
+        self.program = Some(program.into_box());
         self.height = self.height.max(height);
         Ok(())
     }
@@ -127,13 +126,10 @@ impl Arguments {
     pub fn array(self) -> Result<AnnotatedNode, AllocError>
         ensures { IfOk result (λ p. p ≡ array_of self) }
     {
+        let alloc = *self.nodes.allocator();
         let has_free_hash = self.has_free_hash();
         let height = height_above(self.height())?;
-        Ok(AnnotatedNode {
-            node: Node::Array(self.into_nodes()),
-            has_free_hash,
-            height,
-        })
+        AnnotatedNode::made(alloc, Node::Array(self.into_nodes()), has_free_hash, height)
     }
 
     /// The call of a function, after promotion.
@@ -148,24 +144,23 @@ impl Arguments {
         } = self;
         let height = height_above(height)?;
         if let Some(program) = program {
-            return Ok(call_with(ident, nodes, marks.free > 0, program, height));
+            return call_with(ident, nodes, marks.free > 0, program, height);
         }
+        let alloc = *nodes.allocator();
         match marks.promoted_place(ident.as_str(), nodes.len()) {
-            None => Ok(AnnotatedNode {
-                node: Node::Func {
+            None => {
+                let node = Node::Func {
                     ident,
                     args: nodes,
                     predicate: None,
-                },
-                has_free_hash: marks.free > 0,
-                height,
-            }),
+                };
+                AnnotatedNode::made(alloc, node, marks.free > 0, height)
+            }
             Some(place) => {
-                let alloc = *nodes.allocator();
                 let expr = nodes.remove(place);
                 let lines = Vec::new(alloc);
                 let program = Box::new(alloc, Program { lines, expr })?;
-                Ok(call_with(ident, nodes, marks.free > 1, program, height))
+                call_with(ident, nodes, marks.free > 1, program, height)
             }
         }
     }
@@ -178,23 +173,21 @@ fn call_with(
     has_free_hash: bool,
     program: Box<Program>,
     height: usize,
-) -> AnnotatedNode
+) -> Result<AnnotatedNode, AllocError>
     requires hash { has_free_hash ≡ any_free_hash (terms_of (map term_of args.items)) }
     requires arguments { NodesKeepPatterns args.items }
     requires program { KeepPatterns (program_operations program.value) }
-    ensures { result ≡ record {
+    ensures { IfOk result (λ p. p ≡ record {
       term = call (string_bytes ident) (terms_of (map term_of args.items))
           (predicate (program_term program.value));
       height = height;
-    } }
+    }) }
 {
-    AnnotatedNode {
-        node: Node::Func {
-            ident,
-            args,
-            predicate: Some(program),
-        },
-        has_free_hash,
-        height,
-    }
+    let alloc = *args.allocator();
+    let node = Node::Func {
+        ident,
+        args,
+        predicate: Some(program),
+    };
+    AnnotatedNode::made(alloc, node, has_free_hash, height)
 }

@@ -72,7 +72,7 @@ impl Entries {
         ensures ok { OnOk result (self.new ≡ pair_more self.old key value) }
         ensures err { OnErr result (self.new ≡ self.old) }
     {
-        let has_expression = is_expression(&value.node);
+        let has_expression = is_expression(value.as_node());
         let has_free_hash = value.has_free_hash;
         let height = value.height();
         self.pairs.push((key.into_string(), value.into_node()))?;
@@ -99,18 +99,10 @@ impl Entries {
         } = self;
         let height = height_above(height)?;
         if has_expression {
-            return Ok(AnnotatedNode {
-                node: Node::Map(pairs),
-                has_free_hash,
-                height,
-            });
+            return AnnotatedNode::made(alloc, Node::Map(pairs), has_free_hash, height);
         }
         let map = literal_map(alloc, pairs)?;
-        Ok(AnnotatedNode {
-            node: Node::Value(Value::Map(map)),
-            has_free_hash: false,
-            height,
-        })
+        AnnotatedNode::made(alloc, Node::Value(Value::Map(map)), false, height)
     }
 }
 

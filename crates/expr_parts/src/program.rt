@@ -1,5 +1,5 @@
 //! Programs made from their lines, one after another, and from what they answer.
-ghost use Rattle.std.specs.Prelude.{◌≡◌, OnOk, OnErr, string_bytes};
+ghost use Rattle.std.specs.Prelude.{◌≡◌, IfOk, OnOk, OnErr, string_bytes};
 ghost use Rattle.expr_tree.specs.KeptPatterns.{program_operations};
 ghost use Rattle.expr_tree.specs.TermOf.{program_term};
 ghost use Rattle.expr_parts.specs.Kept.{KeepPatterns};
@@ -12,7 +12,7 @@ use std::marker::Model;
 
 /// A program, whether a hash name is free in it, and the height of its highest tree. Contracts see its lines and what it answers, and the height.
 pub struct AnnotatedProgram {
-    program: Program,
+    program: Box<Program>,
     pub(crate) has_free_hash: bool,
     height: usize,
 }
@@ -41,10 +41,10 @@ impl Model for AnnotatedProgram {
     ghost use Rattle.expr_parts.specs.Kept.{KeepPatterns};
     ghost use Rattle.expr_parts.specs.Promotion.{block_has_free_hash};
 
-    ghost view = { λ p. record { block = program_term p.program; height = p.height } };
+    ghost view = { λ p. record { block = program_term p.program.value; height = p.height } };
 
-    ghost invariant = { λ p. (p.has_free_hash ≡ block_has_free_hash (program_term p.program))
-        × KeepPatterns (program_operations p.program) };
+    ghost invariant = { λ p. (p.has_free_hash ≡ block_has_free_hash (program_term p.program.value))
+        × KeepPatterns (program_operations p.program.value) };
 }
 
 impl AnnotatedProgram {
@@ -52,6 +52,19 @@ impl AnnotatedProgram {
     pub fn into_program(self) -> Program
         ensures block { program_term result ≡ self.block }
         ensures patterns { KeepPatterns (program_operations result) }
+    {
+        let AnnotatedProgram {
+            program,
+            has_free_hash: _,
+            height: _,
+        } = self;
+        Box::into_inner(program)
+    }
+
+    /// The program, alone, in its own memory.
+    pub fn into_box(self) -> Box<Program>
+        ensures block { program_term result.value ≡ self.block }
+        ensures patterns { KeepPatterns (program_operations result.value) }
     {
         let AnnotatedProgram {
             program,
@@ -131,8 +144,12 @@ impl Lines {
     }
 
     /// The program of these lines that answers a node.
-    pub fn finish(self, last: AnnotatedNode) -> AnnotatedProgram
-        ensures { result ≡ block_of_lines self last }
+    ///
+    /// # Errors
+    ///
+    /// `AllocError`, if a growth is refused.
+    pub fn finish(self, last: AnnotatedNode) -> Result<AnnotatedProgram, AllocError>
+        ensures { IfOk result (λ p. p ≡ block_of_lines self last) }
     {
         let Lines {
             lines,
@@ -141,13 +158,12 @@ impl Lines {
         } = self;
         let has_free_hash = has_free_hash || last.has_free_hash;
         let height = height.max(last.height());
-        AnnotatedProgram {
-            program: Program {
-                lines,
-                expr: last.into_node(),
-            },
+        let alloc = *lines.allocator();
+        let expr = last.into_node();
+        Ok(AnnotatedProgram {
+            program: Box::new(alloc, Program { lines, expr })?,
             has_free_hash,
             height,
-        }
+        })
     }
 }

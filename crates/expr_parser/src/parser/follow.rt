@@ -132,19 +132,18 @@ impl FrameParser {
                 let Token::Sign(Sign::Colon) = token else {
                     return Err(ReadError::Syntax);
                 };
-                let condition = Boxed::new(self.alloc, condition)?;
                 self.enter(Frame::Reaching(Reaching::Otherwise(condition, last)))
             }
             Frame::List(holder, items) => self.element(holder, items, last, token),
             Frame::Call(caller, arguments) => self.argument(caller, arguments, last, token),
             Frame::Index(left, optional) => self.end_index(left, optional, last, token),
-            Frame::Cut(left, from) => self.end_slice(left.into_inner(), from, Some(last), token),
+            Frame::Cut(left, from) => self.end_slice(left, from, Some(last), token),
             Frame::Condition(branches) => self.end_condition(branches, last, token),
             Frame::Body(section, lines) => {
                 let Token::Sign(Sign::BraceClose) = token else {
                     return Err(ReadError::Syntax);
                 };
-                self.end_section(section, lines.finish(last))
+                self.end_section(section, lines.finish(last)?)
             }
             Frame::Value(name) => {
                 let Token::Sign(Sign::Semicolon) = token else {

@@ -11,7 +11,7 @@ use expr_frames::frame::{
 use expr_frames::read;
 use expr_parts::{AnnotatedNode, Arguments};
 use expr_token::{Sign, Token};
-use expr_value::{Boxed, Items};
+use expr_value::Items;
 
 impl FrameParser {
     // A token where an operand is wanted.
@@ -27,9 +27,12 @@ impl FrameParser {
             self.new.frames.items result }
     {
         match start {
-            OperandStart::Literal(value) => Ok(whole(AnnotatedNode::literal(value))),
+            OperandStart::Literal(value) => Ok(whole(AnnotatedNode::literal(self.alloc, value)?)),
             OperandStart::Name(name) => Ok(ParseState::Have(OpenOperand::Name(name))),
-            OperandStart::HashName(name) => Ok(whole(AnnotatedNode::name(name.into_string()))),
+            OperandStart::HashName(name) => {
+                let name = AnnotatedNode::name(self.alloc, name.into_string())?;
+                Ok(whole(name))
+            }
             OperandStart::Sign(sign) => self.enter(Frame::Reaching(Reaching::Under(sign))),
             OperandStart::Group => self.group(),
             OperandStart::List => self.enter(Frame::List(
@@ -68,9 +71,9 @@ impl FrameParser {
                 let Token::Sign(Sign::Colon) = token else {
                     return Err(ReadError::Syntax);
                 };
-                self.enter(Frame::Cut(Boxed::new(self.alloc, left)?, None))
+                self.enter(Frame::Cut(left, None))
             }
-            Frame::Cut(left, from) => self.end_slice(left.into_inner(), from, None, token),
+            Frame::Cut(left, from) => self.end_slice(left, from, None, token),
             _ => Err(ReadError::Syntax),
         }
     }

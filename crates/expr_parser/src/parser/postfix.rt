@@ -57,10 +57,7 @@ impl FrameParser {
                 let part = AnnotatedNode::index(self.alloc, left, index, optional)?;
                 Ok(whole(part))
             }
-            Token::Sign(Sign::Colon) if !optional => {
-                let left = Boxed::new(self.alloc, left)?;
-                self.enter(Frame::Cut(left, Some(index)))
-            }
+            Token::Sign(Sign::Colon) if !optional => self.enter(Frame::Cut(left, Some(index))),
             _ => Err(ReadError::Syntax),
         }
     }

@@ -6,7 +6,7 @@ use Rattle.expr_frames.proofs.build.nest.Goals as goal
 
 pub loop-condition-preserved : goal.loop-condition-preserved
 loop-condition-preserved c =
-    let inner = rw c.new.ensures at c.finish-otherwise.ensures in
+    let inner = rw c.new.ensures at c.in_ok-otherwise.ensures in
     c.loop-condition.invariant
     ∙ ap (λ bs. nest bs c.loop-condition.inner) c.in-Some.ensures.items
     ∙ nest_more c.pop.new.self.items _ _ c.loop-condition.inner

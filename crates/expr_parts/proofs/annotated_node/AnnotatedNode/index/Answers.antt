@@ -1,7 +1,6 @@
 use Rattle.expr_tree.proofs.KeptPatterns.{all-Index}
 use Rattle.expr_parts.specs.Kept.{IsKeptBeside}
-use Rattle.expr_parts.proofs.Kept.{keeps_node}
 use Rattle.expr_parts.proofs.annotated_node.AnnotatedNode.index.Goals as goal
 
 pub with_postfix-requires-clause-patterns : goal.with_postfix-requires-clause-patterns
-with_postfix-requires-clause-patterns c = all-Index IsKeptBeside _ _ (keeps_node c.in_ok-idx.ensures.ok c.into_node.ensures.patterns)
+with_postfix-requires-clause-patterns c = all-Index IsKeptBeside _ _ c.into_box-idx.ensures.patterns

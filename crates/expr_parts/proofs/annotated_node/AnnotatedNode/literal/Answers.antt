@@ -3,5 +3,8 @@ use Rattle.expr_tree.specs.declared.node.Node.{the_lemmas}
 use Rattle.expr_parts.proofs.Kept.{keeps-Value}
 use Rattle.expr_parts.proofs.annotated_node.AnnotatedNode.literal.Goals as goal
 
-pub invariant_of-result : goal.invariant_of-result
-invariant_of-result c = (search (rules, the_lemmas), keeps-Value c.args.value)
+pub made-requires-clause-hash : goal.made-requires-clause-hash
+made-requires-clause-hash c = search (rules, the_lemmas)
+
+pub made-requires-clause-patterns : goal.made-requires-clause-patterns
+made-requires-clause-patterns c = keeps-Value c.args.value

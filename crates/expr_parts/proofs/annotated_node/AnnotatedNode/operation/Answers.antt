@@ -1,15 +1,13 @@
-use Rattle.std.proofs.Common.{subst, sym, rules}
+use Rattle.std.proofs.Common.{subst, rules}
 use Rattle.expr_tree.specs.KeptPatterns.{right_of, node_patterns}
 use Rattle.expr_tree.specs.declared.node.Node.{the_lemmas}
 use Rattle.expr_parts.specs.Kept.{IsKept}
 use Rattle.expr_tree.proofs.KeptPatterns.{all-Operation}
 use Rattle.expr_parts.specs.Kept.{IsKeptBeside}
-use Rattle.expr_parts.proofs.Kept.{keeps_node}
 use Rattle.expr_parts.proofs.annotated_node.AnnotatedNode.operation.Goals as goal
 
-pub invariant_of-result : goal.invariant_of-result
-invariant_of-result c = (
-  search (rules, the_lemmas),
-  all-Operation IsKeptBeside _ _ _ _ (subst (λ n. IsKept (right_of c.args.operator (node_patterns n).text) c.in_ok-compiled_regex.compiled_regex) (sym c.in_ok-right.ensures.ok) c.in_ok-compiled_regex.ensures)
-      (keeps_node c.in_ok-left.ensures.ok c.into_node.ensures.patterns) (keeps_node c.in_ok-right.ensures.ok c.into_node-right.ensures.patterns),
-)
+pub made-requires-clause-hash : goal.made-requires-clause-hash
+made-requires-clause-hash c = search (rules, the_lemmas)
+
+pub made-requires-clause-patterns : goal.made-requires-clause-patterns
+made-requires-clause-patterns c = all-Operation IsKeptBeside _ _ _ _ (subst (λ n. IsKept (right_of c.args.operator (node_patterns n).text) c.in_ok-compiled_regex.compiled_regex) c.deref.ensures c.in_ok-compiled_regex.ensures) c.into_box-left.ensures.patterns c.into_box-right.ensures.patterns

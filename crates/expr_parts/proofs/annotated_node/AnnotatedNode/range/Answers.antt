@@ -2,11 +2,10 @@ use Rattle.std.proofs.Common.{rules}
 use Rattle.expr_tree.specs.declared.node.Node.{the_lemmas}
 use Rattle.expr_tree.proofs.KeptPatterns.{all-Range}
 use Rattle.expr_parts.specs.Kept.{IsKeptBeside}
-use Rattle.expr_parts.proofs.Kept.{keeps_node}
 use Rattle.expr_parts.proofs.annotated_node.AnnotatedNode.range.Goals as goal
 
-pub invariant_of-result : goal.invariant_of-result
-invariant_of-result c = (
-  search (rules, the_lemmas),
-  all-Range IsKeptBeside _ _ (keeps_node c.in_ok-first.ensures.ok c.into_node.ensures.patterns) (keeps_node c.in_ok-last.ensures.ok c.into_node-2.ensures.patterns),
-)
+pub made-requires-clause-hash : goal.made-requires-clause-hash
+made-requires-clause-hash c = search (rules, the_lemmas)
+
+pub made-requires-clause-patterns : goal.made-requires-clause-patterns
+made-requires-clause-patterns c = all-Range IsKeptBeside _ _ c.into_box.ensures.patterns c.into_box-2.ensures.patterns

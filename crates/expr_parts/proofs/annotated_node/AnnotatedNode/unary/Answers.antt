@@ -2,8 +2,10 @@ use Rattle.std.proofs.Common.{rules}
 use Rattle.expr_tree.specs.declared.node.Node.{the_lemmas}
 use Rattle.expr_tree.proofs.KeptPatterns.{all-Unary}
 use Rattle.expr_parts.specs.Kept.{IsKeptBeside}
-use Rattle.expr_parts.proofs.Kept.{keeps_node}
 use Rattle.expr_parts.proofs.annotated_node.AnnotatedNode.unary.Goals as goal
 
-pub invariant_of-result : goal.invariant_of-result
-invariant_of-result c = (search (rules, the_lemmas), all-Unary IsKeptBeside _ _ (keeps_node c.in_ok-node.ensures.ok c.into_node.ensures.patterns))
+pub made-requires-clause-hash : goal.made-requires-clause-hash
+made-requires-clause-hash c = search (rules, the_lemmas)
+
+pub made-requires-clause-patterns : goal.made-requires-clause-patterns
+made-requires-clause-patterns c = all-Unary IsKeptBeside _ _ c.into_box-node.ensures.patterns

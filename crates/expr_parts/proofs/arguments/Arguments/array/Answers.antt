@@ -4,5 +4,8 @@ use Rattle.expr_tree.proofs.KeptPatterns.{all-Array}
 use Rattle.expr_parts.specs.Kept.{IsKeptBeside}
 use Rattle.expr_parts.proofs.arguments.Arguments.array.Goals as goal
 
-pub invariant_of-result : goal.invariant_of-result
-invariant_of-result c = (search (rules, the_lemmas), all-Array IsKeptBeside _ c.into_nodes.ensures.patterns)
+pub made-requires-clause-hash : goal.made-requires-clause-hash
+made-requires-clause-hash c = search (rules, the_lemmas)
+
+pub made-requires-clause-patterns : goal.made-requires-clause-patterns
+made-requires-clause-patterns c = all-Array IsKeptBeside _ c.into_nodes.ensures.patterns

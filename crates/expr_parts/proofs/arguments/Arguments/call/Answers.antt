@@ -1,4 +1,4 @@
-use Rattle.std.proofs.Common.{◌≡◌, suc, ◌<◌, Some, None, length, map, sym, ap, ◌∙◌, subst, arith, rules, Global, String, string_bytes}
+use Rattle.std.proofs.Common.{◌≡◌, IfOk, suc, ◌<◌, Some, None, length, map, sym, ap, ◌∙◌, subst, arith, rules, Global, String, string_bytes}
 use Rattle.std.proofs.lemmas.List.{get_or-map, length-map}
 use Rattle.std.proofs.lemmas.List.Elements.{All-get_or, All-nil, All-same}
 use Rattle.expr_tree.specs.KeptPatterns.{line_operations, operations, predicate_operations}
@@ -30,12 +30,13 @@ call_with-requires c = record {
   program = subst (λ o. KeepPatterns (predicate_operations o)) c.in-Some.is c.self.invariant.2;
 }
 
-pub invariant_of-result : goal.invariant_of-result
-invariant_of-result c = (
-  any_marked c.self.inside.marks (map term_of c.self.inside.nodes.items) c.self.invariant.0
-      ∙ sym (ap has_free_hash (term_of-Func c.args.ident c.self.inside.nodes None)),
-  all-Func IsKeptBeside c.args.ident c.self.inside.nodes None c.self.invariant.1 keeps-none,
-)
+pub made-requires-clause-hash : goal.made-requires-clause-hash
+made-requires-clause-hash c =
+    any_marked c.self.inside.marks (map term_of c.self.inside.nodes.items) c.self.invariant.0
+    ∙ sym (ap has_free_hash (term_of-Func c.args.ident c.self.inside.nodes None))
+
+pub made-requires-clause-patterns : goal.made-requires-clause-patterns
+made-requires-clause-patterns c = all-Func IsKeptBeside c.args.ident c.self.inside.nodes None c.self.invariant.1 keeps-none
 
 pub remove-expr-requires : goal.remove-expr-requires
 remove-expr-requires c =
@@ -69,12 +70,14 @@ returns-in-None c =
     let key = string_bytes c.args.ident in
     let count = c.len.ensures ∙ ns.ok.0 ∙ sym (length-map ns.items term_of) in
     let none : c.self.inside.program ≡ None = search rules in
+    subst (λ m. IfOk c.made.result (λ p. p ≡ m)) (
     same_measured
     (term_of-Func c.args.ident ns None
     ∙ call_found key ts c.self.inside.marks c.len.result c.promoted_place.result None c.self.invariant.0 count (rw c.as_str.ensures.value at c.promoted_place.ensures) c.in-None.is
     ∙ ap (λ o. call_of key ts (predicate_term o)) (sym none)
     ∙ ap (λ (g : ArgumentsWithHeight). call_of key g.terms g.program) c.self.view_is)
     (c.in_ok-height.ensures ∙ ap (λ (g : ArgumentsWithHeight). suc g.height) c.self.view_is)
+    ) c.made.ensures
 
 pub returns-in_ok-program-in-Some-promoted_place : goal.returns-in_ok-program-in-Some-promoted_place
 returns-in_ok-program-in-Some-promoted_place c =
@@ -92,10 +95,11 @@ returns-in_ok-program-in-Some-promoted_place c =
     let taken = ap term_of c.remove-expr.ensures.value ∙ sym (get_or-map term_of ns.items place expr (list no_terms) below) in
     let program = term_of-program c.new-lines.result expr ∙ (λ i. block_with (map line_term (c.new-lines.ensures.items i)) (taken i)) in
     let step = ap program_term c.in_ok-program-in-Some-promoted_place.ensures.ok ∙ program in
-    c.call_with-in-Some-promoted_place.ensures
-    ∙ same_measured
+    subst (λ m. IfOk c.call_with-in-Some-promoted_place.result (λ p. p ≡ m)) (
+    same_measured
     ((λ i. call key (terms_of (rest i)) (predicate (step i)))
     ∙ call_found key ts c.self.inside.marks c.len.result c.promoted_place.result (Some place) c.self.invariant.0 count found c.in-Some-promoted_place.is
     ∙ ap (λ o. call_of key ts (predicate_term o)) (sym none)
     ∙ ap (λ (g : ArgumentsWithHeight). call_of key g.terms g.program) c.self.view_is)
     (c.in_ok-height.ensures ∙ ap (λ (g : ArgumentsWithHeight). suc g.height) c.self.view_is)
+    ) c.call_with-in-Some-promoted_place.ensures
