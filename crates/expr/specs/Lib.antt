@@ -22,7 +22,6 @@ pub use Rattle.expr_meaning.specs.Independence
 pub use Rattle.expr_meaning.specs.Refusals
 pub use Rattle.expr_evaluation.specs.Handed
 pub use Rattle.expr_evaluation.specs.AllocFree
-pub use Rattle.expr_evaluation.specs.Several
 pub use Rattle.expr_operators.specs.Operators
 pub use Rattle.expr_parts.specs.Kept
 pub use Rattle.expr_predicates.specs.Calls as Predicated

@@ -12,7 +12,7 @@ use Rattle.expr_predicates.specs.Runs.{AnswersItself}
 use Rattle.expr_predicates.specs.Folds.{PredicateArgsView}
 use Rattle.expr_steps.specs.Context.{ContextView, predicate_context, override, hash, lookup_answer, first_of_two, field_of}
 use Rattle.expr_meaning.specs.World.{World, with_context}
-use Rattle.expr_steps.specs.Options.{some_bound}
+use Rattle.expr_steps.specs.Bounds.{some_bound}
 use Rattle.expr_steps.specs.Methods.{AllowsMethod}
 use Rattle.expr_tree.specs.Term.{Term, name, literal, list, mapping, range, call, unary, operation, postfix, choice, Postfix, slice, unbounded, bound, Terms, no_terms, term, TermPairs, pairs_end, pair, Predicate, no_predicate, predicate, Block}
 use Rattle.expr_tree.specs.declared.operator.Operator.{Operator}
@@ -72,7 +72,7 @@ pairs_match world (pair key t ps) ms (Ok v, q, (Err f, r, s)) = cc
 pairs_match world (pair key t ps) ms (Err f, q, s) = cc
 
 -- an array of literals may be the array of their values alone
-all_literals : (world : World) (vs : List Value) (a : Result (List Value) ErrorKind) → (a ≡ Ok vs) ↔ AllowsAll world (literals vs) a
+pub all_literals : (world : World) (vs : List Value) (a : Result (List Value) ErrorKind) → (a ≡ Ok vs) ↔ AllowsAll world (literals vs) a
 all_literals world [] a = itself
 all_literals world (v ∷ vs) a =
     let more = λ (w : Value) (ws : List Value) (b : Result (List Value) ErrorKind). b ≡ Ok (w ∷ ws) in

@@ -1,8 +1,7 @@
--- A term that takes no memory has one answer, whatever the host and the names; and how nodes are written.
-use Rattle.std.proofs.Common.{◌≡◌, ◌≢◌, ◌&&◌, Bool, true, false, IsTrue, Option, Some, None, Result, Ok, Err, ap, sym, ◌∙◌, refl, subst, rules, String, Global, Vec}
+-- A term that takes no memory has one answer, whatever the host and the names.
+use Rattle.std.proofs.Common.{◌≡◌, ◌≢◌, ◌&&◌, Bool, true, false, IsTrue, Option, Some, None, Result, Ok, Err, ap, sym, ◌∙◌, refl, subst}
 use Rattle.expr_evaluation.specs.AllocFree.{FindsAllocFree, FindsAllocFreeAfter, and_answer, answer_then, is_alloc_free_node, operation_answer, or_answer, alloc_free_node_answer}
 use Rattle.expr_evaluation.specs.Promises.{TakesNoMemory}
-use Rattle.expr_evaluation.specs.Several.{field_terms}
 use Rattle.expr_meaning.specs.Allows.{Allows, AndThenLayer, OperationMayReturn, OperationMayReturnBy, OrElseLayer}
 use Rattle.expr_operators.specs.Operators.{operator_answer, unary_answer, truth}
 use Rattle.expr_operators.proofs.AllocFree.{ReturnsAllocFree-at, operator_answer-plain, bool-plain, plain-Bool, plain-at, prefixed-plain}
@@ -12,9 +11,6 @@ use Rattle.expr_operators.specs.declared.strictness.Strictness.{Strictness}
 use Rattle.expr_operators.specs.declared.strictness.Strictness.TheVariants.{Both, EndsAtFalse, EndsAtTrue, Pattern}
 use Rattle.expr_meaning.specs.World.{World}
 use Rattle.expr_tree.specs.Term.{Term, name, literal, list, mapping, range, call, unary, operation, postfix, choice}
-use Rattle.expr_tree.specs.TermOf.{term_of}
-use Rattle.expr_tree.specs.declared.node.Node as node
-use Rattle.expr_tree.specs.declared.node.Node.{Node, the_lemmas as node_lemmas}
 use Rattle.expr_tree.specs.declared.operator.Operator.{Operator}
 use Rattle.expr_tree.specs.declared.operator.Operator.TheVariants.{Matches}
 use Rattle.expr_value.proofs.Answered.{first_of-Then}
@@ -23,9 +19,6 @@ use Rattle.expr_error.specs.declared.error.Error.{Error}
 use Rattle.expr_value.specs.declared.value.Value as value
 use Rattle.expr_value.specs.declared.value.Value.{Value, out-Value}
 use Rattle.expr_value.specs.declared.value.Value.TheOpen.{Value-F}
-
-pub term_of-pairs : (ps : Vec (String Global × Node) Global) → term_of (node.Map ps) ≡ mapping (field_terms ps.items)
-term_of-pairs ps = search (rules, node_lemmas)
 
 pub left-true : (a b : Bool) → IsTrue (a && b) → IsTrue a
 left-true true b p = refl

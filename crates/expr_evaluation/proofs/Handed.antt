@@ -9,7 +9,7 @@ use Rattle.expr_meaning.specs.World.{World}
 use Rattle.expr_tree.specs.Term.{Term}
 use Rattle.expr_tree.specs.declared.operator.Operator.{Operator}
 use Rattle.expr_value.specs.Answers.{Answer}
-use Rattle.expr_error.specs.ErrorKind.{ErrorKind, error_kind, memory, pattern, OnlyMemory}
+use Rattle.expr_error.specs.ErrorKind.{ErrorKind, error_kind, memory, pattern, RefusesNoPattern}
 use Rattle.expr_error.specs.declared.error.Error.{Error}
 use Rattle.expr_value.specs.declared.value.Value as value
 use Rattle.expr_value.specs.declared.value.Value.{Value}
@@ -49,10 +49,10 @@ module _ (op : Operator) (right : Term) (kept : Option (List ℕ)) (h : IsHanded
 pub refused-pattern : (R : Answer → Type 0) (e : Error) → (error_kind e ≢ memory → R (Err (error_kind e))) → error_kind e ≡ pattern → R (Err pattern)
 refused-pattern R e p is = subst (λ f. R (Err f)) is (p (not-memory (error_kind e) is))
 
--- want of memory is no such refusal
-pub memory-alone : {A : Type 0} (r : Result A Error) (P : Type 0) → OnlyMemory r → IfErr r (λ e. error_kind e ≡ pattern → P)
-memory-alone (Ok v) P p = p
-memory-alone (Err e) P p = λ is. absurd (not-memory (error_kind e) is (ap error_kind p))
+-- where no such refusal is met, it is met nowhere
+pub passed-pattern : {A : Type 0} (r : Result A Error) (P : Type 0) → RefusesNoPattern r → IfErr r (λ e. error_kind e ≡ pattern → P)
+passed-pattern (Ok v) P p = p
+passed-pattern (Err e) P p = λ is. absurd (p is)
 
 -- what is said of a refusal that a `?` passes on
 pub refusal-passed : {A : Type 0} (r : Result A Error) (e : Error) (P : Error → Type 0) → IsErrAnd r (λ x. x ≡ e) → P e → IfErr r P

@@ -1,3 +1,3 @@
 pub mod AllocFree
-pub mod Allowed
 pub mod Handed
+pub mod OfLiterals

@@ -1,13 +1,15 @@
--- A pattern that is handed in beside an operator and its right side, or kept beside an operation.
-use Rattle.std.specs.Prelude.{◌≡◌, ℕ, List, Option, Some}
+-- What is handed in: a pattern beside an operator and its right side, which an operation may keep as well, and the program of a call.
+use Rattle.std.specs.Prelude.{◌≡◌, ℕ, List, Option, Some, None}
+use denote.Ref.{Bor}
 use Rattle.std.specs.declared.alloc.Global.{Global}
 use Rattle.std.specs.declared.boxed.Box.{Box}
 use Rattle.expr_tree.specs.KeptPatterns.{built_text}
-use Rattle.expr_tree.specs.Term.{Term, literal}
-use Rattle.expr_tree.specs.TermOf.{term_of}
+use Rattle.expr_tree.specs.Term.{Term, Predicate, literal, no_predicate, predicate}
+use Rattle.expr_tree.specs.TermOf.{program_term, term_of}
 use Rattle.expr_tree.specs.declared.node.CompiledRegex.{CompiledRegex}
 use Rattle.expr_tree.specs.declared.node.Node as node
 use Rattle.expr_tree.specs.declared.node.Node.{Node}
+use Rattle.expr_tree.specs.declared.node.Program.{Program}
 use Rattle.expr_tree.specs.declared.operator.Operator.{Operator}
 use Rattle.expr_tree.specs.declared.operator.Operator.TheVariants.{Matches}
 use Rattle.expr_value.specs.declared.value.Value as value
@@ -27,3 +29,8 @@ pub record IsKeeping (n : Node) : Type 0 where
   pub kept : CompiledRegex
   pub operation : n ≡ node.Operation operator left right kept
   pub handed : IsHanded operator (term_of right.value) (built_text kept)
+
+-- the program that a call is lent, if it is lent one
+abbrev pub predicate_lent : Option (Bor Program) → Predicate
+predicate_lent None = no_predicate
+predicate_lent (Some p) = predicate (program_term p.now)

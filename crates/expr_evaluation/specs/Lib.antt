@@ -1,9 +1,6 @@
 pub mod AllocFree
-pub mod Forms
 pub mod Handed
-pub mod Here
 pub mod Promises
-pub mod Several
 pub use Rattle.expr_meaning.specs.Allows
 pub use Rattle.expr_meaning.specs.Dispatch
 pub use Rattle.expr_meaning.specs.Calls

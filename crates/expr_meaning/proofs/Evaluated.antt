@@ -6,7 +6,7 @@ use Rattle.expr_operators.specs.Matching.{MatchMayReturn, MatchMayReturnLayers, 
 use Rattle.expr_operators.specs.Operators.{sum_of_layers, operator_answer, truth_or_refusal, product_of_layers, unary_answer, unary_answer_layer, remainder_layers, difference_of_layers, truth, truth_layer, verdict}
 use Rattle.expr_operators.specs.Positions.{checked_bound, checked_bound_layer, index_answer, index_answer_layers, range_answer, range_answer_layers, slice_answer, slice_answer_layer}
 use Rattle.expr_steps.specs.Context.{ContextView, field_of, first_of_two, hash, lookup_answer}
-use Rattle.expr_steps.specs.Options.{some_bound}
+use Rattle.expr_steps.specs.Bounds.{some_bound}
 use Rattle.expr_tree.specs.declared.operator.Operator.{Operator}
 use Rattle.expr_tree.specs.declared.operator.Operator.TheVariants.{Add, Subtract, Multiply, Modulo}
 use Rattle.expr_tree.specs.declared.operator.UnaryOperator.{UnaryOperator}

@@ -17,7 +17,7 @@ use Rattle.expr_functions.specs.declared.functions.Builtin.TheVariants as builti
 use Rattle.expr_functions.specs.declared.functions.ValueCall.{ValueCall}
 use Rattle.expr_functions.specs.declared.functions.ValueCall.TheVariants as on_values
 use Rattle.expr_steps.specs.Context.{ContextView, predicate_context, lookup_answer, override}
-use Rattle.expr_steps.specs.Options.{some_bound}
+use Rattle.expr_steps.specs.Bounds.{some_bound}
 use Rattle.expr_steps.specs.Methods.{AllowsMethod}
 use Rattle.expr_tree.specs.Term.{Term, name, literal, list, mapping, range, call, unary, operation, postfix, choice, Postfix, index, slice, coalesce, pipe, ternary, method, Bound, unbounded, bound, Terms, no_terms, term, TermPairs, pairs_end, pair, Predicate, no_predicate, predicate, Block, answers, line}
 use Rattle.expr_tree.specs.declared.operator.Operator.{Operator}

@@ -4,4 +4,3 @@ pub mod EvaluatedCalls
 pub mod EvaluatedTimes
 pub mod Faults
 pub mod Independent
-pub mod Literal

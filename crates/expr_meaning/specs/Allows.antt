@@ -1,5 +1,5 @@
 -- What a program may answer, by cases on its tree. Parts are asked in order, and the first refusal is the answer.
-use Rattle.std.specs.Prelude.{◌≡◌, ℕ, ℤ, Bool, List, [], ◌∷◌, ◌++◌, true, false, Option, None, Result, Ok, Err, MatchBool}
+use Rattle.std.specs.Prelude.{◌≡◌, ℕ, ℤ, Bool, List, [], ◌∷◌, true, false, Option, None, Result, Ok, Err, MatchBool}
 use Rattle.expr_tree.specs.Term.{Term, name, literal, list, mapping, range, call, unary, operation, postfix, choice, Postfix, index, slice, coalesce, pipe, ternary, method, Bound, unbounded, bound, Terms, no_terms, term, TermPairs, pairs_end, pair, Predicate, no_predicate, predicate, Block, answers, line}
 use Rattle.expr_tree.specs.declared.operator.Operator.{Operator}
 use Rattle.expr_operators.specs.Strictness.{operator_strictness}
@@ -12,7 +12,7 @@ use Rattle.expr_value.specs.declared.value.Value.{Value, out-Value}
 use Rattle.expr_value.specs.declared.value.Value.TheOpen.{Value-F}
 use Rattle.expr_value.specs.Answers.{Answer, Then}
 use Rattle.expr_meaning.specs.Calls.{AllowsBuiltin}
-use Rattle.expr_steps.specs.Options.{some_bound}
+use Rattle.expr_steps.specs.Bounds.{some_bound}
 use Rattle.expr_steps.specs.Methods.{AllowsMethod}
 use Rattle.expr_steps.specs.Context.{lookup_answer}
 use Rattle.expr_predicates.specs.Runs.{AnswersItself}
@@ -131,7 +131,3 @@ abbrev mutual
   pub AllowsBlock : World → Block → Answer → Type 0
   AllowsBlock world (answers t) answer = Allows world t answer
   AllowsBlock world (line key t b) answer = Then (Allows world t) (λ v. AllowsBlock (where_bound world key v) b) answer
-
--- these values, and then those of the terms
-abbrev pub AllowsMore : World → List Value → Terms → Result (List Value) ErrorKind → Type 0
-AllowsMore world vs ts answer = Then (AllowsAll world ts) (λ ws a. a ≡ Ok (vs ++ ws)) answer

@@ -5,6 +5,5 @@ pub mod Calls
 pub mod Folds
 pub mod Grouped
 pub mod Grouping
-pub mod PredicateArgs
 pub mod Remaining
 pub mod Runs

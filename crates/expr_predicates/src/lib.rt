@@ -4,7 +4,6 @@
 mod arguments;
 mod grouping;
 mod laws;
-mod predicate_args;
 mod remaining;
 mod run;
 mod scalar_accumulator;
@@ -13,5 +12,4 @@ mod value_accumulator;
 pub use laws::{
     Predicate, a_run_asks_about_its_items, a_run_is_a_list_of_answers, none_is_the_opposite_of_any,
 };
-pub use predicate_args::{PredicateArgs, PredicateArgsRef};
 pub use run::{PredicateRun, sort};

@@ -7,7 +7,6 @@ ghost use Rattle.expr_predicates.specs.Calls.{SortsItems};
 ghost use Rattle.expr_predicates.specs.Remaining.{items_remaining};
 
 use crate::arguments::{direction, is_downward, runs_alone};
-use crate::predicate_args::PredicateArgs;
 use crate::remaining::Remaining;
 use crate::scalar_accumulator::ScalarAccumulator;
 use crate::value_accumulator::ValueAccumulator;
@@ -156,7 +155,6 @@ impl<'s> PredicateRun<'s> {
     ghost use Rattle.expr_value.specs.declared.value.Value.{Value};
     ghost use Rattle.expr_predicates.specs.Calls.{fold_of_call, fold_over_if, reduce_from_first, fold_of};
     ghost use Rattle.expr_predicates.specs.Accumulators.{Awaits, RunRepresents, StartsWith, acc_out, pending_args, index_out, remaining_items, remaining_count};
-    ghost use Rattle.expr_predicates.specs.PredicateArgs.{args_view};
     ghost use Rattle.expr_predicates.specs.Runs.{FoldMayReturn, AnswersItself, next_args};
     ghost use Rattle.expr_predicates.specs.Folds.{Fold, ItemAnswer, FoldOutcome, front_fold, refuses_answer};
 
@@ -300,22 +298,6 @@ impl<'s> PredicateRun<'s> {
             }
             None => Err(refusal(alloc, "reduce of no items takes a value to begin with")),
         }
-    }
-
-    /// What is asked next, handed out by value, or none where no more is.
-    pub fn next(&mut self) -> Option<PredicateArgs<'s>>
-        ensures question { (t : Fold) (rs : List ItemAnswer) → RunRepresents self.old t rs
-            → option_map args_view result ≡ next_args t rs (remaining_items self.old) }
-        ensures out { IfSome result (λ q. (t : Fold) (rs : List ItemAnswer) → RunRepresents self.old t rs
-            → (remaining_items self.old ≡ q.item ∷ remaining_items self.new) × Awaits self.new t rs) }
-        ensures fewer { IfSome result (λ _. remaining_count self.new < remaining_count self.old) }
-        ensures done { result ≡ None → (t : Fold) (rs : List ItemAnswer) → RunRepresents self.old t rs
-            → RunRepresents self.new t rs }
-    {
-        let item = self.next_item()?;
-        let index = self.index();
-        let acc = self.take_acc();
-        Some(PredicateArgs { item, index, acc })
     }
 
     /// The item that is asked about next, by value, or none where no more is. What is told beside it is had by

@@ -1,7 +1,6 @@
+pub mod Bounds
 pub mod Context
 pub mod Methods
-pub mod Options
-pub mod Scope
 pub use Rattle.expr_operators.specs.Operators
 pub use Rattle.expr_operators.specs.Positions
 pub use Rattle.expr_value.specs.Answers

@@ -1,15 +1,11 @@
-//! What an evaluation does with names and with the values of parts, without recursion.
+//! What the steps of an evaluation have in common that are neither operators nor built-ins: what names mean in a context, methods,
+//! bounds of slices, and the texts of refusals.
 #![tactic(auto)]
 
-mod integers;
+mod bounds;
 mod messages;
-mod scope;
-mod steps;
+mod methods;
 
-pub use integers::of_literal;
-pub use messages::{unknown_function, unknown_method, unknown_name};
-pub use scope::{Binding, Scope, look_up};
-pub use steps::{
-    apply_cow, bound_at, call_method, holds, list_of, map_of, match_cow, name_value, part_at,
-    prefix_cow, range_between, slice_of, truth_of,
-};
+pub use bounds::bound_at;
+pub use messages::{unknown_function, unknown_name};
+pub use methods::call_method;
