@@ -1,11 +1,11 @@
-/* The three calls of the engine, as crates/expr_c and crates/expr_engine/src/call.rt have them. expr.h stands on these; a host
- * in another language may use them in its place. hosts/border.py compares all that is written here with those sources. */
-#ifndef EXPR_BORDER_H
-#define EXPR_BORDER_H
-#include "expr.h"
+/* The three calls of the engine, as crates/expr_c and crates/expr_engine/src/call.rt have them. exprlang.h stands on these. A
+ * host in another language may use them in its place. hosts/border.py compares all that is written here with those sources. */
+#ifndef EXPRLANG_BORDER_H
+#define EXPRLANG_BORDER_H
+#include "exprlang.h"
 
 /* As `Handle` of crates/expr_handles/src/lib.rt. */
-typedef struct { size_t place; uint64_t number; } handle;
+typedef struct { uint32_t tag, place; uint64_t number; } handle;
 
 /* As `Call` of call.rt; a slice is a pointer, which is never null, and a length. */
 typedef struct {
@@ -23,7 +23,8 @@ typedef struct {
 
 #define AT(of, field, place) _Static_assert(offsetof(of, field) == (place), "as in the engine: " #field)
 _Static_assert(sizeof(handle) == 16 && sizeof(call) == 152, "as in the engine");
-AT(handle, place, 0);
+AT(handle, tag, 0);
+AT(handle, place, 4);
 AT(handle, number, 8);
 AT(call, ask, 0);
 AT(call, status, 4);
@@ -46,16 +47,21 @@ AT(call, room_length, 144);
 #undef AT
 
 size_t expr_c_size(void);
-/* at: room for expr_c_size() bytes, at a multiple of 16. */
-void expr_c_open(void *at);
+/* at: room for expr_c_size() bytes, at a multiple of 16; tag: what tells this engine's handles from those of others, a number
+ * of expr_c_tag. */
+void expr_c_open(void *at, uint32_t tag);
 /* at: where expr_c_open made an engine, not given back, in no other call; call: valid, its slices apart from one another. */
 void expr_c_call(void *at, call *call);
+
+/* Returns a tag that it has not returned before in this process, from 1, until all 2^32 are used. It is exprlang.c's own; any
+ * thread may call it at any time. */
+uint32_t expr_c_tag(void);
 
 /* As `Ask` of call.rt. */
 enum ask {
     COMPILE, NAMES, RUN, CONTEXT, CONTEXT_OF, SET, PUSH, ARRAY, MAP, UNBUILD, LOOK, DOWN, UP, KEY, SHOWN, TEXT, JSON, SAID,
     ENVIRONMENT, FIXED_ZONE, ZONE_RULE, NOW, DROP_PROGRAM, DROP_CONTEXT, DROP_ENVIRONMENT, CLEAR, NAME, ANSWER, REFUSE,
-    WAITING_CALL, LIMIT, UNLIMITED
+    WAITING_CALL, LIMIT, UNLIMITED, USES_ENV, FUNCTIONS, FILL_MISSING
 };
 /* As `Kind` of crates/expr_exchange/src/kind.rt, behind those of expr_kind. */
 enum { KIND_JSON = EXPR_KEYED_MAP + 1, KIND_BUILT, KIND_LOOKED };

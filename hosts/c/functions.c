@@ -1,5 +1,5 @@
 /* A host with a function of its own: runs a rule over orders, and looks up the price of an article where the rule asks. */
-#include "expr.h"
+#include "exprlang.h"
 #include <stdio.h>
 #include <string.h>
 

@@ -31,7 +31,7 @@ static unsigned long long bytes;
 static expr_program programs[16];
 static expr_context contexts[16];
 static expr_environment host;
-static expr_limits limits = EXPR_LIMITS_FOR_STRANGERS;
+static expr_limits limits;
 static int is_unlimited;
 
 /* A text: bytes, an expression, a damaged one, or tokens. It ends where its block ends, so that a read beyond is seen. */
@@ -112,7 +112,7 @@ static void limit(void) {
 }
 
 static void limit_any(void) {
-    expr_limits other = {any_number(100), any_number(100000), any_number(1000000), any_number(1000), any_number(1000000)};
+    expr_limits other = {sizeof other, any_number(100), any_number(100000), any_number(1000000), any_number(1000), any_number(1000000)};
     int is_misuse = other.height < 0 || other.patterns < 0 || other.steps < 0 || other.depth < 0 || other.size < 0;
     if (expr_set_limits(engine, &other) != (is_misuse ? EXPR_MISUSE : EXPR_OK)) FAIL("limits");
     if (!is_misuse) {
@@ -163,9 +163,9 @@ static void run_again(expr_program program, expr_environment environment, expr_c
 static void run_any(uint32_t turn) {
     expr_program program = programs[next(16)];
     expr_context context = next(5) ? contexts[next(16)] : EXPR_NO_CONTEXT;
-    if (next(16) == 0) program = (expr_program){next(20), next(turn + 2)};
-    if (next(16) == 0) program = (expr_program){SIZE_MAX - next(3), UINT64_MAX - next(3)};
-    if (next(16) == 0) context = (expr_context){program.place, program.number};
+    if (next(16) == 0) program = (expr_program){program.tag + (next(4) == 0), next(20), next(turn + 2)};
+    if (next(16) == 0) program = (expr_program){next(3), UINT32_MAX - next(3), UINT64_MAX - next(3)};
+    if (next(16) == 0) context = (expr_context){program.tag, program.place, program.number};
     expr_answer answer;
     expr_environment environment = next(4) ? host : EXPR_NO_ENVIRONMENT;
     expr_status status = expr_run(engine, program, environment, context, &answer);
@@ -175,8 +175,14 @@ static void run_any(uint32_t turn) {
     if (!EXPR_IS_LIMIT(status) && next(4) == 0) run_again(program, environment, context, status);
     if (next(2)) reply_any();
     size_t names;
+    int uses;
     status = expr_names(engine, program, &names, NULL);
     if (status != EXPR_OK && status != EXPR_UNKNOWN) FAIL("names");
+    if (expr_functions(engine, program, &names, NULL) != status) FAIL("functions");
+    if (expr_uses_env(engine, program, &uses) != status || (uses && status != EXPR_OK)) FAIL("uses_env");
+    if (next(8)) return;
+    status = expr_fill_missing(engine, program, context);
+    if (status != EXPR_OK && status != EXPR_UNKNOWN) FAIL("fill_missing");
 }
 
 /* Looks about in the answer. */
@@ -201,19 +207,20 @@ static void look_any(void) {
 static void forge_any(void *forged) {
     static const int64_t NUMBERS[] = {0, 1, 2, 100, 100000, -1, INT64_MIN, INT64_MAX};
     /* handles that were given stay in it, and so do others */
-    static call c = {.program = {0, UINT64_MAX}, .context = {0, UINT64_MAX}, .environment = {0, UINT64_MAX}};
+    const handle NOTHING = {0, 0, UINT64_MAX};
+    static call c = {.program = NOTHING, .context = NOTHING, .environment = NOTHING};
     uint8_t room[64];
     size_t length;
     char *text = any_text(&length);
-    c.ask = next(50) ? next(UNLIMITED + 3) : UINT32_MAX - next(9);
+    c.ask = next(50) ? next(FILL_MISSING + 3) : UINT32_MAX - next(9);
     if (c.ask == CLEAR && next(50)) c.ask = LIMIT;
     c.status = next(99);
     c.kind = next(3) ? next(16) : UINT32_MAX - next(9);
     c.fraction = next(9) ? 0 : UINT32_MAX - next(9);
     c.number = next(3) ? NUMBERS[next(8)] : next(50);
     handle *any[] = {&c.program, &c.context, &c.environment};
-    if (next(9) == 0) *any[next(3)] = (handle){next(9), next(99)};
-    if (next(9) == 0) *any[next(3)] = (handle){SIZE_MAX - next(3), UINT64_MAX - next(3)};
+    if (next(9) == 0) *any[next(3)] = (handle){next(4), next(9), next(99)};
+    if (next(9) == 0) *any[next(3)] = (handle){next(4), UINT32_MAX - next(3), UINT64_MAX - next(3)};
     c.name = c.text = (const uint8_t *)text;
     c.name_length = next(2) ? length : next((uint32_t)length + 1);
     c.text_length = length;
@@ -224,7 +231,7 @@ static void forge_any(void *forged) {
     if (c.status > EXPR_LIMIT_SIZE) FAIL("no status");
     if (c.ask == LIMIT && c.status != (is_limit ? EXPR_OK : EXPR_MISUSE)) FAIL("a limit");
     if (c.ask == UNLIMITED && c.status != EXPR_OK) FAIL("no limits");
-    if (c.ask > UNLIMITED && c.status != EXPR_MISUSE) FAIL("nothing is asked");
+    if (c.ask > FILL_MISSING && c.status != EXPR_MISUSE) FAIL("nothing is asked");
     endings[3][c.status]++;
     free(text);
 }
@@ -240,7 +247,8 @@ int main(int count, char **words) {
     void *forged = malloc(expr_c_size());
     if (!engine || !forged) return 9;
     if (!has_host()) return 9;
-    expr_c_open(forged);
+    expr_c_open(forged, expr_c_tag());
+    limits = EXPR_LIMITS_FOR_STRANGERS;
     memset(programs, 0xff, sizeof programs);
     memset(contexts, 0xff, sizeof contexts);
     for (uint32_t turn = 0; turn < turns; turn++) {

@@ -1,5 +1,5 @@
-/* What expr.h promises of limits. Says the line of the first check that fails, and ends with 1. */
-#include "expr.h"
+/* What exprlang.h promises of limits. Says the line of the first check that fails, and ends with 1. */
+#include "exprlang.h"
 #include <stdio.h>
 #include <string.h>
 #define CHECK(what) do { if (!(what)) { printf("%s:%d: %s\n", __FILE__, __LINE__, #what); return 1; } } while (0)
@@ -24,7 +24,7 @@ static int strangers(expr_engine *engine) {
         {"all(1..300000, {all(1..300000, {true})})", EXPR_LIMIT_STEPS},
         {"let a = 1..10000; all(1..300000, {0 not in a})", EXPR_LIMIT_STEPS},
     };
-    static const expr_limits wide = {100, 100000, INT64_MAX, 100, 100000};
+    static const expr_limits wide = {sizeof wide, 100, 100000, INT64_MAX, 100, 100000};
     static char wide_call[100], deep[500], heavy[10000];
     expr_answer answer;
     expr_program program;
@@ -62,7 +62,7 @@ static int strangers(expr_engine *engine) {
 
 /* The numbers of limits, in the order of expr_limits. */
 static expr_status set(expr_engine *engine, const int64_t *numbers) {
-    expr_limits limits = {numbers[0], numbers[1], numbers[2], numbers[3], numbers[4]};
+    expr_limits limits = {sizeof limits, numbers[0], numbers[1], numbers[2], numbers[3], numbers[4]};
     return expr_set_limits(engine, &limits);
 }
 
@@ -129,7 +129,7 @@ static int settings(expr_engine *engine) {
     /* what was compiled and handed in stays; what was being built goes where a text or a run stops, as where it is refused */
     CHECK(expr_context_json(engine, "{\"x\": 5}", EXPR_Z, &context) == EXPR_OK);
     CHECK(expr_push_integer(engine, 7) == EXPR_OK);
-    limits = (expr_limits){0, 0, 0, 0, 0};
+    limits = (expr_limits){sizeof limits, 0, 0, 0, 0, 0};
     CHECK(expr_set_limits(engine, &limits) == EXPR_OK);
     CHECK(expr_compile(engine, "1", EXPR_Z, &program, NULL) == EXPR_LIMIT_HEIGHT);
     CHECK(expr_run(engine, kept, EXPR_NO_ENVIRONMENT, context, &answer) == EXPR_LIMIT_STEPS);

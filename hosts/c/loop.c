@@ -1,6 +1,6 @@
 /* loop WAY COUNT TEXT [NAME=NUMBER].. : so many times compiles TEXT (compile), runs its program among the names (run), does
  * both (eval), or asks the least that there is (ask); within the limits for strangers, or within none if UNLIMITED is set. */
-#include "expr.h"
+#include "exprlang.h"
 #include <stdio.h>
 #include <stdlib.h>
 #include <string.h>
@@ -17,7 +17,7 @@ static int turn(char way, const char *text, size_t length) {
     case 'c': return expr_compile(engine, text, length, &one, NULL) || expr_drop_program(engine, one);
     case 'r': return expr_run(engine, program, EXPR_NO_ENVIRONMENT, context, &answer);
     case 'e': return expr_eval(engine, text, length, EXPR_NO_ENVIRONMENT, context, &answer);
-    default: return expr_drop_program(engine, (expr_program){0, UINT64_MAX}) != EXPR_UNKNOWN;
+    default: return expr_drop_program(engine, (expr_program){0, 0, UINT64_MAX}) != EXPR_UNKNOWN;
     }
 }
 

@@ -1,8 +1,8 @@
-/* Refuses each growth in turn: the calls of malloc, calloc and realloc that a run makes are counted, and the n-th run has the
- * n-th of them answered by null; then the same again with all from the n-th on. Each run must end, each call with EXPR_OK or
+/* Out of memory, at each place: the calls of malloc, calloc and realloc that a run makes are counted, and in the n-th run the n-th
+ * of them returns null; then the same again with all from the n-th on. Each run must end, each call with EXPR_OK or
  * EXPR_MEMORY, and the engine must then do again what it did before. `refused STEP` tries each STEP-th n. Link with
  * -Wl,--wrap=malloc,--wrap=calloc,--wrap=realloc. */
-#include "expr.h"
+#include "exprlang.h"
 #include <stdio.h>
 #include <stdlib.h>
 #include <string.h>
@@ -105,17 +105,29 @@ static void look(expr_engine *engine, expr_context context) {
     expr_json(engine, NULL);
 }
 
+/* Puts nil under the names that a program asks for: under all that the context lacks, or under none. */
+static void fill(expr_engine *engine, expr_program rule, expr_context sparse) {
+    int is_done = ok(expr_fill_missing(engine, rule, sparse));
+    expr_answer answer;
+    if (ok(expr_eval(engine, "len($env)", EXPR_Z, EXPR_NO_ENVIRONMENT, sparse, &answer)) && answer.number != (is_done ? 2 : 0)) {
+        FAIL("a part of the missing names was filled in");
+    }
+    if (expr_drop_context(engine, sparse) != EXPR_OK) FAIL("drop");
+}
+
 /* All kinds of work; the parts that are refused are passed over. */
 static void work(expr_engine *engine) {
     expr_program rule;
     expr_context context;
     expr_environment host;
     expr_answer answer;
-    expr_limits limits = {20, 5000, 5000, 5, 400};
+    expr_limits limits = {sizeof limits, 20, 5000, 5000, 5, 400};
+    expr_context sparse;
     size_t count;
+    int uses;
     const char *names;
     const char *text = "map(filter(xs, # > 1), {\"n\": #, \"t\": string(#) + \"!\"})[0].t matches \"[0-9]+!\" ? built ?? 1 : 2";
-    if (expr_set_limits(engine, &limits) != EXPR_OK) FAIL("limits take no memory");
+    if (!*expr_version() || expr_set_limits(engine, &limits) != EXPR_OK) FAIL("limits take no memory");
     int has_rule = ok(expr_compile(engine, text, EXPR_Z, &rule, NULL));
     int has_context = ok(expr_context_json(engine, "{\"xs\": [1, 2, 3], \"built\": null}", EXPR_Z, &context));
     int has_host = ok(expr_environment_new(engine, &host)) && ok(expr_add_fixed_zone(engine, host, "Here", EXPR_Z, 3600)) &&
@@ -130,7 +142,11 @@ static void work(expr_engine *engine) {
     if (has_rule) {
         int is_done = ok(expr_names(engine, rule, &count, &names));
         if (count != (is_done ? 3 : 0) || strcmp(names, is_done ? "#\nbuilt\nxs" : "")) FAIL("names");
+        is_done = ok(expr_functions(engine, rule, &count, &names));
+        if (count != (is_done ? 3 : 0) || strcmp(names, is_done ? "filter\nmap\nstring" : "")) FAIL("functions");
+        if (expr_uses_env(engine, rule, &uses) != EXPR_OK || uses) FAIL("uses_env takes no memory");
     }
+    if (has_rule && ok(expr_context_new(engine, &sparse))) fill(engine, rule, sparse);
     if (has_rule && has_context && has_host && ok(expr_run(engine, rule, host, context, &answer))) look(engine, context);
     ok(expr_eval(engine, "repeat(\"long\", 100)", EXPR_Z, EXPR_NO_ENVIRONMENT, EXPR_NO_CONTEXT, &answer));
     stop(engine, "map(1..300, {string(#) + \"!\"})", EXPR_LIMIT_SIZE);

@@ -4,7 +4,7 @@
  * and must then print the same, unless a moment or a zone is in it, whose place no host hands in. A row that stops at one of
  * the limits for strangers is answered once more without limits, and they are counted. From the first row `%damaged` on the
  * rows ask for something else, and are left out. */
-#include "expr.h"
+#include "exprlang.h"
 #include <stdio.h>
 #include <stdlib.h>
 #include <string.h>

@@ -1,5 +1,5 @@
-/* What expr.h promises, call by call. Says the line of the first check that fails, and ends with 1. */
-#include "expr.h"
+/* What exprlang.h promises, call by call. Says the line of the first check that fails, and ends with 1. */
+#include "exprlang.h"
 #include <stdio.h>
 #include <string.h>
 #define CHECK(what) do { if (!(what)) { printf("%s:%d: %s\n", __FILE__, __LINE__, #what); return 1; } } while (0)
@@ -25,6 +25,46 @@ static int programs(expr_engine *engine) {
     CHECK(expr_eval(engine, "1 / 0", EXPR_Z, ALONE, NULL) == EXPR_EVALUATION);
     CHECK(expr_look(engine, &answer) == EXPR_OK && answer.kind == EXPR_BOOL && answer.number == 0);
     CHECK(!strcmp(expr_shown(engine, NULL), "false"));
+    return 0;
+}
+
+/* What a program reads and calls, and the names that its context lacks. */
+static int needs(expr_engine *engine) {
+    static const struct { const char *text; int uses_env; size_t functions; const char *called; } rows[] = {
+        {"a + 1", 0, 0, ""},
+        {"$env.x + a", 1, 0, ""},
+        {"len(keys($env))", 1, 2, "keys\nlen"},
+        {"map(xs, {len(#.name) > now() ? $env : g(a)})", 1, 4, "g\nlen\nmap\nnow"},
+        {"upper(a) | lower() | f(1)", 0, 3, "f\nlower\nupper"},
+        {"date(a).Year() == 2024", 0, 1, "date"},
+        {"\"$env\"", 0, 0, ""},
+        {"let x = f(1); f(x)", 0, 1, "f"},
+    };
+    expr_program program;
+    expr_context context;
+    expr_answer answer;
+    size_t count;
+    const char *names;
+    int uses;
+    for (size_t i = 0; i < sizeof rows / sizeof *rows; i++) {
+        CHECK(expr_compile(engine, rows[i].text, EXPR_Z, &program, NULL) == EXPR_OK);
+        CHECK(expr_uses_env(engine, program, &uses) == EXPR_OK && uses == rows[i].uses_env);
+        CHECK(expr_functions(engine, program, &count, &names) == EXPR_OK && count == rows[i].functions);
+        CHECK(!strcmp(names, rows[i].called) && expr_drop_program(engine, program) == EXPR_OK);
+    }
+    /* a record that lacks names: they are nil, and what it has stays; `#` is none of them */
+    CHECK(expr_compile(engine, "[status, path, filter([1], # > 0)]", EXPR_Z, &program, NULL) == EXPR_OK);
+    CHECK(expr_context_json(engine, "{\"path\": \"/\"}", EXPR_Z, &context) == EXPR_OK);
+    CHECK(expr_run(engine, program, EXPR_NO_ENVIRONMENT, context, NULL) == EXPR_EVALUATION);
+    CHECK(expr_fill_missing(engine, program, context) == EXPR_OK);
+    CHECK(expr_run(engine, program, EXPR_NO_ENVIRONMENT, context, &answer) == EXPR_OK);
+    CHECK(!strcmp(expr_shown(engine, NULL), "[nil, \"/\", [1]]"));
+    CHECK(expr_fill_missing(engine, program, context) == EXPR_OK);
+    CHECK(expr_eval(engine, "keys($env)", EXPR_Z, EXPR_NO_ENVIRONMENT, context, &answer) == EXPR_OK && answer.number == 2);
+    /* a program that uses the whole context reads `$env` */
+    CHECK(expr_compile(engine, "$env.path ?? missing", EXPR_Z, &program, NULL) == EXPR_OK);
+    CHECK(expr_names(engine, program, &count, &names) == EXPR_OK && count == 1 && !strcmp(names, "missing"));
+    CHECK(!strncmp(expr_version(), EXPR_VERSION ", ", sizeof EXPR_VERSION + 1));
     return 0;
 }
 
@@ -251,7 +291,7 @@ static int waiting(expr_engine *engine) {
     expr_answer answer;
     const char *name;
     CHECK(expr_environment_new(engine, &host) == EXPR_OK && expr_add_name(engine, host, "f", EXPR_Z) == EXPR_OK);
-    CHECK(expr_add_name(engine, (expr_environment){99, 99}, "f", EXPR_Z) == EXPR_UNKNOWN);
+    CHECK(expr_add_name(engine, (expr_environment){99, 99, 99}, "f", EXPR_Z) == EXPR_UNKNOWN);
     CHECK(expr_add_name(engine, host, "\xff", 1) == EXPR_MISUSE);
     CHECK(expr_context_new(engine, &context) == EXPR_OK && expr_set_integer(engine, context, "x", EXPR_Z, 1) == EXPR_OK);
     CHECK(expr_compile(engine, "f(x) + f(2)", EXPR_Z, &program, NULL) == EXPR_OK);
@@ -259,7 +299,7 @@ static int waiting(expr_engine *engine) {
     CHECK(expr_reply(engine, &answer) == EXPR_MISUSE); /* nothing was built */
     CHECK(expr_refuse(engine, "\xff", 1, &answer) == EXPR_MISUSE);
     CHECK(expr_compile(engine, "7", EXPR_Z, &other, NULL) == EXPR_OK && expr_clear(NULL) == EXPR_MISUSE);
-    CHECK(expr_run(engine, (expr_program){99, 99}, host, context, &answer) == EXPR_UNKNOWN);
+    CHECK(expr_run(engine, (expr_program){99, 99, 99}, host, context, &answer) == EXPR_UNKNOWN);
     CHECK(expr_push_integer(engine, 20) == EXPR_OK && expr_reply(engine, &answer) == EXPR_ASKS);
     CHECK(expr_asked(engine, &name, &answer) == EXPR_OK && !strcmp(name, "f") && !strcmp(expr_shown(engine, NULL), "[2]"));
     CHECK(expr_push_integer(engine, 3) == EXPR_OK && expr_reply(engine, &answer) == EXPR_OK && answer.number == 23);
@@ -285,7 +325,7 @@ static int waiting(expr_engine *engine) {
 int main(void) {
     expr_engine *engine = expr_open();
     CHECK(engine);
-    int failed = programs(engine) || texts(engine) || named(engine) || built(engine) || refusals(engine) ||
+    int failed = programs(engine) || needs(engine) || texts(engine) || named(engine) || built(engine) || refusals(engine) ||
                  environments(engine) || functions(engine) || waiting(engine);
     expr_close(engine);
     expr_close(NULL);

@@ -2,7 +2,7 @@
    program that is kept, in a context that is kept; both within the limits for strangers, which an engine has at first, and without
    limits where the part is `compile-unlimited` or `run-unlimited`. The answer goes to standard output, and the nanoseconds of all
    turns to standard error. */
-#include "expr.h"
+#include "exprlang.h"
 #include <stdio.h>
 #include <stdlib.h>
 #include <string.h>

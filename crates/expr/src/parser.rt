@@ -18,8 +18,7 @@ use expr_value::{Result, Value};
 use std::alloc::Global;
 
 /// An environment, and `compile` beside it.
-///
-/// Deprecated: take [`Environment`] and [`compile`](expr_syntax::compile).
+#[deprecated(note = "take `Environment`, and `compile` for texts")]
 #[derive(Drop)]
 pub struct Parser {
     environment: Environment,

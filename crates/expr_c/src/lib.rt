@@ -22,19 +22,19 @@ pub extern "C" fn expr_c_size() -> usize
     size_of::<Engine>()
 }
 
-/// Makes an engine in the room at a pointer, which keeps nothing. It takes no other memory.
+/// Makes an engine in the room at a pointer, which keeps nothing, and whose handles have this tag. It takes no other memory.
 #[unsafe(no_mangle)]
-pub unsafe extern "C" fn expr_c_open(alloc: Global, at: *mut u8)
+pub unsafe extern "C" fn expr_c_open(alloc: Global, at: *mut u8, tag: u32)
     requires* { sem 𝓛 (room_at engine_row at) }
-    ensures* { ∃ₛ (λ after. sem 𝓛 (lies_at engine_row full_share at after) ∗ ⌜ IsNew after ⌝) }
+    ensures* { ∃ₛ (λ after. sem 𝓛 (lies_at engine_row full_share at after) ∗ ⌜ IsNew tag after ⌝) }
 {
-    std::ptr::write(at as *mut Engine, new_engine(alloc));
+    std::ptr::write(at as *mut Engine, new_engine(alloc, tag));
 }
 
-fn new_engine(alloc: Global) -> Engine
-    ensures { IsNew result }
+fn new_engine(alloc: Global, tag: u32) -> Engine
+    ensures { IsNew tag result }
 {
-    Engine::new(alloc)
+    Engine::new(alloc, tag)
 }
 
 /// Has the engine at a pointer do what a call asks for, as `serve` of `expr_engine` promises it. To close an engine, ask it to

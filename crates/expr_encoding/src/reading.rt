@@ -17,6 +17,10 @@ use json::Scratch;
 use serde_json::{Map, Value as Json};
 use std::alloc::Global;
 
+/// The message for a number of JSON that is no value: it has a fraction or an exponent, or more than 64 bits.
+const NOT_WHOLE: &str =
+    "a JSON number is not whole, or too large: the language has no fractions, so use cents, or round";
+
 /// What reads JSON texts one after another. Its memory is used again for the next one.
 #[derive(Drop)]
 pub struct JsonReader {
@@ -107,7 +111,7 @@ fn value_of(alloc: Global, json: Json) -> Result<Value>
         Json::Bool(b) => Ok(Value::Bool(b)),
         Json::Number(number) => match number.as_i64() {
             Some(n) => Ok(Value::Integer(n)),
-            None => Err(refusal(alloc, "a number of JSON that is no integer of 64 bits")),
+            None => Err(refusal(alloc, NOT_WHOLE)),
         },
         Json::String(text) => Ok(Value::String(Text::from_string(text))),
         Json::Array(items) => Ok(Value::Array(values_of(alloc, items)?)),

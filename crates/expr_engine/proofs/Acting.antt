@@ -1,5 +1,5 @@
 -- What a call does that is asked for.
-use Rattle.std.proofs.Common.{◌≡◌, [], Option, None, MatchOption, Result, Ok, Err, OnErr, OnOk, IfErr, ap, arith, string_bytes, subst, sym}
+use Rattle.std.proofs.Common.{◌≡◌, [], Option, None, MatchOption, Result, Ok, Err, OnErr, OnOk, IfErr, IsErrAnd, ap, arith, string_bytes, subst, sym}
 use Rattle.expr_engine.specs.Asks.{ask_of}
 use Rattle.expr_engine.specs.Effects.{Does, IsMissing, call_result}
 use Rattle.expr_engine.specs.Engines.{KeepsThings, KeepsRest, Leaves, NumbersRise}
@@ -13,8 +13,9 @@ use Rattle.expr_engine.specs.declared.call.Call.{Call}
 use Rattle.expr_engine.specs.declared.engine.Engine.{Engine}
 use Rattle.expr_exchange.specs.Builder.{values_of}
 use Rattle.expr_exchange.specs.Cursor.{part_of}
+use Rattle.expr_exchange.specs.Refusals.{IsMisuse}
 use Rattle.expr_exchange.specs.declared.host_error.HostError.{HostError}
-use Rattle.expr_exchange.specs.declared.host_error.HostError.TheVariants.{Misuse, Unknown}
+use Rattle.expr_exchange.specs.declared.host_error.HostError.TheVariants.{Unknown}
 use Rattle.expr_engine.proofs.Unchanged.{answer_in, leaves, limits_in, numbers_kept, same_kept, waits_in}
 
 -- what is asked for is done
@@ -27,7 +28,7 @@ no_reason (Ok v) = tt
 no_reason (Err e) = tt
 
 pub acts : {ask : Ask} {old new : Engine} {call answered : Call} {done : Result (Unit {0}) HostError}
-    → OnOk done (Does ask old new call (call_result answered)) → Gives ask old call answered done (part_of new.answer) → Turns ask old call done new.waits (part_of new.answer) → LimitsBy ask old.limits call (done ≡ Ok tt) (done ≡ Err Misuse) new.limits
+    → OnOk done (Does ask old new call (call_result answered)) → Gives ask old call answered done (part_of new.answer) → Turns ask old call done new.waits (part_of new.answer) → LimitsBy ask old.limits call (done ≡ Ok tt) (IsErrAnd done IsMisuse) new.limits
     → OnErr done (Leaves old new) → IfErr done (MayRefuse ask old call) → (IsMissing ask old call → done ≡ Err Unknown) → (done ≡ Err Unknown → IsMissing ask old call) → NumbersRise old new → answered.room.now ≡ call.room.now → Acts ask old new call answered done
 acts d g t l r w u k n o = record { does = d; gives = g; turns = t; limits = l; refused = r; why = w; unknown = u; known = k; numbers = n; room = o }
 

@@ -1,5 +1,5 @@
 -- How a run ends, by the number of its ending.
-use Rattle.std.proofs.Common.{◌≡◌, ◌≢◌, ◌⊎◌, ◌∙◌, ℕ, List, Option, None, Some, MatchOption, Result, Ok, Err, OnErr, OnOk, IfErr, IsOk, inl, inr, ap, arith, refl, rules, subst, sym}
+use Rattle.std.proofs.Common.{◌≡◌, ◌≢◌, ◌⊎◌, ◌∙◌, ℕ, List, Option, None, Some, MatchOption, Result, Ok, Err, OnErr, OnOk, IfErr, IsErrAnd, IsOk, inl, inr, ap, arith, refl, rules, subst, sym}
 use Rattle.std.proofs.lemmas.Bool.{false≢true}
 use Rattle.expr_engine.specs.Effects.{Does, CallResult}
 use Rattle.expr.proofs.Stopping.{IsOfRuns, stops_of_runs}
@@ -18,9 +18,10 @@ use Rattle.expr_engine.specs.declared.engine.Engine.{Engine}
 use Rattle.expr_engine.specs.declared.waiting_run.WaitingRun.{WaitingRun}
 use Rattle.expr_exchange.specs.Cursor.{part_of}
 use Rattle.expr_exchange.specs.declared.cursor.ValueCursor.{ValueCursor}
-use Rattle.expr_exchange.specs.Refusals.{ends_at, ends_by, status_of}
+use Rattle.expr_exchange.specs.Refusals.{IsMisuse, ends_at, ends_by, status_of}
 use Rattle.expr_exchange.specs.declared.host_error.HostError.{HostError}
 use Rattle.expr_exchange.specs.declared.host_error.HostError.TheVariants.{Language, Unknown, Misuse, Asks, Differs, Stopped}
+use Rattle.expr_exchange.specs.declared.misuse.Misuse.{Misuse as Wrong}
 use Rattle.expr_exchange.specs.declared.host_error.Status.{Status}
 use Rattle.expr_exchange.specs.declared.host_error.Status.TheVariants as ends
 use Rattle.expr_code.specs.Machine.{Op}
@@ -63,7 +64,7 @@ answers_by q given (Ok shown) value number r e = record { status = ends.Done; is
 answers_by q given (Err (Language error)) value number r (inl e) = record { status = ends_by (error_kind error); is = e; says = said_by q given value (error_kind error) r }
 answers_by q given (Err (Language error)) value number r (inr e) = record { status = ends.Memory; is = e; says = tt }
 answers_by q given (Err Unknown) value number r e = absurd r
-answers_by q given (Err Misuse) value number r e = absurd r
+answers_by q given (Err (Misuse why)) value number r e = absurd r
 answers_by q given (Err Asks) value number r e = record { status = ends.Asks; is = e; says = tt }
 answers_by q given (Err Differs) value number r e = record { status = ends.Differs; is = e; says = tt }
 answers_by q given (Err (Stopped limit)) value number r (inl e) = record { status = ends_at limit; is = e; says = said_at q given value limit r }
@@ -99,19 +100,19 @@ never_done : (A : Type 0) (refused : HostError) (number : ℕ) → EndsCall {A =
 never_done A (Language error) number (inl e) z = not_done (error_kind error) (sym e ∙ z)
 never_done A (Language error) number (inr e) z = omega arith
 never_done A Unknown number e z = omega arith
-never_done A Misuse number e z = omega arith
+never_done A (Misuse why) number e z = omega arith
 never_done A Asks number e z = omega arith
 never_done A Differs number e z = omega arith
 never_done A (Stopped limit) number (inl e) z = not_done_at limit (sym e ∙ z)
 never_done A (Stopped limit) number (inr e) z = omega arith
 
 -- a call that is refused ends by its status, or by that of memory where the refusal has a message
-pub ends_call : (refused : HostError) (status : Status) (number : ℕ) → (status ≡ status_of refused) ⊎ (status ≡ ends.Memory) → (refused ≡ Unknown → status ≡ ends.Unknown) → (refused ≡ Misuse → status ≡ ends.Misuse)
+pub ends_call : (refused : HostError) (status : Status) (number : ℕ) → (status ≡ status_of refused) ⊎ (status ≡ ends.Memory) → (refused ≡ Unknown → status ≡ ends.Unknown) → ((why : Wrong) → refused ≡ Misuse why → status ≡ ends.Misuse)
     → (refused ≡ Asks → status ≡ ends.Asks) → (refused ≡ Differs → status ≡ ends.Differs) → number ≡ number_of status → EndsCall {A = Unit {0}} (Err refused) number
 ends_call (Language error) status number (inl s) u m a d n = inl (n ∙ ap (λ (x : Status). number_of x) s)
 ends_call (Language error) status number (inr s) u m a d n = inr (n ∙ ap (λ (x : Status). number_of x) s)
 ends_call Unknown status number s u m a d n = n ∙ ap (λ (x : Status). number_of x) (u refl)
-ends_call Misuse status number s u m a d n = n ∙ ap (λ (x : Status). number_of x) (m refl)
+ends_call (Misuse why) status number s u m a d n = n ∙ ap (λ (x : Status). number_of x) (m why refl)
 ends_call Asks status number s u m a d n = n ∙ ap (λ (x : Status). number_of x) (a refl)
 ends_call Differs status number s u m a d n = n ∙ ap (λ (x : Status). number_of x) (d refl)
 ends_call (Stopped limit) status number (inl s) u m a d n = inl (n ∙ ap (λ (x : Status). number_of x) s)
@@ -149,48 +150,69 @@ always_ok P (Err e) k = absurd (false≢true k)
 pub ok_never_unknown : {A : Type 0} (r : Result A HostError) → IsOk r → r ≡ Err Unknown → ⊥
 ok_never_unknown {A} r k e = false≢true (subst (λ (x : Result A HostError). IsOk x) e k)
 
+-- a call that is misused ends so
+abbrev error_else : {A : Type 0} → HostError → Result A HostError → HostError
+error_else spare (Ok v) = spare
+error_else spare (Err e) = e
+
+pub misuse_ends : (done : Result (Unit {0}) HostError) (refused : HostError) (status : Status) (number : ℕ) → done ≡ Err refused → ((why : Wrong) → refused ≡ Misuse why → status ≡ ends.Misuse) → number ≡ number_of status
+    → (why : Wrong) → done ≡ Err (Misuse why) → number ≡ 7
+misuse_ends done refused status number is misuse n why so = n ∙ ap (λ (s : Status). number_of s) (misuse why (ap (error_else refused) (sym is ∙ so)))
+
 -- how a call leaves the limits, by the number of its ending
-limits_set : (o : Option Limits) (old new : Option Limits) (done : Result (Unit {0}) HostError) (number : ℕ) → EndsCall done number → (done ≡ Err Misuse → number ≡ 7)
-    → MatchOption o ((done ≡ Err Misuse) × (new ≡ old)) (λ limits. (done ≡ Ok tt) × (new ≡ Some limits)) → MatchOption o ((number ≡ 7) × (new ≡ old)) (λ limits. (number ≡ 0) × (new ≡ Some limits))
-limits_set None old new done number e misuse (is, same) = (misuse is, same)
-limits_set (Some limits) old new done number e misuse (is, set) = (subst (λ (d : Result (Unit {0}) HostError). EndsCall d number) is e, set)
+misused_ends : (done : Result (Unit {0}) HostError) (number : ℕ) → EndsCall done number → IsErrAnd done IsMisuse → number ≡ 7
+misused_ends (Ok v) number e m = absurd m
+misused_ends (Err (Language error)) number e m = absurd m
+misused_ends (Err Unknown) number e m = absurd m
+misused_ends (Err (Misuse why)) number e m = e
+misused_ends (Err Asks) number e m = absurd m
+misused_ends (Err Differs) number e m = absurd m
+misused_ends (Err (Stopped limit)) number e m = absurd m
 
-limits_on : (ask : Ask) (old : Option Limits) (call : Call) (done : Result (Unit {0}) HostError) (number : ℕ) (new : Option Limits) → EndsCall done number → (done ≡ Err Misuse → number ≡ 7)
-    → LimitsBy ask old call (done ≡ Ok tt) (done ≡ Err Misuse) new → LimitsBy ask old call (number ≡ 0) (number ≡ 7) new
-limits_on is.Limit old call done number new e misuse l = limits_set (limits_asked old call.kind call.number) old new done number e misuse l
-limits_on is.Unlimited old call done number new e misuse l = (subst (λ (d : Result (Unit {0}) HostError). EndsCall d number) l.0 e, l.1)
-limits_on is.Compile old call done number new e misuse l = l
-limits_on is.Names old call done number new e misuse l = l
-limits_on is.Run old call done number new e misuse l = l
-limits_on is.Context old call done number new e misuse l = l
-limits_on is.ContextOf old call done number new e misuse l = l
-limits_on is.Set old call done number new e misuse l = l
-limits_on is.Push old call done number new e misuse l = l
-limits_on is.Array old call done number new e misuse l = l
-limits_on is.Map old call done number new e misuse l = l
-limits_on is.Unbuild old call done number new e misuse l = l
-limits_on is.Look old call done number new e misuse l = l
-limits_on is.Down old call done number new e misuse l = l
-limits_on is.Up old call done number new e misuse l = l
-limits_on is.Key old call done number new e misuse l = l
-limits_on is.Shown old call done number new e misuse l = l
-limits_on is.Text old call done number new e misuse l = l
-limits_on is.Json old call done number new e misuse l = l
-limits_on is.Said old call done number new e misuse l = l
-limits_on is.Environment old call done number new e misuse l = l
-limits_on is.FixedZone old call done number new e misuse l = l
-limits_on is.ZoneRule old call done number new e misuse l = l
-limits_on is.Now old call done number new e misuse l = l
-limits_on is.DropProgram old call done number new e misuse l = l
-limits_on is.DropContext old call done number new e misuse l = l
-limits_on is.DropEnvironment old call done number new e misuse l = l
-limits_on is.Clear old call done number new e misuse l = l
-limits_on is.Name old call done number new e misuse l = l
-limits_on is.Answer old call done number new e misuse l = l
-limits_on is.Refuse old call done number new e misuse l = l
-limits_on is.WaitingCall old call done number new e misuse l = l
+limits_set : (o : Option Limits) (old new : Option Limits) (done : Result (Unit {0}) HostError) (number : ℕ) → EndsCall done number
+    → MatchOption o (IsErrAnd done IsMisuse × (new ≡ old)) (λ limits. (done ≡ Ok tt) × (new ≡ Some limits)) → MatchOption o ((number ≡ 7) × (new ≡ old)) (λ limits. (number ≡ 0) × (new ≡ Some limits))
+limits_set None old new done number e (is, same) = (misused_ends done number e is, same)
+limits_set (Some limits) old new done number e (is, set) = (subst (λ (d : Result (Unit {0}) HostError). EndsCall d number) is e, set)
 
-pub limits_by : (ask : Ask) (old : Option Limits) (call : Call) (done : Result (Unit {0}) HostError) (number : ℕ) (mid new : Option Limits) → EndsCall done number → (done ≡ Err Misuse → number ≡ 7)
-    → LimitsBy ask old call (done ≡ Ok tt) (done ≡ Err Misuse) mid → new ≡ mid → LimitsBy ask old call (number ≡ 0) (number ≡ 7) new
-limits_by ask old call done number mid new e misuse l same =
-    subst (λ (x : Option Limits). LimitsBy ask old call (number ≡ 0) (number ≡ 7) x) (sym same) (limits_on ask old call done number mid e misuse l)
+limits_on : (ask : Ask) (old : Option Limits) (call : Call) (done : Result (Unit {0}) HostError) (number : ℕ) (new : Option Limits) → EndsCall done number
+    → LimitsBy ask old call (done ≡ Ok tt) (IsErrAnd done IsMisuse) new → LimitsBy ask old call (number ≡ 0) (number ≡ 7) new
+limits_on is.Limit old call done number new e l = limits_set (limits_asked old call.kind call.number) old new done number e l
+limits_on is.Unlimited old call done number new e l = (subst (λ (d : Result (Unit {0}) HostError). EndsCall d number) l.0 e, l.1)
+limits_on is.Compile old call done number new e l = l
+limits_on is.Names old call done number new e l = l
+limits_on is.Run old call done number new e l = l
+limits_on is.Context old call done number new e l = l
+limits_on is.ContextOf old call done number new e l = l
+limits_on is.Set old call done number new e l = l
+limits_on is.Push old call done number new e l = l
+limits_on is.Array old call done number new e l = l
+limits_on is.Map old call done number new e l = l
+limits_on is.Unbuild old call done number new e l = l
+limits_on is.Look old call done number new e l = l
+limits_on is.Down old call done number new e l = l
+limits_on is.Up old call done number new e l = l
+limits_on is.Key old call done number new e l = l
+limits_on is.Shown old call done number new e l = l
+limits_on is.Text old call done number new e l = l
+limits_on is.Json old call done number new e l = l
+limits_on is.Said old call done number new e l = l
+limits_on is.Environment old call done number new e l = l
+limits_on is.FixedZone old call done number new e l = l
+limits_on is.ZoneRule old call done number new e l = l
+limits_on is.Now old call done number new e l = l
+limits_on is.DropProgram old call done number new e l = l
+limits_on is.DropContext old call done number new e l = l
+limits_on is.DropEnvironment old call done number new e l = l
+limits_on is.Clear old call done number new e l = l
+limits_on is.Name old call done number new e l = l
+limits_on is.Answer old call done number new e l = l
+limits_on is.Refuse old call done number new e l = l
+limits_on is.WaitingCall old call done number new e l = l
+limits_on is.UsesEnv old call done number new e l = l
+limits_on is.Functions old call done number new e l = l
+limits_on is.FillMissing old call done number new e l = l
+
+pub limits_by : (ask : Ask) (old : Option Limits) (call : Call) (done : Result (Unit {0}) HostError) (number : ℕ) (mid new : Option Limits) → EndsCall done number
+    → LimitsBy ask old call (done ≡ Ok tt) (IsErrAnd done IsMisuse) mid → new ≡ mid → LimitsBy ask old call (number ≡ 0) (number ≡ 7) new
+limits_by ask old call done number mid new e l same =
+    subst (λ (x : Option Limits). LimitsBy ask old call (number ≡ 0) (number ≡ 7) x) (sym same) (limits_on ask old call done number mid e l)

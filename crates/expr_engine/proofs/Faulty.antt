@@ -73,7 +73,7 @@ pub answers_text : {A : Type 0} (limits : Option Limits) (text : List ℕ) (done
 answers_text limits text (Ok v) number place r e stands = record { status = ends.Done; is = e; says = tt }
 answers_text limits text (Err (Language error)) number place r e stands = of_language limits text error number place r e stands
 answers_text limits text (Err Unknown) number place r e stands = absurd r
-answers_text limits text (Err Misuse) number place r e stands = record { status = ends.Misuse; is = e; says = r }
+answers_text limits text (Err (Misuse why)) number place r e stands = record { status = ends.Misuse; is = e; says = r }
 answers_text limits text (Err Asks) number place r e stands = absurd r
 answers_text limits text (Err Differs) number place r e stands = absurd r
 answers_text limits text (Err (Stopped limit)) number place r e stands = of_limit limits text limit number place r.0 e

@@ -1,8 +1,11 @@
 pub mod Acting
 pub mod Ended
 pub mod Faulty
+pub mod Filled
 pub mod Given
 pub mod Handed
+pub mod Named
+pub mod Refusing
 pub mod Told
 pub mod Turned
 pub mod Unchanged

@@ -14,6 +14,8 @@ use Rattle.expr_engine.specs.declared.waiting_run.WaitingRun.{WaitingRun}
 use Rattle.expr_exchange.specs.Refusals.{ReturnsToHost}
 use Rattle.expr_exchange.specs.declared.host_error.HostError.{HostError}
 use Rattle.expr_exchange.specs.declared.host_error.HostError.TheVariants.{Language, Unknown, Misuse, Asks, Differs, Stopped}
+use Rattle.expr_exchange.specs.declared.misuse.Misuse.{Misuse as Wrong}
+use Rattle.expr_exchange.specs.declared.misuse.Misuse.TheVariants as wrong
 use Rattle.expr_handles.specs.HandleMap.{thing_at}
 use Rattle.expr_handles.specs.declared.Handle.{Handle}
 use Rattle.expr_meter.specs.Counting.{stops}
@@ -52,7 +54,7 @@ runs_kept q given (Ok v) done value g k =
     subst (λ (d : Result (Unit {0}) HostError). RunServes q given d value) (sym k.0) (subst (λ (x : Value). RunMayAnswer q given (Ok x)) (sym k.1) g)
 runs_kept q given (Err (Language error)) done value g k = subst (λ (d : Result (Unit {0}) HostError). RunServes q given d value) (sym k) g
 runs_kept q given (Err Unknown) done value g k = absurd g
-runs_kept q given (Err Misuse) done value g k = absurd g
+runs_kept q given (Err (Misuse why)) done value g k = absurd g
 runs_kept q given (Err Asks) done value g k = subst (λ (d : Result (Unit {0}) HostError). RunServes q given d value) (sym k) tt
 runs_kept q given (Err Differs) done value g k = subst (λ (d : Result (Unit {0}) HostError). RunServes q given d value) (sym k) tt
 runs_kept q given (Err (Stopped limit)) done value g k = subst (λ (d : Result (Unit {0}) HostError). RunServes q given d value) (sym k) g
@@ -70,7 +72,7 @@ stands_kept : (q : RunInputs) (given : List CallReply) (answer : Result Value Ho
 stands_kept q given (Ok v) done value waits s k = subst (λ (d : Result (Unit {0}) HostError). WaitsIfAsks q given d waits) (sym k.0) s
 stands_kept q given (Err (Language error)) done value waits s k = subst (λ (d : Result (Unit {0}) HostError). WaitsIfAsks q given d waits) (sym k) s
 stands_kept q given (Err Unknown) done value waits s k = subst (λ (d : Result (Unit {0}) HostError). WaitsIfAsks q given d waits) (sym k) s
-stands_kept q given (Err Misuse) done value waits s k = subst (λ (d : Result (Unit {0}) HostError). WaitsIfAsks q given d waits) (sym k) s
+stands_kept q given (Err (Misuse why)) done value waits s k = subst (λ (d : Result (Unit {0}) HostError). WaitsIfAsks q given d waits) (sym k) s
 stands_kept q given (Err Asks) done value waits s k = subst (λ (d : Result (Unit {0}) HostError). WaitsIfAsks q given d waits) (sym k) s
 stands_kept q given (Err Differs) done value waits s k = subst (λ (d : Result (Unit {0}) HostError). WaitsIfAsks q given d waits) (sym k) s
 stands_kept q given (Err (Stopped limit)) done value waits s k = subst (λ (d : Result (Unit {0}) HostError). WaitsIfAsks q given d waits) (sym k) s
@@ -104,7 +106,7 @@ nothing_found None given answer m e = refl
 nothing_found (Some q) given (Ok v) m e = absurd (false≢true e)
 nothing_found (Some q) given (Err (Language error)) m e = absurd (false≢true e)
 nothing_found (Some q) given (Err Unknown) m e = absurd m
-nothing_found (Some q) given (Err Misuse) m e = absurd m
+nothing_found (Some q) given (Err (Misuse why)) m e = absurd m
 nothing_found (Some q) given (Err Asks) m e = absurd (false≢true e)
 nothing_found (Some q) given (Err Differs) m e = absurd (false≢true e)
 nothing_found (Some q) given (Err (Stopped limit)) m e = absurd (false≢true e)
@@ -144,7 +146,7 @@ by_ending : (Is : Reply → Type 0) (q : RunInputs) (old new : WaitingRun) (done
 by_ending Is q old new (Ok v) value g = g
 by_ending Is q old new (Err (Language error)) value g = inr g
 by_ending Is q old new (Err Unknown) value g = absurd g.runs
-by_ending Is q old new (Err Misuse) value g = absurd g.runs
+by_ending Is q old new (Err (Misuse why)) value g = absurd g.runs
 by_ending Is q old new (Err Asks) value g = g
 by_ending Is q old new (Err Differs) value g = g
 by_ending Is q old new (Err (Stopped limit)) value g = g
@@ -163,7 +165,7 @@ passed_on Is o old new (Ok v) e value is p = absurd is
 passed_on Is o old new (Err x) e value is p = subst (λ (y : HostError). RunGoesOn Is o old new (Err y) value) (sym is) p
 
 -- a handle that finds nothing, and what stands for no reply, leave the call that waits
-pub left_waiting : (Is : Reply → Type 0) (o : Option RunInputs) (old new : WaitingRun) (e : HostError) (value : Value) → new ≡ old → (e ≡ Unknown) ⊎ (e ≡ Misuse) → RunGoesOn Is o old new (Err e) value
+pub left_waiting : {why : Wrong} (Is : Reply → Type 0) (o : Option RunInputs) (old new : WaitingRun) (e : HostError) (value : Value) → new ≡ old → (e ≡ Unknown) ⊎ (e ≡ Misuse why) → RunGoesOn Is o old new (Err e) value
 left_waiting Is o old new e value same (inl is) = subst (λ (x : HostError). RunGoesOn Is o old new (Err x) value) (sym is) same
 left_waiting Is o old new e value same (inr is) = subst (λ (x : HostError). RunGoesOn Is o old new (Err x) value) (sym is) same
 
@@ -187,7 +189,7 @@ replies_so Is Js f o old new (Ok v) value r = weaker Is Js f o old new (Ok v) va
 replies_so Is Js f o old new (Err (Language error)) value (inl r) = inl r
 replies_so Is Js f o old new (Err (Language error)) value (inr r) = inr (weaker Is Js f o old new (Err (Language error)) value r)
 replies_so Is Js f o old new (Err Unknown) value r = r
-replies_so Is Js f o old new (Err Misuse) value r = r
+replies_so Is Js f o old new (Err (Misuse why)) value r = r
 replies_so Is Js f o old new (Err Asks) value r = weaker Is Js f o old new (Err Asks) value r
 replies_so Is Js f o old new (Err Differs) value r = weaker Is Js f o old new (Err Differs) value r
 replies_so Is Js f o old new (Err (Stopped limit)) value r = weaker Is Js f o old new (Err (Stopped limit)) value r
@@ -217,28 +219,28 @@ unknown_none None r m is = refl
 unknown_none (Some q) (Ok v) m is = let no : ⊥ = cc is in absurd no
 unknown_none (Some q) (Err e) m is = absurd (false≢true m)
 
-pub known_refused : (o : Option RunInputs) (r : Result (Unit {0}) HostError) → MatchOption o (r ≡ Err Unknown) (λ _. IsOk r) → IfErr r (λ e. (e ≡ Unknown) ⊎ (e ≡ Misuse))
+pub known_refused : (o : Option RunInputs) (r : Result (Unit {0}) HostError) → MatchOption o (r ≡ Err Unknown) (λ _. IsOk r) → IfErr r (λ e. (e ≡ Unknown) ⊎ (e ≡ Misuse wrong.NoCallWaits))
 known_refused None (Ok v) m = tt
 known_refused None (Err e) m = inl (cc m)
 known_refused (Some q) (Ok v) m = tt
 known_refused (Some q) (Err e) m = absurd (false≢true m)
 
-pub known_meant : (o : Option RunInputs) (r : Result (Unit {0}) HostError) → MatchOption o (r ≡ Err Unknown) (λ _. IsOk r) → r ≡ Err Misuse → ⊥
-known_meant None r m is = let no : ⊥ = cc (m, is) in no
-known_meant (Some q) (Ok v) m is = let no : ⊥ = cc is in no
-known_meant (Some q) (Err e) m is = false≢true m
+pub known_meant : (o : Option RunInputs) (r : Result (Unit {0}) HostError) → MatchOption o (r ≡ Err Unknown) (λ _. IsOk r) → (why : Wrong) → r ≡ Err (Misuse why) → ⊥
+known_meant None r m why is = let no : ⊥ = cc (m, is) in no
+known_meant (Some q) (Ok v) m why is = let no : ⊥ = cc is in no
+known_meant (Some q) (Err e) m why is = false≢true m
 
 -- and a run is never misused
-pub run_meant : (o : Option RunInputs) (given : List CallReply) (r : Result (Unit {0}) HostError) (value : Value) → MatchOption o (r ≡ Err Unknown) (λ q. RunServes q given r value) → IfErr r (λ e. e ≢ Misuse)
+pub run_meant : (o : Option RunInputs) (given : List CallReply) (r : Result (Unit {0}) HostError) (value : Value) → MatchOption o (r ≡ Err Unknown) (λ q. RunServes q given r value) → IfErr r (λ e. (why : Wrong) → e ≢ Misuse why)
 run_meant None given (Ok v) value m = tt
-run_meant None given (Err e) value m = λ is. cc (m, is)
+run_meant None given (Err e) value m = λ why is. cc (m, is)
 run_meant (Some q) given (Ok v) value m = tt
-run_meant (Some q) given (Err (Language error)) value m = λ is. cc is
-run_meant (Some q) given (Err Unknown) value m = λ is. cc is
-run_meant (Some q) given (Err Misuse) value m = absurd m
-run_meant (Some q) given (Err Asks) value m = λ is. cc is
-run_meant (Some q) given (Err Differs) value m = λ is. cc is
-run_meant (Some q) given (Err (Stopped limit)) value m = λ is. cc is
+run_meant (Some q) given (Err (Language error)) value m = λ why is. cc is
+run_meant (Some q) given (Err Unknown) value m = λ why is. cc is
+run_meant (Some q) given (Err (Misuse was)) value m = absurd m
+run_meant (Some q) given (Err Asks) value m = λ why is. cc is
+run_meant (Some q) given (Err Differs) value m = λ why is. cc is
+run_meant (Some q) given (Err (Stopped limit)) value m = λ why is. cc is
 
 -- a run that found all three isn't refused so
 pub found_ends : (o : Option RunInputs) (given : List CallReply) (r : Result (Unit {0}) HostError) (value : Value) → IsSome o → MatchOption o (r ≡ Err Unknown) (λ q. RunServes q given r value) → IfErr r (λ e. e ≢ Unknown)
@@ -246,7 +248,7 @@ found_ends None given r value some m = absurd (false≢true some)
 found_ends (Some q) given (Ok v) value some m = tt
 found_ends (Some q) given (Err (Language error)) value some m = λ is. cc is
 found_ends (Some q) given (Err Unknown) value some m = absurd m
-found_ends (Some q) given (Err Misuse) value some m = absurd m
+found_ends (Some q) given (Err (Misuse why)) value some m = absurd m
 found_ends (Some q) given (Err Asks) value some m = λ is. cc is
 found_ends (Some q) given (Err Differs) value some m = λ is. cc is
 found_ends (Some q) given (Err (Stopped limit)) value some m = λ is. cc is

@@ -11,7 +11,7 @@ use Rattle.expr_engine.specs.declared.engine.Engine.{Engine}
 use Rattle.expr_engine.specs.declared.waiting_run.WaitingRun.{WaitingRun}
 use Rattle.expr_exchange.specs.Cursor.{SameLook, way_of, whole_of}
 use Rattle.expr_exchange.specs.declared.cursor.ValueCursor.{ValueCursor}
-use Rattle.expr_handles.specs.HandleMap.{SameThings, thing_at, is_same, next_number}
+use Rattle.expr_handles.specs.HandleMap.{Rises, SameNext, SameThings, thing_at, is_same, next_number, tag_of}
 use Rattle.expr_handles.specs.declared.Handle.{Handle}
 use Rattle.expr_handles.specs.declared.HandleMap.{HandleMap}
 use Rattle.expr_meter.specs.declared.limits.Limits.{Limits}
@@ -105,12 +105,22 @@ limits_in s = s.limits
 pub leaves : {old new : Engine} → SameKept old new → new.answer ≡ old.answer → Leaves old new
 leaves k a = record { kept = k; look = record { whole = ap whole_of a; way = ap way_of a } }
 
--- numbers that are the same don't fall
+-- what comes next doesn't fall where it is the same
 no_less : (a b : ℕ) → b ≡ a → a ≤ b
 no_less a b e = omega arith
 
-pub numbers_same : {old new : Engine} → next_number new.rules ≡ next_number old.rules → next_number new.contexts ≡ next_number old.contexts → next_number new.environments ≡ next_number old.environments → NumbersRise old new
-numbers_same r c e = record { rules = no_less _ _ r; contexts = no_less _ _ c; environments = no_less _ _ e }
+rises_same : {T : Type 0} (old new : HandleMap T) → SameNext old new → Rises old new
+rises_same old new (tag, next) = (tag, no_less _ _ next)
+
+same_next : {T : Type 0} (old new : HandleMap T) → new ≡ old → SameNext old new
+same_next old new e = (ap (λ k. tag_of k) e, ap (λ k. next_number k) e)
+
+pub numbers_same : {old new : Engine} → SameNext old.rules new.rules → SameNext old.contexts new.contexts → SameNext old.environments new.environments → NumbersRise old new
+numbers_same {old} {new} r c e = record {
+  rules = rises_same old.rules new.rules r;
+  contexts = rises_same old.contexts new.contexts c;
+  environments = rises_same old.environments new.environments e;
+}
 
 -- a handle is itself
 same_self : (h : Handle) → is_same h h ≡ true
@@ -136,6 +146,25 @@ changes_by_exchange Becomes old mid new h spare was is m n known w b = record {
   others = λ k e. rw e at (n k) ∙ rw e at (m k);
 }
 
+-- a thing became another, and was exchanged for that
+pub changes_by_swap : {T : Type 0} (Becomes : T → T → Type 0) (old new : HandleMap T) (h : Handle) (was is : T) → ((k : Handle) → thing_at new k ≡ (if is_same h k then option_map (λ _. is) (thing_at old k) else thing_at old k))
+    → thing_at old h ≡ Some was → Becomes was is → Changes Becomes old new h
+changes_by_swap Becomes old new h was is n stood b = record {
+  was = was;
+  stood = stood;
+  kept = finds_changed Becomes (thing_at old h) (thing_at new h) was is stood (rw (same_self h) at (n h)) b;
+  others = λ k e. rw e at (n k);
+}
+
+-- a thing is as it was, and that is what it became
+pub changes_by_nothing : {T : Type 0} (Becomes : T → T → Type 0) (old : HandleMap T) (h : Handle) (was : T) → thing_at old h ≡ Some was → Becomes was was → Changes Becomes old old h
+changes_by_nothing Becomes old h was stood b = record {
+  was = was;
+  stood = stood;
+  kept = subst (λ o. IsSomeAnd o (Becomes was)) (sym stood) b;
+  others = λ k e. refl;
+}
+
 -- what was left is left by what changes nothing of it after
 pub leaves_after : (old mid new : Engine) → Leaves old mid → KeepsThings mid new → new.answer ≡ mid.answer → Leaves old new
 leaves_after old mid new l k a = record {
@@ -154,25 +183,27 @@ leaves_after old mid new l k a = record {
 as_far : (a b c : ℕ) → a ≤ b → c ≡ b → a ≤ c
 as_far a b c h e = omega arith
 
+rises_on : {T : Type 0} (old mid new : HandleMap T) → Rises old mid → new ≡ mid → Rises old new
+rises_on old mid new (tag, next) e = (ap (λ k. tag_of k) e ∙ tag, as_far _ _ _ next (ap (λ k. next_number k) e))
+
 pub rise_after : (old mid new : Engine) → NumbersRise old mid → KeepsThings mid new → NumbersRise old new
 rise_after old mid new n k = record {
-  rules = as_far _ _ _ n.rules (ap (λ (x : Kept). next_number x.rules) k);
-  contexts = as_far _ _ _ n.contexts (ap (λ (x : Kept). next_number x.contexts) k);
-  environments = as_far _ _ _ n.environments (ap (λ (x : Kept). next_number x.environments) k);
+  rules = rises_on old.rules mid.rules new.rules n.rules (ap (λ (x : Kept). x.rules) k);
+  contexts = rises_on old.contexts mid.contexts new.contexts n.contexts (ap (λ (x : Kept). x.contexts) k);
+  environments = rises_on old.environments mid.environments new.environments n.environments (ap (λ (x : Kept). x.environments) k);
 }
 
 pub numbers_kept : (old new : Engine) → KeepsThings old new → NumbersRise old new
-numbers_kept old new k =
-    numbers_same (ap (λ (x : Kept). next_number x.rules) k) (ap (λ (x : Kept). next_number x.contexts) k) (ap (λ (x : Kept). next_number x.environments) k)
+numbers_kept old new k = numbers_same (same_next _ _ (ap (λ (x : Kept). x.rules) k)) (same_next _ _ (ap (λ (x : Kept). x.contexts) k)) (same_next _ _ (ap (λ (x : Kept). x.environments) k))
 
-pub numbers_by_rules : {old new : Engine} → next_number new.rules ≡ next_number old.rules → new.contexts ≡ old.contexts → new.environments ≡ old.environments → NumbersRise old new
-numbers_by_rules r c e = numbers_same r (ap (λ k. next_number k) c) (ap (λ k. next_number k) e)
+pub numbers_by_rules : {old new : Engine} → SameNext old.rules new.rules → new.contexts ≡ old.contexts → new.environments ≡ old.environments → NumbersRise old new
+numbers_by_rules r c e = numbers_same r (same_next _ _ c) (same_next _ _ e)
 
-pub numbers_by_contexts : {old new : Engine} → new.rules ≡ old.rules → next_number new.contexts ≡ next_number old.contexts → new.environments ≡ old.environments → NumbersRise old new
-numbers_by_contexts r c e = numbers_same (ap (λ k. next_number k) r) c (ap (λ k. next_number k) e)
+pub numbers_by_contexts : {old new : Engine} → new.rules ≡ old.rules → SameNext old.contexts new.contexts → new.environments ≡ old.environments → NumbersRise old new
+numbers_by_contexts r c e = numbers_same (same_next _ _ r) c (same_next _ _ e)
 
-pub numbers_by_environments : {old new : Engine} → new.rules ≡ old.rules → new.contexts ≡ old.contexts → next_number new.environments ≡ next_number old.environments → NumbersRise old new
-numbers_by_environments r c e = numbers_same (ap (λ k. next_number k) r) (ap (λ k. next_number k) c) e
+pub numbers_by_environments : {old new : Engine} → new.rules ≡ old.rules → new.contexts ≡ old.contexts → SameNext old.environments new.environments → NumbersRise old new
+numbers_by_environments r c e = numbers_same (same_next _ _ r) (same_next _ _ c) e
 
 -- what a call leaves that is refused: all of it, or where one of the three finds the same things
 pub left_same : {A E : Type 0} (old new : Engine) (r : Result A E) → KeepsThings old new → KeepsRest old new → OnErr r (Leaves old new)

@@ -1,11 +1,28 @@
 -- How an environment becomes another.
-use Rattle.std.specs.Prelude.{◌≡◌, ℕ, ℤ, List, None, Some, bytes_eq, false, if◌then◌else◌, option_map, true}
+use Rattle.std.specs.Prelude.{◌≡◌, ℕ, ℤ, Bool, List, [], ◌∷◌, None, Some, bytes_eq, false, if◌then◌else◌, option_map, true}
 use Rattle.jiff.specs.Placed.{IsPosixZone, fixed_zone}
 use Rattle.jiff.specs.Types.{Offset, TimeZone as Rules}
 use Rattle.expr.specs.Hosted.{IsZoneAdded}
+use Rattle.expr_token.specs.Reading.{Reads}
+use Rattle.expr_token.specs.declared.token.Token.{Token}
 use Rattle.expr_engine.specs.Runs.{named_at, names_in, zone_at}
 use Rattle.expr_engine.specs.declared.additions.Additions.{Additions}
 use Rattle.expr_datetime.specs.Times.{instant}
+
+-- The text is a name of the language: it reads as one word that isn't reserved, and as nothing else.
+abbrev pub IsName : List ℕ → Type 0
+IsName text = Reads text (Token.Word text ∷ [])
+
+-- whether a token is a word that isn't reserved, which is this text
+abbrev pub is_this_word : Token → List ℕ → Bool
+is_this_word (Token.Word word) text = bytes_eq word text
+is_this_word token text = false
+
+-- whether tokens are such a word alone
+abbrev pub is_word : List Token → List ℕ → Bool
+is_word [] text = false
+is_word (token ∷ []) text = is_this_word token text
+is_word (token ∷ (next ∷ rest)) text = false
 
 -- There are no zones, no moment, and no functions that the host answers itself.
 pub record AddsNothing (added : Additions) : Type 0 where

@@ -40,6 +40,9 @@ all_asks =
     ∷ is.WaitingCall
     ∷ is.Limit
     ∷ is.Unlimited
+    ∷ is.UsesEnv
+    ∷ is.Functions
+    ∷ is.FillMissing
     ∷ []
 
 abbrev pub ask_of : ℕ → Option Ask
@@ -60,4 +63,5 @@ shows_of is.Text = Said
 shows_of is.Json = Said
 shows_of is.Said = Said
 shows_of is.WaitingCall = Said
+shows_of is.Functions = Said
 shows_of ask = Nothing

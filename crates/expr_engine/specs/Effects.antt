@@ -1,8 +1,10 @@
 -- What calls have done that are done.
-use Rattle.std.specs.Prelude.{◌≡◌, ◌+◌, ◌+ℤ◌, ◌≤ℤ◌, ℕ, ℤ, pos, List, [], ◌∷◌, ◌++◌, None, Some, Ok, IsSome, IsSomeAnd, length, codes, map, String, string_bytes}
-use Rattle.std.specs.List.{join_by}
+use Rattle.std.specs.Prelude.{◌≡◌, ◌+◌, ◌+ℤ◌, ◌≤ℤ◌, ◌⊎◌, ℕ, ℤ, pos, List, [], ◌∷◌, ◌++◌, None, Some, Ok, IsSome, IsSomeAnd, length, codes, map, String, string_bytes}
+use Rattle.std.specs.List.{Contains, join_by}
 use Rattle.std.specs.Option.{unwrap_or}
 use Rattle.std.specs.declared.alloc.Global.{Global}
+use Rattle.expr.specs.Contexts.{NamedValues}
+use Rattle.expr.specs.KeptCodes.{kept_blocks}
 use Rattle.expr_encoding.specs.Optional.{value_or_refusal}
 use Rattle.expr_encoding.specs.Reading.{json_value}
 use Rattle.expr_encoding.specs.Writing.{json_text}
@@ -14,19 +16,20 @@ use Rattle.expr_engine.specs.declared.call.Ask.TheVariants as is
 use Rattle.expr_engine.specs.declared.call.Call.{Call}
 use Rattle.expr_engine.specs.declared.additions.Additions.{Additions}
 use Rattle.expr_engine.specs.declared.engine.Engine.{Engine}
+use Rattle.expr_engine.specs.declared.rule.Rule.{Rule}
 use Rattle.expr_exchange.specs.Builder.{BecomesMap, TakesPlace, values_of}
 use Rattle.expr_exchange.specs.Kinds.{fraction_of, kind_numbered, kind_of, number_of}
 use Rattle.expr_exchange.specs.Cursor.{LooksDown, LooksUp, at_number, key_at, part_of, way_of}
 use Rattle.expr_exchange.specs.Scalars.{IsScalar, instant_by}
 use Rattle.expr_exchange.specs.declared.kind.Kind.{Kind}
 use Rattle.expr_exchange.specs.declared.kind.Kind.TheVariants as kinds
-use Rattle.expr_handles.specs.HandleMap.{KeepsOthers, thing_at, next_number}
+use Rattle.expr_handles.specs.HandleMap.{KeepsOthers, thing_at, next_number, tag_of}
 use Rattle.expr_handles.specs.declared.Handle.{Handle}
 use Rattle.expr_handles.specs.declared.HandleMap.{HandleMap}
+use Rattle.expr_needs.specs.Needs.{AreFunctionsOf, AreMissing, with_nil}
 use Rattle.expr_stops.specs.Stops.{waiting_call_of, replies_of}
 use Rattle.expr_stops.specs.declared.replay.Stop.{Stop}
-use Rattle.expr_tree.specs.Names.{AreNamesOf}
-use Rattle.expr_tree.specs.Term.{Block}
+use Rattle.expr_tree.specs.Names.{AreNamesOf, block_operands, env}
 use Rattle.expr_tree.specs.TermOf.{program_term}
 use Rattle.expr_value.specs.Names.{put}
 use Rattle.expr_value.specs.Strings.{string_text}
@@ -53,9 +56,11 @@ call_result call = record {
   fraction = call.fraction;
 }
 
--- A thing that is so is kept under a handle that no thing ever had, and every other handle finds what it found.
+-- A thing that is so is kept under a handle with the engine's tag that no thing ever had, and every other handle finds what it found.
 pub record Adds {T : Type 0} (Is : T → Type 0) (old new : HandleMap T) (handle : Handle) : Type 0 where
   pub number : handle.number ≡ next_number old
+  pub tag : handle.tag ≡ tag_of old
+  pub same_tag : tag_of new ≡ tag_of old
   pub next : next_number new ≡ handle.number + 1
   pub fresh : thing_at old handle ≡ None
   pub kept : IsSomeAnd (thing_at new handle) Is
@@ -82,10 +87,10 @@ pub record Compiles (old new : Engine) (call : Call) (reply : CallResult) : Type
   pub rest : KeepsRest old new
   pub built : new.built ≡ old.built
 
--- These are a program's names, each on a line, and how many they are.
-pub record AreSaid (b : Block) (text : List ℕ) (count : ℕ) : Type 0 where
+-- These are names that are so, each on a line, and how many they are.
+pub record AreSaid (Are : List (List ℕ) → Type 0) (text : List ℕ) (count : ℕ) : Type 0 where
   pub names : List (String Global)
-  pub are : AreNamesOf (map string_bytes names) b
+  pub are : Are (map string_bytes names)
   pub lines : text ≡ join_by string_bytes (codes "\n") names
   pub many : count ≡ length names
 
@@ -95,8 +100,47 @@ pub record SaysNames (old new : Engine) (call : Call) (reply : CallResult) : Typ
   pub rest : KeepsRest old new
   pub count : ℕ
   pub said : IsSomeAnd (thing_at old.rules call.program)
-      (λ rule. AreSaid (program_term rule.program) (string_bytes new.said) count)
+      (λ rule. AreSaid (λ names. AreNamesOf names (program_term rule.program)) (string_bytes new.said) count)
   pub number : pos count ≤ℤ pos 9223372036854775807 → reply.number ≡ pos count
+  pub built : new.built ≡ old.built
+
+-- The functions that the program's code calls are said, each on a line, and counted.
+pub record SaysFunctions (old new : Engine) (call : Call) (reply : CallResult) : Type 0 where
+  pub keeps : KeepsThings old new
+  pub rest : KeepsRest old new
+  pub count : ℕ
+  pub said : IsSomeAnd (thing_at old.rules call.program)
+      (λ rule. AreSaid (λ names. AreFunctionsOf names (kept_blocks rule.code)) (string_bytes new.said) count)
+  pub number : pos count ≤ℤ pos 9223372036854775807 → reply.number ≡ pos count
+  pub built : new.built ≡ old.built
+
+-- The number is 1 where something is so, else 0.
+abbrev pub TellsWhether : Type 0 → ℤ → Type 0
+TellsWhether Is number = ((number ≡ pos 1) × Is) ⊎ ((number ≡ pos 0) × ¬ Is)
+
+-- The number tells whether `$env` stands as an operand in the program.
+pub record TellsEnv (old new : Engine) (call : Call) (reply : CallResult) : Type 0 where
+  pub keeps : KeepsThings old new
+  pub rest : KeepsRest old new
+  pub told : IsSomeAnd (thing_at old.rules call.program)
+      (λ rule. TellsWhether (Contains (block_operands (program_term rule.program)) env) reply.number)
+  pub built : new.built ≡ old.built
+
+-- A context has nil under each name that the program's code looks up outside of predicates alone and that it didn't have, and else what it had.
+pub record FillsContext (rules : HandleMap Rule) (program : Handle) (old new : HandleMap NamedValues) (context : Handle) (count : ℕ) : Type 0 where
+  pub names : List (List ℕ)
+  pub missing : IsSomeAnd (thing_at rules program) (λ rule. IsSomeAnd (thing_at old context)
+      (λ had. AreMissing (kept_blocks rule.code) had names))
+  pub changes : Changes (λ was is. is ≡ with_nil names was) old new context
+  pub many : count ≡ length names
+
+pub record Fills (old new : Engine) (call : Call) (reply : CallResult) : Type 0 where
+  pub count : ℕ
+  pub contexts : FillsContext old.rules call.program old.contexts new.contexts call.context count
+  pub number : pos count ≤ℤ pos 9223372036854775807 → reply.number ≡ pos count
+  pub rules : new.rules ≡ old.rules
+  pub environments : new.environments ≡ old.environments
+  pub rest : KeepsRest old new
   pub built : new.built ≡ old.built
 
 -- Of the value its kind, its number and its fraction are told.
@@ -342,6 +386,9 @@ Does is.Refuse old new call reply = EndsRun (λ was is. is ≡ was) old new repl
 Does is.WaitingCall old new call reply = LooksAtCall old new reply
 Does is.Limit old new call reply = SetsLimit old new call
 Does is.Unlimited old new call reply = LetsGoOfLimits old new
+Does is.UsesEnv old new call reply = TellsEnv old new call reply
+Does is.Functions old new call reply = SaysFunctions old new call reply
+Does is.FillMissing old new call reply = Fills old new call reply
 
 -- A call waits, and a handle of its run finds nothing.
 abbrev pub IsStale : Engine → Type 0
@@ -359,6 +406,10 @@ IsMissing is.DropProgram engine call = thing_at engine.rules call.program ≡ No
 IsMissing is.DropContext engine call = thing_at engine.contexts call.context ≡ None
 IsMissing is.DropEnvironment engine call = thing_at engine.environments call.environment ≡ None
 IsMissing is.Name engine call = thing_at engine.environments call.environment ≡ None
+IsMissing is.UsesEnv engine call = thing_at engine.rules call.program ≡ None
+IsMissing is.Functions engine call = thing_at engine.rules call.program ≡ None
+IsMissing is.FillMissing engine call =
+    (thing_at engine.rules call.program ≡ None) ⊎ (thing_at engine.contexts call.context ≡ None)
 IsMissing is.Answer engine call = IsStale engine
 IsMissing is.Refuse engine call = IsStale engine
 IsMissing ask engine call = ⊥

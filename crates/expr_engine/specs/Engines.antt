@@ -1,5 +1,5 @@
 -- What an engine keeps under handles, and what a run finds there.
-use Rattle.std.specs.Prelude.{◌≡◌, ◌≢◌, ◌≤◌, ℕ, ◌==◌, List, [], Option, None, Some, Err, IsUtf8, if◌then◌else◌, option_map}
+use Rattle.std.specs.Prelude.{◌≡◌, ◌≢◌, ℕ, ◌==◌, List, [], Option, None, Some, Err, IsUtf8, if◌then◌else◌, option_map}
 use Rattle.std.specs.Option.{option_and_then}
 use Rattle.expr.specs.Texts.{IsRefused}
 use Rattle.expr.specs.KeptCodes.{kept_blocks}
@@ -14,7 +14,7 @@ use Rattle.expr_exchange.specs.Cursor.{SameLook}
 use Rattle.expr_exchange.specs.declared.cursor.ValueCursor.{ValueCursor}
 use Rattle.expr_exchange.specs.declared.host_error.HostError.{HostError}
 use Rattle.expr_exchange.specs.declared.host_error.HostError.TheVariants.{Language, Unknown, Misuse, Asks, Differs, Stopped}
-use Rattle.expr_handles.specs.HandleMap.{SameThings, thing_at, next_number}
+use Rattle.expr_handles.specs.HandleMap.{Rises, SameThings, thing_at}
 use Rattle.expr_handles.specs.declared.Handle.{Handle}
 use Rattle.expr_handles.specs.declared.HandleMap.{HandleMap}
 use Rattle.expr_meter.specs.Counting.{Ending, ending_of}
@@ -74,7 +74,7 @@ waiting_inputs engine = run_inputs engine engine.waits.program engine.waits.envi
 abbrev pub RefusesText : Option Limits → List ℕ → HostError → Type 0
 RefusesText limits text (Language error) = error_kind error ≢ memory → IsRefused text (Err (error_kind error))
 RefusesText limits text Unknown = ⊥
-RefusesText limits text Misuse = ⊥
+RefusesText limits text (Misuse why) = ⊥
 RefusesText limits text Asks = ⊥
 RefusesText limits text Differs = ⊥
 RefusesText limits text (Stopped limit) = Passes limits text limit
@@ -83,7 +83,7 @@ RefusesText limits text (Stopped limit) = Passes limits text limit
 abbrev pub IsPlacedRefusal : List ℕ → HostError → Type 0
 IsPlacedRefusal text (Language error) = IsPlaced {A = Unit {0}} text (Err error)
 IsPlacedRefusal text Unknown = Unit {0}
-IsPlacedRefusal text Misuse = Unit {0}
+IsPlacedRefusal text (Misuse why) = Unit {0}
 IsPlacedRefusal text Asks = Unit {0}
 IsPlacedRefusal text Differs = Unit {0}
 IsPlacedRefusal text (Stopped limit) = Unit {0}
@@ -92,7 +92,7 @@ IsPlacedRefusal text (Stopped limit) = Unit {0}
 abbrev pub CompileRefuses : Option Limits → List ℕ → HostError → Type 0
 CompileRefuses limits text (Language error) = RefusesText limits text (Language error) × IsPlacedRefusal text (Language error) × IsUtf8 text
 CompileRefuses limits text Unknown = ⊥
-CompileRefuses limits text Misuse = IsUtf8 text → ⊥
+CompileRefuses limits text (Misuse why) = IsUtf8 text → ⊥
 CompileRefuses limits text Asks = ⊥
 CompileRefuses limits text Differs = ⊥
 CompileRefuses limits text (Stopped limit) = Passes limits text limit × IsUtf8 text
@@ -138,11 +138,11 @@ pub record SameKept (old new : Engine) : Type 0 where
   pub contexts : SameThings old.contexts new.contexts
   pub environments : SameAdditions old.environments new.environments
 
--- The numbers of things to come don't fall, so that no handle is given twice.
+-- The tags are the same, and the numbers of things to come don't fall, so that no handle is given twice.
 pub record NumbersRise (old new : Engine) : Type 0 where
-  pub rules : next_number old.rules ≤ next_number new.rules
-  pub contexts : next_number old.contexts ≤ next_number new.contexts
-  pub environments : next_number old.environments ≤ next_number new.environments
+  pub rules : Rises old.rules new.rules
+  pub contexts : Rises old.contexts new.contexts
+  pub environments : Rises old.environments new.environments
 
 -- What a refusal leaves: all that handles find, and what is looked at.
 pub record Leaves (old new : Engine) : Type 0 where

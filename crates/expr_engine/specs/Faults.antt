@@ -39,7 +39,7 @@ fault_byte MemoryError = None
 abbrev pub refused_byte : HostError → Option ℕ
 refused_byte (Language error) = fault_byte error
 refused_byte Unknown = None
-refused_byte Misuse = None
+refused_byte (Misuse why) = None
 refused_byte Asks = None
 refused_byte Differs = None
 refused_byte (Stopped limit) = None

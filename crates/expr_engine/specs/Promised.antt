@@ -1,5 +1,5 @@
 -- What is promised of an engine and of a call, in one word each.
-use Rattle.std.specs.Prelude.{◌≡◌, ◌≢◌, [], None, Some, MatchOption, Result, Ok, Err, IfErr, OnErr, OnOk, string_bytes}
+use Rattle.std.specs.Prelude.{◌≡◌, ◌≢◌, ℕ, [], None, Some, MatchOption, Result, Ok, Err, IfErr, IsErrAnd, OnErr, OnOk, string_bytes}
 use Rattle.expr_engine.specs.Asks.{ask_of, shows_of}
 use Rattle.expr_engine.specs.Effects.{Does, IsMissing, call_result}
 use Rattle.expr_engine.specs.Engines.{CompileRefuses, Leaves, NumbersRise, run_inputs}
@@ -14,15 +14,16 @@ use Rattle.expr_engine.specs.declared.call.Call.{Call}
 use Rattle.expr_engine.specs.declared.engine.Engine.{Engine}
 use Rattle.expr_exchange.specs.Builder.{values_of}
 use Rattle.expr_exchange.specs.Cursor.{part_of}
+use Rattle.expr_exchange.specs.Refusals.{IsMisuse}
 use Rattle.expr_exchange.specs.declared.host_error.HostError.{HostError}
-use Rattle.expr_exchange.specs.declared.host_error.HostError.TheVariants.{Misuse, Unknown}
-use Rattle.expr_handles.specs.HandleMap.{thing_at}
+use Rattle.expr_exchange.specs.declared.host_error.HostError.TheVariants.{Unknown}
+use Rattle.expr_handles.specs.HandleMap.{tag_of, thing_at}
 use Rattle.expr_handles.specs.declared.Handle.{Handle}
 use Rattle.expr_stops.specs.Stops.{waiting_call_of}
 use Rattle.expr_value.specs.declared.value.Value.{Value, Nil}
 
--- Nothing is kept, built or answered, and the limits are those for strangers.
-pub record IsNew (engine : Engine) : Type 0 where
+-- Nothing is kept, built or answered, the limits are those for strangers, and each handle to come has this tag.
+pub record IsNew (tag : ℕ) (engine : Engine) : Type 0 where
   pub rules : (handle : Handle) → thing_at engine.rules handle ≡ None
   pub contexts : (handle : Handle) → thing_at engine.contexts handle ≡ None
   pub environments : (handle : Handle) → thing_at engine.environments handle ≡ None
@@ -30,6 +31,7 @@ pub record IsNew (engine : Engine) : Type 0 where
   pub part : part_of engine.answer ≡ Nil
   pub waits : waiting_call_of engine.waits.stops ≡ None
   pub limits : engine.limits ≡ Some for_strangers
+  pub tags : (tag_of engine.rules ≡ tag) × (tag_of engine.contexts ≡ tag) × (tag_of engine.environments ≡ tag)
 
 -- What a call gives: a run what it may, and a text's refusal what the text deserves.
 abbrev pub Gives : Ask → Engine → Call → Call → Result (Unit {0}) HostError → Value → Type 0
@@ -44,7 +46,7 @@ pub record Acts (ask : Ask) (old new : Engine) (call answered : Call) (done : Re
   pub does : OnOk done (Does ask old new call (call_result answered))
   pub gives : Gives ask old call answered done (part_of new.answer)
   pub turns : Turns ask old call done new.waits (part_of new.answer)
-  pub limits : LimitsBy ask old.limits call (done ≡ Ok tt) (done ≡ Err Misuse) new.limits
+  pub limits : LimitsBy ask old.limits call (done ≡ Ok tt) (IsErrAnd done IsMisuse) new.limits
   pub refused : OnErr done (Leaves old new)
   pub why : IfErr done (MayRefuse ask old call)
   pub unknown : IsMissing ask old call → done ≡ Err Unknown
@@ -75,11 +77,11 @@ pub record IsServed (old new : Engine) (call answered : Call) : Type 0 where
   pub why : MatchOption (ask_of call.ask) (answered.status ≡ 7)
       (λ ask. EndsWithReason ask old call answered.status)
   pub built : answered.status ≢ 0 → values_of new.built ≡ []
-  -- A handle that is out of date, or was never given, is UNKNOWN, and nothing else is.
+  -- A handle that is out of date, was never given, or has another engine's tag, is UNKNOWN, and nothing else is.
   pub unknown : MatchOption (ask_of call.ask) (answered.status ≡ 7)
       (λ ask. IsMissing ask old call → answered.status ≡ 6)
   pub known : answered.status ≡ 6 → MatchOption (ask_of call.ask) ⊥ (λ ask. IsMissing ask old call)
-  -- No handle is given twice.
+  -- No handle is given twice, and each has the engine's tag.
   pub numbers : NumbersRise old new
   -- The text that a call shows, or the message of its refusal, is in the host's room as far as that goes.
   pub shown : answered.status ≡ 0

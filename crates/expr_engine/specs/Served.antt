@@ -7,6 +7,7 @@ use Rattle.expr_engine.specs.declared.call.Shows.TheVariants as shows
 use Rattle.expr_engine.specs.declared.engine.Engine.{Engine}
 use Rattle.expr_exchange.specs.Kinds.{bytes_in}
 use Rattle.expr_exchange.specs.Limits.{text_of_limit}
+use Rattle.expr_exchange.specs.Misuses.{text_of_misuse}
 use Rattle.expr_exchange.specs.Cursor.{part_of}
 use Rattle.expr_exchange.specs.Refusals.{status_of}
 use Rattle.expr_exchange.specs.declared.host_error.HostError.{HostError}
@@ -42,7 +43,7 @@ abbrev pub RunServes : {A : Type 0} → RunInputs → List CallReply → Result 
 RunServes q given (Ok shown) value = RunMayAnswer q given (Ok value)
 RunServes q given (Err (Language error)) value = error_kind error ≢ memory → RunMayAnswer q given (Err (error_kind error))
 RunServes q given (Err Unknown) value = ⊥
-RunServes q given (Err Misuse) value = ⊥
+RunServes q given (Err (Misuse why)) value = ⊥
 RunServes q given (Err Asks) value = Unit {0}
 RunServes q given (Err Differs) value = Unit {0}
 RunServes q given (Err (Stopped limit)) value = MayEnd q given (stops limit)
@@ -77,7 +78,7 @@ abbrev pub EndsCall : {A : Type 0} → Result A HostError → ℕ → Type 0
 EndsCall (Ok shown) number = number ≡ 0
 EndsCall (Err (Language error)) number = (number ≡ number_of (status_of (Language error))) ⊎ (number ≡ 5)
 EndsCall (Err Unknown) number = number ≡ 6
-EndsCall (Err Misuse) number = number ≡ 7
+EndsCall (Err (Misuse why)) number = number ≡ 7
 EndsCall (Err Asks) number = number ≡ 8
 EndsCall (Err Differs) number = number ≡ 9
 EndsCall (Err (Stopped limit)) number = (number ≡ number_of (status_of (Stopped limit))) ⊎ (number ≡ 5)
@@ -97,7 +98,8 @@ pub record ShowsText (text room : List ℕ) (answered : Call) : Type 0 where
   pub count : answered.length ≡ length text
   pub written : answered.room.now ≡ text_in_room text room
 
--- A limit that was passed is said in words.
-abbrev pub SaysLimit : HostError → List ℕ → Type 0
-SaysLimit (Stopped limit) text = text ≡ text_of_limit limit
-SaysLimit refused text = Unit {0}
+-- A limit that was passed is said in words, and so is what a host did wrong, unless memory is refused for that.
+abbrev pub SaysWhy : HostError → List ℕ → Type 0
+SaysWhy (Stopped limit) text = text ≡ text_of_limit limit
+SaysWhy (Misuse why) text = (text ≡ text_of_misuse why) ⊎ (text ≡ [])
+SaysWhy refused text = Unit {0}

@@ -30,7 +30,7 @@ abbrev pub WaitsIfAsks : {A : Type 0} → RunInputs → List CallReply → Resul
 WaitsIfAsks q given (Ok v) waits = waits ≡ None
 WaitsIfAsks q given (Err (Language error)) waits = waits ≡ None
 WaitsIfAsks q given (Err Unknown) waits = waits ≡ None
-WaitsIfAsks q given (Err Misuse) waits = waits ≡ None
+WaitsIfAsks q given (Err (Misuse why)) waits = waits ≡ None
 WaitsIfAsks q given (Err Asks) waits = IsSomeAnd waits (IsNext (named_by q.added) given)
 WaitsIfAsks q given (Err Differs) waits = (waits ≡ None) × ComesToOther (named_by q.added) given
 WaitsIfAsks q given (Err (Stopped limit)) waits = waits ≡ None
@@ -44,7 +44,7 @@ PassesOn (Err e) done value = done ≡ Err e
 abbrev pub is_unknown : HostError → Bool
 is_unknown (Language error) = false
 is_unknown Unknown = true
-is_unknown Misuse = false
+is_unknown (Misuse why) = false
 is_unknown Asks = false
 is_unknown Differs = false
 is_unknown (Stopped limit) = false
@@ -91,7 +91,7 @@ RunGoesOn Is o old new (Err (Language error)) value =
     ((error_kind error ≡ memory) × IsSameWait old new)
     ⊎ IsSomeAnd o (λ q. GoesOnWith Is q old new (Err (Language error)) value)
 RunGoesOn Is o old new (Err Unknown) value = new ≡ old
-RunGoesOn Is o old new (Err Misuse) value = new ≡ old
+RunGoesOn Is o old new (Err (Misuse why)) value = new ≡ old
 RunGoesOn Is o old new (Err Asks) value = IsSomeAnd o (λ q. GoesOnWith Is q old new (Err Asks) value)
 RunGoesOn Is o old new (Err Differs) value = IsSomeAnd o (λ q. GoesOnWith Is q old new (Err Differs) value)
 RunGoesOn Is o old new (Err (Stopped limit)) value = IsSomeAnd o (λ q. GoesOnWith Is q old new (Err (Stopped limit)) value)

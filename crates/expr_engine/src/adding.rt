@@ -1,10 +1,11 @@
 //! Asks about environments.
 ghost use Rattle.std.specs.Prelude.{◌≡◌, ◌≢◌, ◌⊎◌, Err, IfErr, IsUtf8, None, OnErr, OnOk, pos};
+ghost use Rattle.expr_engine.specs.Adding.{IsName};
 ghost use Rattle.expr_engine.specs.Effects.{AddsEnvironment, AddsFixedZone, AddsName, AddsZoneByRule, SetsNow, call_result};
 ghost use Rattle.expr_engine.specs.Engines.{KeepsRest, NumbersRise, SameAdditions};
-ghost use Rattle.expr_engine.specs.Reasons.{MisusesNoText};
+ghost use Rattle.expr_engine.specs.Reasons.{RefusesName, RefusesZone};
 ghost use Rattle.expr_exchange.specs.Refusals.{IsForMemory, NotMeant};
-ghost use Rattle.expr_handles.specs.HandleMap.{thing_at, next_number};
+ghost use Rattle.expr_handles.specs.HandleMap.{SameNext, thing_at};
 ghost use Rattle.jiff.specs.Instant.{IsTimestampParts};
 
 use crate::additions::Additions;
@@ -38,14 +39,15 @@ pub fn zone_by_seconds(engine: &mut Engine, call: &Call<'_>) -> Result<(), HostE
     ensures known { result ≡ Err HostError.Unknown
         → thing_at engine.old.environments call.now.environment ≡ None }
     ensures err { OnErr result (SameAdditions engine.old.environments engine.new.environments) }
-    ensures next { next_number engine.new.environments ≡ next_number engine.old.environments }
+    ensures next { SameNext engine.old.environments engine.new.environments }
     ensures rules { engine.new.rules ≡ engine.old.rules }
     ensures contexts { engine.new.contexts ≡ engine.old.contexts }
     ensures standing { KeepsRest engine.old engine.new }
-    ensures why { IfErr result (MisusesNoText (IsUtf8 call.now.name.now)) }
+    ensures why { IfErr result (RefusesZone (IsUtf8 call.now.name.now)) }
 {
     engine.knows_environment(call.environment)?;
-    engine.add_zone(call.environment, utf8(call.name)?, call.number, None)
+    let name = utf8(call.name)?;
+    engine.add_zone(call.environment, name, call.number, None)
 }
 
 /// Adds a zone to an environment, by a rule in POSIX's form.
@@ -56,15 +58,16 @@ pub fn zone_by_rule(engine: &mut Engine, call: &Call<'_>) -> Result<(), HostErro
     ensures known { result ≡ Err HostError.Unknown
         → thing_at engine.old.environments call.now.environment ≡ None }
     ensures err { OnErr result (SameAdditions engine.old.environments engine.new.environments) }
-    ensures next { next_number engine.new.environments ≡ next_number engine.old.environments }
+    ensures next { SameNext engine.old.environments engine.new.environments }
     ensures rules { engine.new.rules ≡ engine.old.rules }
     ensures contexts { engine.new.contexts ≡ engine.old.contexts }
     ensures standing { KeepsRest engine.old engine.new }
-    ensures why { IfErr result (MisusesNoText (IsUtf8 call.now.name.now × IsUtf8 call.now.text.now)) }
+    ensures why { IfErr result (RefusesZone (IsUtf8 call.now.name.now × IsUtf8 call.now.text.now)) }
 {
     engine.knows_environment(call.environment)?;
+    let name = utf8(call.name)?;
     let rule = utf8(call.text)?;
-    engine.add_zone(call.environment, utf8(call.name)?, 0, Some(rule))
+    engine.add_zone(call.environment, name, 0, Some(rule))
 }
 
 /// Sets the moment that an environment takes for now.
@@ -75,7 +78,7 @@ pub fn set_now(engine: &mut Engine, call: &Call<'_>) -> Result<(), HostError>
     ensures known { result ≡ Err HostError.Unknown
         → thing_at engine.old.environments call.now.environment ≡ None }
     ensures err { OnErr result (SameAdditions engine.old.environments engine.new.environments) }
-    ensures next { next_number engine.new.environments ≡ next_number engine.old.environments }
+    ensures next { SameNext engine.old.environments engine.new.environments }
     ensures rules { engine.new.rules ≡ engine.old.rules }
     ensures contexts { engine.new.contexts ≡ engine.old.contexts }
     ensures standing { KeepsRest engine.old engine.new }
@@ -95,12 +98,13 @@ pub fn add_name(engine: &mut Engine, call: &Call<'_>) -> Result<(), HostError>
     ensures known { result ≡ Err HostError.Unknown
         → thing_at engine.old.environments call.now.environment ≡ None }
     ensures err { OnErr result (SameAdditions engine.old.environments engine.new.environments) }
-    ensures next { next_number engine.new.environments ≡ next_number engine.old.environments }
+    ensures next { SameNext engine.old.environments engine.new.environments }
     ensures rules { engine.new.rules ≡ engine.old.rules }
     ensures contexts { engine.new.contexts ≡ engine.old.contexts }
     ensures standing { KeepsRest engine.old engine.new }
-    ensures why { IfErr result (MisusesNoText (IsUtf8 call.now.name.now)) }
+    ensures why { IfErr result (RefusesName (IsUtf8 call.now.name.now × IsName call.now.name.now)) }
 {
     engine.knows_environment(call.environment)?;
-    engine.add_name(call.environment, utf8(call.name)?)
+    let name = utf8(call.name)?;
+    engine.add_name(call.environment, name)
 }

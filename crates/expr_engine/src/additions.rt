@@ -1,12 +1,16 @@
 //! What a host adds to the language: zones, the moment that is now, and the names of functions that it answers itself.
-ghost use Rattle.std.specs.Prelude.{◌≡◌, ℕ, List, OnErr, OnOk, IfSome, IsNone};
-ghost use Rattle.expr_engine.specs.Adding.{AddsNothing, BecomesByRule, BecomesFixed, BecomesNow, GainsName, GainsZone};
+ghost use Rattle.std.specs.Prelude.{◌≡◌, ◌↔◌, ℕ, List, IfErr, IfOk, OnErr, OnOk, IfSome, IsNone, IsTrue};
+ghost use Rattle.expr_engine.specs.Adding.{AddsNothing, BecomesByRule, BecomesFixed, BecomesNow, GainsName, GainsZone, IsName, is_this_word, is_word};
 ghost use Rattle.expr_engine.specs.Runs.{named_at, names_in, zone_at};
 ghost use Rattle.expr_datetime.specs.Times.{plain_rules};
+ghost use Rattle.expr_error.specs.ErrorKind.{OnlyMemory, RefusesWith, evaluation};
+ghost use Rattle.expr_exchange.specs.Refusals.{NotMeant};
 
 use expr::{DateTimeValue, Error, Result, TimezoneValue, Value};
+use expr_exchange::{HostError, Misuse};
 use expr_meaning::{ExprCall, Functions};
 use expr_stops::StopNames;
+use expr_token::{Token, read};
 use expr_value::refusal;
 use indexmap::IndexMap;
 use jiff::Timestamp;
@@ -42,6 +46,7 @@ impl Additions {
     /// `ExprError` for `UTC`, which is always known, and for more than a day, or `MemoryError`.
     pub fn add_fixed(&mut self, name: &str, seconds: i64) -> Result<()>
         ensures added { OnOk result (BecomesFixed name.now seconds self.old self.new) }
+        ensures refusal { RefusesWith result (λ k. k ≡ evaluation) }
         ensures err { OnErr result ((key : List ℕ) → zone_at self.new key ≡ zone_at self.old key) }
         ensures moment { self.new.moment ≡ self.old.moment }
         ensures names { names_in self.new ≡ names_in self.old }
@@ -59,6 +64,7 @@ impl Additions {
     /// `ExprError` for `UTC` and for what is no rule, or `MemoryError`.
     pub fn add_rule(&mut self, name: &str, rule: &str) -> Result<()>
         ensures added { OnOk result (BecomesByRule name.now rule.now self.old self.new) }
+        ensures refusal { RefusesWith result (λ k. k ≡ evaluation) }
         ensures err { OnErr result ((key : List ℕ) → zone_at self.new key ≡ zone_at self.old key) }
         ensures moment { self.new.moment ≡ self.old.moment }
         ensures names { names_in self.new ≡ names_in self.old }
@@ -78,6 +84,7 @@ impl Additions {
         ensures fixed { OnOk result (IsNone rule.entry → BecomesFixed name.now seconds self.old self.new) }
         ensures by_rule { OnOk result (IfSome rule.entry
             (λ rule. BecomesByRule name.now rule.now self.old self.new)) }
+        ensures refusal { RefusesWith result (λ k. k ≡ evaluation) }
         ensures err { OnErr result ((key : List ℕ) → zone_at self.new key ≡ zone_at self.old key) }
         ensures moment { self.new.moment ≡ self.old.moment }
         ensures names { names_in self.new ≡ names_in self.old }
@@ -90,6 +97,7 @@ impl Additions {
 
     fn add(&mut self, name: &str, rules: TimeZone<'static>) -> Result<()>
         ensures added { OnOk result (GainsZone name.now (plain_rules rules.entry) self.old self.new) }
+        ensures refusal { RefusesWith result (λ k. k ≡ evaluation) }
         ensures err { OnErr result ((key : List ℕ) → zone_at self.new key ≡ zone_at self.old key) }
         ensures moment { self.new.moment ≡ self.old.moment }
         ensures names { names_in self.new ≡ names_in self.old }
@@ -108,14 +116,19 @@ impl Additions {
     ///
     /// # Errors
     ///
-    /// `MemoryError` alone.
-    pub fn add_name(&mut self, name: &str) -> Result<()>
+    /// `Misuse` for what isn't a name of the language, or `MemoryError`.
+    pub fn add_name(&mut self, name: &str) -> std::result::Result<(), HostError>
         ensures added { OnOk result (GainsName name.now self.old self.new) }
+        ensures name { OnOk result (IsName name.now) }
+        ensures refusal { IfErr result (NotMeant (IsName name.now)) }
         ensures err { OnErr result ((key : List ℕ) → named_at self.new key ≡ named_at self.old key) }
         ensures zones { (key : List ℕ) → zone_at self.new key ≡ zone_at self.old key }
         ensures moment { self.new.moment ≡ self.old.moment }
     {
-        self.names.add(self.alloc, name)
+        if !is_name(self.alloc, name)? {
+            return Err(HostError::Misuse(Misuse::NoWord));
+        }
+        Ok(self.names.add(self.alloc, name)?)
     }
 
     /// The names of the functions that the host answers itself.
@@ -165,6 +178,42 @@ impl<'a> Functions for LentHost<'a> {
             Some(added) => added.moment.as_ref(),
             None => None,
         }
+    }
+}
+
+/// Whether a text is a name of the language: it reads as one word that isn't reserved, and as nothing else.
+fn is_name(alloc: Global, text: &str) -> Result<bool>
+    ensures ok { IfOk result (λ b. IsTrue b ↔ IsName text.now) }
+    ensures err { OnlyMemory result }
+{
+    let reading = read(alloc, text)?;
+    if reading.fault.is_some() {
+        return Ok(false);
+    }
+    Ok(is_word(&reading.tokens, text))
+}
+
+/// Whether tokens are a word alone, which is this text.
+#[tactic(auto, using(crate::proofs::Named::no_word, crate::proofs::Named::no_token, crate::proofs::Named::one_token))]
+fn is_word(tokens: &[Token], text: &str) -> bool
+    ensures { result ≡ is_word tokens.now text.now }
+{
+    if tokens.len() != 1 {
+        return false;
+    }
+    match tokens.first() {
+        Some(token) => is_this_word(token, text),
+        None => false,
+    }
+}
+
+/// Whether a token is a word that isn't reserved, which is this text.
+fn is_this_word(token: &Token, text: &str) -> bool
+    ensures { result ≡ is_this_word token.now text.now }
+{
+    match token {
+        Token::Word(word) => word.as_str() == text,
+        _ => false,
     }
 }
 

@@ -13,7 +13,7 @@ use crate::engine::Engine;
 use crate::running::utf8;
 use expr::Value;
 use expr_encoding::from_json;
-use expr_exchange::{HostError, Kind, scalar_of};
+use expr_exchange::{HostError, Kind, Misuse, scalar_of};
 
 /// The value that a call hands in.
 pub fn value_of_call(engine: &mut Engine, call: &Call<'_>) -> Result<Value, HostError>
@@ -28,7 +28,7 @@ pub fn value_of_call(engine: &mut Engine, call: &Call<'_>) -> Result<Value, Host
 {
     match Kind::from_number(call.kind) {
         Some(kind) => value_of_kind(engine, call, kind),
-        None => Err(HostError::Misuse),
+        None => Err(HostError::Misuse(Misuse::UnknownKind)),
     }
 }
 

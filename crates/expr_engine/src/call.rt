@@ -22,7 +22,7 @@ pub struct Call<'a> {
     pub context: Handle,
     pub environment: Handle,
     /// An integer, a boolean (0 or 1), a length of time in nanoseconds, a moment's second since 1970, a month, a day of the
-    /// week, or how many items there are.
+    /// week, or how many items or names there are.
     pub number: i64,
     /// Where a text is refused: in bytes from 0, and the line and the character in it from 1.
     pub place: usize,
@@ -102,6 +102,13 @@ pub enum Ask {
     Limit,
     /// Lets go of all limits.
     Unlimited,
+    /// Whether `$env` stands in a program: `number` is 1 or 0.
+    UsesEnv,
+    /// The functions that a program calls, built-ins among them and methods not, each on a line; `number` is how many.
+    Functions,
+    /// Puts nil in a context under each name that a program looks up outside of predicates alone and that the context doesn't
+    /// have; `number` is how many. Names in predicates are left, since nil would hide a field of `#`.
+    FillMissing,
 }
 
 /// Which text a call shows.
@@ -123,7 +130,7 @@ impl Ask {
             Ask::Run | Ask::Answer | Ask::Refuse => Shows::Value,
             Ask::Look | Ask::Down | Ask::Up => Shows::Value,
             Ask::Names | Ask::Key | Ask::Shown | Ask::Text => Shows::Said,
-            Ask::Json | Ask::Said | Ask::WaitingCall => Shows::Said,
+            Ask::Json | Ask::Said | Ask::WaitingCall | Ask::Functions => Shows::Said,
             _ => Shows::Nothing,
         }
     }
@@ -165,6 +172,9 @@ impl Ask {
             29 => Some(Ask::WaitingCall),
             30 => Some(Ask::Limit),
             31 => Some(Ask::Unlimited),
+            32 => Some(Ask::UsesEnv),
+            33 => Some(Ask::Functions),
+            34 => Some(Ask::FillMissing),
             _ => None,
         }
     }

@@ -1,23 +1,29 @@
 //! An engine: programs, contexts and environments under handles, what is built, the last answer, what was said last, and the
 //! run that waits for a host's reply.
 ghost use Rattle.std.specs.Prelude.{◌≡◌, ◌≢◌, [], string_bytes, IfOk, IfErr, OnOk, OnErr, IfSome, IsSome, IsOk, IsNone, MatchOption, Err, None, Some, ◌⊎◌};
+ghost use Rattle.std.specs.List.{Contains};
 ghost use Rattle.std.specs.Option.{option_copied};
-ghost use Rattle.expr_engine.specs.Adding.{BecomesByRule, BecomesFixed, BecomesNow, GainsName};
-ghost use Rattle.expr_engine.specs.Effects.{Adds, AreSaid, Changes, ForgetsAll, IsStale};
+ghost use Rattle.expr_engine.specs.Adding.{BecomesByRule, BecomesFixed, BecomesNow, GainsName, IsName};
+ghost use Rattle.expr_engine.specs.Effects.{Adds, AreSaid, Changes, FillsContext, ForgetsAll, IsStale, TellsWhether};
 ghost use Rattle.expr_engine.specs.Engines.{IsPlacedRefusal, KeepsThings, KeepsRest, RunMayAnswer, MayEnd, NumbersRise, RefusesText, SameAdditions, additions_at, run_inputs, waiting_inputs, names_at, no_number};
 ghost use Rattle.expr_engine.specs.Faults.{IsNotedAt, fault_byte, refused_byte};
 ghost use Rattle.expr_engine.specs.Limiting.{IsProgramBy};
 ghost use Rattle.expr_engine.specs.Promised.{IsNew};
-ghost use Rattle.expr_engine.specs.Reasons.{IsUnknownOrForMemory};
+ghost use Rattle.expr_engine.specs.Reasons.{IsUnknownOrForMemory, RefusesName, RefusesZone};
 ghost use Rattle.expr_engine.specs.Runs.{pairs_of};
-ghost use Rattle.expr_engine.specs.Served.{RunServes, SaysLimit};
+ghost use Rattle.expr_engine.specs.Served.{RunServes, SaysWhy};
 ghost use Rattle.expr_engine.specs.Turns.{IsNewRun, IsRefusal, IsSameRun, PassesOn, RunGoesOn, WaitsIfAsks, finds_nothing, is_unknown};
 ghost use Rattle.expr_exchange.specs.Cursor.{part_of, way_of};
-ghost use Rattle.expr_exchange.specs.Refusals.{IsNoStop, ReturnsToHost};
-ghost use Rattle.expr_handles.specs.HandleMap.{SameThings, thing_at, next_number};
+ghost use Rattle.expr_exchange.specs.Misuses.{text_of_misuse};
+ghost use Rattle.expr_exchange.specs.Refusals.{ReturnsToHost};
+ghost use Rattle.expr_handles.specs.HandleMap.{SameNext, SameThings, thing_at};
 ghost use Rattle.expr_meter.specs.Counting.{stops as stops_at};
 ghost use Rattle.expr_stops.specs.Stops.{waiting_call_of, replies_of};
 ghost use Rattle.expr_stops.specs.declared.replies.Reply.TheVariants as reply;
+ghost use Rattle.expr.specs.KeptCodes.{kept_blocks};
+ghost use Rattle.expr_exchange.specs.declared.misuse.Misuse.{Misuse as Wrong};
+ghost use Rattle.expr_needs.specs.Needs.{AreFunctionsOf};
+ghost use Rattle.expr_tree.specs.Names.{AreNamesOf, block_operands, env};
 ghost use Rattle.expr_tree.specs.TermOf.{program_term};
 ghost use Rattle.expr_value.specs.Names.{put};
 
@@ -26,8 +32,9 @@ use crate::lent::LentNames;
 use crate::rule::Rule;
 use crate::waiting_run::WaitingRun;
 use expr::{Context, Error, Limits, Outcome, Value, line_column_of};
-use expr_exchange::{HostError, ValueBuilder, ValueCursor, limit_text};
+use expr_exchange::{HostError, Misuse, ValueBuilder, ValueCursor, limit_text};
 use expr_handles::{Handle, HandleMap};
+use expr_needs::with_nil;
 use expr_stops::{Stops, Turn};
 use jiff::Timestamp;
 use std::alloc::Global;
@@ -59,15 +66,16 @@ pub struct TextPlace {
 }
 
 impl Engine {
-    /// An engine that keeps nothing, with the limits for strangers. It takes no memory.
-    pub fn new(alloc: Global) -> Engine
-        ensures { IsNew result }
+    /// An engine that keeps nothing, with the limits for strangers. Each of its handles has this tag, by which engines are told
+    /// apart. It takes no memory.
+    pub fn new(alloc: Global, tag: u32) -> Engine
+        ensures { IsNew tag result }
     {
         Engine {
             alloc,
-            rules: HandleMap::new(alloc),
-            contexts: HandleMap::new(alloc),
-            environments: HandleMap::new(alloc),
+            rules: HandleMap::new(alloc, tag),
+            contexts: HandleMap::new(alloc, tag),
+            environments: HandleMap::new(alloc, tag),
             built: ValueBuilder::new(alloc),
             answer: ValueCursor::new(alloc),
             said: String::new(alloc),
@@ -83,7 +91,7 @@ impl Engine {
         ensures refused { IfErr result (RefusesText self.old.limits text.now) }
         ensures place { IfErr result (IsPlacedRefusal text.now) }
         ensures err { OnErr result (SameThings self.old.rules self.new.rules) }
-        ensures next { OnErr result (next_number self.new.rules ≡ next_number self.old.rules) }
+        ensures next { OnErr result (SameNext self.old.rules self.new.rules) }
         ensures contexts { self.new.contexts ≡ self.old.contexts }
         ensures environments { self.new.environments ≡ self.old.environments }
         ensures built { self.new.built ≡ self.old.built }
@@ -98,13 +106,44 @@ impl Engine {
     /// The names that a program asks for, each on a line, and how many they are.
     pub fn names(&self, program: Handle) -> Result<(String, usize), HostError>
         ensures said { MatchOption (thing_at self.now.rules program) (result ≡ Err HostError.Unknown)
-            (λ rule. IfOk result (λ p. AreSaid (program_term rule.program) (string_bytes p.0) p.1)) }
+            (λ rule. IfOk result (λ p. AreSaid (λ names. AreNamesOf names (program_term rule.program))
+            (string_bytes p.0) p.1)) }
         ensures unknown { thing_at self.now.rules program ≡ None → result ≡ Err HostError.Unknown }
         ensures known { result ≡ Err HostError.Unknown → thing_at self.now.rules program ≡ None }
         ensures why { IfErr result IsUnknownOrForMemory }
     {
         match self.rules.get(program) {
             Some(rule) => Ok(rule.names(self.alloc)?),
+            None => Err(HostError::Unknown),
+        }
+    }
+
+    /// The functions that a program calls, each on a line, and how many they are.
+    pub fn functions(&self, program: Handle) -> Result<(String, usize), HostError>
+        ensures said { MatchOption (thing_at self.now.rules program) (result ≡ Err HostError.Unknown)
+            (λ rule. IfOk result (λ p. AreSaid (λ names. AreFunctionsOf names (kept_blocks rule.code))
+            (string_bytes p.0) p.1)) }
+        ensures unknown { thing_at self.now.rules program ≡ None → result ≡ Err HostError.Unknown }
+        ensures known { result ≡ Err HostError.Unknown → thing_at self.now.rules program ≡ None }
+        ensures why { IfErr result IsUnknownOrForMemory }
+    {
+        match self.rules.get(program) {
+            Some(rule) => Ok(rule.functions(self.alloc)?),
+            None => Err(HostError::Unknown),
+        }
+    }
+
+    /// Whether `$env` stands as an operand in a program: 1 or 0.
+    pub fn uses_env(&self, program: Handle) -> Result<i64, HostError>
+        ensures told { MatchOption (thing_at self.now.rules program) (result ≡ Err HostError.Unknown)
+            (λ rule. IfOk result (λ n. TellsWhether (Contains (block_operands (program_term rule.program)) env)
+            n)) }
+        ensures unknown { thing_at self.now.rules program ≡ None → result ≡ Err HostError.Unknown }
+        ensures known { result ≡ Err HostError.Unknown → thing_at self.now.rules program ≡ None }
+        ensures why { IfErr result (λ e. e ≡ HostError.Unknown) }
+    {
+        match self.rules.get(program) {
+            Some(rule) => Ok(rule.uses_env()),
             None => Err(HostError::Unknown),
         }
     }
@@ -300,11 +339,13 @@ impl Engine {
         ensures found { OnOk result (IsSome (waiting_inputs self.now)) }
         ensures unknown { IsStale self.now → result ≡ Err HostError.Unknown }
         ensures known { result ≡ Err HostError.Unknown → IsStale self.now }
-        ensures refused { IfErr result (λ e. (e ≡ HostError.Unknown) ⊎ (e ≡ HostError.Misuse)) }
-        ensures misused { result ≡ Err HostError.Misuse → waiting_call_of self.now.waits.stops ≡ None }
+        ensures refused { IfErr result
+            (λ e. (e ≡ HostError.Unknown) ⊎ (e ≡ HostError.Misuse Misuse.NoCallWaits)) }
+        ensures misused { (why : Wrong) → result ≡ Err (HostError.Misuse why)
+            → waiting_call_of self.now.waits.stops ≡ None }
     {
         if self.waits.stops.waiting_call().is_none() {
-            return Err(HostError::Misuse);
+            return Err(HostError::Misuse(Misuse::NoCallWaits));
         }
         let waits = &self.waits;
         self.knows_run(waits.program, waits.environment, waits.context)
@@ -319,7 +360,7 @@ impl Engine {
         ensures found { IsSome (waiting_call_of self.old.waits.stops) → IsSome (waiting_inputs self.old)
             → IfErr result (λ e. e ≢ HostError.Unknown) }
         ensures meant { IsSome (waiting_call_of self.old.waits.stops) → IsSome (waiting_inputs self.old)
-            → IfErr result (λ e. e ≢ HostError.Misuse) }
+            → IfErr result (λ e. (why : Wrong) → e ≢ HostError.Misuse why) }
         ensures way { OnOk result (way_of self.new.answer ≡ []) }
         ensures err { OnErr result (self.new.answer ≡ self.old.answer) }
         ensures kept { KeepsThings self.old self.new }
@@ -338,7 +379,7 @@ impl Engine {
         ensures found { IsSome (waiting_call_of self.old.waits.stops) → IsSome (waiting_inputs self.old)
             → IfErr result (λ e. e ≢ HostError.Unknown) }
         ensures meant { IsSome (waiting_call_of self.old.waits.stops) → IsSome (waiting_inputs self.old)
-            → IfErr result (λ e. e ≢ HostError.Misuse) }
+            → IfErr result (λ e. (why : Wrong) → e ≢ HostError.Misuse why) }
         ensures way { OnOk result (way_of self.new.answer ≡ []) }
         ensures err { OnErr result (self.new.answer ≡ self.old.answer) }
         ensures kept { KeepsThings self.old self.new }
@@ -404,7 +445,7 @@ impl Engine {
         ensures unknown { thing_at self.old.contexts context ≡ None → result ≡ Err HostError.Unknown }
         ensures known { result ≡ Err HostError.Unknown → thing_at self.old.contexts context ≡ None }
         ensures err { OnErr result (SameThings self.old.contexts self.new.contexts) }
-        ensures next { next_number self.new.contexts ≡ next_number self.old.contexts }
+        ensures next { SameNext self.old.contexts self.new.contexts }
         ensures rules { self.new.rules ≡ self.old.rules }
         ensures environments { self.new.environments ≡ self.old.environments }
         ensures built { self.new.built ≡ self.old.built }
@@ -422,6 +463,39 @@ impl Engine {
         Ok(done?)
     }
 
+    /// Puts nil in a context under each name that a program looks up outside of predicates alone and that the context doesn't
+    /// have. Answers how many these are. A context that has them all isn't touched, and another is copied first.
+    pub fn fill_missing(&mut self, program: Handle, context: Handle) -> Result<usize, HostError>
+        ensures filled { IfOk result (λ count. FillsContext self.old.rules program self.old.contexts
+            self.new.contexts context count) }
+        ensures unknown { (thing_at self.old.rules program ≡ None) ⊎ (thing_at self.old.contexts context ≡ None)
+            → result ≡ Err HostError.Unknown }
+        ensures known { result ≡ Err HostError.Unknown
+            → (thing_at self.old.rules program ≡ None) ⊎ (thing_at self.old.contexts context ≡ None) }
+        ensures err { OnErr result (SameThings self.old.contexts self.new.contexts) }
+        ensures next { SameNext self.old.contexts self.new.contexts }
+        ensures rules { self.new.rules ≡ self.old.rules }
+        ensures environments { self.new.environments ≡ self.old.environments }
+        ensures built { self.new.built ≡ self.old.built }
+        ensures standing { KeepsRest self.old self.new }
+        ensures why { IfErr result IsUnknownOrForMemory }
+    {
+        let Some(rule) = self.rules.get(program) else {
+            return Err(HostError::Unknown);
+        };
+        let Some(names) = self.contexts.get(context) else {
+            return Err(HostError::Unknown);
+        };
+        let missing = rule.missing_names(self.alloc, names)?;
+        if missing.is_empty() {
+            return Ok(0);
+        }
+        let count = missing.len();
+        let mut filled = with_nil(names.clone()?, missing)?;
+        let _was = self.contexts.swap(context, &mut filled);
+        Ok(count)
+    }
+
     /// Adds a zone to an environment, by the seconds that its clock is ahead of UTC or by a rule.
     pub fn add_zone(
         &mut self,
@@ -437,12 +511,12 @@ impl Engine {
         ensures unknown { thing_at self.old.environments environment ≡ None → result ≡ Err HostError.Unknown }
         ensures known { result ≡ Err HostError.Unknown → thing_at self.old.environments environment ≡ None }
         ensures err { OnErr result (SameAdditions self.old.environments self.new.environments) }
-        ensures next { next_number self.new.environments ≡ next_number self.old.environments }
+        ensures next { SameNext self.old.environments self.new.environments }
         ensures rules { self.new.rules ≡ self.old.rules }
         ensures contexts { self.new.contexts ≡ self.old.contexts }
         ensures built { self.new.built ≡ self.old.built }
         ensures standing { KeepsRest self.old self.new }
-        ensures ends { IfErr result (λ e. IsNoStop e × (e ≢ HostError.Misuse)) }
+        ensures why { IfErr result (RefusesZone (Unit {0})) }
     {
         let mut host = Additions::new(self.alloc);
         if !self.environments.swap(environment, &mut host) {
@@ -460,12 +534,12 @@ impl Engine {
         ensures unknown { thing_at self.old.environments environment ≡ None → result ≡ Err HostError.Unknown }
         ensures known { result ≡ Err HostError.Unknown → thing_at self.old.environments environment ≡ None }
         ensures err { OnErr result (SameAdditions self.old.environments self.new.environments) }
-        ensures next { next_number self.new.environments ≡ next_number self.old.environments }
+        ensures next { SameNext self.old.environments self.new.environments }
         ensures rules { self.new.rules ≡ self.old.rules }
         ensures contexts { self.new.contexts ≡ self.old.contexts }
         ensures built { self.new.built ≡ self.old.built }
         ensures standing { KeepsRest self.old self.new }
-        ensures ends { IfErr result (λ e. IsNoStop e × (e ≢ HostError.Misuse)) }
+        ensures why { IfErr result (RefusesName (IsName name.now)) }
     {
         let mut host = Additions::new(self.alloc);
         if !self.environments.swap(environment, &mut host) {
@@ -483,7 +557,7 @@ impl Engine {
         ensures unknown { thing_at self.old.environments environment ≡ None → result ≡ Err HostError.Unknown }
         ensures known { result ≡ Err HostError.Unknown → thing_at self.old.environments environment ≡ None }
         ensures err { OnErr result (SameAdditions self.old.environments self.new.environments) }
-        ensures next { next_number self.new.environments ≡ next_number self.old.environments }
+        ensures next { SameNext self.old.environments self.new.environments }
         ensures rules { self.new.rules ≡ self.old.rules }
         ensures contexts { self.new.contexts ≡ self.old.contexts }
         ensures built { self.new.built ≡ self.old.built }
@@ -523,10 +597,10 @@ impl Engine {
         ensures standing { KeepsRest self.old self.new }
         ensures noted { IfOk result (IsNotedAt (refused_byte refused.now) text.now) }
         ensures unknown { refused.now ≡ HostError.Unknown → IsOk result }
-        ensures misuse { refused.now ≡ HostError.Misuse → IsOk result }
+        ensures misuse { (why : Wrong) → refused.now ≡ HostError.Misuse why → IsOk result }
         ensures asks { refused.now ≡ HostError.Asks → IsOk result }
         ensures differs { refused.now ≡ HostError.Differs → IsOk result }
-        ensures limit { OnOk result (SaysLimit refused.now (string_bytes self.new.said)) }
+        ensures said { OnOk result (SaysWhy refused.now (string_bytes self.new.said)) }
     {
         self.said = String::new(self.alloc);
         match refused {
@@ -535,9 +609,11 @@ impl Engine {
                 self.said = String::from_str(self.alloc, limit_text(*limit))?;
                 Ok(None)
             }
-            HostError::Unknown | HostError::Misuse | HostError::Asks | HostError::Differs => Ok(
-                None,
-            ),
+            HostError::Misuse(misuse) => {
+                self.said = sentence_of(self.alloc, *misuse);
+                Ok(None)
+            }
+            HostError::Unknown | HostError::Asks | HostError::Differs => Ok(None),
         }
     }
 
@@ -594,6 +670,16 @@ fn is_unknown(refused: &HostError) -> bool
     match refused {
         HostError::Unknown => true,
         _ => false,
+    }
+}
+
+/// What a host did wrong as a sentence, or nothing where memory for it is refused.
+fn sentence_of(alloc: Global, misuse: Misuse) -> String
+    ensures { (string_bytes result ≡ text_of_misuse misuse) ⊎ (string_bytes result ≡ []) }
+{
+    match String::from_str(alloc, misuse.text()) {
+        Ok(text) => text,
+        Err(_) => String::new(alloc),
     }
 }
 

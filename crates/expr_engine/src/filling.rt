@@ -1,18 +1,18 @@
 //! Asks about contexts.
 ghost use Rattle.std.specs.Prelude.{◌≡◌, ◌≢◌, ◌⊎◌, Err, IfErr, IsUtf8, None, OnErr, OnOk};
-ghost use Rattle.expr_engine.specs.Effects.{AddsBuiltContext, AddsContext, Sets, call_result};
+ghost use Rattle.expr_engine.specs.Effects.{AddsBuiltContext, AddsContext, Fills, Sets, call_result};
 ghost use Rattle.expr_engine.specs.Engines.{KeepsRest, NumbersRise};
 ghost use Rattle.expr_engine.specs.Reasons.{HandsNothingIn, IsUnknownOrForMemory};
 ghost use Rattle.expr_exchange.specs.Builder.{NoContext, values_of};
 ghost use Rattle.expr_exchange.specs.Refusals.{IsForMemory};
-ghost use Rattle.expr_handles.specs.HandleMap.{SameThings, thing_at, next_number};
+ghost use Rattle.expr_handles.specs.HandleMap.{SameNext, SameThings, thing_at};
 
 use crate::building::value_of_call;
 use crate::call::Call;
 use crate::engine::Engine;
 use crate::running::utf8;
 use expr::Context;
-use expr_exchange::HostError;
+use expr_exchange::{HostError, Misuse};
 
 /// Keeps a context without names.
 pub fn new_context(engine: &mut Engine, call: &mut Call<'_>) -> Result<(), HostError>
@@ -53,15 +53,35 @@ pub fn set(engine: &mut Engine, call: &Call<'_>) -> Result<(), HostError>
     ensures unknown { thing_at engine.old.contexts call.now.context ≡ None → result ≡ Err HostError.Unknown }
     ensures known { result ≡ Err HostError.Unknown → thing_at engine.old.contexts call.now.context ≡ None }
     ensures err { OnErr result (SameThings engine.old.contexts engine.new.contexts) }
-    ensures next { next_number engine.new.contexts ≡ next_number engine.old.contexts }
+    ensures next { SameNext engine.old.contexts engine.new.contexts }
     ensures rules { engine.new.rules ≡ engine.old.rules }
     ensures environments { engine.new.environments ≡ engine.old.environments }
     ensures standing { KeepsRest engine.old engine.new }
-    ensures why { IfErr result (λ e. ((e ≡ HostError.Misuse) × (IsUtf8 call.now.name.now → ⊥))
+    ensures why { IfErr result (λ e. ((e ≡ HostError.Misuse Misuse.NotUtf8) × (IsUtf8 call.now.name.now → ⊥))
         ⊎ (IsUnknownOrForMemory e ⊎ HandsNothingIn engine.old call.now e)) }
 {
     engine.knows_context(call.context)?;
     let name = utf8(call.name)?;
     let value = value_of_call(engine, call)?;
     engine.set(call.context, name, value)
+}
+
+/// Puts nil in a context under the names that a program looks up outside of predicates alone and that the context doesn't have.
+pub fn fill_missing(engine: &mut Engine, call: &mut Call<'_>) -> Result<(), HostError>
+    ensures done { OnOk result (Fills engine.old engine.new call.old (call_result call.new)) }
+    ensures unknown { (thing_at engine.old.rules call.old.program ≡ None)
+        ⊎ (thing_at engine.old.contexts call.old.context ≡ None) → result ≡ Err HostError.Unknown }
+    ensures known { result ≡ Err HostError.Unknown → (thing_at engine.old.rules call.old.program ≡ None)
+        ⊎ (thing_at engine.old.contexts call.old.context ≡ None) }
+    ensures err { OnErr result (SameThings engine.old.contexts engine.new.contexts) }
+    ensures next { SameNext engine.old.contexts engine.new.contexts }
+    ensures rules { engine.new.rules ≡ engine.old.rules }
+    ensures environments { engine.new.environments ≡ engine.old.environments }
+    ensures standing { KeepsRest engine.old engine.new }
+    ensures room { call.new.room.now ≡ call.old.room.now }
+    ensures why { IfErr result IsUnknownOrForMemory }
+{
+    let count = engine.fill_missing(call.program, call.context)?;
+    call.number = i64::try_from(count).unwrap_or(0);
+    Ok(())
 }

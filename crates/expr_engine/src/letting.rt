@@ -2,7 +2,7 @@
 ghost use Rattle.std.specs.Prelude.{◌≡◌, None, Err, IfErr, IsOk, OnErr, OnOk, Ok, if◌then◌else◌};
 ghost use Rattle.expr_engine.specs.Effects.{DropsContext, DropsEnvironment, DropsProgram, ForgetsAll};
 ghost use Rattle.expr_engine.specs.Engines.{KeepsRest, NumbersRise, SameAdditions};
-ghost use Rattle.expr_handles.specs.HandleMap.{SameThings, thing_at, next_number};
+ghost use Rattle.expr_handles.specs.HandleMap.{SameNext, SameThings, thing_at};
 ghost use Rattle.expr_stops.specs.Stops.{waiting_call_of};
 
 use crate::call::Call;
@@ -14,7 +14,7 @@ pub fn drop_program(engine: &mut Engine, call: &Call<'_>) -> Result<(), HostErro
     ensures done { OnOk result (DropsProgram engine.old engine.new call.now) }
     ensures unknown { thing_at engine.old.rules call.now.program ≡ None → result ≡ Err HostError.Unknown }
     ensures known { result ≡ Err HostError.Unknown → thing_at engine.old.rules call.now.program ≡ None }
-    ensures next { next_number engine.new.rules ≡ next_number engine.old.rules }
+    ensures next { SameNext engine.old.rules engine.new.rules }
     ensures err { OnErr result (SameThings engine.old.rules engine.new.rules) }
     ensures contexts { engine.new.contexts ≡ engine.old.contexts }
     ensures environments { engine.new.environments ≡ engine.old.environments }
@@ -31,7 +31,7 @@ pub fn drop_context(engine: &mut Engine, call: &Call<'_>) -> Result<(), HostErro
     ensures unknown { thing_at engine.old.contexts call.now.context ≡ None → result ≡ Err HostError.Unknown }
     ensures known { result ≡ Err HostError.Unknown
         → thing_at engine.old.contexts call.now.context ≡ None }
-    ensures next { next_number engine.new.contexts ≡ next_number engine.old.contexts }
+    ensures next { SameNext engine.old.contexts engine.new.contexts }
     ensures err { OnErr result (SameThings engine.old.contexts engine.new.contexts) }
     ensures rules { engine.new.rules ≡ engine.old.rules }
     ensures environments { engine.new.environments ≡ engine.old.environments }
@@ -50,7 +50,7 @@ pub fn drop_environment(engine: &mut Engine, call: &Call<'_>) -> Result<(), Host
         → result ≡ Err HostError.Unknown }
     ensures known { result ≡ Err HostError.Unknown
         → thing_at engine.old.environments call.now.environment ≡ None }
-    ensures next { next_number engine.new.environments ≡ next_number engine.old.environments }
+    ensures next { SameNext engine.old.environments engine.new.environments }
     ensures err { OnErr result (SameAdditions engine.old.environments engine.new.environments) }
     ensures rules { engine.new.rules ≡ engine.old.rules }
     ensures contexts { engine.new.contexts ≡ engine.old.contexts }

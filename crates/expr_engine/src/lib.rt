@@ -22,7 +22,7 @@ pub use additions::{Additions, LentHost};
 pub use call::{Ask, Call};
 pub use engine::Engine;
 pub use expr::{Limit, Limits};
-pub use expr_exchange::{HostError, Kind, Status};
+pub use expr_exchange::{HostError, Kind, Misuse, Status};
 pub use expr_handles::Handle;
 pub use lent::LentNames;
 pub use rule::Rule;

@@ -14,7 +14,7 @@ use crate::call::Call;
 use crate::engine::Engine;
 use expr::Value;
 use expr_encoding::to_json;
-use expr_exchange::{HostError, key_of, summary_of};
+use expr_exchange::{HostError, Misuse, key_of, summary_of};
 use std::alloc::Global;
 
 /// Tells of a value.
@@ -68,7 +68,7 @@ pub fn look_up(engine: &mut Engine, call: &mut Call<'_>) -> Result<(), HostError
     ensures waits { engine.new.waits ≡ engine.old.waits }
     ensures limits { engine.new.limits ≡ engine.old.limits }
     ensures room { call.new.room.now ≡ call.old.room.now }
-    ensures why { IfErr result (λ e. (e ≡ HostError.Misuse) × (way_of engine.old.answer ≡ [])) }
+    ensures why { IfErr result (λ e. (e ≡ HostError.Misuse Misuse.AtWhole) × (way_of engine.old.answer ≡ [])) }
 {
     engine.answer.go_up()?;
     describe(engine.answer.part(), call);

@@ -6,6 +6,7 @@ ghost use Rattle.expr_engine.specs.Turns.{IsAnswer, IsRefusal, RunGoesOn};
 ghost use Rattle.expr_exchange.specs.Builder.{values_of};
 ghost use Rattle.expr_exchange.specs.Cursor.{part_of};
 ghost use Rattle.expr_exchange.specs.Refusals.{NotThere};
+ghost use Rattle.expr_exchange.specs.declared.misuse.Misuse.{Misuse as Wrong};
 ghost use Rattle.expr_stops.specs.Stops.{waiting_call_of};
 
 use crate::call::Call;
@@ -13,12 +14,12 @@ use crate::engine::Engine;
 use crate::looking::describe;
 use crate::running::utf8;
 use expr::Value;
-use expr_exchange::HostError;
+use expr_exchange::{HostError, Misuse};
 
 /// Answers the call that waits with the value that was built last, and goes on with its run.
 pub fn answer_call(engine: &mut Engine, call: &mut Call<'_>) -> Result<(), HostError>
     ensures done { OnOk result (EndsRun TakesLast engine.old engine.new (call_result call.new)) }
-    ensures why { IfErr result (λ e. e ≡ HostError.Misuse
+    ensures why { IfErr result (λ e. (why : Wrong) → e ≡ HostError.Misuse why
         → (waiting_call_of engine.old.waits.stops ≡ None) ⊎ (values_of engine.old.built ≡ [])) }
     ensures turns { RunGoesOn (IsAnswer (values_of engine.old.built))
         (waiting_inputs engine.old) engine.old.waits
@@ -41,7 +42,7 @@ pub fn answer_call(engine: &mut Engine, call: &mut Call<'_>) -> Result<(), HostE
 pub fn refuse_call(engine: &mut Engine, call: &mut Call<'_>) -> Result<(), HostError>
     ensures done { OnOk result
         (EndsRun (λ was is. is ≡ was) engine.old engine.new (call_result call.new)) }
-    ensures why { IfErr result (λ e. e ≡ HostError.Misuse
+    ensures why { IfErr result (λ e. (why : Wrong) → e ≡ HostError.Misuse why
         → (waiting_call_of engine.old.waits.stops ≡ None) ⊎ (IsUtf8 call.old.text.now → ⊥)) }
     ensures turns { RunGoesOn (IsRefusal call.old.text.now) (waiting_inputs engine.old) engine.old.waits
         engine.new.waits result (part_of engine.new.answer) }
@@ -71,7 +72,7 @@ pub fn look_at_waiting_call(engine: &mut Engine, call: &mut Call<'_>) -> Result<
     ensures why { IfErr result (NotThere (waiting_call_of engine.old.waits.stops)) }
 {
     let Some(stop) = engine.waits.stops.waiting_call() else {
-        return Err(HostError::Misuse);
+        return Err(HostError::Misuse(Misuse::NoCallWaits));
     };
     let arguments = stop.call.args.clone()?;
     engine.said = stop.call.ident.clone()?;

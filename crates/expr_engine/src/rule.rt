@@ -8,8 +8,11 @@ ghost use Rattle.expr_meaning.specs.World.{world_of};
 
 use crate::additions::LentHost;
 use crate::lent::LentNames;
-use expr::{Code, KeptCode, Limits, Outcome, Program, Result, Value, compile, compile_limited};
+use expr::{
+    Code, Context, KeptCode, Limits, Outcome, Program, Result, Value, compile, compile_limited,
+};
 use expr_meaning::Functions;
+use expr_needs::{functions_of, missing_names};
 use expr_stops::{Stops, Turn, execute_in};
 use std::alloc::Global;
 
@@ -22,11 +25,14 @@ pub struct Rule {
 }
 
 impl Rule {
-    ghost use Rattle.std.specs.Prelude.{◌≡◌, IfOk, None, string_bytes};
+    ghost use Rattle.std.specs.Prelude.{◌≡◌, IfOk, None, map, string_bytes};
+    ghost use Rattle.std.specs.List.{Contains};
+    ghost use Rattle.expr_needs.specs.Needs.{AreFunctionsOf, AreMissing};
+    ghost use Rattle.expr_tree.specs.Names.{AreNamesOf, block_operands, env};
     ghost use Rattle.std.specs.Option.{option_copied};
     ghost use Rattle.expr.specs.Limited.{MayGive as GivesWithin};
     ghost use Rattle.expr_engine.specs.Limiting.{IsCompiledBy};
-    ghost use Rattle.expr_engine.specs.Effects.{AreSaid};
+    ghost use Rattle.expr_engine.specs.Effects.{AreSaid, TellsWhether};
     ghost use Rattle.expr_error.specs.ErrorKind.{OnlyMemory};
     ghost use Rattle.expr.specs.Contexts.{context_of};
     ghost use Rattle.expr_engine.specs.Runs.{MeaningAllows, host_with_replies, named_by, pairs_of};
@@ -56,11 +62,38 @@ impl Rule {
 
     /// The names that the program asks for, each on a line, and how many they are.
     pub fn names(&self, alloc: Global) -> Result<(String, usize)>
-        ensures ok { IfOk result (λ p. AreSaid (program_term self.now.program) (string_bytes p.0) p.1) }
+        ensures ok { IfOk result (λ p. AreSaid (λ names. AreNamesOf names (program_term self.now.program))
+            (string_bytes p.0) p.1) }
         ensures err { OnlyMemory result }
     {
         let names = self.program.names(alloc)?;
         Ok((names.join(alloc, "\n")?, names.len()))
+    }
+
+    /// The functions that the program's code calls, each on a line, and how many they are.
+    pub fn functions(&self, alloc: Global) -> Result<(String, usize)>
+        ensures ok { IfOk result (λ p. AreSaid (λ names. AreFunctionsOf names (kept_blocks self.now.code))
+            (string_bytes p.0) p.1) }
+        ensures err { OnlyMemory result }
+    {
+        let functions = functions_of(alloc, &self.code)?;
+        Ok((functions.join(alloc, "\n")?, functions.len()))
+    }
+
+    /// Whether `$env` stands as an operand in the program: 1 or 0.
+    pub fn uses_env(&self) -> i64
+        ensures { TellsWhether (Contains (block_operands (program_term self.now.program)) env) result }
+    {
+        i64::from(self.program.uses_env())
+    }
+
+    /// The names that the program's code looks up outside of predicates alone, and that a context doesn't have.
+    pub fn missing_names(&self, alloc: Global, context: &Context) -> Result<Vec<String>>
+        ensures ok { IfOk result (λ ns. AreMissing (kept_blocks self.now.code) context.now
+            (map string_bytes ns.items)) }
+        ensures err { OnlyMemory result }
+    {
+        missing_names(alloc, &self.code, context)
     }
 
     /// What the program answers within limits, or where there are none.

@@ -1,6 +1,6 @@
 //! Asks about programs.
 ghost use Rattle.std.specs.Prelude.{◌≡◌, [], Err, None, IfErr, IfOk, IsUtf8, MatchOption, OnErr, OnOk};
-ghost use Rattle.expr_engine.specs.Effects.{Compiles, RunsOnce, SaysNames, call_result};
+ghost use Rattle.expr_engine.specs.Effects.{Compiles, RunsOnce, SaysFunctions, SaysNames, TellsEnv, call_result};
 ghost use Rattle.expr_engine.specs.Engines.{CompileRefuses, KeepsThings, KeepsRest, NumbersRise, run_inputs};
 ghost use Rattle.expr_engine.specs.Served.{RunServes};
 ghost use Rattle.expr_engine.specs.Turns.{IsNewRun};
@@ -11,7 +11,7 @@ ghost use Rattle.expr_handles.specs.HandleMap.{SameThings, thing_at};
 use crate::call::Call;
 use crate::engine::Engine;
 use crate::looking::describe;
-use expr_exchange::HostError;
+use expr_exchange::{HostError, Misuse};
 
 /// Keeps the program of a text, if it is within the limits.
 pub fn compile(engine: &mut Engine, call: &mut Call<'_>) -> Result<(), HostError>
@@ -46,6 +46,36 @@ pub fn names(engine: &mut Engine, call: &mut Call<'_>) -> Result<(), HostError>
     Ok(())
 }
 
+/// Says the functions that a program calls.
+pub fn functions(engine: &mut Engine, call: &mut Call<'_>) -> Result<(), HostError>
+    ensures done { OnOk result (SaysFunctions engine.old engine.new call.old (call_result call.new)) }
+    ensures unknown { thing_at engine.old.rules call.old.program ≡ None → result ≡ Err HostError.Unknown }
+    ensures known { result ≡ Err HostError.Unknown → thing_at engine.old.rules call.old.program ≡ None }
+    ensures kept { KeepsThings engine.old engine.new }
+    ensures standing { KeepsRest engine.old engine.new }
+    ensures room { call.new.room.now ≡ call.old.room.now }
+    ensures why { IfErr result IsUnknownOrForMemory }
+{
+    let (functions, count) = engine.functions(call.program)?;
+    call.number = i64::try_from(count).unwrap_or(0);
+    engine.said = functions;
+    Ok(())
+}
+
+/// Tells whether `$env` stands in a program.
+pub fn uses_env(engine: &mut Engine, call: &mut Call<'_>) -> Result<(), HostError>
+    ensures done { OnOk result (TellsEnv engine.old engine.new call.old (call_result call.new)) }
+    ensures unknown { thing_at engine.old.rules call.old.program ≡ None → result ≡ Err HostError.Unknown }
+    ensures known { result ≡ Err HostError.Unknown → thing_at engine.old.rules call.old.program ≡ None }
+    ensures kept { KeepsThings engine.old engine.new }
+    ensures standing { KeepsRest engine.old engine.new }
+    ensures room { call.new.room.now ≡ call.old.room.now }
+    ensures why { IfErr result (λ e. e ≡ HostError.Unknown) }
+{
+    call.number = engine.uses_env(call.program)?;
+    Ok(())
+}
+
 /// Keeps what a program answers in an environment and a context, within the limits.
 pub fn run(engine: &mut Engine, call: &mut Call<'_>) -> Result<(), HostError>
     ensures done { OnOk result (RunsOnce engine.old engine.new call.old (call_result call.new)) }
@@ -72,10 +102,10 @@ pub fn run(engine: &mut Engine, call: &mut Call<'_>) -> Result<(), HostError>
 pub fn utf8(bytes: &[u8]) -> Result<&str, HostError>
     ensures ok { IfOk result (λ text. text.now ≡ bytes.now) }
     ensures utf8 { OnOk result (IsUtf8 bytes.now) }
-    ensures refused { IfErr result (λ e. (e ≡ HostError.Misuse) × (IsUtf8 bytes.now → ⊥)) }
+    ensures refused { IfErr result (λ e. (e ≡ HostError.Misuse Misuse.NotUtf8) × (IsUtf8 bytes.now → ⊥)) }
 {
     match std::str::from_utf8(bytes) {
         Ok(text) => Ok(text),
-        Err(_) => Err(HostError::Misuse),
+        Err(_) => Err(HostError::Misuse(Misuse::NotUtf8)),
     }
 }

@@ -7,18 +7,19 @@ ghost use Rattle.expr_engine.specs.Promised.{Acts, IsServed};
 ghost use Rattle.expr_engine.specs.Served.{EndsCall, ShowsText, number_of, text_in_room, text_shown};
 ghost use Rattle.expr_exchange.specs.Builder.{values_of};
 ghost use Rattle.expr_exchange.specs.Refusals.{status_of};
+ghost use Rattle.expr_exchange.specs.declared.misuse.Misuse.{Misuse as Wrong};
 
 use crate::adding::{add_environment, add_name, set_now, zone_by_rule, zone_by_seconds};
 use crate::building::{make_array, make_map, push, unbuild};
 use crate::call::{Ask, Call, Shows};
 use crate::engine::{Engine, TextPlace};
-use crate::filling::{built_context, new_context, set};
+use crate::filling::{built_context, fill_missing, new_context, set};
 use crate::letting::{clear, drop_context, drop_environment, drop_program};
 use crate::limiting::{let_go_of_limits, set_limit};
 use crate::looking::{look, look_down, look_up, say_json, say_shown, say_text, show_key};
 use crate::replying::{answer_call, look_at_waiting_call, refuse_call};
-use crate::running::{compile, names, run};
-use expr_exchange::{HostError, Status, bytes_of};
+use crate::running::{compile, functions, names, run, uses_env};
+use expr_exchange::{HostError, Misuse, Status, bytes_of};
 
 /// Does what a call asks for. Whatever stands in the call, it returns. What is refused leaves all that is kept and what is
 /// looked at as it was, and lets go of what was built.
@@ -30,7 +31,12 @@ pub fn serve(engine: &mut Engine, call: &mut Call<'_>)
             let done = act(engine, call, ask);
             finish(engine, call, ask.shows(), done);
         }
-        None => finish(engine, call, Shows::Nothing, Err(HostError::Misuse)),
+        None => finish(
+            engine,
+            call,
+            Shows::Nothing,
+            Err(HostError::Misuse(Misuse::UnknownAsk)),
+        ),
     }
 }
 
@@ -71,6 +77,9 @@ fn act(engine: &mut Engine, call: &mut Call<'_>, ask: Ask) -> Result<(), HostErr
         Ask::WaitingCall => look_at_waiting_call(engine, call),
         Ask::Limit => set_limit(engine, call),
         Ask::Unlimited => let_go_of_limits(engine),
+        Ask::UsesEnv => uses_env(engine, call),
+        Ask::Functions => functions(engine, call),
+        Ask::FillMissing => fill_missing(engine, call),
     }
 }
 
@@ -87,7 +96,7 @@ fn finish(engine: &mut Engine, call: &mut Call<'_>, shows: Shows, done: Result<(
         (place_of call.new) ⊎ (call.new.status ≡ 5)) }
     ensures unknown { done ≡ Err HostError.Unknown → call.new.status ≡ 6 }
     ensures known { call.new.status ≡ 6 → done ≡ Err HostError.Unknown }
-    ensures misuse { done ≡ Err HostError.Misuse → call.new.status ≡ 7 }
+    ensures misuse { (why : Wrong) → done ≡ Err (HostError.Misuse why) → call.new.status ≡ 7 }
     ensures shown { OnOk done (ShowsText (text_shown shows engine.new) call.old.room.now call.new) }
     ensures said { OnErr done (ShowsText (string_bytes engine.new.said) call.old.room.now call.new) }
 {
@@ -160,7 +169,7 @@ fn refuse(engine: &mut Engine, refused: &HostError, call: &mut Call<'_>) -> Stat
     ensures placed { IsAt (refused_byte refused.now) call.old.text.now (place_of call.new)
         ⊎ (result ≡ Status.Memory) }
     ensures unknown { refused.now ≡ HostError.Unknown → result ≡ Status.Unknown }
-    ensures misuse { refused.now ≡ HostError.Misuse → result ≡ Status.Misuse }
+    ensures misuse { (why : Wrong) → refused.now ≡ HostError.Misuse why → result ≡ Status.Misuse }
     ensures asks { refused.now ≡ HostError.Asks → result ≡ Status.Asks }
     ensures differs { refused.now ≡ HostError.Differs → result ≡ Status.Differs }
 {

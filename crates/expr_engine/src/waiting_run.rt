@@ -22,6 +22,7 @@ impl WaitingRun {
         ensures { waiting_call_of result.stops ≡ None }
     {
         let nothing = Handle {
+            tag: 0,
             place: 0,
             number: u64::MAX,
         };

@@ -26,7 +26,7 @@ pub record EndsInMap (values : List Value) : Type 0 where
 abbrev pub NoContext : List Value → HostError → Type 0
 NoContext values (Language error) = error_kind error ≢ memory → (error_kind error ≡ evaluation) × (EndsInMap values → ⊥)
 NoContext values Unknown = ⊥
-NoContext values Misuse = values ≡ []
+NoContext values (Misuse why) = values ≡ []
 NoContext values Asks = ⊥
 NoContext values Differs = ⊥
 NoContext values (Stopped limit) = ⊥

@@ -27,7 +27,7 @@ ends_at limits.Size = ends.Size
 abbrev pub status_of : HostError → Status
 status_of (Language error) = ends_by (error_kind error)
 status_of Unknown = ends.Unknown
-status_of Misuse = ends.Misuse
+status_of (Misuse why) = ends.Misuse
 status_of Asks = ends.Asks
 status_of Differs = ends.Differs
 status_of (Stopped limit) = ends_at limit
@@ -37,20 +37,25 @@ abbrev pub ReturnsToHost : {A : Type 0} → Result A HostError → (Result A Err
 ReturnsToHost (Ok v) allowed passed = allowed (Ok v)
 ReturnsToHost (Err (Language error)) allowed passed = error_kind error ≢ memory → allowed (Err (error_kind error))
 ReturnsToHost (Err Unknown) allowed passed = ⊥
-ReturnsToHost (Err Misuse) allowed passed = ⊥
+ReturnsToHost (Err (Misuse why)) allowed passed = ⊥
 ReturnsToHost (Err Asks) allowed passed = Unit {0}
 ReturnsToHost (Err Differs) allowed passed = Unit {0}
 ReturnsToHost (Err (Stopped limit)) allowed passed = passed limit
 
--- A refusal that is no run's and no limit's.
-abbrev pub IsNoStop : HostError → Type 0
-IsNoStop refused = (refused ≢ Asks) × (refused ≢ Differs) × ((limit : Limit) → refused ≢ Stopped limit)
+-- A call asks for what can't be.
+abbrev pub IsMisuse : HostError → Type 0
+IsMisuse (Language error) = ⊥
+IsMisuse Unknown = ⊥
+IsMisuse (Misuse why) = Unit {0}
+IsMisuse Asks = ⊥
+IsMisuse Differs = ⊥
+IsMisuse (Stopped limit) = ⊥
 
 -- A refusal for want of memory.
 abbrev pub IsForMemory : HostError → Type 0
 IsForMemory (Language error) = error_kind error ≡ memory
 IsForMemory Unknown = ⊥
-IsForMemory Misuse = ⊥
+IsForMemory (Misuse why) = ⊥
 IsForMemory Asks = ⊥
 IsForMemory Differs = ⊥
 IsForMemory (Stopped limit) = ⊥
@@ -59,7 +64,7 @@ IsForMemory (Stopped limit) = ⊥
 abbrev pub AnswerRefuses : {A : Type 0} → Result A ErrorKind → HostError → Type 0
 AnswerRefuses answer (Language error) = error_kind error ≢ memory → answer ≡ Err (error_kind error)
 AnswerRefuses answer Unknown = ⊥
-AnswerRefuses answer Misuse = ⊥
+AnswerRefuses answer (Misuse why) = ⊥
 AnswerRefuses answer Asks = ⊥
 AnswerRefuses answer Differs = ⊥
 AnswerRefuses answer (Stopped limit) = ⊥
@@ -68,7 +73,7 @@ AnswerRefuses answer (Stopped limit) = ⊥
 abbrev pub NotThere : {A : Type 0} → Option A → HostError → Type 0
 NotThere sought (Language error) = error_kind error ≡ memory
 NotThere sought Unknown = ⊥
-NotThere sought Misuse = sought ≡ None
+NotThere sought (Misuse why) = sought ≡ None
 NotThere sought Asks = ⊥
 NotThere sought Differs = ⊥
 NotThere sought (Stopped limit) = ⊥
@@ -77,7 +82,7 @@ NotThere sought (Stopped limit) = ⊥
 abbrev pub NotMeant : Type 0 → HostError → Type 0
 NotMeant Means (Language error) = error_kind error ≡ memory
 NotMeant Means Unknown = ⊥
-NotMeant Means Misuse = Means → ⊥
+NotMeant Means (Misuse why) = Means → ⊥
 NotMeant Means Asks = ⊥
 NotMeant Means Differs = ⊥
 NotMeant Means (Stopped limit) = ⊥

@@ -6,6 +6,7 @@ ghost use Rattle.expr_exchange.specs.Refusals.{IsForMemory, NotMeant, status_of}
 
 use crate::host_error::HostError;
 use crate::map_pairs::map_of;
+use crate::misuse::Misuse;
 use expr_context::Context;
 use expr_value::Value;
 use std::alloc::Global;
@@ -42,11 +43,11 @@ impl ValueBuilder {
     /// Takes the last value.
     pub fn pop(&mut self) -> Result<Value, HostError>
         ensures ok { IfOk result (λ value. values_of self.old ≡ values_of self.new ++ value ∷ []) }
-        ensures err { IfErr result (λ e. (e ≡ HostError.Misuse) × (values_of self.old ≡ [])) }
+        ensures err { IfErr result (λ e. (e ≡ HostError.Misuse Misuse.NothingBuilt) × (values_of self.old ≡ [])) }
     {
         match self.values.pop() {
             Some(value) => Ok(value),
-            None => Err(HostError::Misuse),
+            None => Err(HostError::Misuse(Misuse::NothingBuilt)),
         }
     }
 
@@ -65,10 +66,10 @@ impl ValueBuilder {
         ensures found { IfErr result (λ e. e ≢ HostError.Unknown) }
     {
         let Ok(count) = usize::try_from(count) else {
-            return Err(HostError::Misuse);
+            return Err(HostError::Misuse(Misuse::TooFewBuilt));
         };
         let Some(place) = self.values.len().checked_sub(count) else {
-            return Err(HostError::Misuse);
+            return Err(HostError::Misuse(Misuse::TooFewBuilt));
         };
         Ok(self.values.split_off(place)?)
     }
@@ -93,7 +94,7 @@ impl ValueBuilder {
         ensures found { IfErr result (λ e. e ≢ HostError.Unknown) }
     {
         let Some(count) = count.checked_mul(2) else {
-            return Err(HostError::Misuse);
+            return Err(HostError::Misuse(Misuse::TooFewBuilt));
         };
         let values = self.take_last(count)?;
         let map = map_of(self.alloc, values)?;

@@ -11,6 +11,7 @@ ghost use Rattle.expr_value.specs.Values.{text_of};
 
 use crate::host_error::HostError;
 use crate::kind::Kind;
+use crate::misuse::Misuse;
 use expr_value::{DateTimeValue, Value};
 use std::alloc::Global;
 
@@ -73,10 +74,10 @@ impl ValueCursor {
         ensures refused { IfErr result (NotThere (at_number number (item_at (part_of self.old)))) }
     {
         let Ok(place) = usize::try_from(number) else {
-            return Err(HostError::Misuse);
+            return Err(HostError::Misuse(Misuse::NoPart));
         };
         if item_of(self.part(), place).is_none() {
-            return Err(HostError::Misuse);
+            return Err(HostError::Misuse(Misuse::NoPart));
         }
         self.way.push(place)?;
         Ok(())
@@ -86,11 +87,11 @@ impl ValueCursor {
     pub fn go_up(&mut self) -> Result<(), HostError>
         ensures ok { OnOk result (LooksUp self.old self.new) }
         ensures err { OnErr result (SameLook self.old self.new) }
-        ensures refused { IfErr result (λ e. (e ≡ HostError.Misuse) × (way_of self.old ≡ [])) }
+        ensures refused { IfErr result (λ e. (e ≡ HostError.Misuse Misuse.AtWhole) × (way_of self.old ≡ [])) }
     {
         match self.way.pop() {
             Some(_) => Ok(()),
-            None => Err(HostError::Misuse),
+            None => Err(HostError::Misuse(Misuse::AtWhole)),
         }
     }
 
@@ -203,17 +204,17 @@ pub fn key_of(alloc: Global, value: &Value, number: i64) -> Result<Value, HostEr
     ensures refused { IfErr result (NotThere (at_number number (key_at value.now))) }
 {
     let Ok(place) = usize::try_from(number) else {
-        return Err(HostError::Misuse);
+        return Err(HostError::Misuse(Misuse::NoPart));
     };
     match value {
         Value::Map(map) => match map.get_index(place) {
             Some((name, _value)) => Ok(Value::text(alloc, name.as_str())?),
-            None => Err(HostError::Misuse),
+            None => Err(HostError::Misuse(Misuse::NoPart)),
         },
         Value::KeyedMap(map) => match map.get_index(place) {
             Some((key, _value)) => Ok(key.to_value(alloc)?),
-            None => Err(HostError::Misuse),
+            None => Err(HostError::Misuse(Misuse::NoPart)),
         },
-        _ => Err(HostError::Misuse),
+        _ => Err(HostError::Misuse(Misuse::NoPart)),
     }
 }

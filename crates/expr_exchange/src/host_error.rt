@@ -4,6 +4,7 @@ ghost use Rattle.expr_exchange.specs.Refusals.{status_of};
 ghost use Rattle.expr_exchange.specs.declared.host_error.HostError.TheVariants.{Language};
 ghost use Rattle.expr_error.specs.declared.error.Error.TheVariants.{MemoryError};
 
+use crate::misuse::Misuse;
 use expr_meter::Limit;
 use expr_value::Error;
 use std::alloc::{AllocError, AllocFailed};
@@ -19,7 +20,7 @@ pub enum Status {
     Memory,
     /// A handle finds nothing: it is out of date, or was never given.
     Unknown,
-    /// What is asked stands for nothing: an unknown number, bytes that are not UTF-8, an item that isn't there.
+    /// A call asks for what can't be: an unknown number, bytes that are not UTF-8, an item that isn't there.
     Misuse,
     /// A run waits for the host's reply to a call of one of its functions.
     Asks,
@@ -44,8 +45,8 @@ pub enum HostError {
     Language(Error),
     /// A handle finds nothing.
     Unknown,
-    /// What is asked stands for nothing.
-    Misuse,
+    /// A call asks for what can't be.
+    Misuse(Misuse),
     /// A run waits for the host's reply.
     Asks,
     /// A run came to another call than the one that was replied to.
@@ -66,7 +67,7 @@ impl HostError {
             HostError::Language(Error::RegexError(_)) => Status::Pattern,
             HostError::Language(Error::MemoryError) => Status::Memory,
             HostError::Unknown => Status::Unknown,
-            HostError::Misuse => Status::Misuse,
+            HostError::Misuse(_) => Status::Misuse,
             HostError::Asks => Status::Asks,
             HostError::Differs => Status::Differs,
             HostError::Stopped(Limit::Height) => Status::Height,

@@ -7,6 +7,7 @@ mod host_error;
 mod kind;
 mod limit;
 mod map_pairs;
+mod misuse;
 mod scalar;
 
 pub use builder::ValueBuilder;
@@ -14,4 +15,5 @@ pub use cursor::{ValueCursor, ValueSummary, bytes_of, key_of, summary_of};
 pub use host_error::{HostError, Status};
 pub use kind::Kind;
 pub use limit::{limit_numbered, limit_text};
+pub use misuse::Misuse;
 pub use scalar::{moment_of, scalar_of};

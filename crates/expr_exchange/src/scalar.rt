@@ -6,6 +6,7 @@ ghost use Rattle.jiff.specs.Instant.{IsTimestampParts};
 
 use crate::host_error::HostError;
 use crate::kind::Kind;
+use crate::misuse::Misuse;
 use expr_value::{DateTimeValue, Value};
 use jiff::Timestamp;
 use jiff::tz::Offset;
@@ -45,13 +46,13 @@ pub fn scalar_of(
         }
         Kind::Month => match u32::try_from(number) {
             Ok(month) if 1 <= month && month <= 12 => Ok(Value::Month(month)),
-            _ => Err(HostError::Misuse),
+            _ => Err(HostError::Misuse(Misuse::NoMonth)),
         },
         Kind::Weekday => match u32::try_from(number) {
             Ok(day) if day <= 6 => Ok(Value::Weekday(day)),
-            _ => Err(HostError::Misuse),
+            _ => Err(HostError::Misuse(Misuse::NoWeekday)),
         },
-        _ => Err(HostError::Misuse),
+        _ => Err(HostError::Misuse(Misuse::NoScalar)),
     }
 }
 
@@ -61,7 +62,7 @@ fn text_value(alloc: Global, text: &[u8]) -> Result<Value, HostError>
 {
     match std::str::from_utf8(text) {
         Ok(text) => Ok(Value::text(alloc, text)?),
-        Err(_) => Err(HostError::Misuse),
+        Err(_) => Err(HostError::Misuse(Misuse::NotUtf8)),
     }
 }
 
@@ -73,8 +74,8 @@ pub fn moment_of(second: i64, fraction: u32) -> Result<Timestamp, HostError>
     match i32::try_from(fraction) {
         Ok(fraction) => match Timestamp::new(second, fraction) {
             Ok(moment) => Ok(moment),
-            Err(_) => Err(HostError::Misuse),
+            Err(_) => Err(HostError::Misuse(Misuse::NoMoment)),
         },
-        Err(_) => Err(HostError::Misuse),
+        Err(_) => Err(HostError::Misuse(Misuse::NoMoment)),
     }
 }

@@ -6,7 +6,7 @@ use Rattle.std.specs.Option.{option_or}
 use Rattle.std.specs.Prelude.{option_map}
 use Rattle.std.proofs.lemmas.Map.Entries.{lookup-filter-keys}
 use Rattle.std.proofs.lemmas.Slice.Eq.{bytes_eq-Decides}
-use Rattle.expr_functions.specs.Functions.{builtin_named, found_in}
+use Rattle.expr_functions.specs.Functions.{beside_in_table, found_in}
 use Rattle.expr_functions.specs.declared.functions.Builtin.{Builtin}
 use Rattle.expr_functions.specs.declared.functions.TheConstants.{OF_THREE, OF_FOUR, OF_FIVE, OF_SIX, OF_SEVEN, OF_MORE}
 
@@ -44,8 +44,7 @@ module _ (passes : List ℕ → Bool) (name : List ℕ) where
     in_part word lines =
         sym (lookup-filter-keys (λ key. bytes_eq name (word key)) (λ key. passes (word key)) true (λ key same. sym (ap passes ((bytes_eq-Decides name (word key)).0 same)) ∙ does) lines)
 
-    pub named_so : builtin_named name ≡ named_among
-    unfolding builtin_named
+    pub named_so : beside_in_table name ≡ named_among
     named_so = λ i.
         option_or (in_part (λ word. word.now) OF_THREE i) (
         option_or (in_part (λ word. word.now) OF_FOUR i) (

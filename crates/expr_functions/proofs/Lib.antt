@@ -1,1 +1,2 @@
 mod Among
+mod Table

@@ -1,4 +1,4 @@
--- The built-in of a name, by the table of all.
+-- The built-in of a name, by the names of all.
 use Rattle.std.specs.Prelude.{ℕ, List, Option, None, Some, bytes_eq}
 use Rattle.std.specs.Map.{lookup}
 use Rattle.std.specs.Option.{option_or}
@@ -6,21 +6,15 @@ use Rattle.expr_functions.specs.declared.functions.TheConstants.{OF_THREE, OF_FO
 use Rattle.expr_functions.specs.declared.functions.Builtin.{Builtin}
 use Rattle.expr_functions.specs.declared.functions.Builtin.TheVariants.{HigherOrder}
 use Rattle.expr_functions.specs.declared.functions.HigherOrderCall.{HigherOrderCall}
+use Rattle.expr_functions.specs.Names.{built_in_names}
 
--- what stands beside a name in a part of the table
+-- what stands beside a name in a list
 abbrev pub found_in : {K : Type 0} → (K → List ℕ) → List (K × Builtin) → List ℕ → Option Builtin
 found_in word lines name = lookup (λ key. bytes_eq name (word key)) lines
 
--- the built-in of a name, in the first part of the table that has it
+-- the built-in of a name
 unfoldable pub builtin_named : List ℕ → Option Builtin
-builtin_named name =
-    option_or (found_in (λ word. word.now) OF_THREE name) (
-    option_or (found_in (λ word. word.now) OF_FOUR name) (
-    option_or (found_in (λ word. word.now) OF_FIVE name) (
-    option_or (found_in (λ word. word.now) OF_SIX name) (
-    option_or (found_in (λ word. word.now) OF_SEVEN name) (
-    found_in (λ word. word.now) OF_MORE name
-    )))))
+builtin_named name = found_in (λ word. word) built_in_names name
 
 -- the one that asks a predicate
 abbrev pub higher_order_of : Option Builtin → Option HigherOrderCall
@@ -29,3 +23,14 @@ higher_order_of o = None
 
 abbrev pub higher_order_named : List ℕ → Option HigherOrderCall
 higher_order_named name = higher_order_of (builtin_named name)
+
+-- what stands beside a name in the program's table, which is in parts by the length of the names
+abbrev pub beside_in_table : List ℕ → Option Builtin
+beside_in_table name =
+    option_or (found_in (λ word. word.now) OF_THREE name) (
+    option_or (found_in (λ word. word.now) OF_FOUR name) (
+    option_or (found_in (λ word. word.now) OF_FIVE name) (
+    option_or (found_in (λ word. word.now) OF_SIX name) (
+    option_or (found_in (λ word. word.now) OF_SEVEN name) (
+    found_in (λ word. word.now) OF_MORE name
+    )))))

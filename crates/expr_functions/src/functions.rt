@@ -1,8 +1,9 @@
 //! The built-ins by name: an enum for each family, and one table of all, by the length of their names.
 ghost use Rattle.std.specs.Prelude.{◌≡◌, bytes_eq, option_map};
 ghost use Rattle.std.specs.List.{find};
-ghost use Rattle.expr_functions.specs.Functions.{higher_order_named, builtin_named, found_in};
+ghost use Rattle.expr_functions.specs.Functions.{beside_in_table, builtin_named, found_in, higher_order_named};
 
+use crate::laws::each_name_finds_its_call;
 use Builtin::{HigherOrder, OnValues};
 use ValueCall::{Bit, Collection, Conversion, Encoding, Number, Sort, Text, Time};
 
@@ -236,18 +237,12 @@ pub const OF_MORE: [(&str, Builtin); 15] = [
 ];
 
 impl Builtin {
-    /// The built-in of a name, found among those whose names are as long.
+    /// The built-in of a name, by the definition's list of names.
     pub fn from_name(name: &str) -> Option<Builtin>
         ensures { result ≡ builtin_named name.now }
     {
-        match name.len() {
-            3 => of_three(name),
-            4 => of_four(name),
-            5 => of_five(name),
-            6 => of_six(name),
-            7 => of_seven(name),
-            _ => of_more(name),
-        }
+        each_name_finds_its_call();
+        in_table(name)
     }
 }
 
@@ -260,6 +255,21 @@ impl HigherOrderCall {
             Some(Builtin::HigherOrder(call)) => Some(call),
             _ => None,
         }
+    }
+}
+
+// What stands beside a name in the table, found among the names that are as long.
+#[inline(always)]
+fn in_table(name: &str) -> Option<Builtin>
+    ensures { result ≡ beside_in_table name.now }
+{
+    match name.len() {
+        3 => of_three(name),
+        4 => of_four(name),
+        5 => of_five(name),
+        6 => of_six(name),
+        7 => of_seven(name),
+        _ => of_more(name),
     }
 }
 

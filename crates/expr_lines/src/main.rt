@@ -7,22 +7,20 @@ mod reports;
 
 use expr::{Context, Environment};
 use expr_records::{
-    JsonReader, LineBuffer, Purpose, Query, Sieve, StreamEnd, Tally, bind, code_of_text,
+    Course, FAILED, JsonReader, LineBuffer, Query, Sieve, StreamEnd, Tally, bind, code_of_text,
+    finish,
 };
 use jiff::Timestamp;
 use options::Options;
 use progress::{Progress, ProgressReader};
-use reports::{tell_bad_name, tell_refused_text, tell_unusable};
+use reports::{tell_bad_name, tell_end, tell_refused_text};
 use std::alloc::{AllocError, Global};
-use std::io::{self, BufReader, BufWriter, ErrorKind, IsTerminal, Read, Stderr, Write};
+use std::io::{BufReader, BufWriter, ErrorKind, IsTerminal, Read, Stderr, Write};
 use std::process::ExitCode;
 use std::{env, fs};
 
 /// Wrong words, or a text that doesn't compile.
 const USAGE: u8 = 2;
-
-/// Something can't be read or written.
-const FAILED: u8 = 4;
 
 /// How many bytes are read or written at once.
 const BUFFER: usize = 1 << 16;
@@ -111,54 +109,27 @@ fn work<W: Write, E: Write>(
     options: &Options,
     sieve: &mut Sieve<Query<Environment>, W, E>,
 ) -> u8 {
-    let mut is_read = true;
+    let mut course = Course::Done;
     let mut names = options.files.as_slice();
     if names.is_empty() {
         names = &["-"];
     }
     for name in names {
-        match sift_named(rt, options, *name, sieve) {
-            StreamEnd::Whole => {}
-            StreamEnd::Stopped => break,
-            StreamEnd::Unread(error) => {
-                tell_unusable(&mut sieve.err, *name, &error);
-                is_read = false;
-            }
-            StreamEnd::Unwritten(error) => return status_unwritten(options, sieve, &error),
+        let end = sift_named(rt, options, *name, sieve);
+        tell_end(&mut sieve.err, *name, &end);
+        course = course.after(&end);
+        if end.is_last() {
+            break;
         }
     }
-    if let Err(error) = finish(options.purpose, sieve) {
-        return status_unwritten(options, sieve, &error);
+    if matches!(course, Course::Done | Course::Unread) {
+        if let Err(error) = finish(&mut sieve.out, options.purpose, &sieve.tally) {
+            let end = StreamEnd::Unwritten(error);
+            tell_end(&mut sieve.err, "standard output", &end);
+            course = course.after(&end);
+        }
     }
-    if is_read {
-        sieve.tally.status(options.purpose.seeks())
-    } else {
-        FAILED
-    }
-}
-
-/// Writes what stands at the end of all.
-fn finish<W: Write, E: Write>(
-    purpose: Purpose,
-    sieve: &mut Sieve<Query<Environment>, W, E>,
-) -> io::Result<()> {
-    if let Purpose::Count(_) = purpose {
-        writeln!(sieve.out, "{}", sieve.tally.kept)?;
-    }
-    sieve.out.flush()
-}
-
-/// The status where nothing more can be written. That nobody reads it isn't said.
-fn status_unwritten<W: Write, E: Write>(
-    options: &Options,
-    sieve: &mut Sieve<Query<Environment>, W, E>,
-    error: &io::Error,
-) -> u8 {
-    if error.kind() == ErrorKind::BrokenPipe {
-        return sieve.tally.status(options.purpose.seeks());
-    }
-    tell_unusable(&mut sieve.err, "standard output", error);
-    FAILED
+    course.status(&sieve.tally, options.purpose.seeks())
 }
 
 /// Brings a file through a sieve, of which `-` is standard input.

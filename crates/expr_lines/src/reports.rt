@@ -1,7 +1,8 @@
 //! What the program says on standard error. A failure to say it changes nothing.
 use expr::{Error, line_column_of};
+use expr_records::StreamEnd;
 use std::alloc::Global;
-use std::io::{self, Write};
+use std::io::{self, ErrorKind, Write};
 
 /// Says that a word isn't `NAME=CODE`.
 pub fn tell_bad_name<E: Write>(err: &mut E, word: &str) {
@@ -23,7 +24,20 @@ pub fn tell_refused_text<E: Write>(alloc: Global, err: &mut E, text: &str, error
     let _ = writeln!(err, "expr_lines: the expression {text} is refused: {error}");
 }
 
+/// Says that a stream of this name can't be read, or that the output can't be written. That nobody reads it isn't said.
+pub fn tell_end<E: Write>(err: &mut E, name: &str, end: &StreamEnd) {
+    match end {
+        StreamEnd::Whole | StreamEnd::Stopped => {}
+        StreamEnd::Unread(error) => tell_unusable(err, name, error),
+        StreamEnd::Unwritten(error) => {
+            if error.kind() != ErrorKind::BrokenPipe {
+                tell_unusable(err, "standard output", error);
+            }
+        }
+    }
+}
+
 /// Says that something can't be read or written.
-pub fn tell_unusable<E: Write>(err: &mut E, name: &str, error: &io::Error) {
+fn tell_unusable<E: Write>(err: &mut E, name: &str, error: &io::Error) {
     let _ = writeln!(err, "expr_lines: {name}: {error}");
 }

@@ -1,3 +1,4 @@
+pub mod Courses
 pub mod Judged
 pub mod LineBuffers
 pub mod LineSteps

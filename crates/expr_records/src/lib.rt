@@ -1,6 +1,7 @@
 //! Records, one JSON object a line, kept, counted or rewritten by an expression.
 #![tactic(auto)]
 
+mod course;
 mod judging;
 mod line_buffer;
 mod lines;
@@ -11,6 +12,7 @@ mod record;
 mod sieve;
 mod tally;
 
+pub use course::{Course, FAILED, finish};
 pub use expr_encoding::JsonReader;
 pub use line_buffer::{LineBuffer, LineState};
 pub use lines::next_line;

@@ -8,10 +8,8 @@ ghost use Rattle.expr_value.specs.Answers.{Returns};
 ghost use Rattle.expr_error.specs.ErrorKind.{RefusesWith};
 
 use crate::record::Record;
-use expr::{
-    Code, Context, KeptCode, KeptMachine, Pattern, Result, Value, compile_within,
-    execution_answers_programs,
-};
+use expr::laws::execution_answers_programs;
+use expr::{Code, Context, KeptCode, KeptMachine, Pattern, Result, Value, compile_within};
 use expr_encoding::Members;
 use expr_meaning::Functions;
 use std::alloc::Global;

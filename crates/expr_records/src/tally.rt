@@ -1,5 +1,5 @@
 //! How many records came to what.
-ghost use Rattle.std.specs.Prelude.{◌≡◌, ◌+◌, ◌^◌, ◌<◌, ◌==◌, ◌&&◌, nat_lt, if◌then◌else◌};
+ghost use Rattle.std.specs.Prelude.{◌≡◌, ◌+◌, ◌^◌, ◌<◌};
 ghost use Rattle.expr_records.specs.Outcomes.{saturated_count, one_if, is_kept, is_refused};
 
 use crate::outcome::LineOutcome;
@@ -21,6 +21,8 @@ fn one_if(holds: bool) -> u64
 }
 
 impl Tally {
+    ghost use Rattle.expr_records.specs.Courses.{status_of};
+
     /// Nothing came yet.
     pub fn new() -> Tally
         ensures kept { result.kept ≡ 0 }
@@ -45,8 +47,7 @@ impl Tally {
     /// The status of a run that read and wrote all that it was to: 3 where a record was refused, 1 where none was kept
     /// though one was sought, else 0.
     pub fn status(&self, seeks: bool) -> u8
-        ensures { result ≡ (if nat_lt 0 self.now.refused then 3 else
-            (if (self.now.kept == 0) && seeks then 1 else 0)) }
+        ensures { result ≡ status_of self.now seeks }
     {
         if self.refused > 0 {
             3

@@ -1,19 +1,16 @@
 //! What the program does with its words and its streams.
-ghost use Rattle.std.specs.Prelude.{◌≡◌, ◌≢◌, ◌≤◌, ◌↔◌, [], ◌∷◌, ◌++◌, false, map, string_bytes, Ok, Err, OnOk};
+ghost use Rattle.std.specs.Prelude.{◌≡◌, ◌≤◌, ◌↔◌, ◌⊎◌, [], ◌∷◌, ◌++◌, false, map, string_bytes, Ok, Err, OnOk};
 ghost use Rattle.std.specs.Io.KnownBytes.{Appends};
 ghost use Rattle.std.specs.List.{list_all};
-ghost use Rattle.expr.specs.Host.{no_host};
-ghost use Rattle.expr.specs.World.{world_of};
-ghost use Rattle.expr.specs.Texts.{MayAnswerWithin};
 ghost use Rattle.expr_serve.specs.Served.{MayAnswerUnder, MayBind, MayPrint, MayServe};
 ghost use Rattle.expr_serve.specs.Words.{code_of, is_binding, is_call, name_of, word_for};
 ghost use Rattle.expr_value.specs.Answers.{Returns};
-ghost use Rattle.expr_error.specs.ErrorKind.{error_kind, literal, memory, RefusesWith, IsOfKind};
+ghost use Rattle.expr_error.specs.ErrorKind.{error_kind, RefusesWith};
 ghost use Rattle.expr_value.specs.Names.{put};
 ghost use Rattle.expr_value.specs.Values.{text_of};
 ghost use Rattle.expr_value.specs.declared.value.Value.{Value};
 
-use expr::{Context, ContextProvider, Error, Limit, Limits, Outcome, Result, Value, eval_limited};
+use expr::{Context, Error, Result, Value, compile_within, run};
 use std::alloc::Global;
 use std::io::Write;
 
@@ -50,54 +47,15 @@ fn are_bindings(words: &[String]) -> bool
     true
 }
 
-/// What the program lets a code take. Evaluation, printing and letting go of values take stack by depth.
-fn wide_limits() -> Limits
-    ensures height { result.height ≡ 500 }
-    ensures patterns { result.patterns ≡ 2000000 }
-    ensures steps { result.steps ≡ 1000000000 }
-    ensures depth { result.depth ≡ 1000 }
-    ensures size { result.size ≡ 20000000 }
-{
-    Limits {
-        height: 500,
-        patterns: 2_000_000,
-        steps: 1_000_000_000,
-        depth: 1_000,
-        size: 20_000_000,
-    }
-}
+/// The greatest height of a code's tree: reading and lowering take stack by it.
+const HEIGHT: usize = 500;
 
-/// The value of a code under some names.
+/// The value of a code under some names. A tree that is higher than is allowed is refused as a literal is that can't be held.
 fn value_under(alloc: Global, code: &str, names: &Context) -> Result<Value>
     ensures { Returns result (MayAnswerUnder names.now code.now) }
 {
-    value_in(alloc, code, names)
-}
-
-/// The value of a code in a context. A tree that is higher than is allowed is refused as a literal is that can't be held, and
-/// for want of memory what passes another limit.
-fn value_in(alloc: Global, code: &str, ctx: &dyn ContextProvider) -> Result<Value>
-    ensures { Returns result (MayAnswerWithin 500 code.now (world_of no_host (context ctx.now))) }
-{
-    let limits = wide_limits();
-    let outcome = eval_limited(alloc, code, ctx, &limits)?;
-    match outcome {
-        Outcome::Answered(value) => Ok(value),
-        Outcome::Stopped(limit) => match limit {
-            Limit::Height => Err(height_refusal(alloc)),
-            _ => Err(Error::MemoryError),
-        },
-    }
-}
-
-/// The refusal of a code whose tree is higher than is allowed.
-fn height_refusal(alloc: Global) -> Error
-    ensures { IsOfKind result literal }
-{
-    match String::from_str(alloc, "the expression nests deeper than is allowed") {
-        Ok(message) => Error::ParseError(message),
-        Err(_) => Error::MemoryError,
-    }
+    let program = compile_within(alloc, code, HEIGHT)?;
+    run(alloc, &program, names)
 }
 
 /// Puts the value of a binding under its name. Its code is evaluated in an empty context.
@@ -180,8 +138,7 @@ fn print<O: Write>(out: &mut O, value: &Value) -> u8
 /// Else the bindings are evaluated from left to right, each in an empty context (a repeated NAME takes the later value),
 /// then CODE in the context of the bindings. Its value's `Display` goes to `out`, status 0. The first refusal is one word
 /// on `err`, status 1: `syntax`, `literal` (an integer of 2^63 or more, or a tree higher than 500), `evaluation`, `pattern`
-/// or `memory` (a growth that is refused, or a limit that is passed: 1,000,000,000 steps, a size of 20,000,000, a depth of
-/// 1,000, or 2,000,000 of patterns).
+/// or `memory` (an allocation failed). Nothing else is limited.
 ///
 /// `out` is written to, and flushed, where there is a value to print and nowhere else. Where it fails, the status is 1,
 /// nothing is said on `err`, and what it took before stays written. A failing `err` changes no status.
@@ -191,6 +148,8 @@ pub fn serve<O: Write, E: Write>(alloc: Global, words: &[String], out: &mut O, e
     ensures silent { result ≡ 2 → O.contents out.new ≡ O.contents out.old }
     ensures printed { result ≡ 0 → (v : Value) × MayPrint (map string_bytes words.now) v
         × Appends (O.contents out.old) (O.contents out.new) (text_of v ++ 10 ∷ []) }
+    ensures touched { ((v : Value) × MayPrint (map string_bytes words.now) v)
+        ⊎ (O.contents out.new ≡ O.contents out.old) }
 {
     let Some((code, bindings)) = words.split_first() else {
         return refuse_usage(err);

@@ -13,7 +13,7 @@ ghost use Rattle.expr_stops.specs.declared.replies.CallReply.{CallReply};
 ghost use Rattle.expr_stops.specs.declared.replies.Reply.{Reply};
 ghost use Rattle.expr_tree.specs.TermOf.{program_term};
 ghost use Rattle.expr_value.specs.Answers.{Returns};
-ghost use Rattle.expr_error.specs.ErrorKind.{RefusesNoPattern, RefusesWith, pattern as bad_pattern};
+ghost use Rattle.expr_error.specs.ErrorKind.{RefusesNoPattern, RefusesWith, evaluation, pattern as bad_pattern};
 
 use crate::names::StopNames;
 use crate::replay::Stop;
@@ -189,7 +189,7 @@ impl Stops {
     pub fn answer(&mut self, value: Value) -> Result<()>
         ensures given { OnOk result (IsReplied self.old self.new (Reply.Value value)) }
         ensures err { OnErr result (IsSame self.old self.new) }
-        ensures waits { RefusesWith result (λ k. waiting_call_of self.old ≡ None) }
+        ensures waits { RefusesWith result (λ k. (k ≡ evaluation) × (waiting_call_of self.old ≡ None)) }
     {
         self.reply(Reply::Value(value))
     }
@@ -202,7 +202,7 @@ impl Stops {
     pub fn refuse(&mut self, text: &str) -> Result<()>
         ensures given { OnOk result (IsRepliedRefusal self.old self.new text.now) }
         ensures err { OnErr result (IsSame self.old self.new) }
-        ensures waits { RefusesWith result (λ k. waiting_call_of self.old ≡ None) }
+        ensures waits { RefusesWith result (λ k. (k ≡ evaluation) × (waiting_call_of self.old ≡ None)) }
     {
         let text = String::from_str(self.alloc, text)?;
         self.reply(Reply::Refusal(text))
@@ -212,7 +212,7 @@ impl Stops {
     fn reply(&mut self, reply: Reply) -> Result<()>
         ensures given { OnOk result (IsReplied self.old self.new reply) }
         ensures err { OnErr result (IsSame self.old self.new) }
-        ensures waits { RefusesWith result (λ k. waiting_call_of self.old ≡ None) }
+        ensures waits { RefusesWith result (λ k. (k ≡ evaluation) × (waiting_call_of self.old ≡ None)) }
     {
         let Some(stop) = self.asked.take() else {
             return Err(refusal(self.alloc, "no call waits for an answer"));

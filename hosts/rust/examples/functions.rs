@@ -1,8 +1,8 @@
 //! A host with a function of its own: what an order costs, by the prices of a shop.
-use expr::{compile, Context, Environment, Error, Value};
+use exprlang::{compile, Context, Environment, Error, Value};
 use std::collections::HashMap;
 
-fn main() -> expr::Result<()> {
+fn main() -> exprlang::Result<()> {
     let text = std::env::args().nth(1).unwrap_or("sum(map(articles, price(#)))".into());
     let rule = compile(&text)?;
     let prices = HashMap::from([("pen", 150), ("ink", 900)]);

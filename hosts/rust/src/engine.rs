@@ -1,146 +1,167 @@
-//! The engine of a thread, and what is kept in it for values of this crate, which go from thread to thread.
+//! An engine, and the copies that it keeps of values of this crate.
 use crate::error::{Error, Place, Result};
 use crate::limits::{Limit, Limits};
 use crate::map::Map;
-use crate::raw::{kind, Ask, Asked, Handle, Raw, Told, ASKS, DIFFERS, LIMITS};
-use crate::value::{DateTimeValue, Value};
-use std::cell::RefCell;
-use std::sync::{Arc, Mutex, MutexGuard, PoisonError};
+use crate::moment::DateTimeValue;
+use crate::pool::Token;
+use crate::raw::{kind, Ask, Asked, Handle, Raw, Told, ASKS, DIFFERS, LIMITS, MISUSE};
+use crate::value::Value;
+use std::collections::HashMap;
+use std::hash::{BuildHasherDefault, Hasher};
 
-/// What an engine of another thread is asked to let go of, when that thread calls it next.
-type Inbox = Arc<Mutex<Vec<(Ask, Handle)>>>;
-
-struct Engine {
+/// An engine of the pool.
+pub struct Engine {
     raw: Raw,
-    inbox: Inbox,
-    /// How many runs were begun.
-    runs: u64,
+    number: u64,
+    /// What it keeps, by the numbers of their tokens.
+    copies: HashMap<u64, Copy, BuildHasherDefault<OfNumber>>,
+    /// The context of one run, which is dropped behind it.
+    temporary: Option<Handle>,
     /// The numbers of the limits that it has, or None where it has none.
     limits: Option<Numbers>,
 }
 
-thread_local! {
-    static ENGINE: RefCell<Engine> = RefCell::new(Engine {
-        raw: Raw::open(),
-        inbox: Inbox::default(),
-        runs: 0,
-        limits: Some(numbers(&Limits::for_strangers())),
-    });
+/// A hash of a token's number. No one chooses these numbers, which count up, so that a product spreads them well.
+#[derive(Default)]
+struct OfNumber(u64);
+
+impl Hasher for OfNumber {
+    fn write(&mut self, bytes: &[u8]) {
+        bytes.iter().for_each(|byte| self.write_u64(u64::from(*byte)));
+    }
+
+    fn write_u64(&mut self, number: u64) {
+        self.0 = (self.0 ^ number).wrapping_mul(0x9e37_79b9_7f4a_7c15);
+    }
+
+    fn finish(&self) -> u64 {
+        self.0
+    }
 }
 
-/// A thing that is kept in the engine of one thread, and let go of with this value.
-#[derive(Debug)]
-struct Kept {
-    inbox: Inbox,
+/// An engine's copy of a program, a context or an environment.
+struct Copy {
     drop: Ask,
     handle: Handle,
+    filled: Filled,
 }
 
-impl Drop for Kept {
-    fn drop(&mut self) {
-        let left = ENGINE.try_with(|engine| match engine.try_borrow_mut() {
-            Ok(mut engine) if Arc::ptr_eq(&engine.inbox, &self.inbox) => {
-                let asked = asked_about(self.drop, self.handle);
-                engine.raw.call(self.drop, asked);
-                false
-            }
-            _ => true,
-        });
-        if left != Ok(false) {
-            lock(&self.inbox).push((self.drop, self.handle));
+/// Which values of a context an engine's copy of it has.
+#[derive(Default)]
+pub struct Filled {
+    /// The version of each value, by its position in the context, or 0.
+    pub versions: Vec<u64>,
+    /// The program that read it last, and the version that the context had then.
+    pub last: Option<(u64, u64)>,
+}
+
+impl Engine {
+    pub fn open(number: u64) -> Engine {
+        let limits = Some(numbers(&Limits::for_strangers()));
+        Engine { raw: Raw::open(), number, copies: HashMap::default(), temporary: None, limits }
+    }
+
+    pub fn number(&self) -> u64 {
+        self.number
+    }
+
+    /// Whether it has no copies.
+    pub fn is_empty(&self) -> bool {
+        self.copies.is_empty()
+    }
+
+    #[cfg(test)]
+    pub fn count(&self) -> usize {
+        self.copies.len()
+    }
+
+    /// Drops what a call has left that isn't kept.
+    pub fn settle(&mut self) {
+        if let Some(context) = self.temporary.take() {
+            self.drop_kept(Ask::DropContext, context);
+        }
+        self.raw.shrink();
+    }
+
+    /// Drops the copy with a token of this number, if there is one.
+    pub fn forget(&mut self, token: u64) {
+        if let Some(copy) = self.copies.remove(&token) {
+            self.drop_kept(copy.drop, copy.handle);
         }
     }
-}
 
-fn asked_about(drop: Ask, handle: Handle) -> Asked<'static> {
-    match drop {
-        Ask::DropProgram => Asked { program: handle, ..Asked::default() },
-        Ask::DropContext => Asked { context: handle, ..Asked::default() },
-        _ => Asked { environment: handle, ..Asked::default() },
+    fn drop_kept(&mut self, drop: Ask, handle: Handle) {
+        let asked = match drop {
+            Ask::DropProgram => Asked { program: handle, ..Asked::default() },
+            Ask::DropContext => Asked { context: handle, ..Asked::default() },
+            _ => Asked { environment: handle, ..Asked::default() },
+        };
+        self.raw.call(drop, asked);
     }
-}
 
-fn lock<T>(mutex: &Mutex<T>) -> MutexGuard<'_, T> {
-    mutex.lock().unwrap_or_else(PoisonError::into_inner)
-}
-
-/// What the engines of the threads that used a value keep for it.
-#[derive(Debug, Default)]
-pub struct Copies {
-    kept: Mutex<Vec<Kept>>,
-}
-
-impl Copies {
-    /// The handle in this engine, which is made if there is none yet.
-    pub fn handle(
-        &self,
-        engine: &mut Session<'_>,
+    /// The handle of the copy with a token, which is made if there is none yet.
+    pub fn copy(
+        &mut self,
+        token: &Token,
         drop: Ask,
-        make: impl FnOnce(&mut Session<'_>) -> Result<Handle>,
+        make: impl FnOnce(&mut Engine) -> Result<Handle>,
     ) -> Result<Handle> {
-        let mut kept = lock(&self.kept);
-        if let Some(kept) = kept.iter().find(|kept| Arc::ptr_eq(&kept.inbox, engine.inbox)) {
-            return Ok(kept.handle);
+        if let Some(copy) = self.copies.get(&token.number()) {
+            return Ok(copy.handle);
         }
-        let handle = make(engine)?;
-        kept.push(Kept { inbox: engine.inbox.clone(), drop, handle });
+        let handle = make(self)?;
+        token.note(self.number);
+        self.copies.insert(token.number(), Copy { drop, handle, filled: Filled::default() });
         Ok(handle)
     }
 
-    /// Lets go of all copies, since the value changes.
-    pub fn clear(&mut self) {
-        self.kept.get_mut().unwrap_or_else(PoisonError::into_inner).clear();
+    /// Whether a copy of a context was filled last for a program and in a version of the context.
+    pub fn is_filled(&self, token: &Token, last: (u64, u64)) -> bool {
+        self.copies.get(&token.number()).is_some_and(|copy| copy.filled.last == Some(last))
     }
 
-    /// The handle, if the engine of this thread has the one copy that there is.
-    pub fn only(&self, engine: &Session<'_>) -> Option<Handle> {
-        match lock(&self.kept).as_slice() {
-            [kept] if Arc::ptr_eq(&kept.inbox, engine.inbox) => Some(kept.handle),
-            _ => None,
+    /// Fills a copy of a context by a function, which gets what the copy has and changes that to what it has then.
+    pub fn fill(
+        &mut self,
+        token: &Token,
+        fill: impl FnOnce(&mut Engine, &mut Filled) -> Result<()>,
+    ) -> Result<()> {
+        let mut filled = self.copies.get_mut(&token.number()).map(|copy| std::mem::take(&mut copy.filled)).unwrap_or_default();
+        let result = fill(self, &mut filled);
+        if let Some(copy) = self.copies.get_mut(&token.number()) {
+            copy.filled = filled;
         }
+        result
     }
 
-    pub fn is_empty(&self) -> bool {
-        lock(&self.kept).is_empty()
+    /// Makes a context for one run.
+    pub fn temporary(&mut self) -> Result<Handle> {
+        let context = self.ask(Ask::Context, Asked::default())?.context;
+        self.temporary = Some(context);
+        Ok(context)
     }
-}
 
-/// The engine of this thread, in use.
-pub struct Session<'e> {
-    raw: &'e mut Raw,
-    inbox: &'e Inbox,
-    runs: &'e mut u64,
-    limits: &'e mut Option<Numbers>,
-}
-
-/// Uses the engine of this thread.
-pub fn with_engine<T>(work: impl FnOnce(&mut Session<'_>) -> Result<T>) -> Result<T> {
-    ENGINE.with(|engine| {
-        let mut engine = engine.borrow_mut();
-        let Engine { raw, inbox, runs, limits } = &mut *engine;
-        for (drop, handle) in lock(inbox).drain(..) {
-            raw.call(drop, asked_about(drop, handle));
-        }
-        work(&mut Session { raw, inbox, runs, limits })
-    })
-}
-
-impl Session<'_> {
-    /// Asks, and answers what is told, or the refusal.
+    /// Asks, and returns the answer or the error.
     pub fn ask(&mut self, ask: Ask, asked: Asked<'_>) -> Result<Told> {
         let told = self.raw.call(ask, asked);
         match told.status {
             0 => Ok(told),
-            status => Err(self.refusal(status, &told)),
+            status => Err(self.error(status, &told)),
         }
     }
 
-    /// Has the engine take these limits, or none, in what it compiles and runs from now on.
+    /// Asks for the lines that are said of a program.
+    pub fn lines(&mut self, ask: Ask, program: Handle) -> Result<Vec<String>> {
+        let told = self.ask(ask, Asked { program, ..Asked::default() })?;
+        Ok(self.text(&told, Ask::Said).lines().map(String::from).collect())
+    }
+
+    /// Sets these limits, or none, for what it compiles and runs from now on.
     pub fn limit(&mut self, limits: Option<&Limits>) -> Result<()> {
         let Some(limits) = limits else {
             if self.limits.is_some() {
                 self.ask(Ask::Unlimited, Asked::default())?;
-                *self.limits = None;
+                self.limits = None;
             }
             return Ok(());
         };
@@ -148,35 +169,20 @@ impl Session<'_> {
             let place = kind as usize;
             if self.limits.map(|has| has[place]) != Some(number) {
                 self.ask(Ask::Limit, Asked { kind, number, ..Asked::default() })?;
-                // Where the engine had no limits, it has those for strangers now, with this one changed.
+                // Where the engine had no limits, it has those for untrusted strings now, with this one changed.
                 self.limits.get_or_insert(numbers(&Limits::for_strangers()))[place] = number;
             }
         }
         Ok(())
     }
 
-    /// Begins a run: what is told of its answer, or None where it waits for a reply.
-    pub fn run(&mut self, asked: Asked<'_>) -> Result<Option<Told>> {
-        *self.runs += 1;
-        self.turn(Ask::Run, asked)
-    }
-
-    /// The number of the run that was begun last.
-    pub fn run_number(&self) -> u64 {
-        *self.runs
-    }
-
-    /// Whether this run was the last to be begun.
-    pub fn run_is(&self, number: u64) -> bool {
-        *self.runs == number
-    }
-
-    fn turn(&mut self, ask: Ask, asked: Asked<'_>) -> Result<Option<Told>> {
+    /// Begins a run, or goes on with the one that waits. Returns the answer, or None if it waits for a reply.
+    pub fn turn(&mut self, ask: Ask, asked: Asked<'_>) -> Result<Option<Told>> {
         let told = self.raw.call(ask, asked);
         match told.status {
             0 => Ok(Some(told)),
             ASKS => Ok(None),
-            status => Err(self.refusal(status, &told)),
+            status => Err(self.error(status, &told)),
         }
     }
 
@@ -190,7 +196,7 @@ impl Session<'_> {
         }
     }
 
-    /// Goes on with the run that waits, whose call answers so.
+    /// Goes on with the run that waits, whose call returns this.
     pub fn reply(&mut self, reply: &Result<Value>) -> Result<Option<Told>> {
         match reply {
             Ok(value) => {
@@ -201,7 +207,7 @@ impl Session<'_> {
         }
     }
 
-    fn refusal(&mut self, status: u32, told: &Told) -> Error {
+    fn error(&mut self, status: u32, told: &Told) -> Error {
         let message = self.text(told, Ask::Said);
         match status {
             1 => Error::PestError(Place { byte: told.place, line: told.line, column: told.column, shown: message }),
@@ -209,15 +215,16 @@ impl Session<'_> {
             3 => Error::ExprError(message),
             4 => Error::RegexError(message),
             5 => Error::MemoryError,
+            MISUSE => Error::MisuseError(message),
             DIFFERS => Error::ExprError("a run came to another call than the one that was replied to".into()),
             status => match limit_of(status) {
                 Some(limit) => Error::LimitError(limit),
-                None => Error::ExprError("the engine has no such value".into()),
+                None => Error::MisuseError("the engine has no such value".into()),
             },
         }
     }
 
-    /// The text that a call left.
+    /// The string that a call left.
     pub fn text(&mut self, told: &Told, again: Ask) -> String {
         String::from_utf8_lossy(self.raw.bytes(told, again)).into_owned()
     }
@@ -256,7 +263,7 @@ impl Session<'_> {
     /// How a value is handed in that isn't an array or a map; a zone isn't.
     fn handed_in<'v>(&mut self, value: &'v Value) -> Result<Asked<'v>> {
         asked_with(value).inspect_err(|_| {
-            // As after what the engine refuses, nothing stays of what was being built.
+            // As after an error of the engine, nothing is left of what was being built.
             let _ = self.ask(Ask::Unbuild, Asked::default());
         })
     }
@@ -282,7 +289,7 @@ impl Session<'_> {
         self.ask(Ask::Set, Asked { context, name: name.as_bytes(), ..asked }).map(|_| ())
     }
 
-    /// The value that is looked at, of which a call told.
+    /// The value that the engine looks at, as an answer describes it.
     pub fn value(&mut self, told: &Told) -> Result<Value> {
         Ok(match told.kind {
             kind::BOOL => Value::Bool(told.number != 0),
@@ -356,15 +363,15 @@ fn limit_of(status: u32) -> Option<Limit> {
     ALL.get(status.checked_sub(LIMITS)? as usize).copied()
 }
 
-/// How a value is handed in that isn't an array or a map. A zone is refused: it is known here by its name alone, and the engine
-/// finds its rules where a text asks for them.
+/// How a value is handed in that isn't an array or a map. A zone is an error: it is known here by its name alone, and the
+/// engine finds its rules when an expression asks for them.
 fn asked_with(value: &Value) -> Result<Asked<'_>> {
     let (kind, number, fraction, text): (u32, i64, u32, &[u8]) = match value {
         Value::Bool(truth) => (kind::BOOL, i64::from(*truth), 0, b""),
         Value::Integer(number) => (kind::INTEGER, *number, 0, b""),
         Value::String(text) => (kind::STRING, 0, 0, text.as_bytes()),
         Value::Timezone(name) => {
-            let why = format!("a zone can't be handed in: hand in the text {name:?}, and ask for timezone(..) of it");
+            let why = format!("a zone can't be handed in: hand in the string {name:?}, and ask for timezone(..) of it");
             return Err(Error::ExprError(why));
         }
         Value::Bytes(bytes) => (kind::BYTES, 0, 0, bytes),
@@ -375,4 +382,52 @@ fn asked_with(value: &Value) -> Result<Asked<'_>> {
         Value::Nil | Value::Array(_) | Value::Map(_) | Value::KeyedMap(_) => (kind::NIL, 0, 0, b""),
     };
     Ok(Asked { kind, number, fraction, text, ..Asked::default() })
+}
+
+#[cfg(test)]
+mod tests {
+    use super::*;
+
+    fn engine() -> Engine {
+        Engine::open(0)
+    }
+
+    fn program(engine: &mut Engine, text: &str) -> Handle {
+        engine.ask(Ask::Compile, Asked { text: text.as_bytes(), ..Asked::default() }).unwrap().program
+    }
+
+    #[test]
+    fn handles_of_another_engine_are_refused() {
+        let (mut one, mut other) = (engine(), engine());
+        let (of_one, of_other) = (program(&mut one, "a + 1"), program(&mut other, "7"));
+        assert_ne!(of_one.tag, of_other.tag);
+        assert_eq!((of_one.place, of_one.number), (of_other.place, of_other.number));
+        let unknown = Err(Error::MisuseError("the engine has no such value".into()));
+        assert_eq!(other.lines(Ask::Names, of_one), unknown);
+        assert_eq!(one.lines(Ask::Names, of_one), Ok(vec!["a".into()]));
+        let context = one.ask(Ask::Context, Asked::default()).unwrap().context;
+        let run = |engine: &mut Engine, program| engine.turn(Ask::Run, Asked { program, context, ..Asked::default() });
+        assert_eq!(run(&mut other, of_other).err(), unknown.err());
+        assert_eq!(run(&mut one, of_one).map(|_| ()), Err(Error::ExprError("unknown name a".into())));
+        other.drop_kept(Ask::DropProgram, of_one);
+        assert!(one.lines(Ask::Names, of_one).is_ok());
+    }
+
+    #[test]
+    fn values_print_as_in_the_engine() {
+        for text in [
+            "date('2024-02-29T12:00:00.000001-08:00')",
+            "duration('90s')",
+            "[date('2024-02-29').Month(), date('2024-02-29').Weekday(), b'ab', timezone('UTC'), -5, nil, true]",
+            r#"{a: 1, "b c": nil, d: 'x"y\n\\'}"#,
+            "fromPairs([[1, 2], ['x', [3]], [nil, 1]])",
+        ] {
+            let mut engine = engine();
+            let program = program(&mut engine, text);
+            let told = engine.turn(Ask::Run, Asked { program, ..Asked::default() }).unwrap().unwrap();
+            let shown = engine.ask(Ask::Shown, Asked::default()).unwrap();
+            let shown = engine.text(&shown, Ask::Said);
+            assert_eq!(engine.value(&told).unwrap().to_string(), shown, "{text}");
+        }
+    }
 }

@@ -1,93 +1,112 @@
-//! What a host adds to the language.
+//! What a host adds to the language, and runs.
 use crate::context::Context;
-use crate::engine::{with_engine, Copies, Session};
+use crate::engine::Engine;
 use crate::error::{Error, Result};
 use crate::limits::{Limit, Limits};
+use crate::moment::DateTimeValue;
+use crate::pool::{with_engine, Token};
 use crate::program::{compile, compile_limited, compile_unlimited, Program};
-use crate::raw::{Ask, Asked, Handle, Told, NONE};
-use crate::value::{DateTimeValue, Value};
+use crate::raw::{Ask, Asked, Handle, NONE};
+use crate::value::Value;
 use std::collections::HashMap;
 use std::fmt;
 
-/// What a program answers in a context, where the host adds nothing, within the program's limits.
+/// Runs a program in a context, within the program's limits, and returns its value.
+///
+/// # Errors
+///
+/// [`Error::ExprError`] and [`Error::RegexError`] if the run fails. [`Error::LimitError`] at a limit.
+/// [`Error::MemoryError`] if the engine is out of memory. [`Error::MisuseError`] for a value of the context that the program
+/// reads and the language doesn't have.
 pub fn run(program: &Program, ctx: &Context) -> Result<Value> {
-    with_engine(|engine| answer(engine, program, NONE, ctx))
+    answer(program, ctx, None)
 }
 
-/// What a text answers in a context, where the host adds nothing, within the limits for strangers.
+/// Compiles a string within the limits for untrusted strings, and runs it in a context.
 ///
 /// ```
-/// use expr::{eval, Context};
+/// use exprlang::{eval, Context};
 /// assert_eq!(eval("1 + 2", &Context::default()).unwrap().to_string(), "3");
 /// ```
+///
+/// # Errors
+///
+/// As of [`compile`] and [`run`].
 pub fn eval(code: &str, ctx: &Context) -> Result<Value> {
     run(&compile(code)?, ctx)
 }
 
-/// What a text answers in a context within limits, where the host adds nothing.
+/// Compiles a string within limits, and runs it in a context.
 ///
 /// ```
-/// use expr::{eval_limited, Context, Error, Limit, Limits};
-/// let few = Limits { steps: 1_000, ..Limits::default() };
+/// use exprlang::{eval_limited, Context, Error, Limit, Limits};
+/// let few = Limits::default().with_steps(1_000);
 /// let answer = eval_limited("all(1..1000, {# > 0})", &Context::default(), &few);
 /// assert_eq!(answer, Err(Error::LimitError(Limit::Steps)));
 /// ```
+///
+/// # Errors
+///
+/// As of [`compile`] and [`run`].
 pub fn eval_limited(code: &str, ctx: &Context, limits: &Limits) -> Result<Value> {
     run(&compile_limited(code, limits)?, ctx)
 }
 
-/// What a text answers in a context without limits, where the host adds nothing: for texts that are trusted.
+/// Compiles a string without limits, and runs it in a context. The string must be trusted.
+///
+/// # Errors
+///
+/// As of [`compile`] and [`run`], but for limits.
 pub fn eval_unlimited(code: &str, ctx: &Context) -> Result<Value> {
     run(&compile_unlimited(code)?, ctx)
 }
 
-fn answer(engine: &mut Session<'_>, program: &Program, environment: Handle, ctx: &Context) -> Result<Value> {
-    match started(engine, program, environment, ctx)? {
-        Turn::Ended(value) => Ok(value),
-        Turn::Asks(call, _) => Err(Error::ExprError(call.ident)),
-    }
-}
-
-/// How a run went: to its end, or to a call that the host answers, by the number of the run.
-enum Turn {
-    Ended(Value),
-    Asks(ExprCall, u64),
-}
-
-/// Begins a run, within the program's limits.
-fn started(engine: &mut Session<'_>, program: &Program, environment: Handle, ctx: &Context) -> Result<Turn> {
-    let asked = Asked {
-        program: program.handle(engine)?,
-        environment,
-        context: ctx.handle(engine)?,
-        ..Asked::default()
-    };
-    engine.limit(program.limits())?;
-    let told = engine.run(asked)?;
-    turned(engine, told)
-}
-
-/// Goes on with the run that waits, within the limits of its program, since a function may have compiled another.
-fn go_on(engine: &mut Session<'_>, program: &Program, reply: &Result<Value>) -> Result<Turn> {
-    engine.limit(program.limits())?;
-    let told = engine.reply(reply)?;
-    turned(engine, told)
-}
-
-fn turned(engine: &mut Session<'_>, told: Option<Told>) -> Result<Turn> {
-    match told {
-        Some(told) => Ok(Turn::Ended(engine.value(&told)?)),
-        None => {
+/// Runs a program in a context, and in an environment or none. The engine of the run waits while a function is called, so
+/// what the function runs has another one.
+fn answer(program: &Program, ctx: &Context, environment: Option<&Environment>) -> Result<Value> {
+    with_engine(|engine| {
+        let asked = Asked {
+            program: program.handle(engine)?,
+            environment: environment.map_or(Ok(NONE), |environment| environment.handle(engine))?,
+            context: ctx.handle(engine, program)?,
+            ..Asked::default()
+        };
+        engine.limit(program.limits())?;
+        let mut turn = engine.turn(Ask::Run, asked)?;
+        let mut calls = 0;
+        loop {
+            if let Some(told) = turn {
+                return engine.value(&told);
+            }
+            if program.limits().is_some_and(|limits| calls >= limits.calls) {
+                return Err(Error::LimitError(Limit::Calls));
+            }
+            calls += 1;
             let (ident, args) = engine.asked()?;
-            Ok(Turn::Asks(ExprCall { ident, args }, engine.run_number()))
+            let reply = called(environment, ExprCall { ident, args })?;
+            turn = engine.reply(&reply)?;
         }
+    })
+}
+
+/// What a function of the host returns, or the limit that ends the run.
+fn called(environment: Option<&Environment>, call: ExprCall) -> Result<Result<Value>> {
+    let reply = match environment.and_then(|environment| environment.functions.get(&call.ident)) {
+        Some(function) => function(call),
+        None => Err(Error::ExprError(call.ident)),
+    };
+    match reply {
+        Err(Error::LimitError(limit)) => Err(Error::LimitError(limit)),
+        reply => Ok(reply),
     }
 }
 
-/// A call of a function that a host added.
-#[derive(Clone, Debug, PartialEq)]
+/// A call of a function that you added.
+#[derive(Clone, Debug, PartialEq, Eq, Hash)]
 pub struct ExprCall {
+    /// The name of the function.
     pub ident: String,
+    /// The arguments, in their order.
     pub args: Vec<Value>,
 }
 
@@ -100,10 +119,10 @@ enum Zone {
     Rule(String),
 }
 
-/// What a host adds to the language: functions, zones, and the moment that is now.
+/// What you add to the language: functions, zones, and the time that `now()` returns.
 ///
 /// ```
-/// use expr::{Context, Environment};
+/// use exprlang::{Context, Environment};
 /// let mut env = Environment::new();
 /// env.add_fixed_zone("Asia/Kolkata", 19_800).unwrap();
 /// env.set_now(1_709_373_600, 0);
@@ -115,34 +134,47 @@ pub struct Environment {
     functions: HashMap<String, Function>,
     zones: Vec<(String, Zone)>,
     now: Option<DateTimeValue>,
-    copies: Copies,
+    token: Token,
 }
 
 impl Environment {
     /// An environment that adds nothing.
+    #[must_use]
     pub fn new() -> Environment {
         Environment::default()
     }
 
-    /// Adds a zone whose clock is so many seconds ahead of UTC. `UTC` itself is refused.
+    /// Adds a zone whose clock is so many seconds ahead of UTC.
+    ///
+    /// # Errors
+    ///
+    /// [`Error::ExprError`] for `UTC`, which can't be replaced, and for an offset that is too large.
+    /// [`Error::MemoryError`] if the engine is out of memory. The environment is then as it was.
     pub fn add_fixed_zone(&mut self, name: &str, seconds: i32) -> Result<()> {
         self.add(name, Zone::Fixed(seconds))
     }
 
     /// Adds a zone by a rule in POSIX's form, such as `EST5EDT,M3.2.0,M11.1.0`.
+    ///
+    /// # Errors
+    ///
+    /// As of [`Environment::add_fixed_zone`], and [`Error::ExprError`] for a rule that can't be read.
     pub fn add_zone_rule(&mut self, name: &str, rule: &str) -> Result<()> {
         self.add(name, Zone::Rule(rule.into()))
     }
 
-    /// Adds a function, in place of an earlier one of this name or of one of the language. Its refusal is that of the call.
+    /// Adds a function, in place of an earlier one of this name or of one of the language. Its name is a word of the
+    /// language, else each run in the environment is an [`Error::MisuseError`].
     ///
-    /// A run stops at a call of it and begins anew with the reply, so that a program that makes n calls is run n + 1 times.
-    /// Each call is answered once; the function may run programs itself. How many calls a run may make is a limit of the
-    /// program ([`Limits::calls`]), and where the function answers [`Error::LimitError`], as where a program that it runs
-    /// stops, the whole run stops with that.
+    /// A run stops at a call of it and begins again with the reply. So a program that makes n calls runs n + 1 times. Each
+    /// call is made once. The function may run programs itself. How many calls a run may make is a limit of the program
+    /// ([`Limits::calls`]).
+    ///
+    /// An error of the function ends the run, as [`Error::ExprError`] with the same message. An [`Error::LimitError`], as of
+    /// a program that the function runs, ends it as it is.
     ///
     /// ```
-    /// use expr::{Context, Environment, Error, Value};
+    /// use exprlang::{Context, Environment, Error, Value};
     /// let mut env = Environment::new();
     /// env.add_function("price", |call| match call.args.as_slice() {
     ///     [Value::String(article)] if article == "pen" => Ok(Value::Integer(150)),
@@ -156,12 +188,12 @@ impl Environment {
         name: impl Into<String>,
         function: impl Fn(ExprCall) -> Result<Value> + Send + Sync + 'static,
     ) {
-        self.copies.clear();
+        self.token = Token::default();
         self.functions.insert(name.into(), Box::new(function));
     }
 
     fn add(&mut self, name: &str, zone: Zone) -> Result<()> {
-        self.copies.clear();
+        self.token = Token::default();
         self.zones.push((name.into(), zone));
         let added = with_engine(|engine| self.handle(engine));
         if added.is_err() {
@@ -170,81 +202,51 @@ impl Environment {
         added.map(|_| ())
     }
 
-    /// Sets the moment that `now()` answers: a second since 1970 began, and nanoseconds past that.
+    /// Sets the time that `now()` returns: a second since 1970 began, and nanoseconds past that. Without it `now()` is an
+    /// error. A run is an [`Error::MisuseError`] if the language has no such DateTime.
     pub fn set_now(&mut self, second: i64, nanosecond: u32) {
-        self.copies.clear();
+        self.token = Token::default();
         self.now = Some(DateTimeValue::from_timestamp(second, nanosecond));
     }
 
-    /// What a program answers in a context, within the program's limits.
+    /// Runs a program in a context, within the program's limits, and returns its value.
+    ///
+    /// # Errors
+    ///
+    /// As of [`run`](crate::run()), and what your functions return.
     pub fn run(&self, program: &Program, ctx: &Context) -> Result<Value> {
-        let mut replies = Vec::new();
-        let mut turn = with_engine(|engine| self.begin(engine, program, ctx, &replies))?;
-        loop {
-            match turn {
-                Turn::Ended(value) => return Ok(value),
-                Turn::Asks(call, run) => {
-                    replies.push(self.call(program, replies.len(), call)?);
-                    turn = with_engine(|engine| match replies.last() {
-                        Some(reply) if engine.run_is(run) => go_on(engine, program, reply),
-                        // A function has run programs itself, so the engine waits for this run no longer.
-                        _ => self.begin(engine, program, ctx, &replies),
-                    })?;
-                }
-            }
-        }
+        answer(program, ctx, Some(self))
     }
 
-    /// What a function of the host answers or refuses with, once so many calls were answered, or the limit that ends the run.
-    fn call(&self, program: &Program, answered: usize, call: ExprCall) -> Result<Result<Value>> {
-        if program.limits().is_some_and(|limits| answered >= limits.calls) {
-            return Err(Error::LimitError(Limit::Calls));
-        }
-        let reply = match self.functions.get(&call.ident) {
-            Some(function) => function(call),
-            None => Err(Error::ExprError(call.ident)),
-        };
-        match reply {
-            Err(Error::LimitError(limit)) => Err(Error::LimitError(limit)),
-            reply => Ok(reply),
-        }
-    }
-
-    /// Begins a run that has these replies.
-    fn begin(
-        &self,
-        engine: &mut Session<'_>,
-        program: &Program,
-        ctx: &Context,
-        replies: &[Result<Value>],
-    ) -> Result<Turn> {
-        let environment = self.handle(engine)?;
-        let mut turn = started(engine, program, environment, ctx)?;
-        for reply in replies {
-            if let Turn::Asks(..) = turn {
-                turn = go_on(engine, program, reply)?;
-            }
-        }
-        Ok(turn)
-    }
-
-    /// What a text answers in a context, within the limits for strangers.
+    /// Compiles a string within the limits for untrusted strings, and runs it in a context.
+    ///
+    /// # Errors
+    ///
+    /// As of [`compile`] and [`Environment::run`].
     pub fn eval(&self, code: &str, ctx: &Context) -> Result<Value> {
         self.run(&compile(code)?, ctx)
     }
 
-    /// What a text answers in a context within limits.
+    /// Compiles a string within limits, and runs it in a context.
+    ///
+    /// # Errors
+    ///
+    /// As of [`compile`] and [`Environment::run`].
     pub fn eval_limited(&self, code: &str, ctx: &Context, limits: &Limits) -> Result<Value> {
         self.run(&compile_limited(code, limits)?, ctx)
     }
 
-    /// What a text answers in a context without limits: for texts that are trusted.
+    /// Compiles a string without limits, and runs it in a context. The string must be trusted.
+    ///
+    /// # Errors
+    ///
+    /// As of [`compile`] and [`Environment::run`], but for limits.
     pub fn eval_unlimited(&self, code: &str, ctx: &Context) -> Result<Value> {
         self.run(&compile_unlimited(code)?, ctx)
     }
 
-    fn handle(&self, engine: &mut Session<'_>) -> Result<Handle> {
-        self.copies.handle(engine, Ask::DropEnvironment, |engine| {
+    fn handle(&self, engine: &mut Engine) -> Result<Handle> {
+        engine.copy(&self.token, Ask::DropEnvironment, |engine| {
             let environment = engine.ask(Ask::Environment, Asked::default())?.environment;
             self.fill(engine, environment).inspect_err(|_| {
                 let _ = engine.ask(Ask::DropEnvironment, Asked { environment, ..Asked::default() });
@@ -253,9 +255,10 @@ impl Environment {
         })
     }
 
-    fn fill(&self, engine: &mut Session<'_>, environment: Handle) -> Result<()> {
+    fn fill(&self, engine: &mut Engine, environment: Handle) -> Result<()> {
         for name in self.functions.keys() {
-            engine.ask(Ask::Name, Asked { environment, name: name.as_bytes(), ..Asked::default() })?;
+            let asked = Asked { environment, name: name.as_bytes(), ..Asked::default() };
+            engine.ask(Ask::Name, asked).map_err(|error| error.of(name))?;
         }
         for (name, zone) in &self.zones {
             let asked = Asked { environment, name: name.as_bytes(), ..Asked::default() };

@@ -1,8 +1,9 @@
-//! A small expression language whose engine is proved: texts in, values or refusals out.
+//! A small expression language for rules, filters and settings. You hand in a string and values, and get a value or an
+//! error.
 //!
 //! ```
-//! use expr::{compile, run, Context, Value};
-//! # fn main() -> expr::Result<()> {
+//! use exprlang::{compile, run, Context, Value};
+//! # fn main() -> exprlang::Result<()> {
 //! let rule = compile("price * count > 100 and not blocked")?;
 //! let mut order = Context::default();
 //! order.insert("price", 60);
@@ -13,23 +14,40 @@
 //! # }
 //! ```
 //!
-//! The engine is written in Rattle, Rust with contracts, and every function of it is proved; this crate is plain Rust over
-//! it, which is tested. All that isn't safe stands in one module of it, `raw`.
+//! The engine is written in Rattle, which is Rust with contracts, and each of its functions is proved. This crate is plain
+//! Rust over it, and is tested. All of its `unsafe` code is in one private module, `raw`.
 //!
-//! What a program may take is limited: [`compile`] and [`eval`] take the [`Limits`] for texts of strangers,
-//! [`compile_limited`] and [`eval_limited`] others, and by name alone, [`compile_unlimited`] and [`eval_unlimited`], there
-//! are none. A program that would pass a limit is ended with [`Error::LimitError`].
+//! # Limits
 //!
-//! Each thread has an engine of its own, which stays there: that one may go to another thread isn't proved, so it is neither
-//! `Send` nor `Sync`, and stands in no type of this interface. Programs, contexts, values and environments go from thread to
-//! thread, and may be shared; a thread that runs a program for the first time compiles it for itself.
+//! [`compile`] and [`eval`] take the limits for untrusted strings, [`Limits::for_strangers`]. [`compile_limited`] and
+//! [`eval_limited`] take others. [`compile_unlimited`] and [`eval_unlimited`] take none. A program that would pass a limit
+//! ends with [`Error::LimitError`].
+//!
+//! # Values
+//!
+//! The `From` and `TryFrom` implementations of [`Value`] cover the usual types of Rust, and [`value!`] writes nested values.
+//! The language has no fractions. So a float becomes a value by `TryFrom` if it is a whole number, and is an error
+//! otherwise. Hand in cents, or round it.
+//!
+//! # Threads
+//!
+//! All public types are `Send` and `Sync`. A call borrows an engine from a pool and gives it back. So an engine may move
+//! between threads, and takes one call at a time. That this is right is tested, not proved. There are as many engines as
+//! there are calls at once. Each keeps its own copies of the programs and contexts that it runs. It drops them when you drop
+//! the last clone of the program, or the context. An engine without copies is closed, except for one that waits for the next
+//! call.
+#![warn(missing_docs)]
+
 mod context;
+mod convert;
 mod engine;
 mod environment;
 mod error;
 mod limits;
 mod macros;
 mod map;
+mod moment;
+mod pool;
 mod program;
 mod raw;
 mod value;
@@ -39,5 +57,17 @@ pub use environment::{eval, eval_limited, eval_unlimited, run, Environment, Expr
 pub use error::{Error, Place, Result};
 pub use limits::{Limit, Limits};
 pub use map::Map;
-pub use program::{compile, compile_limited, compile_unlimited, Program};
-pub use value::{DateTimeValue, Value};
+pub use moment::DateTimeValue;
+pub use program::{compile, compile_limited, compile_unlimited, Missing, Program};
+pub use value::Value;
+
+/// Says which library is linked: its version, the kit and the sources that made it, and whether it is proved.
+///
+/// ```
+/// let version = exprlang::library_version();
+/// assert_eq!(version.split(", ").next(), Some(env!("CARGO_PKG_VERSION")));
+/// ```
+#[must_use]
+pub fn library_version() -> &'static str {
+    raw::version()
+}

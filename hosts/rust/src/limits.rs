@@ -1,44 +1,88 @@
-//! What a text may take.
+//! What a program may take.
 use std::fmt;
 
-/// What the program of a text may take, when it is compiled and each time that it runs. A program keeps the limits within
-/// which it was compiled, whoever runs it and on whatever thread.
+/// What a program may take, when it is compiled and each time that it runs. A program keeps the limits within which it was
+/// compiled, whoever runs it and on whatever thread.
 ///
-/// The default is [`Limits::for_strangers`]. `docs/LIMITS.md` says what counts.
+/// The default is [`Limits::for_strangers`]. `docs/LIMITS.md` in the repository says what counts. Limits may get more
+/// fields. So begin with the default, and change what you need:
 ///
 /// ```
-/// use expr::{compile_limited, run, Context, Error, Limit, Limits};
-/// let few = Limits { steps: 10_000, ..Limits::default() };
+/// use exprlang::{compile_limited, run, Context, Error, Limit, Limits};
+/// let few = Limits::default().with_steps(10_000);
 /// let rule = compile_limited("all(1..1000, {all(1..1000, {true})})", &few).unwrap();
 /// assert_eq!(run(&rule, &Context::default()), Err(Error::LimitError(Limit::Steps)));
 /// ```
-#[derive(Clone, Copy, Debug, PartialEq, Eq)]
+#[derive(Clone, Copy, Debug, PartialEq, Eq, Hash)]
+#[non_exhaustive]
 pub struct Limits {
-    /// How high the tree of a text may be: the greatest number of trees one inside another.
+    /// How high the tree of a string may be: the greatest number of trees one inside another.
     pub height: usize,
-    /// What the literal patterns of a text may weigh together.
+    /// What the literal patterns of a string may weigh together.
     pub patterns: u64,
-    /// How many steps a run may take. An instruction is one, and so is an item that is looked at and 16 bytes of a text.
+    /// How many steps a run may take. An instruction is one, and so is an item that is looked at and 16 bytes of a string.
     pub steps: u64,
     /// How deep the values that a run makes may be: an array or a map is one level above its parts.
     pub depth: usize,
-    /// What the values that a run holds at once may weigh. An item is 1, and so are 16 bytes of a text.
+    /// What the values that a run holds at once may weigh. An item is 1, and so are 16 bytes of a string.
     pub size: u64,
-    /// How many calls of functions of the host a run may make. Since a run begins anew after each, with all its steps, one
-    /// that makes n calls may take n + 1 times `steps`, and where the functions run programs themselves, as many as
-    /// (n + 1) * (n + 2) / 2 times.
+    /// How many calls of your functions a run may make. A run begins again after each, with all its steps. So one that makes
+    /// n calls may take n + 1 times `steps`. What your functions run themselves comes on top, within limits of its own.
     pub calls: usize,
 }
 
 impl Limits {
-    /// Limits for a text that a stranger wrote: a height of 100, patterns of 100,000, 1,000,000 steps, a depth of 1,000, a
-    /// size of 1,000,000, and 100 calls of functions of the host.
+    /// Limits for an untrusted string: a height of 100, patterns of 100,000, 1,000,000 steps, a depth of 1,000, a size of
+    /// 1,000,000, and 100 calls of your functions.
+    #[must_use]
     pub const fn for_strangers() -> Limits {
         Limits { height: 100, patterns: 100_000, steps: 1_000_000, depth: 1_000, size: 1_000_000, calls: 100 }
     }
+
+    /// These limits with another height.
+    #[must_use]
+    pub const fn with_height(mut self, height: usize) -> Limits {
+        self.height = height;
+        self
+    }
+
+    /// These limits with another weight of patterns.
+    #[must_use]
+    pub const fn with_patterns(mut self, patterns: u64) -> Limits {
+        self.patterns = patterns;
+        self
+    }
+
+    /// These limits with another number of steps.
+    #[must_use]
+    pub const fn with_steps(mut self, steps: u64) -> Limits {
+        self.steps = steps;
+        self
+    }
+
+    /// These limits with another depth.
+    #[must_use]
+    pub const fn with_depth(mut self, depth: usize) -> Limits {
+        self.depth = depth;
+        self
+    }
+
+    /// These limits with another size.
+    #[must_use]
+    pub const fn with_size(mut self, size: u64) -> Limits {
+        self.size = size;
+        self
+    }
+
+    /// These limits with another number of calls.
+    #[must_use]
+    pub const fn with_calls(mut self, calls: usize) -> Limits {
+        self.calls = calls;
+        self
+    }
 }
 
-/// Those for strangers.
+/// Those for untrusted strings.
 impl Default for Limits {
     fn default() -> Limits {
         Limits::for_strangers()
@@ -47,10 +91,11 @@ impl Default for Limits {
 
 /// A limit that a program would have passed.
 #[derive(Clone, Copy, Debug, PartialEq, Eq, Hash)]
+#[non_exhaustive]
 pub enum Limit {
-    /// The tree of a text is higher.
+    /// The tree of a string is higher.
     Height,
-    /// The literal patterns of a text weigh more.
+    /// The literal patterns of a string weigh more.
     Patterns,
     /// A run takes more steps.
     Steps,
@@ -58,19 +103,19 @@ pub enum Limit {
     Depth,
     /// A run holds more at once.
     Size,
-    /// A run makes more calls of functions of the host.
+    /// A run makes more calls of your functions.
     Calls,
 }
 
 impl fmt::Display for Limit {
     fn fmt(&self, f: &mut fmt::Formatter<'_>) -> fmt::Result {
         f.write_str(match self {
-            Limit::Height => "the text nests deeper than the limit of height",
-            Limit::Patterns => "the patterns of the text weigh more than the limit of patterns",
+            Limit::Height => "the expression nests deeper than the limit of height",
+            Limit::Patterns => "the patterns of the expression weigh more than the limit of patterns",
             Limit::Steps => "the run takes more steps than the limit of steps",
             Limit::Depth => "the run makes a value that is deeper than the limit of depth",
             Limit::Size => "the run holds more at once than the limit of size",
-            Limit::Calls => "the run calls the host more often than the limit of calls",
+            Limit::Calls => "the run calls your functions more often than the limit of calls",
         })
     }
 }

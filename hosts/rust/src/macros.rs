@@ -1,11 +1,13 @@
-//! Values written down, and refusals.
+//! Values written down, and errors.
 
 /// A value written as in the language: `nil`, arrays in square brackets, maps in braces; anything else is an expression
 /// that becomes a [`Value`](crate::Value) by `From`.
 ///
+/// A float is none: the language has no fractions. Hand in cents, or round it, or see `Value::try_from`.
+///
 /// ```
 /// let tags = vec!["a", "b"];
-/// let value = expr::value!({"code": 100 + 1, "tags": tags, "none": nil, "nested": [1, {"x": true}]});
+/// let value = exprlang::value!({"code": 100 + 1, "tags": tags, "none": nil, "nested": [1, {"x": true}]});
 /// assert_eq!(value.to_string(), r#"{code: 101, tags: ["a", "b"], none: nil, nested: [1, {x: true}]}"#);
 /// ```
 #[macro_export]
@@ -58,7 +60,16 @@ macro_rules! value_pair {
     };
 }
 
-/// Leaves the enclosing function with an [`Error::ExprError`](crate::Error::ExprError) of a text.
+/// Leaves the enclosing function with an [`Error::ExprError`](crate::Error::ExprError) with a message.
+///
+/// ```
+/// fn doubled(call: exprlang::ExprCall) -> exprlang::Result<exprlang::Value> {
+///     match call.args[..] {
+///         [exprlang::Value::Integer(number)] => Ok(exprlang::Value::Integer(number * 2)),
+///         _ => exprlang::bail!("{} takes an integer", call.ident),
+///     }
+/// }
+/// ```
 #[macro_export]
 macro_rules! bail {
     ($($message:tt)+) => {

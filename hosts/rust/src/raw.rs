@@ -1,6 +1,7 @@
-//! The three calls of the engine, as `crates/expr_c/src/lib.rt` and `crates/expr_engine/src/call.rt` have them. Where the parts
-//! of a call lie is asserted below, and `hosts/border.py` compares that, and the numbers, with those sources.
-use std::ffi::c_void;
+//! The three calls of the engine, as `crates/expr_c/src/lib.rt` and `crates/expr_engine/src/call.rt` have them, and two of the
+//! library: one counts tags, one says the version. Where the parts of a call lie is asserted below, and `hosts/border.py`
+//! compares that, and the numbers, with those sources.
+use std::ffi::{c_char, c_void, CStr};
 use std::marker::PhantomData;
 use std::mem::{offset_of, size_of, MaybeUninit};
 use std::ptr::NonNull;
@@ -9,12 +10,14 @@ use std::ptr::NonNull;
 #[repr(C)]
 #[derive(Clone, Copy, Debug, PartialEq, Eq)]
 pub struct Handle {
-    pub place: usize,
+    /// The tag of the engine. No two engines of a process have the same one.
+    pub tag: u32,
+    pub place: u32,
     pub number: u64,
 }
 
 /// The handle of no context, or of no environment.
-pub const NONE: Handle = Handle { place: 0, number: u64::MAX };
+pub const NONE: Handle = Handle { tag: 0, place: 0, number: u64::MAX };
 
 /// A slice as it crosses: a pointer that is never null, and a length.
 #[repr(C)]
@@ -71,7 +74,7 @@ macro_rules! lies_at {
 }
 
 lies_at! {
-    Handle { place: 0, number: 8 } 16,
+    Handle { tag: 0, place: 4, number: 8 } 16,
     Slice<'static> { at: 0, length: 8 } 16,
     Room<'static> { at: 0, length: 8 } 16,
     Call<'static> {
@@ -130,8 +133,13 @@ pub enum Ask {
     WaitingCall,
     Limit,
     Unlimited,
+    UsesEnv,
+    Functions,
+    FillMissing,
 }
 
+/// The status of a call that makes no sense. The engine says why.
+pub const MISUSE: u32 = 7;
 /// The status of a run that waits for the host's reply, as `Status` of host_error.rt.
 pub const ASKS: u32 = 8;
 /// The status of a run that came to another call than the one that was replied to.
@@ -159,8 +167,17 @@ pub mod kind {
 
 unsafe extern "C" {
     fn expr_c_size() -> usize;
-    fn expr_c_open(at: *mut c_void);
+    fn expr_c_open(at: *mut c_void, tag: u32);
+    fn expr_c_tag() -> u32;
     fn expr_c_call(at: *mut c_void, call: *mut Call<'_>);
+    fn expr_version() -> *const c_char;
+}
+
+/// What the library says of itself.
+pub fn version() -> &'static str {
+    // SAFETY: it takes nothing, and returns a string with a zero byte behind it, which never changes.
+    let version = unsafe { CStr::from_ptr(expr_version()) };
+    version.to_str().unwrap_or_default()
 }
 
 /// What is asked with.
@@ -191,7 +208,7 @@ impl Default for Asked<'_> {
     }
 }
 
-/// What is told of a call, beside the text that is left in the room.
+/// The answer of a call, besides the string that it leaves in the room.
 #[derive(Clone, Copy)]
 pub struct Told {
     pub status: u32,
@@ -209,25 +226,33 @@ pub struct Told {
 
 /// An engine, and room for what it says. The engine lies in memory of this struct's own, which nothing else reaches.
 ///
-/// It is neither `Send` nor `Sync`, which is asserted below.
+/// It is `Send` and not `Sync`, which is asserted below: it may move between threads, and takes one call at a time.
 pub struct Raw {
     inside: Box<[MaybeUninit<u128>]>,
     room: Vec<u8>,
-    /// An engine stays on its thread: that one may go to another isn't proved, since it keeps patterns.
-    stays: PhantomData<*mut ()>,
+    /// What an engine keeps lies behind pointers.
+    keeps: PhantomData<*mut ()>,
 }
 
-// This compiles only where an engine is neither `Send` nor `Sync`: one that was would have two of these implementations, and
-// nothing would say which of them is meant.
+// SAFETY: an engine has all that it keeps in memory that it alone reaches. It has no thread-local storage and no lock, and
+// calls the allocator of C, which any thread may call. A call borrows it for writing, so there is one at a time. That it may
+// move is tested with threads, and not proved.
+unsafe impl Send for Raw {}
+
+// This compiles only where an engine isn't `Sync`: one that was would have both of these implementations, and nothing would
+// say which of them is meant.
 const _: fn() = {
-    trait Stays<Which> {
-        fn stays() {}
+    trait OneCallAtATime<Which> {
+        fn is_so() {}
     }
-    impl<T> Stays<()> for T {}
-    impl<T: Send> Stays<u8> for T {}
-    impl<T: Sync> Stays<u16> for T {}
-    <Raw as Stays<_>>::stays
+    impl<T> OneCallAtATime<()> for T {}
+    impl<T: Sync> OneCallAtATime<u8> for T {}
+    <Raw as OneCallAtATime<_>>::is_so
 };
+
+/// How much room an engine has at first, and between calls at most.
+const ROOM: usize = 128;
+const MOST_ROOM: usize = 65_536;
 
 impl Raw {
     pub fn open() -> Raw {
@@ -235,9 +260,16 @@ impl Raw {
         let size = unsafe { expr_c_size() };
         let words = size.div_ceil(size_of::<u128>());
         let mut inside: Box<[MaybeUninit<u128>]> = (0..words).map(|_| MaybeUninit::uninit()).collect();
-        // SAFETY: so many bytes are there, at a multiple of 16.
-        unsafe { expr_c_open(inside.as_mut_ptr().cast()) };
-        Raw { inside, room: vec![0; 128], stays: PhantomData }
+        // SAFETY: so many bytes are there, at a multiple of 16. The tag comes from a counter that any thread may call.
+        unsafe { expr_c_open(inside.as_mut_ptr().cast(), expr_c_tag()) };
+        Raw { inside, room: vec![0; ROOM], keeps: PhantomData }
+    }
+
+    /// Gives back room that a long string took.
+    pub fn shrink(&mut self) {
+        if self.room.len() > MOST_ROOM {
+            self.room = vec![0; ROOM];
+        }
     }
 
     pub fn call(&mut self, ask: Ask, asked: Asked<'_>) -> Told {

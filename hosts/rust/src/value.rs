@@ -1,114 +1,135 @@
 //! Values.
 use crate::map::Map;
+use crate::moment::DateTimeValue;
 use std::fmt;
 
-/// A moment: its instant, and what the engine prints of it. A moment that a host makes is on a clock in UTC.
-#[derive(Clone, Debug)]
-pub struct DateTimeValue {
-    second: i64,
-    nanosecond: u32,
-    text: String,
-}
-
-impl DateTimeValue {
-    /// The moment of a second since 1970 began, and nanoseconds past that, on a clock in UTC.
-    pub fn from_timestamp(second: i64, nanosecond: u32) -> DateTimeValue {
-        DateTimeValue { second, nanosecond, text: format!("{second}.{nanosecond:09}") }
-    }
-
-    pub(crate) fn told(second: i64, nanosecond: u32, text: String) -> DateTimeValue {
-        DateTimeValue { second, nanosecond, text }
-    }
-
-    /// The second since 1970 began.
-    pub fn second(&self) -> i64 {
-        self.second
-    }
-
-    /// The nanoseconds past that second.
-    pub fn nanosecond(&self) -> u32 {
-        self.nanosecond
-    }
-}
-
-/// Moments are equal where their instants are.
-impl PartialEq for DateTimeValue {
-    fn eq(&self, other: &DateTimeValue) -> bool {
-        (self.second, self.nanosecond) == (other.second, other.nanosecond)
-    }
-}
-
-/// What the engine printed of it; of one that a host made, its second.
-impl fmt::Display for DateTimeValue {
-    fn fmt(&self, f: &mut fmt::Formatter<'_>) -> fmt::Result {
-        f.write_str(&self.text)
-    }
-}
-
-/// A value of the language.
-#[derive(Clone, Debug, Default, PartialEq)]
+/// A value of the language. It prints as the language prints it.
+///
+/// The usual types of Rust become values by `From`, or by `TryFrom` if some of their values are none of the language. Back,
+/// a value becomes a scalar by `TryFrom`, or is looked at by the `as_` methods.
+///
+/// ```
+/// use exprlang::{value, Value};
+/// use std::time::Duration;
+/// let tags: Value = vec!["new", "red"].into();
+/// assert_eq!(tags, value!(["new", "red"]));
+/// assert_eq!(Value::try_from(Duration::from_secs(90)), Ok(Value::Duration(90_000_000_000)));
+/// assert_eq!(i64::try_from(Value::from(7u8)), Ok(7));
+/// assert_eq!(Value::try_from(2.0), Ok(Value::Integer(2)));
+/// let why = Value::try_from(1.5).unwrap_err().to_string();
+/// assert!(why.starts_with("the language has no fractions"));
+/// ```
+#[derive(Clone, Debug, Default, PartialEq, Eq, Hash)]
+#[non_exhaustive]
 pub enum Value {
+    /// A whole number of 64 bits.
     Integer(i64),
+    /// True or false.
     Bool(bool),
+    /// Nothing.
     #[default]
     Nil,
+    /// A string.
     String(String),
+    /// An instant, and what it prints as.
     DateTime(DateTimeValue),
-    /// Nanoseconds.
+    /// A length of time, in nanoseconds.
     Duration(i64),
-    /// A zone, by its name. It is what programs answer and calls are made with; a run is refused to which one is handed in.
+    /// A zone, by its name. Programs return zones. A run that reads a zone of a context is an error: hand in the name, and
+    /// let the program say `timezone(name)`.
     Timezone(String),
-    /// From 1.
+    /// A month, from 1 to 12.
     Month(u32),
-    /// From 0, which is Sunday.
+    /// A day of the week, from 0, which is Sunday, to 6.
     Weekday(u32),
+    /// Values one behind the other.
     Array(Vec<Value>),
+    /// Bytes. A `Vec<u8>` becomes an array of integers by `From`, so write `Value::Bytes(bytes)`.
     Bytes(Vec<u8>),
+    /// Values by name.
     Map(Map),
     /// A map whose keys are any scalars.
     KeyedMap(Vec<(Value, Value)>),
 }
 
 impl Value {
+    /// The truth of a `Bool`.
+    #[must_use]
     pub fn as_bool(&self) -> Option<bool> {
         if let Value::Bool(truth) = self { Some(*truth) } else { None }
     }
 
+    /// The number of an `Integer`.
+    #[must_use]
     pub fn as_integer(&self) -> Option<i64> {
         if let Value::Integer(number) = self { Some(*number) } else { None }
     }
 
+    /// The string of a `String`.
+    #[must_use]
     pub fn as_string(&self) -> Option<&str> {
         if let Value::String(text) = self { Some(text) } else { None }
     }
 
+    /// The bytes of `Bytes`.
+    #[must_use]
     pub fn as_bytes(&self) -> Option<&[u8]> {
         if let Value::Bytes(bytes) = self { Some(bytes) } else { None }
     }
 
+    /// The instant of a `DateTime`.
+    #[must_use]
     pub fn as_datetime(&self) -> Option<&DateTimeValue> {
         if let Value::DateTime(moment) = self { Some(moment) } else { None }
     }
 
-    /// The nanoseconds of a length of time.
+    /// The nanoseconds of a `Duration`.
+    #[must_use]
     pub fn as_duration(&self) -> Option<i64> {
         if let Value::Duration(nanoseconds) = self { Some(*nanoseconds) } else { None }
     }
 
+    /// The items of an `Array`.
+    #[must_use]
     pub fn as_array(&self) -> Option<&[Value]> {
         if let Value::Array(items) = self { Some(items) } else { None }
     }
 
+    /// The map of a `Map`.
+    #[must_use]
     pub fn as_map(&self) -> Option<&Map> {
         if let Value::Map(map) = self { Some(map) } else { None }
     }
 
+    /// The pairs of a `KeyedMap`.
+    #[must_use]
     pub fn as_keyed_map(&self) -> Option<&[(Value, Value)]> {
         if let Value::KeyedMap(pairs) = self { Some(pairs) } else { None }
     }
 
+    /// Whether it is `Nil`.
+    #[must_use]
     pub fn is_nil(&self) -> bool {
         matches!(self, Value::Nil)
+    }
+
+    /// What its kind is called, with an article.
+    pub(crate) fn kind(&self) -> &'static str {
+        match self {
+            Value::Integer(_) => "an Integer",
+            Value::Bool(_) => "a Bool",
+            Value::Nil => "nil",
+            Value::String(_) => "a String",
+            Value::DateTime(_) => "a DateTime",
+            Value::Duration(_) => "a Duration",
+            Value::Timezone(_) => "a Timezone",
+            Value::Month(_) => "a Month",
+            Value::Weekday(_) => "a Weekday",
+            Value::Array(_) => "an Array",
+            Value::Bytes(_) => "Bytes",
+            Value::Map(_) => "a Map",
+            Value::KeyedMap(_) => "a KeyedMap",
+        }
     }
 }
 
@@ -167,45 +188,4 @@ fn quote(text: &str, f: &mut fmt::Formatter<'_>) -> fmt::Result {
         }
     }
     f.write_str("\"")
-}
-
-macro_rules! from {
-    ($($given:ty => $by:expr),* $(,)?) => {
-        $(impl From<$given> for Value {
-            fn from(given: $given) -> Value {
-                $by(given)
-            }
-        })*
-    };
-}
-
-from! {
-    i64 => Value::Integer,
-    i32 => |number: i32| Value::Integer(number.into()),
-    u32 => |number: u32| Value::Integer(number.into()),
-    usize => |number: usize| Value::Integer(number as i64),
-    bool => Value::Bool,
-    String => Value::String,
-    &String => |text: &String| Value::String(text.clone()),
-    &str => |text: &str| Value::String(text.into()),
-    Map => Value::Map,
-    DateTimeValue => Value::DateTime,
-}
-
-impl<V: Into<Value>> From<Vec<V>> for Value {
-    fn from(items: Vec<V>) -> Value {
-        Value::Array(items.into_iter().map(Into::into).collect())
-    }
-}
-
-impl<V: Into<Value>> From<Option<V>> for Value {
-    fn from(item: Option<V>) -> Value {
-        item.map_or(Value::Nil, Into::into)
-    }
-}
-
-impl<N: Into<String>, V: Into<Value>> FromIterator<(N, V)> for Value {
-    fn from_iter<I: IntoIterator<Item = (N, V)>>(pairs: I) -> Value {
-        Value::Map(pairs.into_iter().collect())
-    }
 }

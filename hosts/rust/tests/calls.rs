@@ -1,16 +1,16 @@
-use expr::{
+use exprlang::{
     compile, eval, run, value, Context, DateTimeValue, Environment, Error, ExprCall, Map, Program, Value,
 };
 use std::sync::atomic::{AtomicI64, Ordering};
 
-fn alone(code: &str) -> expr::Result<Value> {
+fn alone(code: &str) -> exprlang::Result<Value> {
     eval(code, &Context::default())
 }
 
 #[test]
 fn a_rule_runs() {
     let rule = compile("price * count > 100 and not blocked").unwrap();
-    assert_eq!(rule.names().unwrap(), ["blocked", "count", "price"]);
+    assert_eq!(rule.names(), ["blocked", "count", "price"]);
     let mut order = Context::from_iter([("price", 60), ("count", 2)]);
     assert!(matches!(run(&rule, &order), Err(Error::ExprError(_))));
     order.insert("blocked", false);
@@ -58,13 +58,14 @@ fn zones_come_and_do_not_go() {
     env.set_now(1_709_373_600, 0);
     let zone = env.eval("timezone('Asia/Kolkata')", &Context::default()).unwrap();
     assert_eq!(zone, Value::Timezone("Asia/Kolkata".into()));
-    fn is_refused(answer: expr::Result<Value>) {
+    fn is_refused(answer: exprlang::Result<Value>) {
         assert!(matches!(&answer, Err(Error::ExprError(why)) if why.contains("zone")), "{answer:?}");
     }
     let nested = value!([1, {"zone": zone.clone()}]);
     for value in [&zone, &nested, &Value::KeyedMap(vec![(zone.clone(), Value::Nil)])] {
         let mut context = Context::from_iter([("x", value.clone())]);
-        is_refused(eval("1", &context));
+        assert_eq!(eval("1", &context), Ok(Value::Integer(1)));
+        is_refused(eval("x", &context));
         is_refused(env.eval("x", &context));
         context.insert("x", "Asia/Kolkata");
         assert_eq!(env.eval("now().In(timezone(x)).Hour()", &context), Ok(Value::Integer(15)));
@@ -137,7 +138,7 @@ fn programs_and_contexts_go_from_thread_to_thread() {
     assert_eq!(moved, Value::Integer(4));
 }
 
-fn doubled(call: ExprCall) -> expr::Result<Value> {
+fn doubled(call: ExprCall) -> exprlang::Result<Value> {
     match call.args.as_slice() {
         [Value::Integer(number)] => Ok(Value::Integer(number * 2)),
         _ => Err(Error::ExprError("double takes an integer".into())),

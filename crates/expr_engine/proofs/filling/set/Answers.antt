@@ -7,6 +7,7 @@ use Rattle.expr_engine.specs.declared.engine.Engine.{Engine}
 use Rattle.expr_exchange.specs.Kinds.{kind_numbered}
 use Rattle.expr_exchange.specs.declared.host_error.HostError.{HostError}
 use Rattle.expr_exchange.specs.declared.host_error.HostError.TheVariants.{Misuse}
+use Rattle.expr_exchange.specs.declared.misuse.Misuse.TheVariants as wrong
 use Rattle.expr_value.specs.Names.{put}
 use Rattle.expr_engine.proofs.Handed.{handed_on}
 use Rattle.expr_engine.proofs.Told.{then_so}
@@ -14,7 +15,7 @@ use Rattle.expr_exchange.proofs.Refused.{passed_so}
 use Rattle.expr_engine.proofs.filling.set.Goals as goal
 
 abbrev Why : Engine → Call → HostError → Type 0
-Why engine call e = ((e ≡ Misuse) × (IsUtf8 call.name.now → ⊥)) ⊎ (IsUnknownOrForMemory e ⊎ HandsNothingIn engine call e)
+Why engine call e = ((e ≡ Misuse wrong.NotUtf8) × (IsUtf8 call.name.now → ⊥)) ⊎ (IsUnknownOrForMemory e ⊎ HandsNothingIn engine call e)
 
 pub returns-in_err-knows_context-clause-why : goal.returns-in_err-knows_context-clause-why
 returns-in_err-knows_context-clause-why c =

@@ -12,25 +12,26 @@ use Rattle.expr_engine.specs.declared.call.Call.{Call}
 use Rattle.expr_engine.specs.declared.engine.Engine.{Engine}
 use Rattle.expr_exchange.specs.declared.host_error.HostError.{HostError}
 use Rattle.expr_exchange.specs.declared.host_error.HostError.TheVariants.{Misuse}
+use Rattle.expr_exchange.specs.declared.misuse.Misuse.{Misuse as Wrong}
 use Rattle.expr_exchange.proofs.Refused.{passed_so}
 use Rattle.expr_stops.specs.Stops.{waiting_call_of}
 use Rattle.expr_engine.proofs.replying.answer_call.Goals as goal
 
 abbrev Why : Engine → Call → HostError → Type 0
-Why engine call e = e ≡ Misuse → (waiting_call_of engine.waits.stops ≡ None) ⊎ (values_of engine.built ≡ [])
+Why engine call e = (why : Wrong) → e ≡ Misuse why → (waiting_call_of engine.waits.stops ≡ None) ⊎ (values_of engine.built ≡ [])
 
 pub returns-in_err-knows_waiting-clause-why : goal.returns-in_err-knows_waiting-clause-why
 returns-in_err-knows_waiting-clause-why c =
-    passed_so c.from_residual.result c.in_err-knows_waiting.field-0.0 (Why c.args.engine.now c.args.call.now) c.from_residual.ensures.1 (λ is. inl (c.in_err-knows_waiting.ensures.misused (ap Err is)))
+    passed_so c.from_residual.result c.in_err-knows_waiting.field-0.0 (Why c.args.engine.now c.args.call.now) c.from_residual.ensures.1 (λ why is. inl (c.in_err-knows_waiting.ensures.misused why (ap Err is)))
 
 pub returns-in_err-value-clause-why : goal.returns-in_err-value-clause-why
 returns-in_err-value-clause-why c =
-    passed_so c.from_residual-in_err-value.result c.in_err-value.field-0.0 (Why c.args.engine.now c.args.call.now) c.from_residual-in_err-value.ensures.1 (λ is. inr c.in_err-value.ensures.err.1)
+    passed_so c.from_residual-in_err-value.result c.in_err-value.field-0.0 (Why c.args.engine.now c.args.call.now) c.from_residual-in_err-value.ensures.1 (λ why is. inr c.in_err-value.ensures.err.1)
 
 pub returns-in_err-reply-clause-why : goal.returns-in_err-reply-clause-why
 returns-in_err-reply-clause-why c =
     passed_so c.from_residual-in_err-reply.result c.in_err-reply.field-0.0 (Why c.args.engine.now c.args.call.now) c.from_residual-in_err-reply.ensures.1
-    (λ is. absurd (c.in_err-reply.ensures.meant c.in_ok-knows_waiting.ensures.waits c.in_ok-knows_waiting.ensures.found is))
+    (λ why is. absurd (c.in_err-reply.ensures.meant c.in_ok-knows_waiting.ensures.waits c.in_ok-knows_waiting.ensures.found why is))
 
 pub returns-in_err-knows_waiting-clause-turns : goal.returns-in_err-knows_waiting-clause-turns
 returns-in_err-knows_waiting-clause-turns c =

@@ -100,3 +100,12 @@ returns-in-Limit c = let f = c.set_limit.ensures in asked c.in-Limit.is (acts f.
 
 pub returns-in-Unlimited : goal.returns-in-Unlimited
 returns-in-Unlimited c = let f = c.let_go_of_limits.ensures in asked c.in-Unlimited.is (acts f.done tt f.waits (f.ok, f.none) (left_answer c.args.engine.now c.let_go_of_limits.new.engine c.let_go_of_limits.result f.kept (on_err c.let_go_of_limits.result f.answer)) f.why (λ m. absurd m) (never_unknown c.let_go_of_limits.result f.found) (numbers_kept c.args.engine.now c.let_go_of_limits.new.engine f.kept) refl)
+
+pub returns-in-UsesEnv : goal.returns-in-UsesEnv
+returns-in-UsesEnv c = let f = c.uses_env.ensures in asked c.in-UsesEnv.is (acts f.done tt (ap waits_in f.standing) (ap limits_in f.standing) (left_same c.args.engine.now c.uses_env.new.engine c.uses_env.result f.kept f.standing) f.why f.unknown f.known (numbers_kept c.args.engine.now c.uses_env.new.engine f.kept) f.room)
+
+pub returns-in-Functions : goal.returns-in-Functions
+returns-in-Functions c = let f = c.functions.ensures in asked c.in-Functions.is (acts f.done tt (ap waits_in f.standing) (ap limits_in f.standing) (left_same c.args.engine.now c.functions.new.engine c.functions.result f.kept f.standing) f.why f.unknown f.known (numbers_kept c.args.engine.now c.functions.new.engine f.kept) f.room)
+
+pub returns-in-FillMissing : goal.returns-in-FillMissing
+returns-in-FillMissing c = let f = c.fill_missing.ensures in asked c.in-FillMissing.is (acts f.done tt (ap waits_in f.standing) (ap limits_in f.standing) (left_contexts c.args.engine.now c.fill_missing.new.engine c.fill_missing.result f.rules f.err f.environments f.standing) f.why f.unknown f.known (numbers_by_contexts f.rules f.next f.environments) f.room)

@@ -2,7 +2,7 @@ use Rattle.std.proofs.Common.{◌⊎◌, ◌≡◌, ℕ, List, Result, IfErr, st
 use Rattle.expr_engine.specs.Faults.{IsAt, place_of, refused_byte}
 use Rattle.expr_engine.specs.Served.{EndsCall, ShowsText}
 use Rattle.expr_exchange.specs.declared.host_error.HostError.{HostError}
-use Rattle.expr_engine.proofs.Ended.{ends_call}
+use Rattle.expr_engine.proofs.Ended.{ends_call, misuse_ends}
 use Rattle.expr_engine.proofs.Faulty.{placed_on}
 use Rattle.expr_engine.proofs.Unchanged.{on_err}
 use Rattle.expr_engine.proofs.serving.finish.Goals as goal
@@ -25,3 +25,7 @@ pub returns-in-Err-clause-said : goal.returns-in-Err-clause-said
 returns-in-Err-clause-said c =
     on_err c.args.done
     (subst (λ (room : List ℕ). ShowsText (string_bytes c.refuse-status.new.engine.said) room c.answer-in-Err.new.call) c.refuse-status.ensures.room c.answer-in-Err.ensures.shown)
+
+pub returns-in-Err-clause-misuse : goal.returns-in-Err-clause-misuse
+returns-in-Err-clause-misuse c =
+    misuse_ends c.args.done c.in-Err.refused c.refuse-status.result c.answer-in-Err.new.call.status c.in-Err.is c.refuse-status.ensures.misuse c.answer-in-Err.ensures.status

@@ -11,6 +11,7 @@ use Rattle.expr_engine.specs.Turns.{TurnsBy}
 use Rattle.expr_engine.specs.declared.call.Ask.{Ask}
 use Rattle.expr_engine.specs.declared.call.Ask.TheVariants as is
 use Rattle.expr_exchange.specs.Cursor.{part_of}
+use Rattle.expr_exchange.specs.declared.misuse.Misuse.TheVariants as wrong
 use Rattle.expr_engine.proofs.Acting.{served_nothing}
 use Rattle.expr_engine.proofs.Ended.{asked_for, does_by, done_by, limits_by, refused_by, served_by, turns_on}
 use Rattle.expr_engine.proofs.Faulty.{placed_in}
@@ -49,7 +50,7 @@ returns-in-Some c =
           (record { done = result; ends = ends.ended; turns = turns_on ask old call result mid new acts.turns (ap waits_in ends.standing) (ap answer_in ends.standing) });
       limits =
           asked_for (new.limits ≡ old.limits) (ask_of call.ask) ask (λ ask. LimitsBy ask old.limits call (answered.status ≡ 0) (answered.status ≡ 7) new.limits) same
-          (limits_by ask old.limits call result answered.status mid.limits new.limits ends.ended ends.misuse acts.limits (ap limits_in ends.standing));
+          (limits_by ask old.limits call result answered.status mid.limits new.limits ends.ended acts.limits (ap limits_in ends.standing));
       refused = λ n. leaves_after old mid new (refused_by result answered.status acts.refused ends.ended n) ends.kept (ap answer_in ends.standing);
       why =
           asked_for (answered.status ≡ 7) (ask_of call.ask) ask (λ ask. EndsWithReason ask old call answered.status) same
@@ -70,4 +71,4 @@ returns-in-Some c =
 pub returns-in-None : goal.returns-in-None
 returns-in-None c =
     let ends = c.finish-in-None.ensures in
-    served_nothing c.args.engine.now c.finish-in-None.new.engine c.args.call.now c.finish-in-None.new.call (sym c.in-None.ensures) (ends.misuse refl) ends.kept ends.standing ends.built ends.said
+    served_nothing c.args.engine.now c.finish-in-None.new.engine c.args.call.now c.finish-in-None.new.call (sym c.in-None.ensures) (ends.misuse wrong.UnknownAsk refl) ends.kept ends.standing ends.built ends.said

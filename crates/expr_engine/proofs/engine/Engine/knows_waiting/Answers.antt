@@ -20,4 +20,4 @@ returns-clause-known c = λ is.
     (waits, unknown_none (waiting_inputs c.args.self.now) c.knows_run.result c.knows_run.ensures is)
 
 pub returns-clause-misused : goal.returns-clause-misused
-returns-clause-misused c = λ is. absurd (known_meant (waiting_inputs c.args.self.now) c.knows_run.result c.knows_run.ensures is)
+returns-clause-misused c = λ why is. absurd (known_meant (waiting_inputs c.args.self.now) c.knows_run.result c.knows_run.ensures why is)

@@ -10,4 +10,4 @@ pub returns-in-Differs-clause-stops : goal.returns-in-Differs-clause-stops
 returns-in-Differs-clause-stops c = λ none.
     let well = c.in-Differs.ensures.stops none in
     differs_so c.args.self.now c.args.program c.args.environment c.args.context c.in-Some.rule.now (option_copied c.in_ok-host.host.added) (pairs_of (option_copied c.in_ok-names.names.names)) (replies_of c.args.stops.now) (waiting_call_of c.turn.new.stops) (Err Differs)
-    c.in-Some.ensures c.in_ok-host.ensures.found c.in_ok-names.ensures.found refl well.0 well.1
+    c.in-Some.ensures.found c.in_ok-host.ensures.found c.in_ok-names.ensures.found refl well.0 well.1

@@ -10,7 +10,7 @@ for_memory : {A : Type 0} (Means : Type 0) (r : Result A HostError) → IfErr r 
 for_memory Means (Ok v) m = tt
 for_memory Means (Err (Language error)) m = m
 for_memory Means (Err Unknown) m = absurd m
-for_memory Means (Err Misuse) m = absurd m
+for_memory Means (Err (Misuse why)) m = absurd m
 for_memory Means (Err Asks) m = absurd m
 for_memory Means (Err Differs) m = absurd m
 for_memory Means (Err (Stopped limit)) m = absurd m

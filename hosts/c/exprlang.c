@@ -1,28 +1,45 @@
-/* The calls of expr.h over the three of the engine. What this file owes the engine is written where it owes it. */
+/* The calls of exprlang.h over the three of the engine. What this file owes the engine is written where it owes it. */
 #include "border.h"
+#include <stdatomic.h>
 #include <stdlib.h>
 #include <string.h>
 
-/* What callers hand in and read, as hosts/python/expr.py has it too. */
-_Static_assert(sizeof(expr_program) == 16 && offsetof(expr_program, number) == 8, "as in expr.py");
-_Static_assert(sizeof(expr_context) == 16 && offsetof(expr_context, number) == 8, "as in expr.py");
-_Static_assert(sizeof(expr_environment) == 16 && offsetof(expr_environment, number) == 8, "as in expr.py");
+/* What bin/hosts made the library of: the kit, the checksum of the sources, and whether they are proved. */
+#ifndef EXPR_BUILT
+#define EXPR_BUILT "sources unknown, unproved"
+#endif
+
+/* What callers hand in and read, as hosts/python/exprlang.py has it too. */
+_Static_assert(sizeof(expr_program) == 16 && offsetof(expr_program, place) == 4 && offsetof(expr_program, number) == 8, "as in exprlang.py");
+_Static_assert(sizeof(expr_context) == 16 && offsetof(expr_context, place) == 4 && offsetof(expr_context, number) == 8, "as in exprlang.py");
+_Static_assert(sizeof(expr_environment) == 16 && offsetof(expr_environment, place) == 4 && offsetof(expr_environment, number) == 8, "as in exprlang.py");
 _Static_assert(sizeof(expr_place) == 24 && offsetof(expr_place, byte) == 0 && offsetof(expr_place, line) == 8 &&
-               offsetof(expr_place, column) == 16, "as in expr.py");
+               offsetof(expr_place, column) == 16, "as in exprlang.py");
 _Static_assert(sizeof(expr_answer) == 24 && offsetof(expr_answer, kind) == 0 && offsetof(expr_answer, fraction) == 4 &&
-               offsetof(expr_answer, number) == 8 && offsetof(expr_answer, text) == 16, "as in expr.py");
-_Static_assert(sizeof(expr_limits) == 40 && offsetof(expr_limits, height) == 0 && offsetof(expr_limits, patterns) == 8 &&
-               offsetof(expr_limits, steps) == 16 && offsetof(expr_limits, depth) == 24 &&
-               offsetof(expr_limits, size) == 32, "as in expr.py");
+               offsetof(expr_answer, number) == 8 && offsetof(expr_answer, text) == 16, "as in exprlang.py");
+_Static_assert(sizeof(expr_limits) == 48 && offsetof(expr_limits, struct_size) == 0 && offsetof(expr_limits, height) == 8 &&
+               offsetof(expr_limits, patterns) == 16 && offsetof(expr_limits, steps) == 24 &&
+               offsetof(expr_limits, depth) == 32 && offsetof(expr_limits, size) == 40, "as in exprlang.py");
 
 struct expr_engine {
     void *inside;
     uint8_t *room;
     size_t room_length;
+    const char *misuse;  /* what was wrong with the last call, if this file found it */
+    expr_status last;    /* how the last call ended */
     call call;
 };
 
 static const uint8_t EMPTY[1];
+/* A handle that finds nothing, which is not the one of no context or of no environment: a run takes these. */
+#define FINDS_NOTHING {UINT32_MAX, UINT32_MAX, UINT64_MAX - 1}
+
+const char *expr_version(void) { return EXPR_VERSION ", " EXPR_BUILT; }
+
+uint32_t expr_c_tag(void) {
+    static atomic_uint_least32_t given;
+    return (uint32_t)atomic_fetch_add_explicit(&given, 1, memory_order_relaxed) + 1;
+}
 
 expr_engine *expr_open(void) {
     expr_engine *engine = calloc(1, sizeof *engine);
@@ -31,7 +48,7 @@ expr_engine *expr_open(void) {
     engine->room = calloc(1, engine->room_length);
     engine->inside = malloc(expr_c_size()); /* at a multiple of 16, as malloc's blocks are */
     if (engine->room && engine->inside) {
-        expr_c_open(engine->inside);
+        expr_c_open(engine->inside, expr_c_tag());
         return engine;
     }
     free(engine->inside);
@@ -42,6 +59,7 @@ expr_engine *expr_open(void) {
 
 static call *begun(expr_engine *engine, enum ask ask) {
     call *c = &engine->call;
+    engine->misuse = NULL;
     c->ask = ask;
     c->name = c->text = EMPTY;
     c->name_length = c->text_length = 0;
@@ -52,6 +70,7 @@ static call *begun(expr_engine *engine, enum ask ask) {
 
 static expr_status asked(expr_engine *engine) {
     expr_c_call(engine->inside, &engine->call);
+    if (engine->call.ask != SAID) engine->last = (expr_status)engine->call.status;
     return (expr_status)engine->call.status;
 }
 
@@ -60,6 +79,18 @@ static expr_status asked_alone(expr_engine *engine, enum ask ask) {
     begun(engine, ask);
     return asked(engine);
 }
+
+/* A call that this file finds to be wrong. Like any error it drops what was being built. */
+static expr_status misused(expr_engine *engine, const char *why) {
+    if (!engine) return EXPR_MISUSE;
+    asked_alone(engine, UNBUILD);
+    engine->misuse = why;
+    return EXPR_MISUSE;
+}
+
+static handle of_program(expr_program program) { return (handle){program.tag, program.place, program.number}; }
+static handle of_context(expr_context context) { return (handle){context.tag, context.place, context.number}; }
+static handle of_environment(expr_environment it) { return (handle){it.tag, it.place, it.number}; }
 
 /* What is said, whole and with a zero byte behind it: asked `again` with room enough where there was too little. Null
  * where there is no memory. */
@@ -113,14 +144,17 @@ void expr_close(expr_engine *engine) {
 expr_status expr_clear(expr_engine *engine) { return asked_alone(engine, CLEAR); }
 
 const char *expr_message(expr_engine *engine) {
-    if (asked_alone(engine, SAID) != EXPR_OK) return "";
-    const char *message = whole(engine, SAID);
-    return message ? message : "out of memory";
+    if (!engine) return "the pointer to the engine is null";
+    if (engine->misuse) return engine->misuse;
+    const char *said = asked_alone(engine, SAID) == EXPR_OK ? whole(engine, SAID) : NULL;
+    if (!said || (!*said && engine->last == EXPR_MEMORY)) return "out of memory";
+    if (!*said && engine->last == EXPR_UNKNOWN) return "a handle finds nothing: it was dropped, or this engine never gave it";
+    return said;
 }
 
 const char *expr_status_word(expr_status status) {
     static const char *const words[] = {"ok",        "syntax",         "literal", "evaluation", "pattern",
-                                        "no memory", "unknown handle", "misuse",  "asks",       "differs",
+                                        "out of memory", "unknown handle", "misuse",  "asks",       "differs",
                                         "height limit", "patterns limit", "steps limit", "depth limit", "size limit"};
     return (unsigned)status < sizeof words / sizeof *words ? words[status] : "?";
 }
@@ -135,11 +169,15 @@ static expr_status limited(expr_engine *engine, uint32_t kind, int64_t number) {
 }
 
 expr_status expr_set_limits(expr_engine *engine, const expr_limits *limits) {
-    if (!engine || !limits) return EXPR_MISUSE;
+    if (!engine) return EXPR_MISUSE;
+    if (!limits) return misused(engine, "the pointer to the limits is null");
+    if (limits->struct_size != sizeof *limits) {
+        return misused(engine, "struct_size is not the size of expr_limits in this library: begin with EXPR_LIMITS_FOR_STRANGERS");
+    }
     /* as `Limit` of crates/expr_meter/src/limit.rt */
     const int64_t numbers[] = {limits->height, limits->patterns, limits->steps, limits->depth, limits->size};
     const uint32_t count = sizeof numbers / sizeof *numbers;
-    /* what the engine refuses is asked first, so that all are set or none */
+    /* a limit that the engine does not take is asked first, so that all are set or none */
     for (uint32_t kind = 0; kind < count; kind++) {
         if (numbers[kind] < 0) return limited(engine, kind, numbers[kind]);
     }
@@ -153,22 +191,26 @@ expr_status expr_set_unlimited(expr_engine *engine) { return asked_alone(engine,
 /* --- programs --- */
 
 expr_status expr_compile(expr_engine *engine, const char *text, size_t length, expr_program *program, expr_place *place) {
-    if (!engine || !program) return EXPR_MISUSE;
+    if (!program) return misused(engine, "the pointer to the program is null");
+    *program = (expr_program)FINDS_NOTHING;
+    if (place) *place = (expr_place){0, 0, 0};
+    if (!engine) return EXPR_MISUSE;
     call *c = begun(engine, COMPILE);
     set_text(engine, text, length);
     c->place = c->line = c->column = 0;
     expr_status status = asked(engine);
-    *program = status == EXPR_OK ? (expr_program){c->program.place, c->program.number} : (expr_program){0, UINT64_MAX};
+    if (status == EXPR_OK) *program = (expr_program){c->program.tag, c->program.place, c->program.number};
     if (place) *place = (expr_place){c->place, c->line, c->column};
     return status;
 }
 
-expr_status expr_names(expr_engine *engine, expr_program program, size_t *count, const char **names) {
+/* The words that an ask says of a program, each on a line. */
+static expr_status words_of(expr_engine *engine, enum ask ask, expr_program program, size_t *count, const char **names) {
     if (count) *count = 0;
     if (names) *names = "";
     if (!engine) return EXPR_MISUSE;
-    call *c = begun(engine, NAMES);
-    c->program = (handle){program.place, program.number};
+    call *c = begun(engine, ask);
+    c->program = of_program(program);
     expr_status status = asked(engine);
     if (status != EXPR_OK) return status;
     size_t found = (size_t)c->number;
@@ -179,9 +221,28 @@ expr_status expr_names(expr_engine *engine, expr_program program, size_t *count,
     return EXPR_OK;
 }
 
+expr_status expr_names(expr_engine *engine, expr_program program, size_t *count, const char **names) {
+    return words_of(engine, NAMES, program, count, names);
+}
+
+expr_status expr_functions(expr_engine *engine, expr_program program, size_t *count, const char **names) {
+    return words_of(engine, FUNCTIONS, program, count, names);
+}
+
+expr_status expr_uses_env(expr_engine *engine, expr_program program, int *uses) {
+    if (!uses) return misused(engine, "the pointer to the answer is null");
+    *uses = 0;
+    if (!engine) return EXPR_MISUSE;
+    call *c = begun(engine, USES_ENV);
+    c->program = of_program(program);
+    expr_status status = asked(engine);
+    if (status == EXPR_OK) *uses = c->number != 0;
+    return status;
+}
+
 expr_status expr_drop_program(expr_engine *engine, expr_program program) {
     if (!engine) return EXPR_MISUSE;
-    begun(engine, DROP_PROGRAM)->program = (handle){program.place, program.number};
+    begun(engine, DROP_PROGRAM)->program = of_program(program);
     return asked(engine);
 }
 
@@ -206,7 +267,7 @@ static expr_status set(expr_engine *engine, expr_context context, const char *na
                        int64_t number, const char *text, size_t length) {
     if (!engine) return EXPR_MISUSE;
     call *c = given(engine, SET, kind, number, text, length);
-    c->context = (handle){context.place, context.number};
+    c->context = of_context(context);
     set_name(engine, name, name_length);
     return asked(engine);
 }
@@ -273,7 +334,7 @@ expr_status expr_set_datetime(expr_engine *engine, expr_context context, const c
     if (!engine) return EXPR_MISUSE;
     call *c = given(engine, SET, EXPR_DATETIME, second, NULL, 0);
     c->fraction = fraction;
-    c->context = (handle){context.place, context.number};
+    c->context = of_context(context);
     set_name(engine, name, name_length);
     return asked(engine);
 }
@@ -292,37 +353,45 @@ expr_status expr_set_looked(expr_engine *engine, expr_context context, const cha
 /* --- contexts --- */
 
 static expr_status context_by(expr_engine *engine, enum ask ask, expr_context *context) {
+    if (!context) return misused(engine, "the pointer to the context is null");
+    *context = (expr_context)FINDS_NOTHING;
     expr_status status = asked_alone(engine, ask);
-    /* a handle that finds nothing, and not EXPR_NO_CONTEXT, which runs */
-    *context = status == EXPR_OK ? (expr_context){engine->call.context.place, engine->call.context.number}
-                                 : (expr_context){SIZE_MAX, UINT64_MAX - 1};
-    return status;
+    if (status != EXPR_OK) return status;
+    const handle made = engine->call.context;
+    *context = (expr_context){made.tag, made.place, made.number};
+    return EXPR_OK;
 }
 
-expr_status expr_context_new(expr_engine *engine, expr_context *context) {
-    return context ? context_by(engine, CONTEXT, context) : EXPR_MISUSE;
-}
+expr_status expr_context_new(expr_engine *engine, expr_context *context) { return context_by(engine, CONTEXT, context); }
 
 expr_status expr_context_built(expr_engine *engine, expr_context *context) {
-    return context ? context_by(engine, CONTEXT_OF, context) : EXPR_MISUSE;
+    return context_by(engine, CONTEXT_OF, context);
+}
+
+expr_status expr_fill_missing(expr_engine *engine, expr_program program, expr_context context) {
+    if (!engine) return EXPR_MISUSE;
+    call *c = begun(engine, FILL_MISSING);
+    c->program = of_program(program);
+    c->context = of_context(context);
+    return asked(engine);
 }
 
 expr_status expr_context_json(expr_engine *engine, const char *json, size_t length, expr_context *context) {
-    if (!context) return EXPR_MISUSE;
-    *context = (expr_context){SIZE_MAX, UINT64_MAX - 1};
+    if (!context) return misused(engine, "the pointer to the context is null");
+    *context = (expr_context)FINDS_NOTHING;
     expr_status status = expr_push_json(engine, json, length);
     return status == EXPR_OK ? context_by(engine, CONTEXT_OF, context) : status;
 }
 
 expr_status expr_drop_context(expr_engine *engine, expr_context context) {
     if (!engine) return EXPR_MISUSE;
-    begun(engine, DROP_CONTEXT)->context = (handle){context.place, context.number};
+    begun(engine, DROP_CONTEXT)->context = of_context(context);
     return asked(engine);
 }
 
 /* --- answers --- */
 
-/* What a call tells of a value, whose text is asked for again by `again` where there was too little room. */
+/* What a call says of a value, whose text is asked for again by `again` where there was too little room. */
 static expr_status told(expr_engine *engine, expr_status status, enum ask again, expr_answer *answer) {
     if (!answer) return status;
     *answer = (expr_answer){EXPR_NIL, 0, 0, NULL};
@@ -339,9 +408,9 @@ expr_status expr_run(expr_engine *engine, expr_program program, expr_environment
                      expr_answer *answer) {
     if (!engine) return EXPR_MISUSE;
     call *c = begun(engine, RUN);
-    c->program = (handle){program.place, program.number};
-    c->environment = (handle){environment.place, environment.number};
-    c->context = (handle){context.place, context.number};
+    c->program = of_program(program);
+    c->environment = of_environment(environment);
+    c->context = of_context(context);
     return told(engine, asked(engine), LOOK, answer);
 }
 
@@ -387,18 +456,18 @@ const char *expr_json(expr_engine *engine, size_t *length) { return text_by(engi
 /* --- environments --- */
 
 expr_status expr_environment_new(expr_engine *engine, expr_environment *environment) {
-    if (!environment) return EXPR_MISUSE;
+    if (!environment) return misused(engine, "the pointer to the environment is null");
+    *environment = (expr_environment)FINDS_NOTHING;
     expr_status status = asked_alone(engine, ENVIRONMENT);
-    /* a handle that finds nothing, and not EXPR_NO_ENVIRONMENT, which runs */
-    *environment = status == EXPR_OK
-                       ? (expr_environment){engine->call.environment.place, engine->call.environment.number}
-                       : (expr_environment){SIZE_MAX, UINT64_MAX - 1};
-    return status;
+    if (status != EXPR_OK) return status;
+    const handle made = engine->call.environment;
+    *environment = (expr_environment){made.tag, made.place, made.number};
+    return EXPR_OK;
 }
 
 static call *on_environment(expr_engine *engine, enum ask ask, expr_environment environment) {
     call *c = begun(engine, ask);
-    c->environment = (handle){environment.place, environment.number};
+    c->environment = of_environment(environment);
     return c;
 }
 

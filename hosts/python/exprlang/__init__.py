@@ -1,0 +1,102 @@
+"""exprlang: an expression language for rules, filters and checks, whose engine is proved.
+
+>>> import exprlang
+>>> rule = exprlang.compile("price * count > 100 and not blocked")
+>>> rule.run({"price": 60, "count": 2, "blocked": False})
+True
+>>> exprlang.evaluate("map(1..3, # * 2)")
+[2, 4, 6]
+
+Expressions may come from anyone: limits bound what they take. Set others, or lift them.
+
+>>> exprlang.evaluate("len(1..2000000)")
+Traceback (most recent call last):
+exprlang.LimitError: ...
+>>> exprlang.evaluate("len(1..2000000)", limits=exprlang.UNLIMITED)
+2000000
+
+Program.run says which values you can hand in, and what they are in Python.
+
+The module calls libexprlang.so.0. EXPRLANG_LIB names the folder that has it. Without that, the
+module looks beside itself, then in hosts/out/lib of the repository, then where the system has its
+libraries. An ImportError says where it looked.
+
+Threads may share programs, contexts and environments. Each run takes an idle engine and gives it
+back, so threads that come and go leave nothing behind. Programs, contexts, environments and errors
+can be pickled, so multiprocessing, concurrent.futures and Dask work.
+"""
+
+from __future__ import annotations
+
+from typing import Any, Optional
+
+from ._context import Context
+from ._environment import Environment
+from ._errors import Error, LimitError, Syntax
+from ._library import LIBRARY as _LIBRARY
+from ._limits import UNLIMITED, USUAL, AnyLimits, Limits, Unlimited
+from ._program import Missing, Program, Record
+from ._values import Key, KeyedMap, Month, Weekday
+
+# without `compile`, with which a star import would replace the built-in
+__all__ = [
+    "Context",
+    "Environment",
+    "Error",
+    "Key",
+    "KeyedMap",
+    "LimitError",
+    "Limits",
+    "Month",
+    "Program",
+    "Syntax",
+]
+__all__ += ["UNLIMITED", "Unlimited", "Weekday", "evaluate", "library_version"]
+
+
+def library_version() -> str:
+    """Returns the library's version, kit and sources, and whether it is proved.
+
+    >>> exprlang.library_version().split(", ")[0] == exprlang.__version__
+    True
+    """
+    said: bytes = _LIBRARY.version()
+    return said.decode()
+
+
+__version__ = library_version().partition(",")[0]
+
+
+def compile(text: str, limits: AnyLimits = USUAL, missing: Missing = "error") -> Program:
+    """Compiles an expression.
+
+    `limits` hold here and for each run: Limits, or UNLIMITED for expressions that you trust.
+    `missing` says what a name is that a context lacks: "error", or "nil" for sparse records.
+
+    Errors: Syntax for a string that is no expression. Error of kind "literal" or "pattern" for a
+    number that is too large, or a pattern that is no regular expression. LimitError at a limit.
+    TypeError and ValueError for an argument of the wrong kind.
+
+    >>> rule = exprlang.compile("status >= 500 or seconds > 10", missing="nil")
+    >>> rule.names
+    ['seconds', 'status']
+    >>> exprlang.compile(b"status")
+    Traceback (most recent call last):
+    TypeError: an expression is a str, not bytes
+    """
+    return Program(text, limits, missing)
+
+
+def evaluate(
+    text: str,
+    context: Record = None,
+    environment: Optional[Environment] = None,
+    limits: AnyLimits = USUAL,
+    missing: Missing = "error",
+) -> Any:
+    """Returns the value of an expression: `compile` and Program.run in one, with their errors.
+
+    >>> exprlang.evaluate("price * count", {"price": 60, "count": 2})
+    120
+    """
+    return Program(text, limits, missing).run(context, environment)

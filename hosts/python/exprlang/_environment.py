@@ -1,0 +1,183 @@
+"""What you add to the language."""
+
+from __future__ import annotations
+
+import datetime
+import os
+import threading
+from collections.abc import Callable, Iterable, Mapping
+from types import MappingProxyType
+from typing import Any, Optional, Union
+
+from ._engine import Engine, Kept, taken
+from ._errors import Unfit
+from ._library import LIBRARY, _Handle
+from ._values import instant, utf8, within
+
+_Function = Callable[..., Any]
+
+# one change at a time, so that none is lost; a fork waits for the change that is made
+_CHANGES = threading.RLock()
+os.register_at_fork(
+    before=_CHANGES.acquire, after_in_parent=_CHANGES.release, after_in_child=_CHANGES.release
+)
+
+
+class Environment(Kept):
+    """What you add to the language: zones, the current time, and functions.
+
+    - `zones`: their names, each with a number of seconds ahead of UTC, or with a rule in POSIX's
+      form
+    - `now`: the time that `now()` returns, a datetime with an offset
+    - `functions`: their names, each with a function of Python. It replaces a function of the
+      language that has its name.
+
+    A function gets the arguments of a call and returns its value. If it raises an Error, the run
+    ends with an Error of the same kind and message, and the function's is its `__cause__`. Any
+    other exception, and a LimitError, reaches the caller as it is.
+
+    Each call of a program calls a function once. But the run begins again after each call. So what
+    comes before n calls is done n + 1 times; the limit `calls` bounds n.
+
+    A run keeps the environment that it began with. A function may change the environment for later
+    runs, and it may run programs. It may change a Context too, but no name that its own run reads:
+    that ends the run with an Error of kind "differs".
+
+    Environments can be copied, and pickled if their functions can.
+
+    Errors: TypeError, ValueError and OverflowError for a part of the wrong kind, which they name.
+    Error for a name or a rule that the language doesn't take.
+
+    >>> prices = {"pen": 150}
+    >>> shop = exprlang.Environment(functions={"price": prices.get})
+    >>> exprlang.evaluate("price('pen') * 3", environment=shop)
+    450
+    >>> new_year = datetime.datetime(2024, 1, 1, tzinfo=datetime.timezone.utc)
+    >>> zones = {"Kolkata": 19800, "New York": "EST5EDT,M3.2.0,M11.1.0"}
+    >>> here = exprlang.Environment(zones=zones, now=new_year)
+    >>> exprlang.evaluate("now().In(timezone('New York')).Hour()", environment=here)
+    19
+    """
+
+    _drop, _what = "drop_environment", "environment"
+
+    def __init__(
+        self,
+        zones: Union[Mapping[str, Union[int, str]], Iterable[tuple[str, Union[int, str]]]] = (),
+        now: Optional[datetime.datetime] = None,
+        functions: Union[Mapping[str, _Function], Iterable[tuple[str, _Function]]] = (),
+    ) -> None:
+        super().__init__()
+        self._zones, self._now, self._functions = dict(zones), now, dict(functions)
+        for name, function in self._functions.items():
+            if not callable(function):
+                raise TypeError(
+                    f"the function {name} can't be called: it is {type(function).__name__}"
+                )
+        with taken() as engine:
+            engine.copy(self)
+
+    def __reduce__(self) -> tuple[Any, ...]:
+        return Environment, (self._zones, self._now, self._functions)
+
+    def __repr__(self) -> str:
+        return (
+            f"Environment(zones={self._zones!r}, now={self._now!r}, functions={self._functions!r})"
+        )
+
+    @property
+    def zones(self) -> Mapping[str, Union[int, str]]:
+        """The zones, which you can't change.
+
+        >>> exprlang.Environment(zones={"Kolkata": 19800}).zones["Kolkata"]
+        19800
+        """
+        return MappingProxyType(self._zones)
+
+    @property
+    def functions(self) -> Mapping[str, _Function]:
+        """The functions. `add_function` adds one.
+
+        >>> list(exprlang.Environment(functions={"size": len}).functions)
+        ['size']
+        """
+        return MappingProxyType(self._functions)
+
+    @property
+    def now(self) -> Optional[datetime.datetime]:
+        """The time that `now()` returns, or None. Set it for later runs.
+
+        Errors: TypeError and OverflowError, as Environment says.
+
+        >>> clock = exprlang.Environment()
+        >>> clock.now = datetime.datetime(2024, 3, 5, tzinfo=datetime.timezone.utc)
+        >>> exprlang.evaluate("now().Day()", environment=clock)
+        5
+        """
+        return self._now
+
+    @now.setter
+    def now(self, moment: Optional[datetime.datetime]) -> None:
+        with _CHANGES:
+            self._become(Environment(self._zones, moment, self._functions))
+
+    def add_function(self, name: str, function: _Function) -> None:
+        """Adds a function, in place of an earlier one or of one of the language.
+
+        Errors: TypeError for what is no function, Error for a name that is no word.
+
+        >>> shop = exprlang.Environment()
+        >>> shop.add_function("double", lambda number: number * 2)
+        >>> exprlang.evaluate("double(21)", environment=shop)
+        42
+        """
+        with _CHANGES:
+            functions = {**self._functions, name: function}
+            self._become(Environment(self._zones, self._now, functions))
+
+    def _become(self, other: Environment) -> None:
+        """Takes over what another is, and its copies."""
+        if self.closed:
+            raise ValueError("the environment is closed")
+        self._now, self._functions, self._token = other._now, other._functions, other._token
+
+    def _make(self, engine: Engine) -> _Handle:
+        handle = engine.made(LIBRARY.environment_new)
+        try:
+            self._fill(engine, handle)
+        except BaseException:
+            engine.ask(LIBRARY.drop_environment, handle)
+            raise
+        return handle
+
+    def _fill(self, engine: Engine, handle: _Handle) -> None:
+        for name in self._functions:
+            word = _name(name, "function")
+            engine.ask(LIBRARY.add_name, handle, word, len(word))
+        for name, rule in self._zones.items():
+            word = _name(name, "zone")
+            if isinstance(rule, str):
+                text = utf8(rule)
+                engine.ask(LIBRARY.add_zone_rule, handle, word, len(word), text, len(text))
+            elif isinstance(rule, int) and not isinstance(rule, bool):
+                seconds = within(
+                    rule, -(2**31), 2**31 - 1, f"the offset of the zone {name} in seconds"
+                )
+                engine.ask(LIBRARY.add_fixed_zone, handle, word, len(word), seconds)
+            else:
+                why = f"the zone {name} is a number of seconds, or a rule such as"
+                example = "'CET-1CEST,M3.5.0,M10.5.0/3'"
+                raise Unfit(TypeError, f"{why} {example}, not {type(rule).__name__}")
+        if self._now is not None:
+            if not isinstance(self._now, datetime.datetime):
+                raise Unfit(
+                    TypeError, f"now is a datetime with an offset, not {type(self._now).__name__}"
+                )
+            engine.ask(LIBRARY.set_now, handle, *instant(self._now))
+
+
+def _name(name: Any, what: str) -> bytes:
+    """Returns the bytes of the name of a zone or a function."""
+    if not isinstance(name, str):
+        raise Unfit(TypeError, f"the name of a {what} is a str, not {type(name).__name__}")
+    return utf8(name)

@@ -1,0 +1,79 @@
+"""What programs may take."""
+
+from __future__ import annotations
+
+import dataclasses
+import enum
+from typing import Final, Union
+
+
+@dataclasses.dataclass(frozen=True)
+class Limits:
+    """What compiling and each run may take. docs/LIMITS.md says what counts.
+
+    A limit that you leave out is the one for untrusted expressions. Each is a whole number from 0
+    to 2**63 - 1.
+
+    Errors: TypeError and ValueError, which name the limit that isn't.
+
+    >>> few = exprlang.Limits(steps=10000)
+    >>> exprlang.evaluate("all(1..1000, {all(1..1000, {true})})", limits=few)
+    Traceback (most recent call last):
+    exprlang.LimitError: ...
+    """
+
+    height: int = 100
+    """How high the tree of an expression may be: the most trees one inside another."""
+    patterns: int = 100_000
+    """What the literal patterns of an expression may weigh together."""
+    steps: int = 1_000_000
+    """How many steps a run may take. A step is an instruction, an item that it looks at, or 16
+    bytes of a string."""
+    depth: int = 1_000
+    """How deep the values may be that a run makes. An array or a map is one level above its
+    parts."""
+    size: int = 1_000_000
+    """What the values may weigh that a run holds at once. An item weighs 1, and so do 16 bytes of
+    a string."""
+    calls: int = 100
+    """How many calls of your functions a run may make. A run begins again after each call, with
+    all its steps. So a run that makes n calls may take n + 1 times `steps`."""
+
+    def __post_init__(self) -> None:
+        for name, number in dataclasses.asdict(self).items():
+            if not isinstance(number, int) or isinstance(number, bool):
+                raise TypeError(f"the limit {name} is a whole number, not {type(number).__name__}")
+            if not 0 <= number < 2**63:
+                raise ValueError(f"the limit {name} is from 0 to 2**63 - 1, not {number}")
+
+
+USUAL: Final = Limits()
+"""The limits for untrusted expressions, which an engine has at first."""
+
+
+class Unlimited(enum.Enum):
+    """The type of UNLIMITED, its one value: no limits, for expressions that you trust.
+
+    An unlimited program takes the time, the memory and the stack that it asks for.
+
+    >>> exprlang.evaluate("len(1..2000000)", limits=exprlang.UNLIMITED)
+    2000000
+    """
+
+    UNLIMITED = "unlimited"
+
+    def __repr__(self) -> str:
+        return self.name
+
+
+UNLIMITED: Final = Unlimited.UNLIMITED
+"""No limits, for expressions that you trust. Hand it in where Limits go."""
+
+AnyLimits = Union[Limits, Unlimited]
+
+
+def checked_limits(limits: AnyLimits) -> AnyLimits:
+    """Returns the limits that are handed in, if they are limits."""
+    if not isinstance(limits, (Limits, Unlimited)):
+        raise TypeError(f"limits are Limits(..) or UNLIMITED, not {type(limits).__name__}")
+    return limits

@@ -1,0 +1,500 @@
+"""What the module promises: python3 test_exprlang.py"""
+
+import builtins
+import collections.abc
+import ctypes
+import datetime
+import doctest
+import importlib
+import inspect
+import os
+import pkgutil
+import shutil
+import subprocess
+import sys
+import tempfile
+import threading
+import unittest
+import warnings
+
+import exprlang
+from exprlang import _library
+
+HERE = os.path.dirname(os.path.abspath(__file__))
+UTC = datetime.timezone.utc
+
+
+class Calls(unittest.TestCase):
+    def test_rules(self):
+        rule = exprlang.compile("price * count > 100 and not blocked")
+        self.assertEqual(rule.names, ["blocked", "count", "price"])
+        order = exprlang.Context({"price": 60, "count": 2})
+        with self.assertRaises(exprlang.Error) as caught:
+            rule.run(order)
+        self.assertEqual(caught.exception.kind, "evaluation")
+        order["blocked"] = False
+        self.assertIs(rule.run(order), True)
+        order["blocked"] = True
+        self.assertIs(rule.run(order), False)
+
+    def test_values(self):
+        value = {
+            "z": [1, None, True, 'line\n"quoted" \U0001f600', "a\0b"],
+            "b": b"\0\xff",
+            "d": datetime.timedelta(seconds=90),
+            "t": datetime.datetime(1969, 12, 31, 23, 59, 59, 250000, UTC),
+            "k": {7: [], False: {}},
+            "m": [exprlang.Month(3), exprlang.Weekday(0)],
+        }
+        self.assertEqual(exprlang.evaluate("x", {"x": value}), value)
+        self.assertEqual(exprlang.evaluate("keys(x)", {"x": value}), list(value))
+        self.assertEqual(exprlang.evaluate("repeat('ab', 5000)"), "ab" * 5000)
+        self.assertIs(exprlang.evaluate("nil"), None)
+        with self.assertRaises(OverflowError):
+            exprlang.evaluate("x", {"x": 2**63})
+        with self.assertRaises(TypeError):
+            exprlang.evaluate("x", {"x": 1.5})
+
+    def test_structs(self):
+        # as hosts/c/exprlang.c asserts of those of exprlang.h
+        for struct, places, size in [
+            (_library._Handle, [0, 4, 8], 16),
+            (_library._Place, [0, 8, 16], 24),
+            (_library._Answer, [0, 4, 8, 16], 24),
+            (_library._Limits, [0, 8, 16, 24, 32, 40], 48),
+        ]:
+            self.assertEqual([getattr(struct, name).offset for name, _ in struct._fields_], places)
+            self.assertEqual(ctypes.sizeof(struct), size)
+
+    def test_errors(self):
+        with self.assertRaises(exprlang.Syntax) as caught:
+            exprlang.compile('1 +\n  "é" * * 2')
+        fault = caught.exception
+        self.assertEqual((fault.byte, fault.line, fault.column), (13, 2, 9))
+        for text, kind in [
+            ("9223372036854775808", "literal"),
+            ("1 / 0", "evaluation"),
+            ("'a' matches '('", "pattern"),
+        ]:
+            with self.assertRaises(exprlang.Error) as caught:
+                exprlang.evaluate(text)
+            self.assertEqual(caught.exception.kind, kind)
+
+    def stops(self, limit, text, context=None, environment=None, limits=exprlang.Limits()):
+        with self.assertRaises(exprlang.LimitError) as stopped:
+            exprlang.evaluate(text, context, environment, limits)
+        self.assertEqual((stopped.exception.kind, stopped.exception.limit), ("limit", limit))
+        self.assertNotEqual(str(stopped.exception), "")
+
+    def test_texts_of_strangers(self):
+        for text, limit in [
+            ("len(1..100000000)", "steps"),
+            ("len(repeat(repeat('a', 1000000), 1000000))", "steps"),
+            ("len(reduce(1..10000, [#acc], 0))", "steps"),
+            ("all(1..300000, {all(1..300000, {true})})", "steps"),
+            ("(" * 200 + "1" + ")" * 200, "height"),
+            (r"'a' matches '\\w{20}' or " * 400 + "true", "patterns"),
+        ]:
+            self.stops(limit, text)
+            self.stops(limit, text, environment=exprlang.Environment())
+        wide = exprlang.Limits(steps=2**63 - 1)
+        self.stops("size", "len(1..100000000)", limits=wide)
+        self.stops("depth", "len(reduce(1..10000, [#acc], 0))", limits=wide)
+        self.assertEqual(exprlang.evaluate("1 + 1"), 2)
+
+    def test_limits(self):
+        few = exprlang.Limits(steps=1000)
+        limited, usual = exprlang.compile("all(1..1000, {# > x})", few), exprlang.compile(
+            "all(1..1000, {# > x})"
+        )
+        for _ in range(3):
+            with self.assertRaises(exprlang.LimitError):
+                limited.run({"x": 0})
+            self.assertIs(usual.run({"x": 0}), True)
+        for limits, text, limit in [
+            (lambda number: exprlang.Limits(height=number), "((1))", "height"),
+            (lambda number: exprlang.Limits(patterns=number), "'a' matches 'b'", "patterns"),
+            (lambda number: exprlang.Limits(depth=number), "[[1]]", "depth"),
+        ]:
+            least = {"height": 3, "patterns": 12, "depth": 2}[limit]
+            self.stops(limit, text, limits=limits(least - 1))
+            exprlang.evaluate(text, limits=limits(least))
+        self.assertEqual(exprlang.evaluate("len(1..2000000)", limits=exprlang.UNLIMITED), 2000000)
+        self.assertEqual(exprlang.compile("len(1..2000000)", exprlang.UNLIMITED).run(), 2000000)
+        self.stops("steps", "len(1..2000000)")
+        self.stops("steps", "1", limits=exprlang.Limits(steps=0))
+        for wrong in [{"steps": -1}, {"size": 2**63}]:
+            with self.assertRaises(ValueError):
+                exprlang.Limits(**wrong)
+        for wrong in [None, 500]:
+            with self.assertRaises(TypeError):
+                exprlang.compile("1", wrong)
+        with self.assertRaises(TypeError):
+            exprlang.Limits(steps=1.5)
+
+    def test_limits_of_calls(self):
+        inner = exprlang.compile("all(1..n, {# > 0})", exprlang.Limits(steps=1000))
+        host = exprlang.Environment(
+            functions={
+                "double": lambda number: number * 2,
+                "slow": lambda number: inner.run({"n": number}),
+            }
+        )
+        host.add_function("compiles", lambda: len(exprlang.compile("1", exprlang.UNLIMITED).text))
+        self.assertEqual(exprlang.evaluate("len(map(1..100, double(#)))", environment=host), 100)
+        self.stops("calls", "len(map(1..101, double(#)))", environment=host)
+        self.assertEqual(
+            exprlang.evaluate(
+                "len(map(1..101, double(#)))", environment=host, limits=exprlang.UNLIMITED
+            ),
+            101,
+        )
+        self.stops("calls", "double(1)", environment=host, limits=exprlang.Limits(calls=0))
+        self.assertIs(exprlang.evaluate("slow(10)", environment=host), True)
+        self.stops("steps", "slow(10) and slow(10000)", environment=host)
+        self.stops("steps", "compiles() + len(1..2000000)", environment=host)
+        self.assertIs(exprlang.evaluate("slow(10) and len(1..900000) > 0", environment=host), True)
+        self.stops("steps", "slow(10) and len(1..2000000) > 0", environment=host)
+        self.assertEqual(exprlang.evaluate("double(2)", environment=host), 4)
+
+    def test_threads(self):
+        program, found = exprlang.compile("x + 1"), []
+        threads = [
+            threading.Thread(target=lambda i=i: found.append(program.run({"x": i})))
+            for i in range(4)
+        ]
+        for thread in threads:
+            thread.start()
+        for thread in threads:
+            thread.join()
+        self.assertEqual(sorted(found), [1, 2, 3, 4])
+
+    def test_functions(self):
+        host, count = exprlang.Environment(), iter(range(100))
+        host.add_function("double", lambda number: number * 2)
+        host.add_function("next", lambda: next(count))
+        for text, answer in [
+            ("map([1, 2, 3], double(#) + x)", [7, 9, 11]),
+            ("filter(1..4, double(#) > 4)", [3, 4]),
+            ("count(1..4, double(#) > 4)", 2),
+            ("next() + next() * 10 + next() * 100", 210),
+            ("false and double()", False),
+        ]:
+            self.assertEqual(exprlang.evaluate(text, {"x": 5}, host), answer)
+        with self.assertRaises(exprlang.Error):
+            exprlang.evaluate("double(1)")
+        host.add_function("len", lambda *arguments: list(arguments))
+        self.assertEqual(
+            exprlang.evaluate("len('a', {'b': nil})", environment=host), ["a", {"b": None}]
+        )
+
+    def test_functions_that_raise(self):
+        def refuses(what):
+            raise exprlang.Error("evaluation", f"no such {what}")
+
+        host = exprlang.Environment(
+            functions={"find": refuses, "fails": lambda: {}["x"], "odd": lambda: 1.5}
+        )
+        with self.assertRaises(exprlang.Error) as caught:
+            exprlang.evaluate("[1, find('article')]", environment=host)
+        self.assertEqual(
+            (caught.exception.kind, str(caught.exception)), ("evaluation", "no such article")
+        )
+        with self.assertRaises(KeyError):
+            exprlang.evaluate("fails()", environment=host)
+        with self.assertRaises(TypeError):
+            exprlang.evaluate("odd()", environment=host)
+        self.assertEqual(exprlang.evaluate("1 + 1", environment=host), 2)
+
+    def test_functions_that_run_programs(self):
+        rule, inner = exprlang.compile("double(n) + 1"), exprlang.Environment(
+            functions={"double": lambda number: number * 2}
+        )
+        host = exprlang.Environment(
+            functions={"inner": lambda number: rule.run({"n": number}, inner)}
+        )
+        self.assertEqual(exprlang.evaluate("map(1..4, inner(#))", environment=host), [3, 5, 7, 9])
+        self.assertEqual(exprlang.evaluate("inner(inner(1)) + inner(2)", environment=host), 12)
+
+    def test_a_call_that_differs(self):
+        context = exprlang.Context({"x": 1})
+
+        def changes(number):
+            context["x"] = number + 1
+            return number
+
+        host = exprlang.Environment(functions={"f": changes})
+        with self.assertRaises(exprlang.Error) as caught:
+            exprlang.evaluate("f(x) + f(7)", context, host)
+        self.assertEqual(caught.exception.kind, "differs")
+
+
+class Records(unittest.TestCase):
+    def test_names_alone_are_read(self):
+        rule = exprlang.compile("price > 1")
+        for other in [
+            1.5,
+            object(),
+            datetime.datetime(2024, 1, 1),
+            {1.5: 2},
+            len,
+            "\ud800",
+            2**70,
+        ]:
+            record = {"price": 2, "other": other, 7: 8}
+            self.assertIs(rule.run(record), True)
+            self.assertIs(rule.run({"price": 2, "other": other}, exprlang.Environment()), True)
+            self.assertIs(rule.run(exprlang.Context({"price": 2, "other": other})), True)
+        with self.assertRaises(TypeError):
+            rule.run({"price": 1.5})
+
+    def test_env_reads_all(self):
+        rule = exprlang.compile("len($env) + $env['unit price']")
+        self.assertIs(rule.uses_env, True)
+        self.assertEqual(rule.run({"unit price": 40, "b": 1}), 42)
+        order = exprlang.Context({"unit price": 40, "b": 1})
+        self.assertEqual(exprlang.compile("b").run(order), 1)
+        self.assertEqual(rule.run(order), 42)
+        del order["b"]
+        self.assertEqual(rule.run(order), 41)
+        for wrong in [{"unit price": 1, "b": 1.5}, {"unit price": 1, 7: 1}]:
+            with self.assertRaises(TypeError):
+                rule.run(wrong)
+        self.assertIs(exprlang.compile("env + 1").uses_env, False)
+        self.assertIs(exprlang.compile("'$env'").uses_env, False)
+
+    def test_functions_of_a_program(self):
+        self.assertEqual(
+            exprlang.compile("price('pen') * len(xs) + x.size()").functions, ["len", "price"]
+        )
+        self.assertEqual(exprlang.compile("xs | map(# * 2) | sum()").functions, ["map", "sum"])
+        self.assertEqual(exprlang.compile("a + b").functions, [])
+
+    def test_mappings(self):
+        class Record(collections.abc.Mapping):
+            def __getitem__(self, name):
+                return {"a": 1}[name]
+
+            def __iter__(self):
+                return iter(["a"])
+
+            def __len__(self):
+                return 1
+
+        self.assertEqual(exprlang.evaluate("a", Record()), 1)
+        self.assertEqual(exprlang.evaluate("$env.a", Record()), 1)
+        self.assertEqual(exprlang.evaluate("r.a", {"r": Record()}), 1)
+        self.assertEqual(exprlang.evaluate("a", [("a", 1)]), 1)
+
+    def test_missing_names(self):
+        rule = exprlang.compile("status ?? 200 >= 500", missing="nil")
+        self.assertIs(rule.run({}), False)
+        self.assertIs(rule.run(), False)
+        self.assertIs(rule.run({"status": 501}), True)
+        self.assertIs(exprlang.evaluate("status == nil", {"path": "/"}, missing="nil"), True)
+        usual = exprlang.compile("status")
+        self.assertIs(usual.run({}, missing="nil"), None)
+        for calls in [lambda: usual.run({}), lambda: rule.run({}, missing="error")]:
+            with self.assertRaises(exprlang.Error) as caught:
+                calls()
+            self.assertEqual(caught.exception.kind, "evaluation")
+        with self.assertRaises(TypeError):
+            rule.run({"status": 1.5})
+        for wrong in [None, "null", True]:
+            with self.assertRaises(ValueError):
+                exprlang.compile("1", missing=wrong)
+        self.assertEqual(exprlang.evaluate("x.y ?? 1", {"x": {}}, missing="nil"), 1)
+
+    def test_missing_names_in_predicates(self):
+        """A name that a predicate reads stays missing: nil would hide a field of the item."""
+        xs = [{"status": 200}, {"status": 501}]
+        rule = exprlang.compile("filter(xs, {status > (limit ?? 500)})", missing="nil")
+        with self.assertRaises(exprlang.Error):
+            rule.run({"xs": xs})
+        self.assertEqual(rule.run({"xs": xs, "limit": 100}), xs)
+        rule = exprlang.compile(
+            "let most = limit ?? 500; filter(xs, {status > most})", missing="nil"
+        )
+        self.assertEqual(rule.run({"xs": xs}), xs[1:])
+        with self.assertRaises(exprlang.Error):
+            exprlang.evaluate(
+                "status ?? len(filter(xs, {status > 500}))", {"xs": xs}, missing="nil"
+            )
+
+    def test_missing_names_leave_a_context(self):
+        order = exprlang.Context({"a": 1})
+        rule = exprlang.compile("[a, b]", missing="nil")
+        for _ in range(2):
+            self.assertEqual(rule.run(order), [1, None])
+        self.assertEqual(dict(order), {"a": 1})
+        self.assertEqual(exprlang.evaluate("len($env)", order), 1)
+        with self.assertRaises(exprlang.Error):
+            exprlang.evaluate("b", order)
+        order["b"] = 2
+        self.assertEqual(rule.run(order), [1, 2])
+
+
+class Owners(unittest.TestCase):
+    def test_close(self):
+        for kept in [exprlang.compile("1"), exprlang.Context({"a": 1}), exprlang.Environment()]:
+            with kept as same:
+                self.assertIs(same, kept)
+                self.assertIs(kept.closed, False)
+            self.assertIs(kept.closed, True)
+            kept.close()
+        program = exprlang.compile("a")
+        for calls, what in [
+            (lambda: exprlang.compile("1").run(None, kept), "environment"),
+            (lambda: program.run(closed), "context"),
+            (lambda: other.run(), "program"),
+        ]:
+            closed, other = exprlang.Context({"a": 1}), exprlang.compile("1")
+            closed.close(), other.close()
+            with self.assertRaisesRegex(ValueError, f"the {what} is closed"):
+                calls()
+
+    def test_reprs(self):
+        self.assertEqual(repr(exprlang.compile("a + 1")), "Program('a + 1')")
+        few = exprlang.compile("a", exprlang.UNLIMITED, "nil")
+        self.assertEqual(repr(few), "Program('a', limits=UNLIMITED, missing='nil')")
+        self.assertEqual(repr(exprlang.Context({"a": 1})), "Context({'a': 1})")
+        self.assertEqual(
+            repr(exprlang.Environment()), "Environment(zones={}, now=None, functions={})"
+        )
+        self.assertEqual((repr(exprlang.Month(3)), str(exprlang.Month(3))), ("Month(3)", "3"))
+        pairs = exprlang.KeyedMap([(1, 2)])
+        self.assertEqual(eval(repr(pairs), vars(exprlang).copy()), pairs)
+
+    def test_an_environment_changes(self):
+        host = exprlang.Environment(zones={"Z": 3600}, functions={"f": lambda: 1})
+        rule = exprlang.compile("[f(), now().Year(), date('2024-01-01').In(timezone('Z')).Hour()]")
+        host.now = datetime.datetime(2024, 5, 6, tzinfo=UTC)
+        self.assertEqual(rule.run(None, host), [1, 2024, 1])
+        host.now = datetime.datetime(2025, 5, 6, tzinfo=UTC)
+        host.add_function("f", lambda: 2)
+        self.assertEqual(rule.run(None, host), [2, 2025, 1])
+        with self.assertRaises(TypeError):
+            host.now = 5
+        with self.assertRaises(TypeError):
+            host.add_function("g", 5)
+        with self.assertRaises(TypeError):
+            host.functions["g"] = len
+        self.assertEqual(rule.run(None, host), [2, 2025, 1])
+        self.assertEqual(list(host.functions), ["f"])
+
+
+class Module(unittest.TestCase):
+    def test_version(self):
+        with open(f"{HERE}/../../VERSION", encoding="utf-8") as it:
+            self.assertEqual(exprlang.__version__, it.read().strip())
+        self.assertRegex(exprlang.library_version(), r"^\d+\.\d+\.\d+, .*(un)?proved$")
+
+    def test_star_import(self):
+        names = {}
+        exec("from exprlang import *", names)
+        self.assertIn("evaluate", names)
+        self.assertEqual(set(exprlang.__all__) & set(dir(builtins)), set())
+        self.assertNotIn("compile", names)
+        self.assertEqual(exprlang.compile("1 + 1").run(), 2)
+
+    def test_the_old_name(self):
+        sys.modules.pop("expr", None)
+        with warnings.catch_warnings(record=True) as caught:
+            warnings.simplefilter("always")
+            import expr
+        self.assertEqual([it.category for it in caught], [DeprecationWarning])
+        self.assertIn("exprlang", str(caught[0].message))
+        self.assertEqual(expr.eval("a + 1", {"a": 1}), 2)
+        self.assertIs(expr.compile, exprlang.compile)
+        self.assertIs(expr.Error, exprlang.Error)
+
+    def test_the_reference(self):
+        """Each public name, and each public part of one, says what it is, with an example."""
+        listed = [(name, getattr(exprlang, name)) for name in [*exprlang.__all__, "compile"]]
+        for name, it in list(listed):
+            if inspect.isclass(it):
+                parts = [
+                    (f"{name}.{part}", inner)
+                    for part, inner in vars(it).items()
+                    if not part.startswith("_")
+                ]
+                listed += [
+                    (part, inner)
+                    for part, inner in parts
+                    if callable(inner) or isinstance(inner, property)
+                ]
+        for name, it in listed:
+            self.assertIn(">>>", it.__doc__ or "", name)
+
+    def python(self, *words, **environment):
+        """Runs Python with these words, and returns its status and what it said."""
+        around = {
+            name: value
+            for name, value in os.environ.items()
+            if name not in ("EXPRLANG_LIB", "PYTHONPATH")
+        }
+        with tempfile.TemporaryDirectory() as folder:
+            ran = subprocess.run(
+                [sys.executable, *words],
+                env={**around, **environment},
+                cwd=folder,
+                capture_output=True,
+                text=True,
+            )
+        return ran.returncode, ran.stderr
+
+    def test_no_library(self):
+        status, said = self.python(
+            "-c", "import exprlang", PYTHONPATH=HERE, EXPRLANG_LIB="/nowhere"
+        )
+        self.assertEqual(status, 1)
+        for words in [
+            "ImportError",
+            "/nowhere/libexprlang.so.0",
+            "bin/quick",
+            "bin/hosts",
+            ".ci/run",
+            "EXPRLANG_LIB",
+        ]:
+            self.assertIn(words, said)
+        with tempfile.TemporaryDirectory() as folder:
+            shutil.copytree(f"{HERE}/exprlang", f"{folder}/a/b/exprlang")
+            status, said = self.python("-c", "import exprlang", PYTHONPATH=f"{folder}/a/b")
+            self.assertEqual(status, 1)
+            for place in ["a/b/exprlang", "a/b", "a/out/lib"]:
+                self.assertIn(f"{folder}/{place}/libexprlang.so.0\n", said)
+            self.assertIn("of the system", said)
+            with open(f"{folder}/a/b/libexprlang.so.0", "wb") as it:
+                it.write(b"no library")
+            status, said = self.python("-c", "import exprlang", PYTHONPATH=f"{folder}/a/b")
+            self.assertIn("can't be loaded", said)
+
+    def test_types(self):
+        self.assertTrue(os.path.exists(f"{HERE}/exprlang/py.typed"))
+        if importlib.util.find_spec("mypy") is None:
+            self.skipTest("there is no mypy here")
+        with tempfile.TemporaryDirectory() as folder:
+            status, said = self.python(
+                "-m",
+                "mypy",
+                "--strict",
+                "--cache-dir",
+                folder,
+                f"{HERE}/exprlang",
+                PYTHONPATH=os.environ.get("PYTHONPATH", ""),
+            )
+        self.assertEqual(status, 0, said)
+
+
+def load_tests(loader, tests, ignore):
+    names = {"exprlang": exprlang, "datetime": datetime}
+    modules = [f"exprlang.{it.name}" for it in pkgutil.iter_modules(exprlang.__path__)]
+    for name in ["exprlang", *modules]:
+        module = importlib.import_module(name)
+        flags = doctest.IGNORE_EXCEPTION_DETAIL | doctest.ELLIPSIS
+        tests.addTests(doctest.DocTestSuite(module, extraglobs=names, optionflags=flags))
+    return tests
+
+
+if __name__ == "__main__":
+    unittest.main()
