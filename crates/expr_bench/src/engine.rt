@@ -1,4 +1,4 @@
-//! The rule engine of docs/HOSTS.md.
+//! The rule engine of docs/RATTLE.md.
 use expr_bench_values::page::Page;
 use expr_value::Result;
 use rules::{is_large, report};

@@ -136,8 +136,8 @@ impl Engine {
     /// Whether `$env` stands as an operand in a program: 1 or 0.
     pub fn uses_env(&self, program: Handle) -> Result<i64, HostError>
         ensures told { MatchOption (thing_at self.now.rules program) (result ≡ Err HostError.Unknown)
-            (λ rule. IfOk result (λ n. TellsWhether (Contains (block_operands (program_term rule.program)) env)
-            n)) }
+            (λ rule. IfOk result (λ n. TellsWhether
+            (Contains (block_operands (program_term rule.program)) env) n)) }
         ensures unknown { thing_at self.now.rules program ≡ None → result ≡ Err HostError.Unknown }
         ensures known { result ≡ Err HostError.Unknown → thing_at self.now.rules program ≡ None }
         ensures why { IfErr result (λ e. e ≡ HostError.Unknown) }
@@ -468,8 +468,8 @@ impl Engine {
     pub fn fill_missing(&mut self, program: Handle, context: Handle) -> Result<usize, HostError>
         ensures filled { IfOk result (λ count. FillsContext self.old.rules program self.old.contexts
             self.new.contexts context count) }
-        ensures unknown { (thing_at self.old.rules program ≡ None) ⊎ (thing_at self.old.contexts context ≡ None)
-            → result ≡ Err HostError.Unknown }
+        ensures unknown { (thing_at self.old.rules program ≡ None)
+            ⊎ (thing_at self.old.contexts context ≡ None) → result ≡ Err HostError.Unknown }
         ensures known { result ≡ Err HostError.Unknown
             → (thing_at self.old.rules program ≡ None) ⊎ (thing_at self.old.contexts context ≡ None) }
         ensures err { OnErr result (SameThings self.old.contexts self.new.contexts) }

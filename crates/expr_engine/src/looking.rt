@@ -68,7 +68,8 @@ pub fn look_up(engine: &mut Engine, call: &mut Call<'_>) -> Result<(), HostError
     ensures waits { engine.new.waits ≡ engine.old.waits }
     ensures limits { engine.new.limits ≡ engine.old.limits }
     ensures room { call.new.room.now ≡ call.old.room.now }
-    ensures why { IfErr result (λ e. (e ≡ HostError.Misuse Misuse.AtWhole) × (way_of engine.old.answer ≡ [])) }
+    ensures why { IfErr result (λ e. (e ≡ HostError.Misuse Misuse.AtWhole)
+        × (way_of engine.old.answer ≡ [])) }
 {
     engine.answer.go_up()?;
     describe(engine.answer.part(), call);

@@ -43,7 +43,8 @@ impl ValueBuilder {
     /// Takes the last value.
     pub fn pop(&mut self) -> Result<Value, HostError>
         ensures ok { IfOk result (λ value. values_of self.old ≡ values_of self.new ++ value ∷ []) }
-        ensures err { IfErr result (λ e. (e ≡ HostError.Misuse Misuse.NothingBuilt) × (values_of self.old ≡ [])) }
+        ensures err { IfErr result (λ e. (e ≡ HostError.Misuse Misuse.NothingBuilt)
+            × (values_of self.old ≡ [])) }
     {
         match self.values.pop() {
             Some(value) => Ok(value),

@@ -23,7 +23,7 @@ pub fn limit_text(limit: Limit) -> &'static str
     ensures { result.now ≡ text_of_limit limit }
 {
     match limit {
-        Limit::Height => "the text nests deeper than the limit",
+        Limit::Height => "the expression nests deeper than the limit",
         Limit::Patterns => "the patterns of the text weigh more than the limit",
         Limit::Steps => "the run takes more steps than the limit",
         Limit::Depth => "the run makes a value that is deeper than the limit",

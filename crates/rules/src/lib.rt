@@ -1,5 +1,5 @@
 //! A small rule engine over `expr`: compiles the rules that a text begins with, and runs them over the records that follow.
-//! docs/HOSTS.md tells how it goes.
+//! docs/RATTLE.md explains it.
 #![tactic(auto)]
 
 mod engine;
