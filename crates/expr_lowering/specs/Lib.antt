@@ -5,7 +5,6 @@ pub mod Kept
 pub mod Lent
 pub mod Scoping
 pub mod Owned
-pub mod Roots
 pub mod States
 pub mod Tasks
 pub use Rattle.expr_instructions.specs.InMemory
