@@ -3,6 +3,7 @@ pub mod Leading
 pub mod Keeping
 pub mod Kept
 pub mod Lent
+pub mod Needs
 pub mod Scoping
 pub mod Owned
 pub mod States
