@@ -2,9 +2,11 @@ pub mod Finishing
 pub mod Formed
 pub mod Keeping
 pub mod Leading
+pub mod Needing
 pub mod LiteralLists
 pub mod Pending
 pub mod Scoping
 pub mod AtPoint
 pub mod Matches
 pub mod Patterns
+pub mod SameCode

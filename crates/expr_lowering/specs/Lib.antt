@@ -3,9 +3,9 @@ pub mod Leading
 pub mod Keeping
 pub mod Kept
 pub mod Lent
+pub mod Needs
 pub mod Scoping
 pub mod Owned
-pub mod Roots
 pub mod States
 pub mod Tasks
 pub use Rattle.expr_instructions.specs.InMemory

@@ -1,36 +1,21 @@
 //! Blocks, one after the other, each from its end to its start.
-ghost use Rattle.std.specs.Prelude.{◌≡◌, ◌≤◌, [], length, map, string_bytes, vec_len, IfOk, OnOk, MatchOption};
+ghost use Rattle.std.specs.Prelude.{◌≡◌, ◌≤◌, [], length, map, vec_len, IfOk, OnOk, MatchOption};
 ghost use Rattle.expr_code.specs.Codes.{IsCode};
-ghost use Rattle.expr_tree.specs.Term.{answers, call, postfix, predicate};
-ghost use Rattle.expr_tree.specs.TermOf.{postfix_term, program_term, term_of, terms_of};
+ghost use Rattle.expr_tree.specs.TermOf.{program_term, term_of};
 ghost use Rattle.expr_instructions.specs.Patterns.{KeepPatterns};
 ghost use Rattle.expr_lowering.specs.Leading.{Leads, Writes, at_block_start, with_jump, with_task};
 ghost use Rattle.expr_lowering.specs.Keeping.{BlockLentKeeps, Keeps, NextKeeps, WorkKeeps};
-ghost use Rattle.expr_lowering.specs.Kept.{NodeKeeps, NodesKeep, PostfixKeeps, ProgramKeeps};
+ghost use Rattle.expr_lowering.specs.Kept.{NodeKeeps, ProgramKeeps};
 ghost use Rattle.expr_lowering.specs.Lent.{lent_built, lent_value, task_of, worklist_of};
-ghost use Rattle.expr_lowering.specs.Roots.{RootKeeps, root_block};
 ghost use Rattle.expr_lowering.specs.States.{lent_blocks, lent_ops, state_of};
 ghost use Rattle.expr_lowering.specs.Tasks.{term_task};
 
 use crate::lowering::{LentBlock, Lowering};
 use crate::worklist::WorkItem;
 use expr_instructions::Instruction;
-use expr_tree::node::{Node, PostfixOperator, Program};
+use expr_tree::node::{Node, Program};
 use std::alloc::AllocError;
 use std::mem;
-
-/// What a code is of.
-#[derive(Clone, Copy)]
-pub(crate) enum Root<'p> {
-    /// A program.
-    Program(&'p Program),
-    /// A node alone.
-    Node(&'p Node),
-    /// What stands behind a node.
-    Postfix(&'p PostfixOperator, &'p Node),
-    /// A call on nodes that asks a program.
-    Call(&'p String, &'p [Node], &'p Program),
-}
 
 impl<'p> Lowering<'p> {
     /// A part that waited: what stands behind it, and its node, which is written next.
@@ -144,31 +129,6 @@ impl<'p> Lowering<'p> {
         Ok(())
     }
 
-    /// All that waits.
-    #[inline(always)]
-    fn waiting(&mut self) -> Result<(), AllocError>
-        ensures written { OnOk result (Leads 0 (state_of self.old) (state_of self.new)) }
-        ensures done { OnOk result (worklist_of self.new.works.next self.new.works.rest.items ≡ []) }
-        ensures kept { Keeps self.old → OnOk result (Keeps self.new) }
-    {
-        match self.next()? {
-            Some(node) => self.rest(node),
-            None => Ok(()),
-        }
-    }
-
-    /// A block begins, of whose promised programs so many have no later block.
-    #[inline(always)]
-    fn begin(&mut self, earlier: usize) -> Result<(), AllocError>
-        requires { worklist_of self.old.works.next self.old.works.rest.items ≡ [] }
-        ensures state { OnOk result (state_of self.new ≡ at_block_start earlier (state_of self.old)) }
-        ensures kept { Keeps self.old → OnOk result (Keeps self.new) }
-    {
-        self.earlier = earlier;
-        self.block = Vec::with_capacity(self.alloc, 16)?;
-        Ok(())
-    }
-
     /// Writes the block of a program in the present scope, of whose promised programs so many have no later block.
     #[inline(never)]
     fn write(&mut self, program: &'p Program, earlier: usize) -> Result<(), AllocError>
@@ -179,126 +139,48 @@ impl<'p> Lowering<'p> {
         ensures done { OnOk result (worklist_of self.new.works.next self.new.works.rest.items ≡ []) }
         ensures kept { ProgramKeeps program.now → Keeps self.old → OnOk result (Keeps self.new) }
     {
-        self.begin(earlier)?;
+        self.earlier = earlier;
+        self.block = Vec::with_capacity(self.alloc, 16)?;
         self.lines(&program.lines)?;
         self.rest(&program.expr)
     }
 
-    /// Writes the block of a node alone, as said above.
-    #[inline(never)]
-    fn write_node(&mut self, node: &'p Node, earlier: usize) -> Result<(), AllocError>
-        requires { worklist_of self.old.works.next self.old.works.rest.items ≡ [] }
-        ensures block { OnOk result (Writes (at_block_start earlier (state_of self.old))
-            (answers (term_of node.now))
-            (state_of self.new) (lent_ops self.new.block.items)) }
-        ensures done { OnOk result (worklist_of self.new.works.next self.new.works.rest.items ≡ []) }
-        ensures kept { NodeKeeps node.now → Keeps self.old → OnOk result (Keeps self.new) }
-    {
-        self.begin(earlier)?;
-        self.rest(node)
-    }
-
-    /// Writes the block of a node and of what stands behind it, as said above.
-    #[inline(never)]
-    fn write_postfix(
-        &mut self,
-        operator: &'p PostfixOperator,
-        operand: &'p Node,
-        earlier: usize,
-    ) -> Result<(), AllocError>
-        requires { worklist_of self.old.works.next self.old.works.rest.items ≡ [] }
-        ensures block { OnOk result (Writes (at_block_start earlier (state_of self.old))
-            (answers (postfix (postfix_term operator.now) (term_of operand.now)))
-            (state_of self.new) (lent_ops self.new.block.items)) }
-        ensures done { OnOk result (worklist_of self.new.works.next self.new.works.rest.items ≡ []) }
-        ensures kept { PostfixKeeps operator.now → NodeKeeps operand.now → Keeps self.old
-            → OnOk result (Keeps self.new) }
-    {
-        self.begin(earlier)?;
-        match self.postfix(operator, operand)? {
-            Some(next) => self.rest(next),
-            None => self.waiting(),
-        }
-    }
-
-    /// Writes the block of a call that asks a program, as said above.
-    #[inline(never)]
-    fn write_call(
-        &mut self,
-        ident: &'p String,
-        args: &'p [Node],
-        program: &'p Program,
-        earlier: usize,
-    ) -> Result<(), AllocError>
-        requires { worklist_of self.old.works.next self.old.works.rest.items ≡ [] }
-        ensures block { OnOk result (Writes (at_block_start earlier (state_of self.old))
-            (answers (call (string_bytes ident.now) (terms_of (map term_of args.now))
-            (predicate (program_term program.now))))
-            (state_of self.new) (lent_ops self.new.block.items)) }
-        ensures done { OnOk result (worklist_of self.new.works.next self.new.works.rest.items ≡ []) }
-        ensures kept { NodesKeep args.now → ProgramKeeps program.now → Keeps self.old
-            → OnOk result (Keeps self.new) }
-    {
-        self.begin(earlier)?;
-        self.call_with(ident, args.len(), program)?;
-        self.all(args)?;
-        self.waiting()
-    }
-
-    /// Writes the block of a root in the present scope, as said above.
+    /// The block of a program in the present scope, of whose promised programs so many have no later block.
     #[inline(always)]
-    fn write_root(&mut self, root: Root<'p>, earlier: usize) -> Result<(), AllocError>
-        requires { worklist_of self.old.works.next self.old.works.rest.items ≡ [] }
-        ensures block { OnOk result (Writes (at_block_start earlier (state_of self.old))
-            (root_block root.entry)
-            (state_of self.new) (lent_ops self.new.block.items)) }
-        ensures done { OnOk result (worklist_of self.new.works.next self.new.works.rest.items ≡ []) }
-        ensures kept { RootKeeps root.entry → Keeps self.old → OnOk result (Keeps self.new) }
-    {
-        match root {
-            Root::Program(program) => self.write(program, earlier),
-            Root::Node(node) => self.write_node(node, earlier),
-            Root::Postfix(operator, operand) => self.write_postfix(operator, operand, earlier),
-            Root::Call(ident, args, program) => self.write_call(ident, args, program, earlier),
-        }
-    }
-
-    /// The block of a root in the present scope, of whose promised programs so many have no later block.
-    #[inline(always)]
-    fn block(&mut self, root: Root<'p>, earlier: usize) -> Result<LentBlock<'p>, AllocError>
+    fn block(&mut self, program: &'p Program, earlier: usize) -> Result<LentBlock<'p>, AllocError>
         requires { worklist_of self.old.works.next self.old.works.rest.items ≡ [] }
         ensures block { IfOk result (λ block. Writes (at_block_start earlier (state_of self.old))
-            (root_block root.entry)
+            (program_term program.now)
             (state_of self.new) (lent_ops block.items)) }
         ensures done { OnOk result (worklist_of self.new.works.next self.new.works.rest.items ≡ []) }
-        ensures kept { RootKeeps root.entry → Keeps self.old
+        ensures kept { ProgramKeeps program.now → Keeps self.old
             → IfOk result (λ block. BlockLentKeeps block.items × Keeps self.new) }
     {
-        self.write_root(root, earlier)?;
+        self.write(program, earlier)?;
         Ok(mem::replace(&mut self.block, Vec::new(self.alloc)))
     }
 
-    /// The blocks of a root and of the programs that are promised one on the way.
+    /// The blocks of a program and of those that are promised one on the way.
     #[inline(always)]
     pub(crate) fn blocks(
         &mut self,
-        root: Root<'p>,
+        program: &'p Program,
     ) -> Result<(LentBlock<'p>, Vec<LentBlock<'p>>), AllocError>
         requires works { worklist_of self.old.works.next self.old.works.rest.items ≡ [] }
         requires scope { self.old.scopes.scope ≡ 0 }
         requires promised { vec_len self.old.promised ≡ 0 }
         requires kept { Keeps self.old }
-        ensures code { IfOk result (λ blocks. IsCode (root_block root.entry)
+        ensures code { IfOk result (λ blocks. IsCode (program_term program.now)
             (lent_blocks blocks.0 blocks.1)) }
-        ensures kept { RootKeeps root.entry
+        ensures kept { ProgramKeeps program.now
             → IfOk result (λ blocks. KeepPatterns lent_value lent_built blocks.0 blocks.1) }
     {
-        let first = self.block(root, 0)?;
+        let first = self.block(program, 0)?;
         let mut later = Vec::with_capacity(self.alloc, self.promised.len())?;
         while later.len() < self.promised.len() {
             let promised = self.promised[later.len()];
             self.scopes.enter(promised.scope);
-            let block = self.block(Root::Program(promised.program), later.len() + 1)?;
+            let block = self.block(promised.program, later.len() + 1)?;
             later.push(block)?;
         }
         Ok((first, later))

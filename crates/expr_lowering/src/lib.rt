@@ -7,6 +7,7 @@ mod forms;
 mod kept;
 mod literals;
 mod lowering;
+mod safety;
 mod scopes;
 mod worklist;
 

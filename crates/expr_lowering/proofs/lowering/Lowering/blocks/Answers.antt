@@ -1,8 +1,8 @@
 use Rattle.std.proofs.Common.{◌≡◌, ◌≤◌, [], ◌∷◌, length, map, sym, ap, subst, arith}
 use Rattle.std.proofs.lemmas.List.{length-map}
+use Rattle.expr_tree.specs.TermOf.{program_term}
 use Rattle.expr_lowering.specs.Leading.{Progress}
 use Rattle.expr_lowering.specs.Lent.{entries_of, entry_of, pending_block_of}
-use Rattle.expr_lowering.specs.Roots.{root_block}
 use Rattle.expr_lowering.specs.States.{lent_blocks, lent_ops, state_of}
 use Rattle.expr_lowering.proofs.Finishing.{no_items, ops_in, promise_at, next_progress, next_lighter}
 use Rattle.expr_lowering.proofs.Patterns.{no_blocks, one_more_block, promised_keeps}
@@ -12,7 +12,7 @@ use Rattle.expr_lowering.proofs.lowering.Lowering.blocks.Goals as goal
 
 pub loop-self-init : goal.loop-self-init
 loop-self-init c =
-    let b = root_block c.args.root in
+    let b = program_term c.args.program.now in
     let none : map pending_block_of c.args.self.now.promised.items ≡ []
     = ap (map pending_block_of) (no_items c.args.self.now.promised.items (omega (arith, c.requires.promised, c.args.self.now.promised.ok.0))) in
     record {
@@ -27,7 +27,7 @@ loop-self-init c =
 
 pub enter-requires : goal.enter-requires
 enter-requires c =
-    let b = root_block c.args.root in
+    let b = program_term c.args.program.now in
     let s = state_of c.loop-self.self in
     let n = length c.loop-self.later.items in
     let at = promise_at c.loop-self.self.promised.items c.len-in-loop-self-3.result n c.index-promised.result.now (omega (arith, c.len-in-loop-self-3.ensures, c.loop-self.later.ok.0)) (omega (arith, c.loop-self.self.promised.ok.0)) c.index-promised.ensures in
@@ -36,7 +36,7 @@ enter-requires c =
 
 pub loop-self-preserved : goal.loop-self-preserved
 loop-self-preserved c =
-    let b = root_block c.args.root in
+    let b = program_term c.args.program.now in
     let s = state_of c.loop-self.self in
     let n = length c.loop-self.later.items in
     let at = promise_at c.loop-self.self.promised.items c.len-in-loop-self-3.result n c.index-promised.result.now (omega (arith, c.len-in-loop-self-3.ensures, c.loop-self.later.ok.0)) (omega (arith, c.loop-self.self.promised.ok.0)) c.index-promised.ensures in
@@ -53,7 +53,7 @@ loop-self-preserved c =
 
 pub loop-self-smaller : goal.loop-self-smaller
 loop-self-smaller c =
-    let b = root_block c.args.root in
+    let b = program_term c.args.program.now in
     let s = state_of c.loop-self.self in
     let n = length c.loop-self.later.items in
     let at = promise_at c.loop-self.self.promised.items c.len-in-loop-self-3.result n c.index-promised.result.now (omega (arith, c.len-in-loop-self-3.ensures, c.loop-self.later.ok.0)) (omega (arith, c.loop-self.self.promised.ok.0)) c.index-promised.ensures in
@@ -65,7 +65,7 @@ pub returns-clause-code : goal.returns-clause-code
 returns-clause-code c =
     let all : length (map pending_block_of c.loop-self.self.promised.items) ≤ length c.loop-self.later.items
     = omega (arith, length-map c.loop-self.self.promised.items pending_block_of, c.loop-self.self.promised.ok.0, c.loop-self.later.ok.0) in
-    progress_done (root_block c.args.root) (state_of c.loop-self.self) (length c.loop-self.later.items) (lent_blocks c.in_ok-first.first c.loop-self.later) c.loop-self.invariant.progress all
+    progress_done (program_term c.args.program.now) (state_of c.loop-self.self) (length c.loop-self.later.items) (lent_blocks c.in_ok-first.first c.loop-self.later) c.loop-self.invariant.progress all
 
 pub returns-clause-kept : goal.returns-clause-kept
 returns-clause-kept c = λ p.
