@@ -194,11 +194,7 @@ fn need_at(needs: &[Need], passed: usize) -> Need
 }
 
 /// What is needed before an instruction, given what is needed at each place after it and at the start of each later block.
-fn need_before<L, N, P>(
-    instruction: &Instruction<L, N, P>,
-    needs: &[Need],
-    starts: &[Need],
-) -> Need
+fn need_before<L, N, P>(instruction: &Instruction<L, N, P>, needs: &[Need], starts: &[Need]) -> Need
     ensures { (first stack slots : ℕ) → stack < 2 ^ 64 - 1 → Meets result first stack slots
         ↔ FindsAll (Admits starts.now) first (op_of no_value no_text instruction.now) (MeetsAt needs.now first) stack slots }
 {

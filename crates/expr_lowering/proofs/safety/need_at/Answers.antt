@@ -7,6 +7,6 @@ returns-then-passed-needs c = need_within c.args.needs.now c.args.passed _ c.if-
 
 pub returns-else-passed-needs : goal.returns-else-passed-needs
 returns-else-passed-needs c first stack slots = (
-    (λ m. absurd (omega (arith, m.1))),
-    (λ w. absurd (none_beyond c.args.needs.now c.args.passed c.if-passed-needs.false first stack slots w))
-    )
+  (λ m. absurd (omega (arith, m.1))),
+  (λ w. absurd (none_beyond c.args.needs.now c.args.passed c.if-passed-needs.false first stack slots w)),
+)
