@@ -54,7 +54,6 @@ fn text_of_answers(alloc: Global, kind: &str, row: &Row) -> Option<Result<String
         "lent" => values::lent_text(alloc, row),
         "context" => values::context_text(alloc, row),
         "nest" => deep::nest_text(alloc, row),
-        "nest_alone" => deep::nest_alone_text(alloc, row),
         "topic" => topic_text(alloc, row.text(0)),
         _ => return None,
     })

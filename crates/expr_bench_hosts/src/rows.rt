@@ -29,11 +29,11 @@ pub fn once_text(alloc: Global, row: &Row) -> Result<String> {
     answer_text(alloc, eval(alloc, row.text(0), &context))
 }
 
-/// What is printed of a row's answer by each way from a text to its answer.
-pub fn row_text(alloc: Global, row: &Row) -> Result<String> {
+/// What is printed of a row's answer by each way from a text to its answer. Where its tree is one of them, that is counted.
+pub fn row_text(alloc: Global, row: &Row, trees: &mut usize) -> Result<String> {
     let context = names(alloc, row)?;
     let answer = eval(alloc, row.text(0), &context);
-    if agrees(alloc, &answer, row.text(0), &context)? {
+    if agrees(alloc, &answer, row.text(0), &context, trees)? {
         answer_text(alloc, answer)
     } else {
         Ok(String::from_str(alloc, "!!the ways to an answer differ")?)

@@ -16,12 +16,18 @@ fn by_code(alloc: Global, text: &str, context: &Context) -> Result<Value> {
     execute(alloc, &code, context)
 }
 
-/// What the tree of a text answers, by recursion on it; none where its program has lines.
-fn by_tree(alloc: Global, text: &str, context: &Context) -> Result<Option<Value>> {
+/// What the tree of a text answers, by recursion on it, which is counted; none where its program has lines.
+fn by_tree(
+    alloc: Global,
+    text: &str,
+    context: &Context,
+    trees: &mut usize,
+) -> Result<Option<Value>> {
     let program = compile(alloc, text)?;
     if !program.lines.is_empty() {
         return Ok(None);
     }
+    *trees = trees.saturating_add(1);
     Ok(Some(eval_expr(alloc, context, &program.expr)?))
 }
 
@@ -44,15 +50,16 @@ fn is_same(
 }
 
 /// Whether a text answers by the other ways what it answered first, among some names; want of memory if one of them has
-/// none that another doesn't miss.
+/// none that another doesn't miss. Where its tree is one of the ways, that is counted.
 pub fn agrees(
     alloc: Global,
     first: &Result<Value>,
     text: &str,
     context: &Context,
+    trees: &mut usize,
 ) -> std::result::Result<bool, AllocError> {
     let code_agrees = is_same(alloc, first, &by_code(alloc, text, context))?;
-    let tree_agrees = match by_tree(alloc, text, context) {
+    let tree_agrees = match by_tree(alloc, text, context, trees) {
         Ok(None) => true,
         Ok(Some(value)) => is_same(alloc, first, &Ok(value))?,
         Err(error) => is_same(alloc, first, &Err(error))?,

@@ -48,8 +48,6 @@ fn put_code(alloc: Global, context: &Context, program: &Program, page: &mut Page
     page.put_call("Code::lower", execute(alloc, &code, context));
     let once = Code::lower_once(alloc, program)?;
     page.put_call("Code::lower_once", execute(alloc, &once, context));
-    let alone = Code::lower_node(alloc, &program.expr)?;
-    page.put_call("Code::lower_node", execute(alloc, &alone, context));
     let kept = code.keep(alloc)?;
     page.put_call("Code::keep", execute(alloc, &kept, context));
     page.put_call("execute", execute(alloc, &code, context));
@@ -76,32 +74,14 @@ fn put_programs(alloc: Global, context: &Context, page: &mut Page) -> Result<()>
     put_program(alloc, context, &program, page)
 }
 
-/// Puts a copy of a node's postfix, and its code.
+/// Puts a copy of a node's postfix.
 fn put_postfix(alloc: Global, context: &Context, node: &Node, page: &mut Page) -> Result<()> {
     if let Node::Postfix { operator, node } = node {
         let copy = operator.clone()?;
         let answer = eval_postfix_operator(alloc, context, &copy, node);
         page.put_call("PostfixOperator::clone", answer);
-        let code = Code::lower_postfix(alloc, operator, node)?;
-        page.put_call("Code::lower_postfix", execute(alloc, &code, context));
     } else {
         page.put_fact("PostfixOperator::clone", false);
-    }
-    Ok(())
-}
-
-/// Puts the code of a node's call that asks a program.
-fn put_lowered_call(alloc: Global, context: &Context, node: &Node, page: &mut Page) -> Result<()> {
-    if let Node::Func {
-        ident,
-        args,
-        predicate: Some(program),
-    } = node
-    {
-        let code = Code::lower_call(alloc, ident, args, program)?;
-        page.put_call("Code::lower_call", execute(alloc, &code, context));
-    } else {
-        page.put_fact("Code::lower_call", false);
     }
     Ok(())
 }
@@ -125,7 +105,5 @@ pub fn put_calls(alloc: Global, context: &Context, page: &mut Page) -> Result<()
     put_programs(alloc, context, page)?;
     let indexed = compile(alloc, "[7][a - 2]")?;
     put_postfix(alloc, context, &indexed.expr, page)?;
-    put_functions(alloc, context, page)?;
-    let call = compile(alloc, "map([1, 2], # * 10)")?;
-    put_lowered_call(alloc, context, &call.expr, page)
+    put_functions(alloc, context, page)
 }

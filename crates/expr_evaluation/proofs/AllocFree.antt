@@ -1,7 +1,8 @@
--- A term that takes no memory has one answer, whatever the host and the names.
-use Rattle.std.proofs.Common.{◌≡◌, ◌≢◌, ◌&&◌, Bool, true, false, IsTrue, Option, Some, None, Result, Ok, Err, ap, sym, ◌∙◌, refl, subst}
-use Rattle.expr_evaluation.specs.AllocFree.{FindsAllocFree, FindsAllocFreeAfter, and_answer, answer_then, is_alloc_free_node, operation_answer, or_answer, alloc_free_node_answer}
+-- A term that takes no memory has a value that takes none, and what it comes to follows from what its parts do.
+use Rattle.std.proofs.Common.{◌≡◌, ◌≢◌, ◌&&◌, Bool, true, false, IsTrue, Result, Ok, Err, ap, sym, ◌∙◌, refl, subst}
+use Rattle.expr_evaluation.specs.AllocFree.{is_alloc_free_node}
 use Rattle.expr_evaluation.specs.Promises.{TakesNoMemory}
+use Rattle.expr_evaluation.specs.Sides.{AndTakesNoMemory, OperatorTakesNoMemory, OrTakesNoMemory}
 use Rattle.expr_meaning.specs.Allows.{Allows, AndThenLayer, OperationMayReturn, OperationMayReturnBy, OrElseLayer}
 use Rattle.expr_operators.specs.Operators.{operator_answer, unary_answer, truth}
 use Rattle.expr_operators.proofs.AllocFree.{ReturnsAllocFree-at, operator_answer-plain, bool-plain, plain-Bool, plain-at, prefixed-plain}
@@ -13,6 +14,7 @@ use Rattle.expr_meaning.specs.World.{World}
 use Rattle.expr_tree.specs.Term.{Term, name, literal, list, mapping, range, call, unary, operation, postfix, choice}
 use Rattle.expr_tree.specs.declared.operator.Operator.{Operator}
 use Rattle.expr_tree.specs.declared.operator.Operator.TheVariants.{Matches}
+use Rattle.expr_tree.specs.declared.operator.UnaryOperator.{UnaryOperator}
 use Rattle.expr_value.proofs.Answered.{first_of-Then}
 use Rattle.expr_value.specs.Answers.{Answer, Then}
 use Rattle.expr_error.specs.declared.error.Error.{Error}
@@ -20,173 +22,135 @@ use Rattle.expr_value.specs.declared.value.Value as value
 use Rattle.expr_value.specs.declared.value.Value.{Value, out-Value}
 use Rattle.expr_value.specs.declared.value.Value.TheOpen.{Value-F}
 
-pub left-true : (a b : Bool) → IsTrue (a && b) → IsTrue a
+left-true : (a b : Bool) → IsTrue (a && b) → IsTrue a
 left-true true b p = refl
 left-true false b p = p
 
-pub right-true : (a b : Bool) → IsTrue (a && b) → IsTrue b
+right-true : (a b : Bool) → IsTrue (a && b) → IsTrue b
 right-true true b p = p
 right-true false b p = cc
-
--- the first of two answers that come to a value is one
-first_of : (a : Answer) (next : Value → Answer) (v : Value) → answer_then a next ≡ Ok v → (x : Value) × (a ≡ Ok x) × (next x ≡ Ok v)
-first_of (Ok x) next v e = (x, refl, e)
-first_of (Err k) next v e = cc
-
--- an operator allows what it answers
-module _ (right : Answer → Type 0) (a : Answer) (allowed : (y : Value) → a ≡ Ok y → right (Ok y)) (v : Value) where
-  and_allowed : (x : Value-F Value) → and_answer x a ≡ Ok v → AndThenLayer x right (Ok v)
-  and_allowed (Value-F.Bool true) e = let q = first_of a truth v e in (Ok q.0, allowed q.0 q.1, sym q.2)
-  and_allowed (Value-F.Bool false) e = sym e
-  and_allowed x e = cc
-
-  or_allowed : (x : Value-F Value) → or_answer x a ≡ Ok v → OrElseLayer x right (Ok v)
-  or_allowed (Value-F.Bool true) e = sym e
-  or_allowed (Value-F.Bool false) e = let q = first_of a truth v e in (Ok q.0, allowed q.0 q.1, sym q.2)
-  or_allowed x e = cc
-
-  operator_allowed : (c : Strictness) (op : Operator) (x : Value) → operation_answer c op x a ≡ Ok v → OperationMayReturnBy c op x right (Ok v)
-  operator_allowed Both op x e = let q = first_of a (operator_answer op x) v e in (Ok q.0, allowed q.0 q.1, sym q.2)
-  operator_allowed EndsAtFalse op x e = and_allowed (out-Value x) e
-  operator_allowed EndsAtTrue op x e = or_allowed (out-Value x) e
-  operator_allowed Pattern op x e = cc
-
--- a term allows what it answers without names and calls
-pub alloc_free_allowed : (world : World) (t : Term) (v : Value) → alloc_free_node_answer t ≡ Ok v → Allows world t (Ok v)
-alloc_free_allowed world (literal w) v e = sym e
-alloc_free_allowed world (unary op t) v e =
-    let q = first_of (alloc_free_node_answer t) (unary_answer op) v e in (Ok q.0, alloc_free_allowed world t q.0 q.1, sym q.2)
-alloc_free_allowed world (operation op l r) v e =
-    let q = first_of (alloc_free_node_answer l) (λ x. operation_answer (operator_strictness op) op x (alloc_free_node_answer r)) v e in (
-      Ok q.0,
-      alloc_free_allowed world l q.0 q.1,
-      operator_allowed (Allows world r) (alloc_free_node_answer r) (λ y k. alloc_free_allowed world r y k) v (operator_strictness op) op q.0 q.2,
-    )
-alloc_free_allowed world (name key) v e = cc
-alloc_free_allowed world (list ts) v e = cc
-alloc_free_allowed world (mapping ps) v e = cc
-alloc_free_allowed world (range a b) v e = cc
-alloc_free_allowed world (call key ts q) v e = cc
-alloc_free_allowed world (postfix q t) v e = cc
-alloc_free_allowed world (choice c a b) v e = cc
-
--- an operator answers what it allows
-module _ (right : Answer → Type 0) (a : Answer) (only : (y : Value) → right (Ok y) → a ≡ Ok y) (v : Value) where
-  one_next : (next : Value → Answer) → Then right (λ y b. b ≡ next y) (Ok v) → answer_then a next ≡ Ok v
-  one_next next h =
-      let q = first_of-Then right (λ y b. b ≡ next y) v h in
-      subst (λ b. answer_then b next ≡ Ok v) (sym (only q.0 q.1)) (sym q.2)
-
-  and_only : (x : Value-F Value) → AndThenLayer x right (Ok v) → and_answer x a ≡ Ok v
-  and_only (Value-F.Bool true) h = one_next truth h
-  and_only (Value-F.Bool false) h = sym h
-  and_only x h = cc
-
-  or_only : (x : Value-F Value) → OrElseLayer x right (Ok v) → or_answer x a ≡ Ok v
-  or_only (Value-F.Bool true) h = sym h
-  or_only (Value-F.Bool false) h = one_next truth h
-  or_only x h = cc
-
-  operator_only : (c : Strictness) (op : Operator) (x : Value) → c ≢ Pattern → OperationMayReturnBy c op x right (Ok v) → operation_answer c op x a ≡ Ok v
-  operator_only Both op x n h = one_next (operator_answer op x) h
-  operator_only EndsAtFalse op x n h = and_only (out-Value x) h
-  operator_only EndsAtTrue op x n h = or_only (out-Value x) h
-  operator_only Pattern op x n h = absurd (n refl)
 
 -- an operator that takes no memory asks no pattern
 asks_no_pattern : (op : Operator) → IsTrue (is_alloc_free_operator op) → operator_strictness op ≢ Pattern
 asks_no_pattern Matches p e = cc
 asks_no_pattern op p e = cc
 
--- and a term that takes no memory answers what it allows
-pub alloc_free_only : (world : World) (t : Term) (v : Value) → IsTrue (is_alloc_free_node t) → Allows world t (Ok v) → alloc_free_node_answer t ≡ Ok v
-alloc_free_only world (literal w) v p h = sym h
-alloc_free_only world (unary op t) v p h =
-    one_next (Allows world t) (alloc_free_node_answer t) (λ y k. alloc_free_only world t y p k) v (unary_answer op) h
-alloc_free_only world (operation op l r) v p h =
+-- the value of an operator whose right side takes no memory
+module _ (right : Answer → Type 0) (of_right : (w : Value) → right (Ok w) → IsTrue (is_alloc_free_value w)) (v : Value) where
+  truth_plain : Then right (λ y a. a ≡ truth y) (Ok v) → IsTrue (is_alloc_free_value v)
+  truth_plain h = let q = first_of-Then right (λ y a. a ≡ truth y) v h in plain-at (truth q.0) v q.2 (bool-plain (out-Value q.0))
+
+  and_plain : (x : Value-F Value) → AndThenLayer x right (Ok v) → IsTrue (is_alloc_free_value v)
+  and_plain (Value-F.Bool true) h = truth_plain h
+  and_plain (Value-F.Bool false) h = plain-at (Ok (value.Bool false)) v h (plain-Bool false)
+  and_plain x h = cc
+
+  or_plain : (x : Value-F Value) → OrElseLayer x right (Ok v) → IsTrue (is_alloc_free_value v)
+  or_plain (Value-F.Bool true) h = plain-at (Ok (value.Bool true)) v h (plain-Bool true)
+  or_plain (Value-F.Bool false) h = truth_plain h
+  or_plain x h = cc
+
+  operator_plain : (c : Strictness) (op : Operator) (x : Value) → c ≢ Pattern → IsTrue (is_alloc_free_operator op) → IsTrue (is_alloc_free_value x)
+      → OperationMayReturnBy c op x right (Ok v) → IsTrue (is_alloc_free_value v)
+  operator_plain Both op x n o p h =
+      let q = first_of-Then right (λ y a. a ≡ operator_answer op x y) v h in plain-at (operator_answer op x q.0) v q.2 (operator_answer-plain op x q.0 o p (of_right q.0 q.1))
+  operator_plain EndsAtFalse op x n o p h = and_plain (out-Value x) h
+  operator_plain EndsAtTrue op x n o p h = or_plain (out-Value x) h
+  operator_plain Pattern op x n o p h = absurd (n refl)
+
+-- the value of a term that takes no memory
+value_plain : (world : World) (t : Term) (v : Value) → IsTrue (is_alloc_free_node t) → Allows world t (Ok v) → IsTrue (is_alloc_free_value v)
+value_plain world (literal w) v p h = plain-at (Ok w) v h p
+value_plain world (unary op t) v p h =
+    let q = first_of-Then (Allows world t) (λ w a. a ≡ unary_answer op w) v h in plain-at (unary_answer op q.0) v q.2 (prefixed-plain op (out-Value q.0))
+value_plain world (operation op l r) v p h =
     let o = left-true (is_alloc_free_operator op) (is_alloc_free_node l && is_alloc_free_node r) p in
     let both = right-true (is_alloc_free_operator op) (is_alloc_free_node l && is_alloc_free_node r) p in
     let q = first_of-Then (Allows world l) (λ x. OperationMayReturn op x (Allows world r)) v h in
-    let first : alloc_free_node_answer l ≡ Ok q.0 = alloc_free_only world l q.0 (left-true (is_alloc_free_node l) (is_alloc_free_node r) both) q.1 in
-    subst (λ b. answer_then b (λ x. operation_answer (operator_strictness op) op x (alloc_free_node_answer r)) ≡ Ok v) (sym first) (
-    operator_only (Allows world r) (alloc_free_node_answer r) (λ y k. alloc_free_only world r y (right-true (is_alloc_free_node l) (is_alloc_free_node r) both) k) v (operator_strictness op) op q.0 (asks_no_pattern op o) q.2
-    )
-alloc_free_only world (name key) v p h = cc
-alloc_free_only world (list ts) v p h = cc
-alloc_free_only world (mapping ps) v p h = cc
-alloc_free_only world (range a b) v p h = cc
-alloc_free_only world (call key ts q) v p h = cc
-alloc_free_only world (postfix q t) v p h = cc
-alloc_free_only world (choice c a b) v p h = cc
-
--- a value that is found of it is what it comes to, and where none is found it comes to none
-pub found_alloc_free : (world : World) (t : Term) (v : Value) → alloc_free_node_answer t ≡ Ok v → TakesNoMemory world t (Ok v)
-found_alloc_free world t v found = λ w p h.
-    let same : v ≡ w = cc (sym found ∙ alloc_free_only world t w p h) in ap Ok same
-
-pub not_alloc_free : (world : World) (t : Term) (r : Result Value Error) → FindsAllocFree None t → TakesNoMemory world t r
-not_alloc_free world t r none = λ v p h. absurd (none p v (alloc_free_only world t v p h))
-
--- a term that takes no memory has a value that takes none
-module _ (a : Answer) (of_right : (w : Value) → a ≡ Ok w → IsTrue (is_alloc_free_value w)) where
-  and_alloc_free : (x : Value-F Value) (v : Value) → and_answer x a ≡ Ok v → IsTrue (is_alloc_free_value v)
-  and_alloc_free (Value-F.Bool true) v e = let q = first_of a truth v e in plain-at (truth q.0) v (sym q.2) (bool-plain (out-Value q.0))
-  and_alloc_free (Value-F.Bool false) v e = plain-at (Ok (value.Bool false)) v (sym e) (plain-Bool false)
-  and_alloc_free x v e = cc
-
-  or_alloc_free : (x : Value-F Value) (v : Value) → or_answer x a ≡ Ok v → IsTrue (is_alloc_free_value v)
-  or_alloc_free (Value-F.Bool true) v e = plain-at (Ok (value.Bool true)) v (sym e) (plain-Bool true)
-  or_alloc_free (Value-F.Bool false) v e = let q = first_of a truth v e in plain-at (truth q.0) v (sym q.2) (bool-plain (out-Value q.0))
-  or_alloc_free x v e = cc
-
-  operator_alloc_free : (c : Strictness) (op : Operator) (x v : Value) → IsTrue (is_alloc_free_operator op) → IsTrue (is_alloc_free_value x) → operation_answer c op x a ≡ Ok v → IsTrue (is_alloc_free_value v)
-  operator_alloc_free Both op x v o p e =
-      let q = first_of a (operator_answer op x) v e in plain-at (operator_answer op x q.0) v (sym q.2) (operator_answer-plain op x q.0 o p (of_right q.0 q.1))
-  operator_alloc_free EndsAtFalse op x v o p e = and_alloc_free (out-Value x) v e
-  operator_alloc_free EndsAtTrue op x v o p e = or_alloc_free (out-Value x) v e
-  operator_alloc_free Pattern op x v o p e = cc
-
-pub answers_alloc_free : (t : Term) (v : Value) → IsTrue (is_alloc_free_node t) → alloc_free_node_answer t ≡ Ok v → IsTrue (is_alloc_free_value v)
-answers_alloc_free (literal w) v p e = plain-at (Ok w) v (sym e) p
-answers_alloc_free (unary op t) v p e =
-    let q = first_of (alloc_free_node_answer t) (unary_answer op) v e in plain-at (unary_answer op q.0) v (sym q.2) (prefixed-plain op (out-Value q.0))
-answers_alloc_free (operation op l r) v p e =
-    let o = left-true (is_alloc_free_operator op) (is_alloc_free_node l && is_alloc_free_node r) p in
-    let both = right-true (is_alloc_free_operator op) (is_alloc_free_node l && is_alloc_free_node r) p in
-    let q = first_of (alloc_free_node_answer l) (λ x. operation_answer (operator_strictness op) op x (alloc_free_node_answer r)) v e in
-    operator_alloc_free (alloc_free_node_answer r) (λ w k. answers_alloc_free r w (right-true (is_alloc_free_node l) (is_alloc_free_node r) both) k) (operator_strictness op) op q.0 v o (
-    answers_alloc_free l q.0 (left-true (is_alloc_free_node l) (is_alloc_free_node r) both) q.1
+    operator_plain (Allows world r) (λ w k. value_plain world r w (right-true (is_alloc_free_node l) (is_alloc_free_node r) both) k) v (operator_strictness op) op q.0 (asks_no_pattern op o) o (
+    value_plain world l q.0 (left-true (is_alloc_free_node l) (is_alloc_free_node r) both) q.1
     ) q.2
-answers_alloc_free (name key) v p e = cc
-answers_alloc_free (list ts) v p e = cc
-answers_alloc_free (mapping ps) v p e = cc
-answers_alloc_free (range a b) v p e = cc
-answers_alloc_free (call key ts q) v p e = cc
-answers_alloc_free (postfix q t) v p e = cc
-answers_alloc_free (choice c a b) v p e = cc
+value_plain world (name key) v p h = cc
+value_plain world (list ts) v p h = cc
+value_plain world (mapping ps) v p h = cc
+value_plain world (range a b) v p h = cc
+value_plain world (call key ts q) v p h = cc
+value_plain world (postfix q t) v p h = cc
+value_plain world (choice c a b) v p h = cc
 
--- where what follows has no value, or what came first, there is none
-pub none_first : (a : Answer) (next : Value → Answer) → ((w : Value) → a ≢ Ok w) → (v : Value) → answer_then a next ≢ Ok v
-none_first a next n v e = let q = first_of a next v e in n q.0 q.1
+-- of a term of any other form nothing is said
+pub takes_memory : (world : World) (t : Term) (r : Result Value Error) → is_alloc_free_node t ≡ false → TakesNoMemory world t r
+takes_memory world t r no = λ v p h. cc
 
-pub none_next : (a : Answer) (next : Value → Answer) (x : Value) (r : Result Value Error) (k : Error) → a ≡ Ok x → (ReturnsAllocFree r (next x)) → r ≡ Err k → (v : Value) → answer_then a next ≢ Ok v
-none_next a next x r k is sure refused v e =
-    let found : next x ≡ Ok v = subst (λ b. answer_then b next ≡ Ok v) is e in
-    let wrong : r ≡ Ok v = ReturnsAllocFree-at r (next x) v sure found in
-    absurd (cc (wrong, refused))
+-- a prefix, where its operand has a value and where it has none
+module _ (world : World) (op : UnaryOperator) (t : Term) (r : Result Value Error) where
+  pub prefix_alloc_free : (x : Value) → TakesNoMemory world t (Ok x) → ReturnsAllocFree r (unary_answer op x) → TakesNoMemory world (unary op t) r
+  prefix_alloc_free x operand sure = λ v p h.
+      let q = first_of-Then (Allows world t) (λ w a. a ≡ unary_answer op w) v h in
+      let same : x ≡ q.0 = cc (operand q.0 p q.1) in
+      ReturnsAllocFree-at r (unary_answer op x) v sure (ap (unary_answer op) same ∙ sym q.2)
 
--- so it is of an operator whose left side has none
-pub none_left : (op : Operator) (l r : Term) → FindsAllocFree None l → FindsAllocFree None (operation op l r)
-none_left op l r n = λ p v e.
-    let both = right-true (is_alloc_free_operator op) (is_alloc_free_node l && is_alloc_free_node r) p in
-    none_first (alloc_free_node_answer l) (λ x. operation_answer (operator_strictness op) op x (alloc_free_node_answer r)) (n (left-true (is_alloc_free_node l) (is_alloc_free_node r) both)) v e
+  pub prefix_refused : (e : Error) → TakesNoMemory world t (Err e) → TakesNoMemory world (unary op t) r
+  prefix_refused e operand = λ v p h.
+      let q = first_of-Then (Allows world t) (λ w a. a ≡ unary_answer op w) v h in
+      absurd (cc (operand q.0 p q.1))
 
--- what an operator comes to with its left side's value, the operation does
-pub after_alloc_free : (o : Option Value) (op : Operator) (x : Value) (l r : Term) → alloc_free_node_answer l ≡ Ok x → FindsAllocFreeAfter o op x r → FindsAllocFree o (operation op l r)
-after_alloc_free (Some v) op x l r is e = subst (λ b. answer_then b (λ y. operation_answer (operator_strictness op) op y (alloc_free_node_answer r)) ≡ Ok v) (sym is) e
-after_alloc_free None op x l r is n = λ p v e.
-    let o = left-true (is_alloc_free_operator op) (is_alloc_free_node l && is_alloc_free_node r) p in
-    let both = right-true (is_alloc_free_operator op) (is_alloc_free_node l && is_alloc_free_node r) p in
-    n o (answers_alloc_free l x (left-true (is_alloc_free_node l) (is_alloc_free_node r) both) is) (right-true (is_alloc_free_node l) (is_alloc_free_node r) both) v (
-    subst (λ b. answer_then b (λ y. operation_answer (operator_strictness op) op y (alloc_free_node_answer r)) ≡ Ok v) is e
-    )
+-- an operation, where its left side has a value and where it has none
+module _ (world : World) (op : Operator) (left right : Term) (r : Result Value Error) where
+  pub operation_alloc_free : (x : Value) → TakesNoMemory world left (Ok x) → OperatorTakesNoMemory world op x right r → TakesNoMemory world (operation op left right) r
+  operation_alloc_free x first after = λ v p h.
+      let o = left-true (is_alloc_free_operator op) (is_alloc_free_node left && is_alloc_free_node right) p in
+      let both = right-true (is_alloc_free_operator op) (is_alloc_free_node left && is_alloc_free_node right) p in
+      let l = left-true (is_alloc_free_node left) (is_alloc_free_node right) both in
+      let q = first_of-Then (Allows world left) (λ y. OperationMayReturn op y (Allows world right)) v h in
+      let same : q.0 ≡ x = cc (first q.0 l q.1) in
+      after v o (subst (λ y. IsTrue (is_alloc_free_value y)) same (value_plain world left q.0 l q.1)) (right-true (is_alloc_free_node left) (is_alloc_free_node right) both) (
+      subst (λ y. OperationMayReturn op y (Allows world right) (Ok v)) same q.2
+      )
+
+  pub operation_refused : (e : Error) → TakesNoMemory world left (Err e) → TakesNoMemory world (operation op left right) r
+  operation_refused e first = λ v p h.
+      let both = right-true (is_alloc_free_operator op) (is_alloc_free_node left && is_alloc_free_node right) p in
+      let q = first_of-Then (Allows world left) (λ y. OperationMayReturn op y (Allows world right)) v h in
+      absurd (cc (first q.0 (left-true (is_alloc_free_node left) (is_alloc_free_node right) both) q.1))
+
+-- what follows the left side's value, by the sides that the operator asks
+module _ (world : World) (op : Operator) (x : Value) (right : Term) (r : Result Value Error) where
+  pub both_alloc_free : (y : Value) → operator_strictness op ≡ Both → TakesNoMemory world right (Ok y)
+      → (IsTrue (is_alloc_free_operator op) → IsTrue (is_alloc_free_value x) → IsTrue (is_alloc_free_value y) → ReturnsAllocFree r (operator_answer op x y))
+      → OperatorTakesNoMemory world op x right r
+  both_alloc_free y asked second sure = λ v o p k h.
+      let q = first_of-Then (Allows world right) (λ z a. a ≡ operator_answer op x z) v (subst (λ c. OperationMayReturnBy c op x (Allows world right) (Ok v)) asked h) in
+      let same : q.0 ≡ y = cc (second q.0 k q.1) in
+      ReturnsAllocFree-at r (operator_answer op x y) v (sure o p (subst (λ z. IsTrue (is_alloc_free_value z)) same (value_plain world right q.0 k q.1))) (
+      ap (operator_answer op x) (sym same) ∙ sym q.2
+      )
+
+  pub both_refused : (e : Error) → operator_strictness op ≡ Both → TakesNoMemory world right (Err e) → OperatorTakesNoMemory world op x right r
+  both_refused e asked second = λ v o p k h.
+      let q = first_of-Then (Allows world right) (λ z a. a ≡ operator_answer op x z) v (subst (λ c. OperationMayReturnBy c op x (Allows world right) (Ok v)) asked h) in
+      absurd (cc (second q.0 k q.1))
+
+  pub and_follows : operator_strictness op ≡ EndsAtFalse → AndTakesNoMemory world x right r → OperatorTakesNoMemory world op x right r
+  and_follows asked after = λ v o p k h. after v k (subst (λ c. OperationMayReturnBy c op x (Allows world right) (Ok v)) asked h)
+
+  pub or_follows : operator_strictness op ≡ EndsAtTrue → OrTakesNoMemory world x right r → OperatorTakesNoMemory world op x right r
+  or_follows asked after = λ v o p k h. after v k (subst (λ c. OperationMayReturnBy c op x (Allows world right) (Ok v)) asked h)
+
+  pub pattern_follows : operator_strictness op ≡ Pattern → OperatorTakesNoMemory world op x right r
+  pattern_follows asked = λ v o p k h. absurd (asks_no_pattern op o asked)
+
+-- the right side of `and` and of `or`, where it is asked
+module _ (world : World) (right : Term) (r : Result Value Error) where
+  pub truth_alloc_free : (y : Value) → TakesNoMemory world right (Ok y) → ReturnsAllocFree r (truth y)
+      → (v : Value) → IsTrue (is_alloc_free_node right) → Then (Allows world right) (λ z a. a ≡ truth z) (Ok v) → r ≡ Ok v
+  truth_alloc_free y second sure v k h =
+      let q = first_of-Then (Allows world right) (λ z a. a ≡ truth z) v h in
+      let same : y ≡ q.0 = cc (second q.0 k q.1) in
+      ReturnsAllocFree-at r (truth y) v sure (ap truth same ∙ sym q.2)
+
+  pub truth_refused : (e : Error) → TakesNoMemory world right (Err e)
+      → (v : Value) → IsTrue (is_alloc_free_node right) → Then (Allows world right) (λ z a. a ≡ truth z) (Ok v) → r ≡ Ok v
+  truth_refused e second v k h =
+      let q = first_of-Then (Allows world right) (λ z a. a ≡ truth z) v h in
+      absurd (cc (second q.0 k q.1))

@@ -1,3 +1,5 @@
 pub mod AllocFree
+pub mod Allowed
+pub mod Asked
 pub mod Handed
-pub mod OfLiterals
+pub mod Scoped

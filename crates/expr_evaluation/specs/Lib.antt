@@ -1,6 +1,11 @@
 pub mod AllocFree
+pub mod Arguments
 pub mod Handed
+pub mod Here
 pub mod Promises
+pub mod Scope
+pub mod Several
+pub mod Sides
 pub use Rattle.expr_meaning.specs.Allows
 pub use Rattle.expr_meaning.specs.Dispatch
 pub use Rattle.expr_meaning.specs.Calls
