@@ -184,7 +184,8 @@ fn lower(one: Option<usize>, other: Option<usize>) -> Option<usize>
 
 /// The need that has so many behind it.
 fn need_at(needs: &[Need], passed: usize) -> Need
-    ensures { (first stack slots : ℕ) → Meets result first stack slots ↔ MeetsAt needs.now first passed stack slots }
+    ensures { (first stack slots : ℕ) → Meets result first stack slots
+        ↔ MeetsAt needs.now first passed stack slots }
 {
     if passed < needs.len() {
         needs[needs.len() - 1 - passed]
@@ -196,7 +197,8 @@ fn need_at(needs: &[Need], passed: usize) -> Need
 /// What is needed before an instruction, given what is needed at each place after it and at the start of each later block.
 fn need_before<L, N, P>(instruction: &Instruction<L, N, P>, needs: &[Need], starts: &[Need]) -> Need
     ensures { (first stack slots : ℕ) → stack < 2 ^ 64 - 1 → Meets result first stack slots
-        ↔ FindsAll (Admits starts.now) first (op_of no_value no_text instruction.now) (MeetsAt needs.now first) stack slots }
+        ↔ FindsAll (Admits starts.now) first (op_of no_value no_text instruction.now)
+        (MeetsAt needs.now first) stack slots }
 {
     let next = need_at(needs, 0);
     match instruction {
