@@ -12,7 +12,7 @@ limit_by_number number = slice_get all_limits number
 
 -- what is said where a limit is passed
 abbrev pub text_of_limit : Limit → List ℕ
-text_of_limit Height = codes "the text nests deeper than the limit"
+text_of_limit Height = codes "the expression nests deeper than the limit"
 text_of_limit Patterns = codes "the patterns of the text weigh more than the limit"
 text_of_limit Steps = codes "the run takes more steps than the limit"
 text_of_limit Depth = codes "the run makes a value that is deeper than the limit"
