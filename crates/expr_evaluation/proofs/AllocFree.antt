@@ -80,7 +80,17 @@ value_plain world (choice c a b) v p h = cc
 
 -- of a term of any other form nothing is said
 pub takes_memory : (world : World) (t : Term) (r : Result Value Error) → is_alloc_free_node t ≡ false → TakesNoMemory world t r
-takes_memory world t r no = λ v p h. cc
+takes_memory world t r other = λ v p h. cc
+
+-- a value that is kept, and a refusal that a `?` passes on
+module _ (world : World) (t : Term) (r : Result Value Error) where
+  pub kept_alloc_free : (x : Value) → TakesNoMemory world t (Ok x) → (IsTrue (is_alloc_free_value x) → r ≡ Ok x) → TakesNoMemory world t r
+  kept_alloc_free x held sure = λ v p h.
+      let same : x ≡ v = cc (held v p h) in
+      sure (subst (λ y. IsTrue (is_alloc_free_value y)) (sym same) (value_plain world t v p h)) ∙ ap Ok same
+
+  pub passed_alloc_free : (e : Error) → TakesNoMemory world t (Err e) → TakesNoMemory world t r
+  passed_alloc_free e held = λ v p h. absurd (cc (held v p h))
 
 -- a prefix, where its operand has a value and where it has none
 module _ (world : World) (op : UnaryOperator) (t : Term) (r : Result Value Error) where

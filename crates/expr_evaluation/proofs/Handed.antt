@@ -1,12 +1,18 @@
 -- What follows where a pattern of the text on the right is handed in.
-use Rattle.std.proofs.Common.{◌≡◌, ◌≢◌, ℕ, List, Option, Result, Ok, Err, IfErr, sym, ap, ◌∙◌, subst}
+use Rattle.std.proofs.Common.{◌≡◌, ◌≢◌, ℕ, List, Option, Result, Ok, Err, IfErr, Box, Global, sym, ap, ◌∙◌, subst, rules}
 use Rattle.std.specs.Result.{IsErrAnd}
-use Rattle.expr_evaluation.specs.Handed.{IsHanded}
+use Rattle.expr_evaluation.specs.Handed.{IsHanded, IsKeeping}
 use Rattle.expr_meaning.specs.Allows.{Allows}
 use Rattle.expr_operators.specs.Strictness.{operator_strictness}
 use Rattle.expr_operators.specs.declared.strictness.Strictness.TheVariants.{Both, EndsAtFalse, EndsAtTrue, Pattern}
 use Rattle.expr_meaning.specs.World.{World}
+use Rattle.expr_tree.specs.KeptPatterns.{built_text}
 use Rattle.expr_tree.specs.Term.{Term}
+use Rattle.expr_tree.specs.TermOf.{term_of}
+use Rattle.expr_tree.specs.declared.node.CompiledRegex.{CompiledRegex}
+use Rattle.expr_tree.specs.declared.node.Node as node
+use Rattle.expr_tree.specs.declared.node.Node.{Node, the_lemmas as node_lemmas}
+use Rattle.expr_tree.specs.declared.node.Node.TheOpen.{Node-F}
 use Rattle.expr_tree.specs.declared.operator.Operator.{Operator}
 use Rattle.expr_value.specs.Answers.{Answer}
 use Rattle.expr_error.specs.ErrorKind.{ErrorKind, error_kind, memory, pattern, RefusesNoPattern}
@@ -44,6 +50,26 @@ module _ (op : Operator) (right : Term) (kept : Option (List ℕ)) (h : IsHanded
     handed-refused e p is =
         let wrong : Err (error_kind e) ≡ Ok (value.String h.text) = handed-answer (Err (error_kind e)) (p (not-memory (error_kind e) is)) in
         cc
+
+-- what an operation keeps is of its own operator and right side
+module _ (op : Operator) (left right : Box Node Global) (kept : CompiledRegex) (k : IsKeeping (node.Operation op left right kept)) where
+  kept_by : Node-F.Operation k.operator k.left k.right k.kept ≡ Node-F.Operation op left right kept
+  kept_by = let same : node.Operation op left right kept ≡ node.Operation k.operator k.left k.right k.kept = k.operation in search (rules, node_lemmas)
+
+  pub kept_left : k.left ≡ left
+  kept_left = cc kept_by
+
+  pub kept_handed : IsHanded op (term_of right.value) (built_text kept)
+  kept_handed =
+      let operator : k.operator ≡ op = cc kept_by in
+      let side : k.right ≡ right = cc kept_by in
+      let pattern_of : k.kept ≡ kept = cc kept_by in
+      record {
+        text = k.handed.text;
+        matches = sym operator ∙ k.handed.matches;
+        literal_text = ap (λ (b : Box Node Global). term_of b.value) (sym side) ∙ k.handed.literal_text;
+        of_text = ap built_text (sym pattern_of) ∙ k.handed.of_text;
+      }
 
 -- a refusal of a pattern that can't be built
 pub refused-pattern : (R : Answer → Type 0) (e : Error) → (error_kind e ≢ memory → R (Err (error_kind e))) → error_kind e ≡ pattern → R (Err pattern)

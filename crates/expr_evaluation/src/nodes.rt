@@ -1,4 +1,5 @@
 //! Nodes, operators and calls, each alone, where nothing is bound beside what a host lends.
+ghost use Rattle.std.specs.Prelude.{true};
 ghost use Rattle.std.specs.Option.{option_copied};
 ghost use Rattle.expr_meaning.specs.Allows.{AllowsCall, AllowsPredicate};
 ghost use Rattle.expr_evaluation.specs.Here.{outermost};
@@ -7,18 +8,17 @@ ghost use Rattle.expr_evaluation.specs.Promises.{AnswersCall, AnswersNode, Answe
 ghost use Rattle.expr_tree.specs.Term.{no_predicate, predicate, unary};
 ghost use Rattle.expr_tree.specs.TermOf.{postfix_term, program_term, term_of};
 ghost use Rattle.expr_value.specs.Answers.{Returns};
-ghost use Rattle.std.specs.Prelude.{true};
 
 use crate::evaluation::Evaluation;
 use crate::scope::Scope;
 use expr_arguments::cows_of_values;
 use expr_context::ContextProvider;
 use expr_meaning::{Functions, call_added, call_alone};
-use expr_operators::{CowValue, prefix};
+use expr_operators::prefix;
 use expr_pattern::Pattern;
 use expr_tree::node::{Node, PostfixOperator, Program};
 use expr_tree::operator::{Operator, UnaryOperator};
-use expr_value::{Items, Result, Value};
+use expr_value::{Result, Value};
 
 impl<'a, H: Functions, P: ContextProvider> Evaluation<'a, H, P> {
     /// What a node answers. An operation is handed the pattern that it keeps.
@@ -87,11 +87,11 @@ impl<'a, H: Functions, P: ContextProvider> Evaluation<'a, H, P> {
 
     /// What a call on these values answers: the host's function of the name, else the built-in. A program that it is given is
     /// what a built-in asks about items.
-    pub fn answer_named(
-        &self,
+    pub fn answer_named<'s>(
+        &'s self,
         ident: &str,
         args: Vec<Value>,
-        predicate: Option<&Program>,
+        predicate: Option<&'s Program>,
     ) -> Result<Value>
         ensures { AnswersCall (outermost H.host P.context self.now) ident.now args.items
             (predicate_lent predicate.entry) result }
@@ -100,8 +100,8 @@ impl<'a, H: Functions, P: ContextProvider> Evaluation<'a, H, P> {
             return call_added(self.alloc, self.host, ident, args);
         }
         match predicate {
-            None => self.answer_built_in(ident, args),
-            Some(program) => self.answer_call(program, ident, args),
+            None => (&*self).answer_built_in(ident, args),
+            Some(program) => (&*self).answer_call(&*program, ident, args),
         }
     }
 
@@ -116,13 +116,18 @@ impl<'a, H: Functions, P: ContextProvider> Evaluation<'a, H, P> {
     }
 
     /// What a call on these values answers that is given a program.
-    fn answer_call(&self, program: &Program, ident: &str, args: Vec<Value>) -> Result<Value>
+    fn answer_call<'s>(
+        &'s self,
+        program: &'s Program,
+        ident: &str,
+        args: Vec<Value>,
+    ) -> Result<Value>
         ensures { Returns result (AllowsCall (H.host self.now.host.now) ident.now args.items true
             (AllowsPredicate (outermost H.host P.context self.now)
             (predicate (program_term program.now)))) }
     {
         let args = cows_of_values(self.alloc, args)?;
-        let scope = Scope::outermost(self.alloc);
-        self.call_with(program, &scope, ident, args)
+        let scope: Scope<'s> = Scope::outermost(self.alloc);
+        (&*self).call_with(&*program, &scope, ident, args)
     }
 }

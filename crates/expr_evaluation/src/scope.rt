@@ -1,7 +1,7 @@
 //! Inner names, beside the context that a host lends.
 ghost use Rattle.std.specs.Prelude.{◌≡◌, Some, MatchOption, bytes_eq, codes};
 ghost use Rattle.std.specs.Option.{option_copied};
-ghost use Rattle.expr_evaluation.specs.Scope.{args_view, context_in, told, with_bindings};
+ghost use Rattle.expr_evaluation.specs.Scope.{args_view, context_in, with_bindings};
 ghost use Rattle.expr_steps.specs.Context.{ContextView, lookup_answer, predicate_context};
 ghost use Rattle.expr_value.specs.Answers.{ReturnsExactly};
 
@@ -19,31 +19,14 @@ pub struct Binding<'s> {
 }
 
 /// What a predicate is asked about.
-#[derive(Clone, Copy)]
-pub struct PredicateArgs<'r> {
+#[derive(Drop)]
+pub struct PredicateArgs<'s> {
     /// The item, which `#` is.
-    pub item: &'r Value,
+    pub item: &'s Value,
     /// The place of the item in the array, from 0, where the built-in binds `#index`.
-    pub index: Option<&'r Value>,
+    pub index: Option<Value>,
     /// What has been made so far, where the built-in binds `#acc`.
-    pub acc: Option<&'r Value>,
-}
-
-impl<'r> PredicateArgs<'r> {
-    /// The same, of what a run of a built-in hands out.
-    pub fn of(
-        item: &'r CowValue<'_>,
-        index: &'r Option<Value>,
-        acc: &'r Option<Value>,
-    ) -> PredicateArgs<'r>
-        ensures { args_view result ≡ told item.now index.now acc.now }
-    {
-        PredicateArgs {
-            item: item.get(),
-            index: index.as_ref(),
-            acc: acc.as_ref(),
-        }
-    }
+    pub acc: Option<Value>,
 }
 
 /// The bindings of a block, of which the last is the innermost, what its predicate is asked about, and the scope around it.
@@ -142,8 +125,8 @@ fn argument_of<'s>(args: &'s PredicateArgs<'s>, key: &str) -> Option<&'s Value>
 {
     match key {
         "#" => Some(args.item),
-        "#index" => args.index,
-        "#acc" => args.acc,
+        "#index" => args.index.as_ref(),
+        "#acc" => args.acc.as_ref(),
         _ => None,
     }
 }
