@@ -54,6 +54,23 @@ fn put_code(alloc: Global, context: &Context, program: &Program, page: &mut Page
     Ok(())
 }
 
+/// Puts the code of such a program, taken apart and put together again, and that of no instructions.
+fn put_blocks(alloc: Global, context: &Context, program: &Program, page: &mut Page) -> Result<()> {
+    let code = Code::lower(alloc, program)?;
+    let again = Code::from_blocks(alloc, code.first, code.later)?;
+    page.put_call("Code::from_blocks", execute(alloc, &again, context));
+    let none: Result<Code<&Value, &String, &Pattern>> = Code::from_blocks(
+        alloc,
+        Vec::new(alloc),
+        Vec::new(alloc),
+    );
+    match none {
+        Ok(code) => page.put_call("Code::from_blocks", execute(alloc, &code, context)),
+        Err(refused) => page.put_call("Code::from_blocks", Err(refused)),
+    }
+    Ok(())
+}
+
 /// Puts the calls on such a program.
 fn put_program(alloc: Global, context: &Context, program: &Program, page: &mut Page) -> Result<()> {
     page.put_call("run", run(alloc, program, context));
@@ -61,6 +78,7 @@ fn put_program(alloc: Global, context: &Context, program: &Program, page: &mut P
     let answer = eval_expr(alloc, context, &program.expr);
     page.put_call("eval_expr", answer);
     put_code(alloc, context, program, page)?;
+    put_blocks(alloc, context, program, page)?;
     let names = program.names(alloc)?.join(alloc, " ")?;
     page.put_named("Program::names", names.as_str());
     Ok(())

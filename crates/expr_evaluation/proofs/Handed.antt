@@ -11,8 +11,10 @@ use Rattle.expr_tree.specs.Term.{Term}
 use Rattle.expr_tree.specs.TermOf.{term_of}
 use Rattle.expr_tree.specs.declared.node.CompiledRegex.{CompiledRegex}
 use Rattle.expr_tree.specs.declared.node.Node as node
-use Rattle.expr_tree.specs.declared.node.Node.{Node, the_lemmas as node_lemmas}
+use Rattle.expr_tree.specs.declared.node.Node.{Node, out-Node, the_lemmas as node_lemmas}
 use Rattle.expr_tree.specs.declared.node.Node.TheOpen.{Node-F}
+use Rattle.expr_tree.specs.declared.node.PostfixOperator.{PostfixOperator}
+use Rattle.expr_tree.specs.declared.node.Program.{Program}
 use Rattle.expr_tree.specs.declared.operator.Operator.{Operator}
 use Rattle.expr_value.specs.Answers.{Answer}
 use Rattle.expr_error.specs.ErrorKind.{ErrorKind, error_kind, memory, pattern, RefusesNoPattern}
@@ -52,9 +54,13 @@ module _ (op : Operator) (right : Term) (kept : Option (List ℕ)) (h : IsHanded
         cc
 
 -- what an operation keeps is of its own operator and right side
-module _ (op : Operator) (left right : Box Node Global) (kept : CompiledRegex) (k : IsKeeping (node.Operation op left right kept)) where
-  kept_by : Node-F.Operation k.operator k.left k.right k.kept ≡ Node-F.Operation op left right kept
-  kept_by = let same : node.Operation op left right kept ≡ node.Operation k.operator k.left k.right k.kept = k.operation in search (rules, node_lemmas)
+out-Operation : (op : Operator) (left right : Box Node Global) (kept : CompiledRegex) → out-Node (node.Operation op left right kept) ≡ Node-F.Operation op left right kept
+out-Operation op left right kept = search (rules, node_lemmas)
+
+module _ (n : Node) (op : Operator) (left right : Box Node Global) (kept : CompiledRegex) (is : n ≡ node.Operation op left right kept) (k : IsKeeping n) where
+  kept_by : ◌≡◌ {A = Node-F Node PostfixOperator Program} (Node-F.Operation k.operator k.left k.right k.kept) (Node-F.Operation op left right kept)
+  kept_by =
+      sym (out-Operation k.operator k.left k.right k.kept) ∙ ap out-Node (sym k.operation ∙ is) ∙ out-Operation op left right kept
 
   pub kept_left : k.left ≡ left
   kept_left = cc kept_by
