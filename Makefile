@@ -23,7 +23,7 @@ VERSION := $(shell cat VERSION)
 PROGRAMS = $(filter exprlang expr_lines,$(notdir $(wildcard $(OUT)/bin/*)))
 PAPERS = $(notdir $(wildcard $(OUT)/doc/*))
 CMAKEDIR = $(LIBDIR)/cmake/exprlang
-TO_INCLUDEDIR = $(shell realpath -m --relative-to='$(CMAKEDIR)' '$(INCLUDEDIR)')
+TO_INCLUDEDIR = $(shell realpath -ms --relative-to='$(CMAKEDIR)' '$(INCLUDEDIR)')
 WRITTEN = sed -e 's|@VERSION@|$(VERSION)|' -e 's|@PREFIX@|$(PC_PREFIX)|' -e 's|@LIBDIR@|$(PC_LIBDIR)|' \
 	-e 's|@INCLUDEDIR@|$(PC_INCLUDEDIR)|' -e 's|@TO_INCLUDEDIR@|$(TO_INCLUDEDIR)|'
 

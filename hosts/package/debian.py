@@ -123,7 +123,7 @@ def copyright_of(made: Made) -> str:
     return text
 
 
-def symbols(library: pathlib.Path) -> bytes:
+def symbols(made: Made, library: pathlib.Path) -> bytes:
     """The symbols that programs may link, in the form of dpkg-gensymbols. Raises Failed if they aren't those of the file."""
     text = (HERE / "libexprlang0.symbols").read_text(encoding="utf-8")
     known = set(re.findall(r"(?m)^ (\w+)@Base ", text))
@@ -133,7 +133,8 @@ def symbols(library: pathlib.Path) -> bytes:
             f"libexprlang0.symbols lacks {', '.join(sorted(found - known)) or 'nothing'}, "
             f"and libexprlang.so.0 lacks {', '.join(sorted(known - found)) or 'nothing'}"
         )
-    return text.encode()
+    # what is built with an unproved library may run with it
+    return re.sub(rf"@Base {re.escape(made.version)}\b", f"@Base {made.marked('~')}", text).encode()
 
 
 def shared(made: Made, work: pathlib.Path, stage: pathlib.Path, architecture: str) -> Package:
@@ -143,7 +144,7 @@ def shared(made: Made, work: pathlib.Path, stage: pathlib.Path, architecture: st
     run("strip", "--strip-unneeded", "--remove-section=.comment", library)
     for name in ("PROOF.txt", "SOURCES.sha256"):
         package.add(package.doc_name(f"{name}.gz"), squeezed((OUT / "doc" / name).read_bytes()))
-    package.add("DEBIAN/symbols", symbols(library))
+    package.add("DEBIAN/symbols", symbols(made, library))
     package.add("DEBIAN/shlibs", f"libexprlang 0 libexprlang0 (>= {made.marked('~')})\n".encode())
     package.add("DEBIAN/triggers", b"activate-noawait ldconfig\n")
     package.control([libc_for(library)])
@@ -154,6 +155,7 @@ def development(made: Made, work: pathlib.Path, stage: pathlib.Path, architectur
     package = Package(made, work, "libexprlang-dev", architecture)
     package.take(stage, "usr/lib/*/libexprlang.*", "usr/lib/*/pkgconfig", "usr/lib/*/cmake", "usr/include", "usr/share/man/man3")
     package.add(package.doc_name("README.md"), (OUT / "doc/README.md").read_bytes())
+    run("strip", "--strip-unneeded", "--remove-section=.comment", "--enable-deterministic-archives", next(package.root.glob("usr/lib/*/*.a")))
     package.control([f"libexprlang0 (= {version_of(made)})"])
     return package
 
