@@ -7,6 +7,7 @@ import os
 import pathlib
 import tarfile
 import tempfile
+import time
 import zipfile
 
 from .made import TOP, Made, run
@@ -42,8 +43,6 @@ def tar(folder: pathlib.Path, to: pathlib.Path, date: int) -> None:
 
 def zipped(files: dict[str, bytes], to: pathlib.Path, date: int) -> None:
     """Packs files by their names, in the order in which they are given."""
-    import time
-
     with zipfile.ZipFile(to, "w", zipfile.ZIP_DEFLATED, compresslevel=9) as archive:
         for name, content in files.items():
             info = zipfile.ZipInfo(name, time.gmtime(date)[:6])

@@ -20,7 +20,7 @@ from .wheel import extensions, field, metadata, modules, needed, newest_glibc
 
 HERE = TOP / "hosts/package/debian"
 REVISION = "1"
-APACHE = "Version 2.0, January 2004"
+APACHE_TEXT = "Version 2.0, January 2004"
 
 
 def version_of(made: Made) -> str:
@@ -117,7 +117,7 @@ def copyright_of(made: Made) -> str:
     named = {name for names, _ in notices(made) for name in names}
     text += f"Without a notice of their own are: {', '.join(it for it in of_kit(roots(made)) if it not in named)}.\n"
     for names, notice in notices(made):
-        if APACHE in notice:
+        if APACHE_TEXT in notice:
             notice = "Under the Apache License, Version 2.0: see /usr/share/common-licenses/Apache-2.0."
         text += f"\n=== {', '.join(names)}\n\n{notice}\n"
     return text
@@ -164,6 +164,7 @@ def programs(made: Made, work: pathlib.Path, stage: pathlib.Path, architecture: 
     package = Package(made, work, "exprlang", architecture)
     package.take(stage, "usr/bin/*", "usr/share/man/man1")
     files = sorted(package.root.glob("usr/bin/*"))
+    run("strip", "--remove-section=.comment", *files)
     package.control([libc_for(*files)])
     return package
 

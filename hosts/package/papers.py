@@ -8,6 +8,8 @@ from . import proof
 from .crates import ROOTS, below, files_of, kit, of_kit, sum_of_file
 from .made import OUT, TOP, Made, tell
 
+LICENSE = "MIT AND Apache-2.0 AND Unicode-3.0"
+"""Of what is compiled into the libraries: the notices are those of `notices`."""
 APACHE = "LICENSE-APACHE"
 OTHERS = ["crates.txt", "hosts/c/border.h", "hosts/c/exprlang.c", "hosts/c/exprlang.h"]
 

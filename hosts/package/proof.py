@@ -60,7 +60,7 @@ def page(made: Made) -> tuple[str, list[str]]:
     """The page PROOF.txt, and the crates of which no verdict is kept."""
     head = f"exprlang {made.version}, {made.built}\n\n"
     if not made.is_proved:
-        return f"{head}Nothing in this package is proved. SOURCES.sha256 has the checksums of what it is made of.\n", []
+        return f"{head}Nothing in this package is proved.\n", []
     products = {name: crate for name, crate in ROOTS.items() if name == "libexprlang" or name in made.programs}
     names = dict.fromkeys(it for crate in products.values() for it in below(crate))
     said = {name: text_of(place() / "verdicts" / sum_of(name)) for name in names}

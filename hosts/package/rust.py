@@ -9,6 +9,7 @@ import shutil
 import tempfile
 
 from .made import OUT, TOP, Failed, Made, run
+from .papers import LICENSE
 
 
 def sources(made: Made, to: pathlib.Path) -> None:
@@ -16,14 +17,19 @@ def sources(made: Made, to: pathlib.Path) -> None:
     shutil.copytree(TOP / "hosts/rust", to, ignore=shutil.ignore_patterns("target", "lib", ".gitignore"))
     (to / "lib").mkdir()
     shutil.copyfile(OUT / "lib/libexprlang.a", to / "lib/libexprlang.a")
-    for name in ("PROOF.txt", "LICENSES-KIT.txt", "SOURCES.sha256"):
+    for name in ("PROOF.txt", "LICENSES-KIT.txt"):
         shutil.copyfile(OUT / "doc" / name, to / name)
-    for name in ("Cargo.toml", "Cargo.lock"):
-        text = (to / name).read_text(encoding="utf-8")
-        marked, count = re.subn(r'(?m)^version = "\d+\.\d+\.\d+"$', f'version = "{made.marked("+")}"', text, count=1)
-        if not count:
-            raise Failed(f"hosts/rust/{name} has no version")
-        (to / name).write_text(marked, encoding="utf-8")
+    replaced(to / "Cargo.lock", "version", made.marked("+"))
+    replaced(to / "Cargo.toml", "version", made.marked("+"))
+    replaced(to / "Cargo.toml", "license", LICENSE)
+
+
+def replaced(file: pathlib.Path, field: str, value: str) -> None:
+    """Gives a field another value, which is the first of its name in the file."""
+    text, count = re.subn(rf'(?m)^{field} = ".*"$', f'{field} = "{value}"', file.read_text(encoding="utf-8"), count=1)
+    if not count:
+        raise Failed(f"hosts/rust/{file.name} has no {field}")
+    file.write_text(text, encoding="utf-8")
 
 
 def make(made: Made, to: pathlib.Path) -> list[pathlib.Path]:

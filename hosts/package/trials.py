@@ -3,6 +3,7 @@
 from __future__ import annotations
 
 import collections.abc
+import dataclasses
 import os
 import pathlib
 import platform
@@ -16,7 +17,6 @@ import time
 from . import archive, debian, proof, rust, wheel
 from .made import TOP, Failed, Made, Missing, run, tell
 
-MAKERS = {"tar": archive.make, "wheel": wheel.make, "deb": debian.make, "crate": rust.make}
 # What a program may know of the machine: nothing that leads to the repository.
 BARE = {"PATH": "/usr/local/sbin:/usr/local/bin:/usr/sbin:/usr/bin:/sbin:/bin", "LC_ALL": "C.UTF-8"}
 ORDER = '{"price": 60, "count": 2, "blocked": false}\n'
@@ -99,6 +99,10 @@ def archive_is_well(made: Made, files: list[pathlib.Path], work: pathlib.Path) -
     by_pkg_config(home / "lib/pkgconfig", work / "shared")
     first_in_c(work / "shared", LD_LIBRARY_PATH=str(home / "lib"))
     by_cmake(home, work, made.version)
+    if shutil.which("mandoc"):
+        run("mandoc", "-Tlint", "-Wwarning", *sorted((home / "share/man").glob("*/*")))
+    else:
+        tell("there is no mandoc here: the manual pages are not checked (bin/tools)")
     return "in C by hand, by pkg-config and by CMake" + (", and the programs" if made.programs else "; there are no programs")
 
 
@@ -120,16 +124,18 @@ def installation_is_well(made: Made, work: pathlib.Path) -> str:
 
 def wheel_is_well(made: Made, files: list[pathlib.Path], work: pathlib.Path) -> str:
     """Installs each wheel in an environment of its own, and has pip check it."""
+    seconds = 0.0
     for file in files:
         home = work / file.stem
         try:
             run(tool("python3"), "-m", "venv", home)
         except Failed as fault:
             raise Missing(f"python3 makes no virtual environment ({fault})") from fault
-        python, before = home / "bin/python", files_in(home)
+        python, before, began = home / "bin/python", files_in(home), time.monotonic()
         run(python, "-m", "pip", "--quiet", "install", "--no-index", "--no-cache-dir", "--disable-pip-version-check", file)
         said = run(python, "-I", "-c", IN_PYTHON, env=BARE, cwd=work).strip()
         same("the result of the module", said, f"True; {made.version}, {made.built}")
+        seconds = max(seconds, time.monotonic() - began)
         inside = run(python, "-I", "-c", "import exprlang; print(exprlang.__file__)", env=BARE, cwd=work)
         same("the folder of the module", pathlib.Path(inside.strip()).is_relative_to(home), True)
         run(python, "-m", "pip", "--disable-pip-version-check", "check")
@@ -138,7 +144,7 @@ def wheel_is_well(made: Made, files: list[pathlib.Path], work: pathlib.Path) -> 
         own = re.compile(r"/(pip|setuptools|pkg_resources|_distutils_hack)/")
         after = {path for path in files_in(home) if path in before or not own.search(path)}
         nothing_left(file.name, before, after)
-    return f"in {len(files)} virtual environment{'s' if len(files) > 1 else ''} of Python {platform.python_version()}"
+    return f"{len(files)} in a new environment of Python {platform.python_version()}, the first result after {seconds:.0f} s"
 
 
 def crate_is_well(made: Made, files: list[pathlib.Path], work: pathlib.Path) -> str:
@@ -196,7 +202,7 @@ def debian_is_well(made: Made, files: list[pathlib.Path], work: pathlib.Path) ->
     if shutil.which("lintian"):
         run("lintian", *LINTIAN, *files)
     else:
-        tell("there is no lintian here: what it would say of the Debian packages is not known")
+        tell("there is no lintian here: what it would say of the Debian packages is not known (bin/tools)")
     root = empty_root(work)
     before = own_files(root)
     shutil.copytree(files[0].parent, root / "packages", ignore=lambda _, names: {it for it in names if not it.endswith(".deb")})
@@ -219,7 +225,7 @@ def made_alike(kind: str, made: Made, files: list[pathlib.Path], work: pathlib.P
     """Makes the packages of a kind once more and compares them byte by byte."""
     again = work / "again"
     again.mkdir()
-    same("the packages made again", sorted(file.name for file in MAKERS[kind](made, again)), [file.name for file in files])
+    same("the packages made again", sorted(file.name for file in KINDS[kind].make(made, again)), [file.name for file in files])
     for file in files:
         if file.read_bytes() != (again / file.name).read_bytes():
             raise Failed(f"{file.name} has other bytes when it is made again")
@@ -241,21 +247,38 @@ def attempt(what: str, trial: collections.abc.Callable[[pathlib.Path], str]) -> 
     return 0
 
 
-TRIALS = {"tar": archive_is_well, "wheel": wheel_is_well, "deb": debian_is_well, "crate": crate_is_well}
+@dataclasses.dataclass(frozen=True)
+class Kind:
+    """A kind of packages: the names of its files, how they are made, and what says how they do."""
+
+    pattern: str
+    make: collections.abc.Callable[[Made, pathlib.Path], list[pathlib.Path]]
+    attempt: collections.abc.Callable[[Made, list[pathlib.Path], pathlib.Path], str]
+
+
+KINDS = {
+    "tar": Kind("*.tar.gz", archive.make, archive_is_well),
+    "wheel": Kind("*.whl", wheel.make, wheel_is_well),
+    "deb": Kind("*.deb", debian.make, debian_is_well),
+    "crate": Kind("*.crate", rust.make, crate_is_well),
+}
+
+
+def files_of(kind: str, place: pathlib.Path) -> list[pathlib.Path]:
+    return sorted(place.glob(KINDS[kind].pattern))
 
 
 def all_of(kinds: list[str], made: Made, place: pathlib.Path) -> int:
     """Tries the packages of these kinds, and `make install` with the archive. Returns what bin/package ends with."""
     ends = []
     for kind in kinds:
-        pattern = {"tar": "*.tar.gz", "wheel": "*.whl", "deb": "*.deb", "crate": "*.crate"}[kind]
-        files = sorted(place.glob(pattern))
+        files = files_of(kind, place)
         if not files:
             continue
 
         def trial(work: pathlib.Path, kind: str = kind, files: list[pathlib.Path] = files) -> str:
             made_alike(kind, made, files, work)
-            return TRIALS[kind](made, files, work)
+            return KINDS[kind].attempt(made, files, work)
 
         ends.append(attempt(kind, trial))
     if "tar" in kinds:

@@ -12,11 +12,11 @@ import re
 
 from .archive import zipped
 from .made import OUT, TOP, Failed, Made, run
+from .papers import LICENSE
 
 PURE, NATIVE = "py3-none", "cp310-abi3"
 # glibc 2.17 and later; `check` looks whether that is so
 PLATFORM, NEWEST = "manylinux_2_17_x86_64", (2, 17)
-LICENSE = "MIT AND Apache-2.0 AND Unicode-3.0"
 
 
 def extensions() -> list[pathlib.Path]:
@@ -26,9 +26,8 @@ def extensions() -> list[pathlib.Path]:
 
 def modules() -> dict[str, bytes]:
     folder = TOP / "hosts/python"
-    files = [path for path in (folder / "exprlang").iterdir() if path.suffix in (".py", ".pyi", ".typed")]
-    files += [path for path in (folder / "exprlang").iterdir() if path.name == "py.typed"]
-    return {path.relative_to(folder).as_posix(): path.read_bytes() for path in sorted(set(files))}
+    files = sorted(path for path in (folder / "exprlang").iterdir() if path.suffix in (".py", ".pyi", ".typed"))
+    return {path.relative_to(folder).as_posix(): path.read_bytes() for path in files}
 
 
 def field(name: str) -> str:
@@ -88,8 +87,7 @@ def pack(made: Made, to: pathlib.Path, tag: str, python: str, libraries: list[pa
     for library in libraries:
         check(library)
         files[f"exprlang/{library.name}"] = library.read_bytes()
-    for name in ("PROOF.txt", "SOURCES.sha256"):
-        files[f"{info}/{name}"] = (OUT / "doc" / name).read_bytes()
+    files[f"{info}/PROOF.txt"] = (OUT / "doc/PROOF.txt").read_bytes()
     for name in ("LICENSE", "LICENSES-KIT.txt"):
         files[f"{info}/licenses/{name}"] = (OUT / "doc" / name).read_bytes()
     about = f"Wheel-Version: 1.0\nGenerator: exprlang bin/package\nRoot-Is-Purelib: false\nTag: {tag}-{PLATFORM}\n"
