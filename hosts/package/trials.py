@@ -197,13 +197,27 @@ def own_files(root: pathlib.Path) -> set[str]:
     return {path for path in files_in(root) if not kept.match(path)}
 
 
+def unpacked_is_well(made: Made, files: list[pathlib.Path], root: pathlib.Path) -> None:
+    """Unpacks the packages into a folder and uses what is there: the most that can be tried without an empty Debian."""
+    for file in files:
+        run(tool("dpkg-deb"), "-x", file, root)
+    first_of_programs(made, root / "usr/bin")
+    paths = {"PYTHONPATH": str(root / "usr/lib/python3/dist-packages"), "EXPRLANG_LIB": str(root / "usr/lib/x86_64-linux-gnu")}
+    said = run(tool("python3"), "-B", "-c", IN_PYTHON, env={**BARE, **paths}, cwd=root).strip()
+    same("the result of the module", said, f"True; {made.version}, {made.built}")
+
+
 def debian_is_well(made: Made, files: list[pathlib.Path], work: pathlib.Path) -> str:
     """Installs the packages in an empty Debian, uses each, and purges them."""
     if shutil.which("lintian"):
         run("lintian", *LINTIAN, *files)
     else:
         tell("there is no lintian here: what it would say of the Debian packages is not known (bin/tools)")
-    root = empty_root(work)
+    try:
+        root = empty_root(work)
+    except Missing as lack:
+        unpacked_is_well(made, files, work / "unpacked")
+        raise Missing(f"{lack}, so the packages were unpacked and used, and not installed") from lack
     before = own_files(root)
     shutil.copytree(files[0].parent, root / "packages", ignore=lambda _, names: {it for it in names if not it.endswith(".deb")})
     inside = ["chroot", str(root)]
