@@ -30,12 +30,14 @@ from __future__ import annotations
 
 from typing import Any, Optional
 
+from . import _core
+from ._checks import Missing
 from ._context import Context
 from ._environment import Environment
 from ._errors import Error, LimitError, Syntax
-from ._library import LIBRARY as _LIBRARY
 from ._limits import UNLIMITED, USUAL, AnyLimits, Limits, Unlimited
-from ._program import Missing, Program, Record
+from ._program import Program, Record
+from ._rule import Rule
 from ._values import Key, KeyedMap, Month, Weekday
 
 # without `compile`, with which a star import would replace the built-in
@@ -49,6 +51,7 @@ __all__ = [
     "Limits",
     "Month",
     "Program",
+    "Rule",
     "Syntax",
 ]
 __all__ += ["UNLIMITED", "Unlimited", "Weekday", "evaluate", "library_version"]
@@ -60,8 +63,7 @@ def library_version() -> str:
     >>> exprlang.library_version().split(", ")[0] == exprlang.__version__
     True
     """
-    said: bytes = _LIBRARY.version()
-    return said.decode()
+    return _core.version()
 
 
 __version__ = library_version().partition(",")[0]
