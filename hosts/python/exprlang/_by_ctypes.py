@@ -92,6 +92,9 @@ class Program(Copied):
 
     _drop, _what = "drop_program", "program"
     _source: Optional[bytes] = None
+    _numbers: Numbers = None
+    _is_nil = False
+    _own: Optional[Environment] = None
     _reads: Any = _ABSENT
 
     def _open(

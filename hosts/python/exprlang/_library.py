@@ -6,6 +6,7 @@ import ctypes
 import os
 from typing import Any, Callable
 
+
 class _Handle(ctypes.Structure):
     _fields_ = [("tag", ctypes.c_uint32), ("place", ctypes.c_uint32), ("number", ctypes.c_uint64)]
 

@@ -17,7 +17,9 @@ class _Kept:
 
 class Environment(_Kept):
     def _open(self, parts: tuple[Any, ...], functions: dict[str, Callable[..., Any]]) -> None: ...
-    def _replace(self, parts: tuple[Any, ...], functions: dict[str, Callable[..., Any]]) -> None: ...
+    def _replace(
+        self, parts: tuple[Any, ...], functions: dict[str, Callable[..., Any]]
+    ) -> None: ...
 
 class Context(_Kept):
     @property

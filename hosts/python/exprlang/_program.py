@@ -46,7 +46,7 @@ class Program(Kept, _core.Program):
     def __repr__(self) -> str:
         limits = "" if self._limits == USUAL else f", limits={self._limits!r}"
         missing = "" if self._missing == "error" else f", missing={self._missing!r}"
-        return f"Program({self._text!r}{limits}{missing})"
+        return f"{type(self).__name__}({self._text!r}{limits}{missing})"
 
     @property
     def text(self) -> str:

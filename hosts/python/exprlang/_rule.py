@@ -98,12 +98,14 @@ class Rule(Program):
         return self._each(records, None, None)
 
     @overload
-    def lines(self, data: str, errors: _Errors = None) -> list[str]: ...
+    def lines(self, data: str, errors: _Errors = None) -> list[str]:
+        ...
 
     @overload
     def lines(
         self, data: Union[bytes, bytearray, memoryview], errors: _Errors = None
-    ) -> list[bytes]: ...
+    ) -> list[bytes]:
+        ...
 
     def lines(self, data: Any, errors: _Errors = None) -> Any:
         r"""Returns the lines of JSON for which the rule is true, without their line feeds.

@@ -235,7 +235,11 @@ def simplified(value: Any) -> tuple[int, Any, int]:
     if isinstance(value, Sequence):
         return _ARRAY, tuple(value), 0
     if hasattr(type(value), "__index__"):  # another type of integers
-        return _INTEGER, within(int(operator.index(value)), -(2**63), 2**63 - 1, "an integer"), 0
+        return (
+            _INTEGER,
+            within(int(operator.index(value)), -(2**63), 2**63 - 1, "an integer"),
+            0,
+        )
     raise unfit(value)
 
 

@@ -4,14 +4,24 @@
 
 module_state *state_of(PyTypeObject *defining) { return (module_state *)PyType_GetModuleState(defining); }
 
-module_state *state_below(PyTypeObject *type) {
-    for (; type; type = (PyTypeObject *)PyType_GetSlot(type, Py_tp_base)) {
-        PyObject *module = PyType_GetModule(type);
-        if (module && PyModule_GetDef(module) == &native_def) return (module_state *)PyModule_GetState(module);
-        PyErr_Clear();
-    }
-    PyErr_SetString(PyExc_TypeError, "the type has no base of exprlang");
+/* Returns what the module of this very type has, or null without an exception. */
+static module_state *state_at(PyTypeObject *type) {
+    PyObject *module = PyType_GetModule(type);
+    if (module && PyModule_GetDef(module) == &native_def) return (module_state *)PyModule_GetState(module);
+    PyErr_Clear();
     return NULL;
+}
+
+module_state *state_below(PyTypeObject *type) {
+    module_state *state = NULL;
+    /* nearly always it is a class of Python over one of these types */
+    for (PyTypeObject *base = type; base && !state;) {
+        base = (PyTypeObject *)PyType_GetSlot(base, Py_tp_base);
+        state = base ? state_at(base) : NULL;
+    }
+    if (!state) state = state_at(type);
+    if (!state) PyErr_SetString(PyExc_TypeError, "the type has no base of exprlang");
+    return state;
 }
 
 /* --- contexts --- */
@@ -87,7 +97,8 @@ static int part_added(engine *in, expr_environment to, PyObject *part, expr_stat
     long long number;
     unsigned long fraction;
     int offset;
-    if (!PyTuple_Check(part) || !(word = PyUnicode_AsUTF8AndSize(PyTuple_GetItem(part, 0), &length))) return -1;
+    PyObject *kind = PyTuple_Check(part) ? PyTuple_GetItem(part, 0) : NULL;
+    if (!kind || !PyUnicode_Check(kind) || !(word = PyUnicode_AsUTF8AndSize(kind, &length))) return -1;
     switch (word[0]) {
     case 'f':
         if (!PyArg_ParseTuple(part, "sy#", &word, &name, &length)) return -1;

@@ -38,6 +38,9 @@ typedef struct {
     PyObject *functions; /* of the environment, or null */
     int is_nil;
     origin from;
+    expr_context context; /* of the record, if there is one that isn't kept */
+    int has_context;
+    char *is_put; /* which names of the program the context has of the record; null where each run has its own context */
 } run;
 
 /* --- compiling --- */
@@ -220,21 +223,27 @@ static int part_put(run *r, const record *from, expr_context context, PyObject *
     return done;
 }
 
-/* Puts what the program reads of a record into a context of the engine. */
-static int filled(run *r, const record *from, expr_context context, PyObject *has) {
+/* Puts the values of names that the program asks for into a context of the engine. Returns 1 if the context has a name of an
+ * earlier record that this one lacks. */
+static int names_put(run *r, const record *from, expr_context context, PyObject *has) {
     const program *it = r->it;
-    if (!it->uses_env) {
-        Py_ssize_t count = PyTuple_Size(it->words);
-        for (Py_ssize_t i = 0; i < count; i++) {
-            PyObject *part = part_of(r->state, from, it->names[i].word);
-            if (!part && PyErr_Occurred()) return -1;
-            if (part && part_put(r, from, context, has, &it->names[i], part) < 0) return -1;
-        }
-        return 0;
+    Py_ssize_t count = PyTuple_Size(it->words);
+    for (Py_ssize_t i = 0; i < count; i++) {
+        PyObject *part = part_of(r->state, from, it->names[i].word);
+        if (!part && PyErr_Occurred()) return -1;
+        if (!part && !has && r->is_put && r->is_put[i]) return 1;
+        if (part && part_put(r, from, context, has, &it->names[i], part) < 0) return -1;
+        if (part && !has && r->is_put) r->is_put[i] = 1;
     }
+    return 0;
+}
+
+/* Puts what the program reads of a record into a context of the engine. Returns 1 as names_put does. */
+static int filled(run *r, const record *from, expr_context context, PyObject *has) {
+    if (!r->it->uses_env) return names_put(r, from, context, has);
+    int done = 0;
     PyObject *all = all_of(from);
     if (!all) return -1;
-    int done = 0;
     for (Py_ssize_t i = 0, count = PyTuple_Size(all); done == 0 && i < count; i += 2) {
         PyObject *part = PyTuple_GetItem(all, i + 1);
         name word = {PyTuple_GetItem(all, i), NULL, 0};
@@ -435,26 +444,41 @@ static PyObject *answered(run *r, context_object *owner, expr_context context, i
     return value_read(r->state, r->in, answer);
 }
 
-/* Makes a context for one run. Returns -1, with an exception, where there is none. */
-static int context_made(run *r, const record *from, expr_context *made) {
-    expr_status status = expr_context_new(r->in->at, made);
+static void context_dropped(run *r) {
+    if (r->has_context) expr_drop_context(r->in->at, r->context);
+    r->has_context = 0;
+}
+
+static int context_begun(run *r) {
+    expr_status status = expr_context_new(r->in->at, &r->context);
     if (status != EXPR_OK) {
         raise_failed(r->state, r->in, status, NULL, r->from);
         return -1;
     }
-    if (from->kind == NO_RECORD || filled(r, from, *made, NULL) == 0) {
-        if (r->is_nil) status = expr_fill_missing(r->in->at, r->compiled, *made);
-        if (status == EXPR_OK) return 0;
-        raise_failed(r->state, r->in, status, NULL, r->from);
+    r->has_context = 1;
+    if (r->is_put) memset(r->is_put, 0, (size_t)PyTuple_Size(r->it->words));
+    return 0;
+}
+
+/* Makes a context of a record, of the one of the record before where that is allowed. */
+static int context_made(run *r, const record *from) {
+    if (!r->is_put || r->it->uses_env || from->kind == NO_RECORD) context_dropped(r);
+    int done = 1;
+    while (done == 1) {
+        if (!r->has_context && context_begun(r) < 0) return -1;
+        done = from->kind == NO_RECORD ? 0 : filled(r, from, r->context, NULL);
+        if (done != 0) context_dropped(r);
     }
-    expr_drop_context(r->in->at, *made);
+    expr_status status = done == 0 && r->is_nil ? expr_fill_missing(r->in->at, r->compiled, r->context) : EXPR_OK;
+    if (status == EXPR_OK) return done;
+    raise_failed(r->state, r->in, status, NULL, r->from);
     return -1;
 }
 
 /* Runs over a record, and returns the value, or whether it is true. */
 static PyObject *run_over(run *r, PyObject *given, int is_rule) {
     record from;
-    expr_context context = EXPR_NO_CONTEXT;
+    expr_context kept_one;
     PyObject *value = NULL;
     if (record_found(r->state, given, &from) < 0) return NULL;
     if (from.kind != NO_RECORD && names_known(r) < 0) {
@@ -462,12 +486,11 @@ static PyObject *run_over(run *r, PyObject *given, int is_rule) {
         return NULL;
     }
     if (from.kind == A_KEPT_CONTEXT && !r->is_nil) {
-        if (context_copied(r, &from, &context) == 0) value = answered(r, from.kept, context, is_rule);
+        if (context_copied(r, &from, &kept_one) == 0) value = answered(r, from.kept, kept_one, is_rule);
     } else if (from.kind == NO_RECORD && !r->is_nil) {
-        value = answered(r, NULL, context, is_rule);
-    } else if (context_made(r, &from, &context) == 0) {
-        value = answered(r, from.kept, context, is_rule);
-        expr_drop_context(r->in->at, context);
+        value = answered(r, NULL, EXPR_NO_CONTEXT, is_rule);
+    } else if (context_made(r, &from) == 0) {
+        value = answered(r, from.kept, r->context, is_rule);
     }
     Py_XDECREF(from.it);
     return value;
@@ -479,6 +502,8 @@ static int runs_begun(run *r, PyTypeObject *defining, PyObject *self, PyObject *
     if (!r->state) return -1;
     r->it = (program *)self;
     r->functions = NULL;
+    r->is_put = NULL;
+    r->has_context = 0;
     r->environment = EXPR_NO_ENVIRONMENT;
     r->is_nil = r->it->is_nil;
     r->from.what = what;
@@ -511,6 +536,8 @@ static int runs_begun(run *r, PyTypeObject *defining, PyObject *self, PyObject *
 }
 
 static void runs_ended(run *r) {
+    context_dropped(r);
+    PyMem_Free(r->is_put);
     engine_given_back(r->it->head.engines, r->in);
     Py_XDECREF(r->functions);
 }
@@ -531,8 +558,6 @@ typedef struct {
     size_t length, next;
     Py_ssize_t number; /* of the line */
     span line;         /* without its line feed */
-    expr_context context; /* of the line, while it is looked at */
-    int has_context;
     span found[MOST_FOUND]; /* lines for which the rule is true */
     size_t count;
 } scan;
@@ -559,8 +584,7 @@ static int next_line(scan *s) {
 static stop line_ended(run *r, scan *s, const expr_answer *answer) {
     if (answer->kind != EXPR_BOOL) return AT_VALUE;
     if (answer->number) s->found[s->count++] = s->line;
-    expr_drop_context(r->in->at, s->context);
-    s->has_context = 0;
+    context_dropped(r);
     return AT_PAUSE;
 }
 
@@ -573,10 +597,10 @@ static stop line_begun(run *r, scan *s, expr_status *status, expr_answer *answer
         json += 3;
         length -= 3;
     }
-    *status = expr_context_json(r->in->at, json, length, &s->context);
-    s->has_context = *status == EXPR_OK;
-    if (*status == EXPR_OK && r->is_nil) *status = expr_fill_missing(r->in->at, r->compiled, s->context);
-    if (*status == EXPR_OK) *status = expr_run(r->in->at, r->compiled, r->environment, s->context, answer);
+    *status = expr_context_json(r->in->at, json, length, &r->context);
+    r->has_context = *status == EXPR_OK;
+    if (*status == EXPR_OK && r->is_nil) *status = expr_fill_missing(r->in->at, r->compiled, r->context);
+    if (*status == EXPR_OK) *status = expr_run(r->in->at, r->compiled, r->environment, r->context, answer);
     if (*status == EXPR_OK) return line_ended(r, s, answer);
     return *status == EXPR_ASKS ? AT_CALL : AT_ERROR;
 }
@@ -649,8 +673,7 @@ static PyObject *lines_found(run *r, scan *s, int is_text, PyObject *errors) {
         at = scanned(r, s, &status, &answer);
         Py_END_ALLOW_THREADS
         int done = settled(r, s, at, status, &answer);
-        if (s->has_context) expr_drop_context(r->in->at, s->context);
-        s->has_context = 0;
+        context_dropped(r);
         if (done < 0) done = error_added(r, errors, s->number);
         if (done < 0 || lines_added(s, is_text, list) < 0) Py_CLEAR(list);
     }
@@ -694,6 +717,11 @@ static PyObject *run_over_each(PyTypeObject *defining, PyObject *self, PyObject 
         Py_XDECREF(records);
         Py_XDECREF(list);
         return NULL;
+    }
+    if (names_known(&r) == 0) r.is_put = (char *)PyMem_Calloc((size_t)PyTuple_Size(r.it->words) + 1, 1);
+    if (!r.is_put) {
+        if (!PyErr_Occurred()) PyErr_NoMemory();
+        Py_CLEAR(list);
     }
     while (list && (record = PyIter_Next(records))) {
         PyObject *value = run_over(&r, record, is_filter);
