@@ -7,11 +7,12 @@ users see are over these, and say what they do.
 from __future__ import annotations
 
 import os
+import sys
 from typing import TYPE_CHECKING
 
 if TYPE_CHECKING:
     from ._native import Context, Environment, Program, counts, version
-elif os.environ.get("EXPRLANG_LIB"):
+elif os.environ.get("EXPRLANG_LIB") or sys.version_info < (3, 10):
     from ._by_ctypes import Context, Environment, Program, counts, version
 else:
     try:

@@ -269,8 +269,8 @@ def bad_key(value: object) -> Unfit:
 
 
 def located(fault: Unfit, what: str, steps: list[tuple[int, Any]], is_deeper: int) -> Exception:
-    """Returns what a caller sees in place of a fault: it says the way to it, of which each step is
-    1 and the key of a pair, or 0 and the number of an item."""
+    """Returns what a caller sees in place of a fault, with the way to it. A step of the way is 1
+    and the key of a pair, or 0 and the number of an item."""
     path = what + "".join(map(_step, steps)) + (".." if is_deeper else "")
     return fault.kind(f"{path}: {fault}")
 
