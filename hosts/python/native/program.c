@@ -122,10 +122,14 @@ static int names_known(run *r) {
             names = NULL;
         }
     }
-    if (!names || self->words) { /* or making objects has run other code, which found them */
+    if (!names) {
         Py_XDECREF(words);
+        return -1;
+    }
+    if (self->words) { /* making objects has run other code, which found them */
+        Py_DECREF(words);
         PyMem_Free(names);
-        return self->words ? 0 : -1;
+        return 0;
     }
     self->uses_env = uses_env;
     self->names = names;
@@ -385,7 +389,7 @@ static int turned(run *r, context_object *owner, expr_status *status, expr_answe
     }
     PyObject *word = PyUnicode_FromString(utf8), *list = word ? value_read(state, r->in, asked) : NULL;
     PyObject *arguments = list ? PyList_AsTuple(list) : NULL, *value = NULL;
-    PyObject *function = arguments ? PyDict_GetItemWithError(r->functions, word) : NULL;
+    PyObject *function = arguments && r->functions ? PyDict_GetItemWithError(r->functions, word) : NULL;
     int is_over = 0;
     Py_XDECREF(list);
     if (function) {
@@ -704,6 +708,16 @@ METHOD(program_run) { return counted(count, names, 3) < 0 ? NULL : run_once(defi
 
 METHOD(program_matches) { return counted(count, names, 3) < 0 ? NULL : run_once(defining, self, given, 1); }
 
+/* Lets other threads run, and looks at signals, after each so many records. */
+#define MOST_RECORDS 1024
+
+static int paused(Py_ssize_t number) {
+    if (number % MOST_RECORDS != MOST_RECORDS - 1) return 0;
+    Py_BEGIN_ALLOW_THREADS
+    Py_END_ALLOW_THREADS
+    return PyErr_CheckSignals();
+}
+
 /* Adds what a run over a record returned to a list: the value, or the record if the value is true. */
 static int record_added(PyObject *list, PyObject *record, PyObject *value, int is_filter) {
     if (!is_filter) return PyList_Append(list, value);
@@ -725,7 +739,7 @@ static PyObject *run_over_each(PyTypeObject *defining, PyObject *self, PyObject 
     }
     while (list && (record = PyIter_Next(records))) {
         PyObject *value = run_over(&r, record, is_filter);
-        if (!value || record_added(list, record, value, is_filter) < 0) Py_CLEAR(list);
+        if (!value || record_added(list, record, value, is_filter) < 0 || paused(r.from.number) < 0) Py_CLEAR(list);
         Py_XDECREF(value);
         Py_DECREF(record);
         r.from.number++;

@@ -5,6 +5,7 @@ import collections
 import copy
 import gc
 import io
+import itertools
 import json
 import mmap
 import os
@@ -267,16 +268,18 @@ class Threads(Case):
 
         self.assertEqual(self.others_run(many), 0)
 
-    def test_lines_are_interrupted(self):
-        data = b'{"n": 1}\n' * 4_000_000
+    def test_many_are_interrupted(self):
+        """A signal ends work on many lines or records. So a timer's thread has its turn, too."""
         rule = exprlang.Rule("n > 1")
-        timer = threading.Timer(0.3, lambda: os.kill(os.getpid(), signal.SIGINT))
-        timer.start()
-        try:
-            with self.assertRaises(KeyboardInterrupt):
-                rule.lines(data)
-        finally:
-            timer.join()
+        lines, records = b'{"n": 1}\n' * 4_000_000, itertools.repeat({"n": 1})
+        for work in [lambda: rule.lines(lines), lambda: rule.each(records)]:
+            timer = threading.Timer(0.1, lambda: os.kill(os.getpid(), signal.SIGINT))
+            timer.start()
+            try:
+                with self.assertRaises(KeyboardInterrupt):
+                    work()
+            finally:
+                timer.join()
 
     def test_asyncio(self):
         rule = exprlang.Rule("n > 1")
