@@ -17,8 +17,8 @@ IS_CPYTHON = sys.implementation.name == "cpython" and sys.version_info >= (3, 10
 
 native = setuptools.Extension(
     "exprlang._native",
-    [f"native/{name}.c" for name in ("engines", "values", "program", "module")],
-    depends=["native/native.h"],
+    [f"native/{name}.c" for name in ("engines", "values", "program", "records", "runs", "lines", "module")],
+    depends=["native/native.h", "native/runs.h"],
     include_dirs=[str(TOP / "hosts/out/include")],
     extra_objects=[str(LIBRARY)],
     extra_compile_args=["-std=gnu11", "-O2", "-fvisibility=hidden"],

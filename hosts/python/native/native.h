@@ -2,7 +2,10 @@
  *
  *     engines.c   the pool of engines, and what engines keep copies of
  *     values.c    how values cross to an engine and back
- *     program.c   programs, and their runs
+ *     program.c   programs
+ *     records.c   what a run reads
+ *     runs.c      runs, and the functions that they call
+ *     lines.c     runs over JSON lines
  *     module.c    contexts, environments, and the module itself
  *
  * All of it is C that is C++ too. Every function needs the GIL, but for the calls of exprlang.h on an engine that is taken. */
@@ -177,7 +180,7 @@ typedef struct {
 /* Finds or makes an engine's copy of an environment. */
 int environment_copied(module_state *state, environment_object *self, engine *in, expr_environment *found);
 
-/* --- types --- */
+/* --- programs --- */
 
 extern PyType_Spec program_spec;
 #endif
