@@ -17,13 +17,16 @@ exprlang.LimitError: ...
 
 Program.run says which values you can hand in, and what they are in Python.
 
-The module calls libexprlang.so.0. EXPRLANG_LIB names the folder that has it. Without that, the
-module looks beside itself, then in hosts/out/lib of the repository, then where the system has its
-libraries. An ImportError says where it looked.
+The engine is in an extension for CPython from 3.10 on. Where there is none, the module calls
+libexprlang.so.0 by ctypes: it looks beside itself, then in hosts/out/lib of the repository, then
+where the system has its libraries. If EXPRLANG_LIB names a folder, the module takes the library of
+that folder. An ImportError says where it looked.
 
-Threads may share programs, contexts and environments. Each run takes an idle engine and gives it
-back, so threads that come and go leave nothing behind. Programs, contexts, environments and errors
-can be pickled, so multiprocessing, concurrent.futures and Dask work.
+Threads may share rules, programs, contexts and environments. Each run takes an idle engine and
+gives it back, so threads that come and go leave nothing behind. A run of more than 10,000 steps
+lets other threads run, and so does Rule.lines. In asyncio, call short runs as they are, and hand
+long ones to asyncio.to_thread. All objects can be pickled, so multiprocessing, concurrent.futures
+and Dask work, and so does a fork.
 """
 
 from __future__ import annotations
