@@ -275,12 +275,28 @@ class Threads(Case):
         lines, records = b'{"n": 1}\n' * 4_000_000, itertools.repeat({"n": 1})
         for work in [lambda: rule.lines(lines), lambda: rule.each(records)]:
             timer = threading.Timer(0.1, lambda: os.kill(os.getpid(), signal.SIGINT))
-            timer.start()
-            try:
-                with self.assertRaises(KeyboardInterrupt):
-                    work()
-            finally:
-                timer.join()
+            with self.assertRaises(KeyboardInterrupt):
+                timer.start()
+                work()
+            timer.join()
+
+    def test_a_fork_meanwhile(self):
+        """A child runs rules while other threads of its parent read lines, and the rule may close."""
+        rule, data = exprlang.Rule("n > 1"), b'{"n": 2}\n' * 20000
+        threads = [threading.Thread(target=rule.lines, args=(data,)) for _ in range(3)]
+        for thread in threads:
+            thread.start()
+        ended = []
+        for _ in range(5):
+            child = os.fork()
+            if child == 0:
+                found = rule.filter([{"n": 1}, {"n": 2}]), rule.lines(data[:9])
+                os._exit(0 if found == ([{"n": 2}], [data[:8]]) else 1)
+            ended.append(os.waitpid(child, 0)[1])
+        rule.close()
+        for thread in threads:
+            thread.join()
+        self.assertEqual(ended, [0] * 5)
 
     def test_asyncio(self):
         rule = exprlang.Rule("n > 1")
