@@ -267,8 +267,7 @@ METHOD(program_open) {
     int is_nil = PyObject_IsTrue(given[2]);
     if (is_nil < 0 || limits_read(it, given[1]) < 0) return NULL;
     it->is_nil = is_nil;
-    Py_INCREF(given[0]);
-    it->text = given[0];
+    if (!(it->text = PyUnicode_FromObject(given[0]))) return NULL; /* a str itself, which refers to nothing */
     if (given[3] != Py_None) {
         Py_INCREF(given[3]);
         it->environment = (environment_object *)given[3];
