@@ -74,6 +74,7 @@ ending_rt, limits_rt = read("crates/expr_exchange/src/host_error.rt"), read("cra
 handles_rt = read("crates/expr_handles/src/lib.rt")
 header, border, calls_c = read("hosts/c/exprlang.h"), read("hosts/c/border.h"), read("hosts/c/exprlang.c")
 raw_rs, engine_rs, limits_rs = (read(f"hosts/rust/src/{it}.rs") for it in ("raw", "engine", "limits"))
+native_c = "".join(read(os.path.relpath(it, TOP)) for it in sorted(glob.glob(f"{TOP}/hosts/python/native/*.c")))
 python = "".join(read(os.path.relpath(it, TOP)) for it in sorted(glob.glob(f"{TOP}/hosts/python/exprlang/*.py")))
 
 # --- what may be asked ---
@@ -95,6 +96,9 @@ in_rust = re.findall(r"const (\w+): u32 = (\d+)", within(raw_rs, "pub mod kind {
 same("kinds of raw.rs", [kinds[int(number)] for _, number in in_rust], [words(word)[0] for word, _ in in_rust])
 in_python = words(within(python, "\n(_NIL,", ") = range(13)"))
 same("kinds of exprlang", ["NIL", *in_python], kinds[:13])
+for said, written in [("_WORDS", within(python, "\n_WORDS = [", "\n\n")), ("values.c", within(native_c, "KINDS[] = {", "}"))]:
+    in_python = [it.upper() for it in re.findall(r'"(\w+)"', written)]
+    same(f"words of kinds in {said}", [*in_python[:12], "KEYEDMAP"], kinds[:13])
 
 # --- how calls end ---
 endings = numbered("endings", [(number, word) for word, number in re.findall(r"Status::(\w+) => (\d+)", serving_rt)])
@@ -110,6 +114,8 @@ same("refusals of engine.rs", [(int(number), word) for number, word in in_rust],
      [(endings.index(ending.upper()), word) for word, ending in refusals.items()])
 in_python = within(python, "\n_STATUS = [", "\n(_NIL").replace("_STATUS += [", "")
 same("endings of exprlang", ["DONE", *words(in_python)[1:]], endings)
+in_c = re.findall(r'"(\w+)"', within(native_c, "STATUS[] = {", "}"))
+same("endings of engines.c", ["DONE", *words(" ".join(in_c))[1:]], endings)
 in_python = within(python, "_OK, _SYNTAX, _ASKS, _LIMITS = ", "\n")
 same("numbers of exprlang", in_python, ", ".join(str(endings.index(it)) for it in ("DONE", "SYNTAX", "ASKS", "HEIGHT")))
 
@@ -126,6 +132,9 @@ in_rust = re.findall(r"whole\((?:limits\.)?(\w+)\)[,\]]", engine_rs)
 same("numbers of engine.rs", words(" ".join(in_rust)), limits)
 in_python = within(python, "[(name, ctypes.c_int64) for name in (", ")")
 same("limits of exprlang", words(in_python), limits)
+same("limits of program.c", words(" ".join(re.findall(r"within\.limits\.(\w+) = \1;", native_c))), limits)
+in_python = within(python, "bounds = ", "\n").replace("limits.", "")
+same("numbers of exprlang", words(in_python), limits)
 strangers = re.findall(r"(\w+): ([\d_]+),", within(limits_rt, "        Limits {", "}"))
 strangers = [(words(name)[0], int(number)) for name, number in strangers]
 same("limits for strangers", [name for name, _ in strangers], limits)

@@ -9,17 +9,17 @@
 #define EXPR_BUILT "sources unknown, unproved"
 #endif
 
-/* What callers hand in and read, as hosts/python/exprlang.py has it too. */
-_Static_assert(sizeof(expr_program) == 16 && offsetof(expr_program, place) == 4 && offsetof(expr_program, number) == 8, "as in exprlang.py");
-_Static_assert(sizeof(expr_context) == 16 && offsetof(expr_context, place) == 4 && offsetof(expr_context, number) == 8, "as in exprlang.py");
-_Static_assert(sizeof(expr_environment) == 16 && offsetof(expr_environment, place) == 4 && offsetof(expr_environment, number) == 8, "as in exprlang.py");
+/* What callers hand in and read, as hosts/python/exprlang/_library.py has it too. */
+_Static_assert(sizeof(expr_program) == 16 && offsetof(expr_program, place) == 4 && offsetof(expr_program, number) == 8, "as in _library.py");
+_Static_assert(sizeof(expr_context) == 16 && offsetof(expr_context, place) == 4 && offsetof(expr_context, number) == 8, "as in _library.py");
+_Static_assert(sizeof(expr_environment) == 16 && offsetof(expr_environment, place) == 4 && offsetof(expr_environment, number) == 8, "as in _library.py");
 _Static_assert(sizeof(expr_place) == 24 && offsetof(expr_place, byte) == 0 && offsetof(expr_place, line) == 8 &&
-               offsetof(expr_place, column) == 16, "as in exprlang.py");
+               offsetof(expr_place, column) == 16, "as in _library.py");
 _Static_assert(sizeof(expr_answer) == 24 && offsetof(expr_answer, kind) == 0 && offsetof(expr_answer, fraction) == 4 &&
-               offsetof(expr_answer, number) == 8 && offsetof(expr_answer, text) == 16, "as in exprlang.py");
+               offsetof(expr_answer, number) == 8 && offsetof(expr_answer, text) == 16, "as in _library.py");
 _Static_assert(sizeof(expr_limits) == 48 && offsetof(expr_limits, struct_size) == 0 && offsetof(expr_limits, height) == 8 &&
                offsetof(expr_limits, patterns) == 16 && offsetof(expr_limits, steps) == 24 &&
-               offsetof(expr_limits, depth) == 32 && offsetof(expr_limits, size) == 40, "as in exprlang.py");
+               offsetof(expr_limits, depth) == 32 && offsetof(expr_limits, size) == 40, "as in _library.py");
 
 struct expr_engine {
     void *inside;

@@ -17,25 +17,30 @@ exprlang.LimitError: ...
 
 Program.run says which values you can hand in, and what they are in Python.
 
-The module calls libexprlang.so.0. EXPRLANG_LIB names the folder that has it. Without that, the
-module looks beside itself, then in hosts/out/lib of the repository, then where the system has its
-libraries. An ImportError says where it looked.
+The engine is in an extension for CPython from 3.10 on. Where there is none, the module calls
+libexprlang.so.0 by ctypes: it looks beside itself, then in hosts/out/lib of the repository, then
+where the system has its libraries. If EXPRLANG_LIB names a folder, the module takes the library of
+that folder. An ImportError says where it looked.
 
-Threads may share programs, contexts and environments. Each run takes an idle engine and gives it
-back, so threads that come and go leave nothing behind. Programs, contexts, environments and errors
-can be pickled, so multiprocessing, concurrent.futures and Dask work.
+Threads may share rules, programs, contexts and environments. Each run takes an idle engine and
+gives it back, so threads that come and go leave nothing behind. A run of more than 10,000 steps
+lets other threads run, and so does Rule.lines. In asyncio, call short runs as they are, and hand
+long ones to asyncio.to_thread. All objects can be pickled, so multiprocessing, concurrent.futures
+and Dask work, and so does a fork.
 """
 
 from __future__ import annotations
 
 from typing import Any, Optional
 
+from . import _core
+from ._checks import Missing
 from ._context import Context
 from ._environment import Environment
 from ._errors import Error, LimitError, Syntax
-from ._library import LIBRARY as _LIBRARY
 from ._limits import UNLIMITED, USUAL, AnyLimits, Limits, Unlimited
-from ._program import Missing, Program, Record
+from ._program import Program, Record
+from ._rule import Rule
 from ._values import Key, KeyedMap, Month, Weekday
 
 # without `compile`, with which a star import would replace the built-in
@@ -49,6 +54,7 @@ __all__ = [
     "Limits",
     "Month",
     "Program",
+    "Rule",
     "Syntax",
 ]
 __all__ += ["UNLIMITED", "Unlimited", "Weekday", "evaluate", "library_version"]
@@ -60,8 +66,7 @@ def library_version() -> str:
     >>> exprlang.library_version().split(", ")[0] == exprlang.__version__
     True
     """
-    said: bytes = _LIBRARY.version()
-    return said.decode()
+    return _core.version()
 
 
 __version__ = library_version().partition(",")[0]

@@ -3,14 +3,13 @@
 from __future__ import annotations
 
 import threading
-from collections.abc import Collection, Iterable, Iterator, Mapping, MutableMapping
-from contextlib import contextmanager
+from collections.abc import Callable, Collection, Iterable, Iterator, Mapping, MutableMapping
 from typing import Any, Optional, Union
 
-from ._engine import Engine, Kept
-from ._exchange import build
-from ._library import LIBRARY, _Handle
-from ._values import utf8
+from . import _core
+from ._checks import checked_name, record
+from ._errors import Error
+from ._kept import Kept
 
 
 class _Item:
@@ -22,7 +21,7 @@ class _Item:
         self.value = value
 
 
-class Context(Kept, MutableMapping[str, Any]):
+class Context(Kept, _core.Context, MutableMapping[str, Any]):
     """Names and their values, for many runs. It is a mapping that you may change between runs.
 
     An engine copies a value when a program first asks for its name, and again after you set
@@ -45,11 +44,8 @@ class Context(Kept, MutableMapping[str, Any]):
     (True, 2, ['price', 'count'])
     """
 
-    _drop, _what = "drop_context", "context"
-
     def __init__(self, values: Union[Mapping[str, Any], Iterable[tuple[str, Any]]] = ()) -> None:
         super().__init__()
-        self._items: dict[str, _Item] = {}
         self._notes: dict[int, list[set[str]]] = {}
         for name, value in record(values).items():
             self[name] = value
@@ -61,7 +57,8 @@ class Context(Kept, MutableMapping[str, Any]):
         return f"Context({dict(self)!r})"
 
     def __getitem__(self, name: str) -> Any:
-        return self._items[name].value
+        item: _Item = self._items[name]
+        return item.value
 
     def __setitem__(self, name: str, value: Any) -> None:
         self._items[checked_name(name)] = _Item(value)
@@ -83,57 +80,28 @@ class Context(Kept, MutableMapping[str, Any]):
         for names in self._notes.get(threading.get_ident(), ()):
             names.add(name)
 
-    @contextmanager
-    def _noting(self, names: set[str]) -> Iterator[None]:
-        """Adds the names that this thread changes meanwhile."""
-        thread = threading.get_ident()
+    def _called(
+        self,
+        name: str,
+        function: Callable[..., Any],
+        arguments: Iterable[Any],
+        reads: Optional[Collection[str]],
+    ) -> tuple[Any, Optional[Error]]:
+        """Calls a function for a run that reads these names, or all. Returns what it returns, and
+        the error of the run if this thread has changed such a name meanwhile."""
+        thread, names = threading.get_ident(), set[str]()
         notes = self._notes.setdefault(thread, [])
         notes.append(names)
         try:
-            yield
+            value = function(*arguments)
         finally:
             notes.pop()
             if not notes:
                 del self._notes[thread]
-
-    def _make(self, engine: Engine) -> _Handle:
-        return engine.made(LIBRARY.context_new)
-
-    def _in(self, engine: Engine, names: Optional[Collection[str]]) -> _Handle:
-        """Returns an engine's copy, which has the values of these names, or of all."""
-        copy, items = engine.copy(self), self._items
-        for name in list(items) if names is None else names:
-            item = items.get(name)
-            if item is not None and copy.values.get(name) is not item:
-                put(engine, copy.handle, name, item.value)
-                copy.values[name] = item
-        return copy.handle
-
-
-def put(engine: Engine, context: _Handle, name: str, value: Any) -> None:
-    """Puts a value under a name of an engine's context."""
-    word = utf8(name)
-    build(engine, value, name)
-    engine.ask(LIBRARY.set_built, context, word, len(word))
-    engine.builds = False
-
-
-def record(values: Any) -> Mapping[str, Any]:
-    """Returns names and their values, as they were handed in."""
-    if isinstance(values, Mapping):
-        return values
-    if not isinstance(values, str):
-        try:
-            return dict(values)
-        except (TypeError, ValueError):
-            pass
-    raise TypeError(
-        f"a context is a dict of names and their values, or a Context, not {type(values).__name__}"
-    )
-
-
-def checked_name(name: Any) -> str:
-    """Returns a name of a context, if it is one."""
-    if not isinstance(name, str):
-        raise TypeError(f"a name of a context is a str, not {type(name).__name__}: {name!r}")
-    return name
+        changed = sorted(names if reads is None else names.intersection(reads))
+        if not changed:
+            return value, None
+        why = f"the function {name} changed {', '.join(changed)}"
+        return value, Error(
+            "differs", f"{why}, which its own run reads: change a context between runs"
+        )

@@ -5,25 +5,14 @@ from __future__ import annotations
 import collections
 import ctypes
 import weakref
-from collections.abc import Callable
-from typing import Any, ClassVar, NamedTuple, Optional, TypeVar
+from collections.abc import Callable, Iterator
+from contextlib import contextmanager
+from typing import Any, ClassVar, NamedTuple, Optional
 
-from ._errors import Error, LimitError, Syntax, Unfit
-from ._library import (
-    _ASKS,
-    _LIMITS,
-    _OK,
-    _STATUS,
-    _SYNTAX,
-    LIBRARY,
-    _Answer,
-    _Handle,
-    _Limits,
-    _Place,
-)
-from ._limits import USUAL, AnyLimits, Limits
-
-_Self = TypeVar("_Self", bound="Kept")
+from ._border import _ASKS, _LIMITS, _OK, _STATUS, _SYNTAX
+from ._errors import Error, LimitError, Syntax
+from ._library import LIBRARY, _Answer, _Handle, _Limits, _Place
+from ._limits import USUAL, Numbers, numbers_of
 
 
 class _Token:
@@ -32,15 +21,12 @@ class _Token:
     __slots__ = ("__weakref__",)
 
 
-class Kept:
-    """What engines keep copies of, until it is gone or closed, as a `with` block does."""
+class Copied:
+    """What engines keep copies of, until it is gone or closed. It is closed at first."""
 
     _drop: ClassVar[str]
     _what: ClassVar[str]
-    _token: Optional[_Token]
-
-    def __init__(self) -> None:
-        self._renew()
+    _token: Optional[_Token] = None
 
     def _renew(self) -> None:
         """Has engines drop their copies, so that they make new ones when they next need some."""
@@ -50,34 +36,27 @@ class Kept:
         """Makes a copy in an engine."""
         raise NotImplementedError
 
-    def close(self) -> None:
-        """Frees the copies that engines keep. Using it afterwards is a ValueError.
+    def _opened(self) -> None:
+        """Opens it, if an engine can make a copy of it."""
+        self._renew()
+        try:
+            with taken() as engine:
+                engine.copy(self)
+        except BaseException:
+            self._token = None
+            raise
 
-        >>> rule = exprlang.compile("1 + 1")
-        >>> rule.close()
-        >>> rule.run()
-        Traceback (most recent call last):
-        ValueError: the program is closed
-        """
+    def _close(self) -> None:
+        """Has engines drop their copies, for good."""
         self._token = None
         for _ in range(len(_IDLE)):
             with taken(first=True):
                 pass
 
     @property
-    def closed(self) -> bool:
-        """Whether it was closed.
-
-        >>> exprlang.compile("1 + 1").closed
-        False
-        """
+    def _is_closed(self) -> bool:
+        """Whether it was closed."""
         return self._token is None
-
-    def __enter__(self: _Self) -> _Self:
-        return self
-
-    def __exit__(self, *_: object) -> None:
-        self.close()
 
 
 class Copy(NamedTuple):
@@ -98,9 +77,10 @@ class Engine:
         _OPEN[weakref.ref(self, _LOST.append)] = self._at
         self._copies: dict[weakref.ref[_Token], Copy] = {}
         self._gone: collections.deque[weakref.ref[_Token]] = collections.deque()
-        self._limits: AnyLimits = USUAL
+        self._limits = numbers_of(USUAL)
         self._temporary: Optional[_Handle] = None
         self.builds = False
+        self.origin = ""
         self.answer = _Answer()
         self.to_answer = ctypes.byref(self.answer)
 
@@ -111,12 +91,13 @@ class Engine:
         _IDLE.append(self)
 
     def ask(self, call: Callable[..., int], *words: Any) -> int:
-        """Makes a call of the library, and raises the error that it ends with."""
+        """Makes a call of the library, and raises the error that it ends with. The message begins
+        with `origin`."""
         try:
             status = call(self._at, *words)
             if status == _OK or status == _ASKS:
                 return status
-            message = LIBRARY.message(self._at).decode(errors="replace")
+            message = self.origin + LIBRARY.message(self._at).decode(errors="replace")
         except ctypes.ArgumentError as fault:
             raise no_stack() from fault
         if status >= _LIMITS:
@@ -128,6 +109,7 @@ class Engine:
 
     def settle(self) -> None:
         """Drops what was begun and not done, and the copies of what is gone."""
+        self.origin = ""
         if self.builds:
             self.ask(LIBRARY.unbuild)
             self.builds = False
@@ -136,29 +118,26 @@ class Engine:
             copy = self._copies.pop(self._gone.pop())
             self.ask(copy.drop, copy.handle)
 
-    def copy(self, kept: Kept) -> Copy:
+    def copy(self, kept: Copied) -> Copy:
         """Returns this engine's copy of something, and makes it where there is none."""
         token = kept._token
         if token is None:
             raise ValueError(f"the {kept._what} is closed")
         copy = self._copies.get(weakref.ref(token))
         if copy is None:
-            try:
-                copy = Copy(getattr(LIBRARY, kept._drop), kept._make(self), {})
-            except Unfit as fault:
-                raise fault.kind(str(fault)) from None
+            copy = Copy(getattr(LIBRARY, kept._drop), kept._make(self), {})
             self._copies[weakref.ref(token, self._gone.append)] = copy
         return copy
 
-    def limit(self, limits: AnyLimits) -> None:
+    def limit(self, limits: Numbers) -> None:
         """Sets the limits of what is compiled and run from now on."""
-        if limits is self._limits:
+        if limits == self._limits:
             return
-        if isinstance(limits, Limits):
-            numbers = [getattr(limits, name) for name, _ in _Limits._fields_[1:]]
-            self.ask(LIBRARY.set_limits, ctypes.byref(_Limits(ctypes.sizeof(_Limits), *numbers)))
-        else:
+        if limits is None:
             self.ask(LIBRARY.set_unlimited)
+        else:
+            numbers = _Limits(ctypes.sizeof(_Limits), *limits[:5])
+            self.ask(LIBRARY.set_limits, ctypes.byref(numbers))
         self._limits = limits
 
     def made(self, call: Callable[..., int]) -> _Handle:
@@ -167,10 +146,15 @@ class Engine:
         self.ask(call, ctypes.byref(handle))
         return handle
 
-    def new_context(self) -> _Handle:
-        """Returns a context for one run, which drop_context drops."""
-        self._temporary = self.made(LIBRARY.context_new)
-        return self._temporary
+    @contextmanager
+    def temporary(self, call: Callable[..., int], *words: Any) -> Iterator[_Handle]:
+        """Makes a context by a call, for one run. It is dropped behind the block, or before the
+        next run where an exception comes in between."""
+        handle = _Handle()
+        self.ask(call, *words, ctypes.byref(handle))
+        self._temporary = handle
+        yield handle
+        self.drop_context()
 
     def drop_context(self) -> None:
         """Drops the context that was made for one run, if there is one."""
@@ -178,7 +162,7 @@ class Engine:
             self.ask(LIBRARY.drop_context, self._temporary)
             self._temporary = None
 
-    def compiled(self, text: bytes, limits: AnyLimits) -> _Handle:
+    def compiled(self, text: bytes, limits: Numbers) -> _Handle:
         """Compiles an expression within limits."""
         handle, place = _Handle(), _Place()
         self.limit(limits)
@@ -226,3 +210,8 @@ def taken(first: bool = False) -> Engine:
         engine = Engine()
     engine.settle()
     return engine
+
+
+def counts() -> tuple[int, int, int]:
+    """Returns how many engines there are, how many of them are idle, and what they keep."""
+    return len(_OPEN), len(_IDLE), sum(len(engine._copies) for engine in _IDLE)

@@ -9,9 +9,9 @@ from collections.abc import Callable, Iterable, Mapping
 from types import MappingProxyType
 from typing import Any, Optional, Union
 
-from ._engine import Engine, Kept, taken
+from . import _core
 from ._errors import Unfit
-from ._library import LIBRARY, _Handle
+from ._kept import Kept
 from ._values import instant, utf8, within
 
 _Function = Callable[..., Any]
@@ -23,7 +23,7 @@ os.register_at_fork(
 )
 
 
-class Environment(Kept):
+class Environment(Kept, _core.Environment):
     """What you add to the language: zones, the current time, and functions.
 
     - `zones`: their names, each with a number of seconds ahead of UTC, or with a rule in POSIX's
@@ -59,8 +59,6 @@ class Environment(Kept):
     19
     """
 
-    _drop, _what = "drop_environment", "environment"
-
     def __init__(
         self,
         zones: Union[Mapping[str, Union[int, str]], Iterable[tuple[str, Union[int, str]]]] = (),
@@ -74,8 +72,11 @@ class Environment(Kept):
                 raise TypeError(
                     f"the function {name} can't be called: it is {type(function).__name__}"
                 )
-        with taken() as engine:
-            engine.copy(self)
+        try:
+            self._parts = _parts(self._zones, now, self._functions)
+        except Unfit as fault:
+            raise fault.kind(str(fault)) from None
+        self._open(self._parts, self._functions)
 
     def __reduce__(self) -> tuple[Any, ...]:
         return Environment, (self._zones, self._now, self._functions)
@@ -136,44 +137,30 @@ class Environment(Kept):
             self._become(Environment(self._zones, self._now, functions))
 
     def _become(self, other: Environment) -> None:
-        """Takes over what another is, and its copies."""
-        if self.closed:
-            raise ValueError("the environment is closed")
-        self._now, self._functions, self._token = other._now, other._functions, other._token
+        """Takes over what another is, for later runs."""
+        self._replace(other._parts, other._functions)
+        self._now, self._functions, self._parts = other._now, other._functions, other._parts
 
-    def _make(self, engine: Engine) -> _Handle:
-        handle = engine.made(LIBRARY.environment_new)
-        try:
-            self._fill(engine, handle)
-        except BaseException:
-            engine.ask(LIBRARY.drop_environment, handle)
-            raise
-        return handle
 
-    def _fill(self, engine: Engine, handle: _Handle) -> None:
-        for name in self._functions:
-            word = _name(name, "function")
-            engine.ask(LIBRARY.add_name, handle, word, len(word))
-        for name, rule in self._zones.items():
-            word = _name(name, "zone")
-            if isinstance(rule, str):
-                text = utf8(rule)
-                engine.ask(LIBRARY.add_zone_rule, handle, word, len(word), text, len(text))
-            elif isinstance(rule, int) and not isinstance(rule, bool):
-                seconds = within(
-                    rule, -(2**31), 2**31 - 1, f"the offset of the zone {name} in seconds"
-                )
-                engine.ask(LIBRARY.add_fixed_zone, handle, word, len(word), seconds)
-            else:
-                why = f"the zone {name} is a number of seconds, or a rule such as"
-                example = "'CET-1CEST,M3.5.0,M10.5.0/3'"
-                raise Unfit(TypeError, f"{why} {example}, not {type(rule).__name__}")
-        if self._now is not None:
-            if not isinstance(self._now, datetime.datetime):
-                raise Unfit(
-                    TypeError, f"now is a datetime with an offset, not {type(self._now).__name__}"
-                )
-            engine.ask(LIBRARY.set_now, handle, *instant(self._now))
+def _parts(zones: Mapping[Any, Any], now: Any, functions: Mapping[Any, Any]) -> tuple[Any, ...]:
+    """Returns what an environment adds, as engines take it: functions, zones and the time."""
+    parts: list[Any] = [("function", _name(name, "function")) for name in functions]
+    for name, rule in zones.items():
+        word = _name(name, "zone")
+        if isinstance(rule, str):
+            parts.append(("rule", word, utf8(rule)))
+        elif isinstance(rule, int) and not isinstance(rule, bool):
+            what = f"the offset of the zone {name} in seconds"
+            parts.append(("offset", word, within(int(rule), -(2**31), 2**31 - 1, what)))
+        else:
+            why = f"the zone {name} is a number of seconds, or a rule such as"
+            example = "'CET-1CEST,M3.5.0,M10.5.0/3'"
+            raise Unfit(TypeError, f"{why} {example}, not {type(rule).__name__}")
+    if now is not None:
+        if not isinstance(now, datetime.datetime):
+            raise Unfit(TypeError, f"now is a datetime with an offset, not {type(now).__name__}")
+        parts.append(("now", *instant(now)))
+    return tuple(parts)
 
 
 def _name(name: Any, what: str) -> bytes:

@@ -3,178 +3,143 @@
 from __future__ import annotations
 
 import ctypes
-import datetime
-import operator
-from collections.abc import Callable, Iterator, Mapping, Sequence
-from itertools import chain
+from collections.abc import Callable
 from typing import Any
 
-from ._engine import Engine, no_stack
-from ._errors import Unfit
-from ._library import (
+from ._border import (
     _ARRAY,
     _BOOL,
     _BYTES,
     _DATETIME,
     _DURATION,
     _INTEGER,
+    _MAP,
     _MONTH,
     _NIL,
     _STRING,
     _TIMEZONE,
     _WEEKDAY,
+    _WORDS,
 )
-from ._library import LIBRARY, _Answer
+from ._engine import Engine, no_stack
+from ._errors import Unfit
+from ._library import LIBRARY, _Answer, _Handle
 from ._values import (
     Key,
     Month,
     Weekday,
-    instant,
+    bad_key,
+    key_of,
+    length_of,
+    located,
     map_of,
     moment_of,
-    nanoseconds,
-    unfit,
+    simplified,
+    too_deep,
     utf8,
     within,
 )
 
 _DEEPEST = 1_000
-"""How many levels a value may have that is handed in."""
-_WORDS = {
-    _NIL: "nil",
-    _BOOL: "bool",
-    _INTEGER: "integer",
-    _STRING: "string",
-    _BYTES: "bytes",
-    _DURATION: "duration",
-    _DATETIME: "datetime",
-    _TIMEZONE: "timezone",
-    _MONTH: "month",
-    _WEEKDAY: "weekday",
-}
+"""How many levels a value may have that is handed in, as native/values.c has it too."""
 
 
 class _Level:
     """An array or a map that is handed in: its parts, and the call that makes it of them."""
 
-    def __init__(self, parts: Iterator[Any], width: int, make: Callable[..., int]) -> None:
-        self.parts, self.width, self.make = parts, width, make
+    def __init__(self, parts: tuple[Any, ...], is_map: bool) -> None:
+        self.parts, self.is_map = parts, is_map
         self.count = 0
-        self.part: Any = None
-        self.key: Any = None
 
     def goes_on(self) -> bool:
         """Goes to the next part. Returns whether there is one."""
-        try:
-            self.part = next(self.parts)
-        except StopIteration:
-            return False
         self.count += 1
-        if self.awaits_value():
-            self.key = self.part
-        return True
+        return self.count <= len(self.parts)
+
+    def part(self) -> Any:
+        """Returns the part."""
+        return self.parts[self.count - 1]
 
     def awaits_value(self) -> bool:
         """Whether the part is a key, whose value comes next."""
-        return self.width == 2 and self.count % 2 == 1
+        return self.is_map and self.count % 2 == 1
 
-    def path(self) -> str:
-        """Returns where the last part is."""
-        if self.width == 1:
-            return f"[{self.count - 1}]"
-        if isinstance(self.key, str) and self.key.isidentifier():
-            return f".{self.key}"
-        return f"[{self.key!r}]"
+    def step(self) -> tuple[int, Any]:
+        """Returns where the part is, as `located` takes it."""
+        number = self.count - 1
+        return (1, self.parts[number - number % 2]) if self.is_map else (0, number)
+
+    def make(self, engine: Engine) -> None:
+        """Makes it of the parts, which are built."""
+        if self.is_map:
+            engine.ask(LIBRARY.make_map, len(self.parts) // 2)
+        else:
+            engine.ask(LIBRARY.make_array, len(self.parts))
 
 
-def build(engine: Engine, value: Any, name: str) -> None:
-    """Builds a value in an engine. An exception says where the fault is, from its name on."""
+def build(engine: Engine, value: Any, what: str) -> None:
+    """Builds a value in an engine. An exception says where the fault is, from what it is on."""
     engine.builds = True
     levels: list[_Level] = []
     try:
         _build(engine, value, levels)
     except Unfit as fault:
-        path = name + "".join(level.path() for level in levels[:8])
-        raise fault.kind(f"{path}{'..' if len(levels) > 8 else ''}: {fault}") from None
+        steps = [level.step() for level in levels[:8]]
+        raise located(fault, engine.origin + what, steps, len(levels) > 8) from None
+
+
+def put(engine: Engine, context: _Handle, name: str, value: Any) -> None:
+    """Puts a value under a name of an engine's context."""
+    word = utf8(name)
+    build(engine, value, name)
+    engine.ask(LIBRARY.set_built, context, word, len(word))
+    engine.builds = False
 
 
 def _build(engine: Engine, value: Any, levels: list[_Level]) -> None:
     while True:
-        if levels and levels[-1].awaits_value():
-            _check_key(value)
-        if not _push(engine, value):
+        level = _push(engine, value, bool(levels) and levels[-1].awaits_value())
+        if level is not None:
             if len(levels) == _DEEPEST:
-                why = f"the value is deeper than {_DEEPEST} levels, or contains itself"
-                raise Unfit(ValueError, why)
-            levels.append(_opened(value))
+                raise too_deep(_DEEPEST)
+            levels.append(level)
         while levels and not levels[-1].goes_on():
-            done = levels.pop()
-            engine.ask(done.make, done.count // done.width)
+            levels.pop().make(engine)
         if not levels:
             return
-        value = levels[-1].part
+        value = levels[-1].part()
 
 
-def _check_key(value: Any) -> None:
-    """Checks that a value of Python can be a key."""
-    if not isinstance(value, str) and isinstance(value, (Mapping, Sequence)):
-        why = "a key of a map is None, a bool, an integer, a str or a time"
-        raise Unfit(TypeError, f"{why}, not {type(value).__name__}")
-
-
-def _opened(value: Any) -> _Level:
-    """Returns the parts of an array or a map, as they are now."""
-    if isinstance(value, Mapping):
-        return _Level(chain.from_iterable(list(value.items())), 2, LIBRARY.make_map)
-    if isinstance(value, Sequence):
-        return _Level(iter(tuple(value)), 1, LIBRARY.make_array)
-    raise unfit(value)
-
-
-def _push(engine: Engine, value: Any) -> bool:
-    """Builds a scalar. Returns whether the value is one."""
+def _push(engine: Engine, value: Any, is_key: bool) -> _Level | None:
+    """Builds a scalar, or returns the level of an array or a map."""
     if type(value) is int:
         engine.ask(LIBRARY.push_integer, within(value, -(2**63), 2**63 - 1, "an integer"))
-    elif isinstance(value, str):
-        text = utf8(value)
-        engine.ask(LIBRARY.push_string, text, len(text))
-    elif value is None:
+        return None
+    kind, what, past = simplified(value)
+    if is_key and kind in (_BYTES, _ARRAY, _MAP):
+        raise bad_key(value)
+    if kind in (_ARRAY, _MAP):
+        return _Level(what, kind == _MAP)
+    if kind == _STRING:
+        engine.ask(LIBRARY.push_string, what, len(what))
+    elif kind == _BYTES:
+        engine.ask(LIBRARY.push_bytes, what, len(what))
+    elif kind == _NIL:
         engine.ask(LIBRARY.push_nil)
-    elif isinstance(value, bool):
-        engine.ask(LIBRARY.push_bool, value)
-    elif isinstance(value, Month):
-        engine.ask(LIBRARY.push_month, within(value, 1, 12, "a month"))
-    elif isinstance(value, Weekday):
-        engine.ask(LIBRARY.push_weekday, within(value, 0, 6, "a day of the week"))
-    elif isinstance(value, (bytes, bytearray, memoryview)):
-        octets = bytes(value)
-        engine.ask(LIBRARY.push_bytes, octets, len(octets))
-    elif isinstance(value, (list, tuple, dict)):
-        return False
-    elif isinstance(value, datetime.timedelta):
-        engine.ask(LIBRARY.push_duration, nanoseconds(value))
-    elif isinstance(value, datetime.datetime):
-        engine.ask(LIBRARY.push_datetime, *instant(value))
-    elif isinstance(value, Key):
-        _push_key(engine, value)
-    elif hasattr(type(value), "__index__"):  # another type of integers
-        return _push(engine, int(operator.index(value)))
+    elif kind == _DATETIME:
+        engine.ask(LIBRARY.push_datetime, what, past)
     else:
-        return False
-    return True
+        engine.ask(_PUSHES[kind], what)
+    return None
 
 
-def _push_key(engine: Engine, key: Key) -> None:
-    """Builds the scalar that a key stands for."""
-    if key.kind == "timezone":
-        raise Unfit(TypeError, "a zone can't be handed in: hand in its name for timezone(..)")
-    if key.kind == "duration":
-        engine.ask(LIBRARY.push_duration, nanoseconds(key.value) + key.nanosecond)
-    elif key.kind == "datetime":
-        second, past = instant(key.value)
-        engine.ask(LIBRARY.push_datetime, second, past + key.nanosecond)
-    else:
-        _push(engine, key.value)
+_PUSHES: dict[int, Callable[..., int]] = {
+    _BOOL: LIBRARY.push_bool,
+    _INTEGER: LIBRARY.push_integer,
+    _DURATION: LIBRARY.push_duration,
+    _MONTH: LIBRARY.push_month,
+    _WEEKDAY: LIBRARY.push_weekday,
+}
 
 
 class _Made:
@@ -228,7 +193,7 @@ def _scalar(answer: _Answer) -> Any:
     if kind == _TIMEZONE:
         return _octets(answer, -1).decode()
     if kind == _DURATION:
-        return datetime.timedelta(microseconds=number // 1000)
+        return length_of(number)
     if kind == _DATETIME:
         return moment_of(number, answer.fraction)
     if kind == _MONTH:
@@ -247,4 +212,4 @@ def _octets(answer: _Answer, length: int) -> bytes:
 def _read_key(answer: _Answer) -> Key:
     """Returns the key of an answer."""
     past = {_DURATION: answer.number, _DATETIME: answer.fraction}.get(answer.kind, 0)
-    return Key(_WORDS[answer.kind], _scalar(answer), past % 1000)
+    return key_of(_WORDS[answer.kind], _scalar(answer), past)

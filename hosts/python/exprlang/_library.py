@@ -1,29 +1,10 @@
-"""The calls of libexprlang.so.0, as hosts/c/exprlang.h has them."""
+"""The calls of libexprlang.so.0, as hosts/c/exprlang.h has them, by ctypes."""
 
 from __future__ import annotations
 
 import ctypes
 import os
 from typing import Any, Callable
-
-_OK, _SYNTAX, _ASKS, _LIMITS = 0, 1, 8, 10
-_STATUS = [
-    "ok",
-    "syntax",
-    "literal",
-    "evaluation",
-    "pattern",
-    "memory",
-    "unknown",
-    "misuse",
-    "asks",
-    "differs",
-]
-_STATUS += ["height", "patterns", "steps", "depth", "size"]
-# fmt: off
-(_NIL, _BOOL, _INTEGER, _STRING, _BYTES, _DURATION, _DATETIME, _TIMEZONE, _MONTH, _WEEKDAY,
- _ARRAY, _MAP, _KEYED_MAP) = range(13)
-# fmt: on
 
 
 class _Handle(ctypes.Structure):
@@ -74,6 +55,7 @@ _SHORT_CALLS: dict[str, list[Any]] = {
     "up": [_TO_ANSWER],
     "key": [_SIZE, _TO_ANSWER],
     "context_new": [_TO_HANDLE],
+    "context_json": [_TEXT, _SIZE, _TO_HANDLE],
     "set_built": [_Handle, _TEXT, _SIZE],
     "fill_missing": [_Handle, _Handle],
     "push_nil": [],
@@ -130,7 +112,8 @@ def _load() -> Library:
     """Loads the library of EXPRLANG_LIB, or else of the first folder that has it."""
     name, here = "libexprlang.so.0", os.path.dirname(os.path.abspath(__file__))
     named = os.environ.get("EXPRLANG_LIB")
-    around = [here, os.path.dirname(here), os.path.normpath(f"{here}/../../out/lib")]
+    around = [here, os.path.dirname(here)]
+    around += [os.path.normpath(f"{here}/../../{folder}") for folder in ("out/lib", "lib")]
     files = [os.path.join(folder, name) for folder in ([named] if named else around)]
     found = next((file for file in files if os.path.exists(file)), None)
     try:

@@ -4,7 +4,7 @@ from __future__ import annotations
 
 import dataclasses
 import enum
-from typing import Final, Union
+from typing import Final, Optional, Union
 
 
 @dataclasses.dataclass(frozen=True)
@@ -77,3 +77,15 @@ def checked_limits(limits: AnyLimits) -> AnyLimits:
     if not isinstance(limits, (Limits, Unlimited)):
         raise TypeError(f"limits are Limits(..) or UNLIMITED, not {type(limits).__name__}")
     return limits
+
+
+Numbers = Optional[tuple[int, int, int, int, int, int]]
+
+
+def numbers_of(limits: AnyLimits) -> Numbers:
+    """Returns the numbers of limits that are handed in, if they are limits, or None for none."""
+    limits = checked_limits(limits)
+    if isinstance(limits, Unlimited):
+        return None
+    bounds = limits.height, limits.patterns, limits.steps, limits.depth, limits.size
+    return (*bounds, limits.calls)

@@ -6,9 +6,24 @@ import dataclasses
 import datetime
 import inspect
 import numbers
-from collections.abc import Iterable, Iterator, Mapping
+import operator
+from collections.abc import Iterable, Iterator, Mapping, Sequence
+from itertools import chain
 from typing import Any
 
+from ._border import (
+    _ARRAY,
+    _BOOL,
+    _BYTES,
+    _DATETIME,
+    _DURATION,
+    _INTEGER,
+    _MAP,
+    _MONTH,
+    _NIL,
+    _STRING,
+    _WEEKDAY,
+)
 from ._errors import Unfit
 
 EPOCH = datetime.datetime(1970, 1, 1, tzinfo=datetime.timezone.utc)
@@ -177,6 +192,11 @@ def instant(moment: datetime.datetime) -> tuple[int, int]:
     return second, past * 1000
 
 
+def length_of(number: int) -> datetime.timedelta:
+    """Returns the length of time of so many nanoseconds."""
+    return datetime.timedelta(microseconds=number // 1000)
+
+
 def moment_of(second: int, nanosecond: int) -> datetime.datetime:
     """Returns the datetime of a second since 1970 began, and the nanoseconds past that."""
     try:
@@ -185,6 +205,85 @@ def moment_of(second: int, nanosecond: int) -> datetime.datetime:
         raise OverflowError(
             "the value has a DateTime before the year 1 or after 9999, which Python can't hold"
         ) from None
+
+
+def simplified(value: Any) -> tuple[int, Any, int]:
+    """Returns the kind of a value that is handed in, what it is made of, and for a DateTime the
+    nanoseconds past its second. Arrays and maps are made of their parts as they are now, of maps
+    keys and values by turns.
+    """
+    if isinstance(value, str):
+        return _STRING, utf8(value), 0
+    if isinstance(value, bool):
+        return _BOOL, int(value), 0
+    if value is None:
+        return _NIL, 0, 0
+    if isinstance(value, Month):
+        return _MONTH, within(value, 1, 12, "a month"), 0
+    if isinstance(value, Weekday):
+        return _WEEKDAY, within(value, 0, 6, "a day of the week"), 0
+    if isinstance(value, (bytes, bytearray, memoryview)):
+        return _BYTES, bytes(value), 0
+    if isinstance(value, datetime.timedelta):
+        return _DURATION, nanoseconds(value), 0
+    if isinstance(value, datetime.datetime):
+        return (_DATETIME, *instant(value))
+    if isinstance(value, Key):
+        return _simplified_key(value)
+    if isinstance(value, Mapping):
+        return _MAP, tuple(chain.from_iterable(_pair(*pair) for pair in list(value.items()))), 0
+    if isinstance(value, Sequence):
+        return _ARRAY, tuple(value), 0
+    if hasattr(type(value), "__index__"):  # another type of integers
+        return (
+            _INTEGER,
+            within(int(operator.index(value)), -(2**63), 2**63 - 1, "an integer"),
+            0,
+        )
+    raise unfit(value)
+
+
+def _pair(key: Any, value: Any) -> tuple[Any, Any]:
+    return key, value
+
+
+def _simplified_key(key: Key) -> tuple[int, Any, int]:
+    """Returns the scalar that a key stands for, as `simplified` does."""
+    if key.kind == "timezone":
+        raise Unfit(TypeError, "a zone can't be handed in: hand in its name for timezone(..)")
+    kind, what, past = simplified(key.value)
+    if key.kind == "duration":
+        return kind, what + key.nanosecond, 0
+    return kind, what, past + (key.nanosecond if key.kind == "datetime" else 0)
+
+
+def too_deep(levels: int) -> Unfit:
+    """Returns why a value of more levels can't be handed in."""
+    return Unfit(ValueError, f"the value is deeper than {levels} levels, or contains itself")
+
+
+def bad_key(value: object) -> Unfit:
+    """Returns why a value can't be a key."""
+    why = "a key of a map is None, a bool, an integer, a str or a time"
+    return Unfit(TypeError, f"{why}, not {type(value).__name__}")
+
+
+def located(fault: Unfit, what: str, steps: list[tuple[int, Any]], is_deeper: int) -> Exception:
+    """Returns what a caller sees in place of a fault, with the way to it. A step of the way is 1
+    and the key of a pair, or 0 and the number of an item."""
+    path = what + "".join(map(_step, steps)) + (".." if is_deeper else "")
+    return fault.kind(f"{path}: {fault}")
+
+
+def _step(step: tuple[int, Any]) -> str:
+    is_key, key = step
+    is_name = is_key and isinstance(key, str) and key.isidentifier()
+    return f".{key}" if is_name else f"[{key!r}]"
+
+
+def key_of(kind: str, value: Any, past: int) -> Key:
+    """Returns the key of a KeyedMap, of which `past` has the nanoseconds of a time."""
+    return Key(kind, value, past % 1000)
 
 
 def unfit(value: object) -> Unfit:

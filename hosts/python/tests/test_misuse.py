@@ -18,7 +18,7 @@ import unittest
 import zoneinfo
 
 import exprlang
-from exprlang import _engine
+from exprlang import _core
 
 UTC = datetime.timezone.utc
 PENS = {"pen": 150, "ink": 90}
@@ -473,7 +473,7 @@ class Functions(Case):
             with self.assertRaises(RecursionError):
                 begins(spare)
             self.assertEqual(rule.run({"n": 1}, host), 4)
-        self.assertLessEqual(len(_engine._OPEN), 65)
+        self.assertLessEqual(_core.counts()[0], 65)
 
 
 class Copies(Case):

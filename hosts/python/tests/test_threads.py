@@ -7,7 +7,7 @@ import time
 import unittest
 
 import exprlang
-from exprlang import _engine
+from exprlang import _core
 
 
 def in_threads(count, work):
@@ -88,9 +88,9 @@ class Threads(unittest.TestCase):
 
         for _ in range(3):
             self.assertEqual(in_threads(8, runs), [])
-        engines = len(_engine._IDLE)
+        engines = _core.counts()[1]
         self.assertEqual(in_threads(8, runs), [])
-        self.assertLessEqual(len(_engine._IDLE), max(engines, 9))
+        self.assertLessEqual(_core.counts()[1], max(engines, 9))
 
     def test_many_at_once(self):
         together = threading.Barrier(100)
@@ -101,7 +101,7 @@ class Threads(unittest.TestCase):
             assert rule.run({"x": number, "number": number}, host) is True
 
         self.assertEqual(in_threads(100, runs), [])
-        self.assertLessEqual(len(_engine._IDLE), 64)
+        self.assertLessEqual(_core.counts()[1], 64)
 
     def test_one_context(self):
         """A run has the values of one instant, whatever other threads change."""
@@ -180,7 +180,7 @@ class Threads(unittest.TestCase):
 
     def test_what_is_gone_is_dropped(self):
         def kept():
-            return sum(len(engine._copies) for engine in _engine._IDLE)
+            return _core.counts()[2]
 
         exprlang.compile("1").close()
         before = kept()
