@@ -14,9 +14,15 @@ import unittest
 import warnings
 
 WARM, ROUNDS = 3, 3
-# (they start 20,000 threads, or many processes)
+# (they start 20,000 threads or many processes, or try ctypes alone)
 SLOW = {"test_one_after_another", "test_a_fork", "test_a_pool", "test_spawned_processes"}
-SLOW |= {"test_executors", "test_no_library", "test_types", "test_many_are_interrupted"}
+SLOW |= {
+    "test_structs",
+    "test_executors",
+    "test_no_library",
+    "test_types",
+    "test_many_are_interrupted",
+}
 SLOW |= {
     "test_the_gil_is_released",
     "test_a_fork_meanwhile",

@@ -270,15 +270,25 @@ class Threads(Case):
         self.assertEqual(self.others_run(many), 0)
 
     def test_many_are_interrupted(self):
-        """A signal ends work on many lines or records. So a timer's thread has its turn, too."""
+        """A signal ends work on many lines or records."""
+
+        class Alarm(BaseException):
+            pass
+
+        def rings(*_):
+            raise Alarm
+
         rule = exprlang.Rule("n > 1")
         lines, records = b'{"n": 1}\n' * 4_000_000, itertools.repeat({"n": 1})
-        for work in [lambda: rule.lines(lines), lambda: rule.each(records)]:
-            timer = threading.Timer(0.1, lambda: os.kill(os.getpid(), signal.SIGINT))
-            with self.assertRaises(KeyboardInterrupt):
-                timer.start()
-                work()
-            timer.join()
+        before = signal.signal(signal.SIGALRM, rings)
+        try:
+            for work in [lambda: rule.lines(lines), lambda: rule.each(records)]:
+                with self.assertRaises(Alarm):
+                    signal.setitimer(signal.ITIMER_REAL, 0.1)
+                    work()
+        finally:
+            signal.setitimer(signal.ITIMER_REAL, 0)
+            signal.signal(signal.SIGALRM, before)
 
     def test_a_fork_meanwhile(self):
         """A child runs rules while other threads of its parent read lines, and the rule may close."""
