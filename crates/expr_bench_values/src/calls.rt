@@ -178,6 +178,8 @@ fn put_moment(alloc: Global, moment: &DateTimeValue, page: &mut Page) -> Result<
 fn put_moments(alloc: Global, page: &mut Page) -> Result<()> {
     let moment = DateTimeValue::fixed(Timestamp::UNIX_EPOCH, Offset::UTC);
     put_moment(alloc, &moment, page)?;
+    let key = Key::datetime(alloc, moment.clone()?)?;
+    page.put_call("Key::datetime", key.to_value(alloc));
     page.put_call("Value::datetime", Value::datetime(alloc, moment));
     Ok(())
 }
@@ -187,6 +189,8 @@ fn put_zones(alloc: Global, page: &mut Page) -> Result<()> {
     page.put_named("TimezoneValue::named", zone.name());
     let copy = Value::timezone(alloc, zone.clone()?);
     page.put_call("TimezoneValue::clone", copy);
+    let key = Key::timezone(alloc, zone.clone()?)?;
+    page.put_call("Key::timezone", key.to_value(alloc));
     page.put_call("Value::timezone", Value::timezone(alloc, zone));
     Ok(())
 }

@@ -273,7 +273,7 @@ fn named_pairs(alloc: Global, pairs: &ValueMap) -> Result<Value>
         let Some((name, value)) = pairs.get_index(i) else {
             break;
         };
-        let name = Value::text(alloc, name.as_str())?;
+        let name = Value::text(alloc, name)?;
         items.push(pair(alloc, name, value)?)?;
     }
     Ok(Value::Array(Items::from_vec(items)))

@@ -208,7 +208,7 @@ pub fn key_of(alloc: Global, value: &Value, number: i64) -> Result<Value, HostEr
     };
     match value {
         Value::Map(map) => match map.get_index(place) {
-            Some((name, _value)) => Ok(Value::text(alloc, name.as_str())?),
+            Some((name, _value)) => Ok(Value::text(alloc, name)?),
             None => Err(HostError::Misuse(Misuse::NoPart)),
         },
         Value::KeyedMap(map) => match map.get_index(place) {

@@ -9,4 +9,4 @@ pub mod Scoping
 pub mod AtPoint
 pub mod Matches
 pub mod Patterns
-pub mod SameCode
+pub mod OneCode

@@ -8,8 +8,9 @@ use expr_tree::node::{Pattern, Program};
 use expr_value::{Result, Value};
 use std::alloc::Global;
 
-/// Flat code: blocks of instructions, and nothing else. Each jump stays within its block, each call with a predicate asks a
-/// later block, and each instruction finds its operands and slots.
+/// Flat code: blocks of instructions, and nothing else, a room for a pattern aside. [`Code::from_blocks`] gives any code back
+/// from its blocks. Each jump stays within its block, each call with a predicate asks a later block, and each instruction
+/// finds its operands and slots.
 #[derive(Drop)]
 pub struct Code<L, N, P> {
     /// The block that is run.

@@ -16,8 +16,7 @@ use expr_value::refusal;
 use std::alloc::{AllocError, Global};
 
 impl<L: Drop, N: Drop, P: Drop> Code<L, N, P> {
-    ghost use Rattle.std.specs.Prelude.{◌≢◌, IfErr};
-    ghost use Rattle.expr_error.specs.ErrorKind.{error_kind, evaluation, memory};
+    ghost use Rattle.expr_error.specs.ErrorKind.{RefusesWith, evaluation};
     ghost use Rattle.expr_lowering.specs.Blocks.{HasBlocks, IsOnlyCodeOf};
 
     /// The code of these blocks. A code is its blocks: whoever takes one apart and puts it together again has that very code,
@@ -27,7 +26,7 @@ impl<L: Drop, N: Drop, P: Drop> Code<L, N, P> {
     ///
     /// `ExprError`, if the blocks are not safe: a jump leaves its block, a call asks a block that is not there, or an
     /// instruction may not find its operands or slots. `MemoryError`, if a growth is refused.
-    #[tactic(auto, using(crate::proofs::SameCode::only_code))]
+    #[tactic(auto, using(crate::proofs::OneCode::same_code))]
     pub fn from_blocks(
         alloc: Global,
         first: Block<L, N, P>,
@@ -36,8 +35,8 @@ impl<L: Drop, N: Drop, P: Drop> Code<L, N, P> {
         ensures blocks { IfOk result (λ c. HasBlocks first later c) }
         ensures only { IfOk result (λ c. IsOnlyCodeOf first later c) }
         ensures safe { IfOk result (λ _. IsSafeShape first later) }
-        ensures refused { IfErr result (λ e. error_kind e ≢ memory
-            → (error_kind e ≡ evaluation) × (IsSafeShape first later → ⊥)) }
+        ensures refused { RefusesWith result (λ kind. kind ≡ evaluation) }
+        ensures needed { RefusesWith result (λ _. IsSafeShape first later → ⊥) }
     {
         if !are_safe(alloc, &first, &later)? {
             return Err(refusal(alloc, "these blocks are not safe to run"));
@@ -98,7 +97,7 @@ impl Need {
             lowest: self.lowest.max(other.lowest),
             below: self.below.min(other.below),
             slots: self.slots.max(other.slots),
-            entered: lower(self.entered, other.entered),
+            entered: stricter(self.entered, other.entered),
         }
     }
 
@@ -153,7 +152,7 @@ impl Need {
             lowest: self.lowest,
             below: self.below,
             slots: slot as u128,
-            entered: lower(self.entered, Some(slot)),
+            entered: stricter(self.entered, Some(slot)),
         }
     }
 
@@ -169,8 +168,8 @@ impl Need {
     }
 }
 
-/// The lower bound of two.
-fn lower(one: Option<usize>, other: Option<usize>) -> Option<usize>
+/// The stricter bound of two.
+fn stricter(one: Option<usize>, other: Option<usize>) -> Option<usize>
     ensures { (first : ℕ) → IsAtMost result first ↔ (IsAtMost one first × IsAtMost other first) }
 {
     match one {

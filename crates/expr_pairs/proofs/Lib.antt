@@ -1,3 +1,5 @@
 pub mod Beside
 pub mod Zips
 mod Compared
+mod Noting
+mod Positions

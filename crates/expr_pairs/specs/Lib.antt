@@ -1,2 +1,4 @@
 pub mod Entries
+pub mod Keys
+pub mod Places
 pub mod formers

@@ -6,16 +6,16 @@ ghost use Rattle.expr_predicates.specs.Folds.{groups_of};
 ghost use Rattle.expr_predicates.specs.Grouping.{item_lists};
 ghost use Rattle.expr_error.specs.ErrorKind.{OnlyMemory};
 
+use expr_pairs::Keys;
 use expr_value::{Items, Key, KeyedMap, Result, Value};
-use indexmap::IndexSet;
 use std::alloc::Global;
 
 /// Keys as first seen, and the items of each at its index.
 #[derive(Drop)]
 struct Groups {
-    keys: IndexSet<Key>,
+    keys: Keys<Key>,
     items: Vec<Vec<Value>>,
-    ghost even: { vec_len items ≡ length keys.keys },
+    ghost even: { vec_len items ≡ length keys },
 }
 
 impl Groups {
@@ -26,7 +26,7 @@ impl Groups {
         ensures { IsGrouping result [] }
     {
         Groups {
-            keys: IndexSet::new(alloc),
+            keys: Keys::new(alloc),
             items: Vec::new(alloc),
         }
     }
@@ -50,7 +50,8 @@ impl Groups {
         ensures err { OnlyMemory result }
     {
         let Groups { keys, items } = self;
-        let mut map = KeyedMap::new(alloc);
+        let keys = keys.into_vec(alloc)?;
+        let mut map = KeyedMap::with_capacity(alloc, keys.len())?;
         for (key, items) in keys.into_iter().zip(items.into_iter()) {
             map.insert(key, Value::Array(Items::from_vec(items)))?;
         }

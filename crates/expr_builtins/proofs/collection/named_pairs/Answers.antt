@@ -10,7 +10,7 @@ pub loop-i-preserved : goal.loop-i-preserved
 loop-i-preserved c =
     let found = rw c.in-Some.is at c.get_index.ensures in
     c.in_ok-push.ensures.items
-    ∙ ap (λ v. c.loop-i.items.items ++ v ∷ []) (c.in_ok-pair.ensures.ok ∙ ap (λ k. pair k c.in-Some.value.now) (c.in_ok-name.ensures.ok ∙ ap value.String c.as_str.ensures))
+    ∙ ap (λ v. c.loop-i.items.items ++ v ∷ []) (c.in_ok-pair.ensures.ok ∙ ap (λ k. pair k c.in-Some.value.now) c.in_ok-name.ensures.ok)
     ∙ ap (λ l. l ++ pair (value.String c.in-Some.name.now) c.in-Some.value.now ∷ []) c.loop-i.invariant
     ∙ sym (named_more c.args.pairs.now c.loop-i.i (c.loop-i.i + 1) c.in-Some.name.now c.in-Some.value.now (sym found) refl)
 

@@ -1,7 +1,7 @@
 use Rattle.std.proofs.Common.{rules, ◌≡◌, [], map, zip, sym, ap, ◌∙◌}
 use Rattle.std.proofs.lemmas.Iterator.{YieldsList-from_zip}
 use Rattle.std.proofs.lemmas.Iterator.Adapters.{YieldsList-from_vec}
-use Rattle.std.proofs.lemmas.Iterator.Consumers.{YieldsList-from_rest, YieldsList-end}
+use Rattle.std.proofs.lemmas.Iterator.Consumers.{YieldsList-end}
 use Rattle.std.proofs.lemmas.List.{map_push, map-id}
 use Rattle.std.proofs.lemmas.List.Sums.{fold_push}
 use Rattle.expr_value.specs.Keys.{key_eq, key_eq_equiv, key_put, key_put_all}
@@ -13,7 +13,7 @@ use Rattle.expr_predicates.proofs.Grouped.{all_made, beside, Made}
 use Rattle.expr_predicates.proofs.grouping.Groups.into_map.Goals as goal
 
 pub loop-key-init : goal.loop-key-init
-loop-key-init c = c.new-map.ensures
+loop-key-init c = c.in_ok-map.ensures.ok
 
 pub loop-key-preserved : goal.loop-key-preserved
 loop-key-preserved c =
@@ -24,11 +24,12 @@ loop-key-preserved c =
 
 pub returns-clause-ok : goal.returns-clause-ok
 returns-clause-ok c = λ ps h.
-    let ks = c.args.self.keys.keys in
+    let ks = c.in_ok-keys.keys.items in
+    let same : ks ≡ c.args.self.keys = c.in_ok-keys.ensures.keys in
     let ls = c.args.self.items.items in
     let f : Key → Value = λ k. value.Array (items_of_key ps k) in
-    let road = YieldsList-from_zip {s = c.into_iter-key-iterator.result} (YieldsList-from_rest {shows = λ k. k} ks (search rules)) (YieldsList-from_vec ls (search rules) (search rules)) in
+    let road = YieldsList-from_zip {s = c.into_iter-key-iterator.result} (YieldsList-from_vec ks (search rules) (search rules)) (YieldsList-from_vec ls (search rules) (search rules)) in
     let end = YieldsList-end road c.loop-key.yielded c.loop-key.key-iterator c.loop-key.yielded_by c.next.result c.next.new.self c.in-None.is c.next.ensures.steps in
     let yielded : c.loop-key.yielded ≡ zip ks ls = sym (map-id c.loop-key.yielded) ∙ end.0 in
-    c.loop-key.invariant ∙ ap (λ l. key_put_all [] (map with_array l)) yielded ∙ ap (key_put_all []) (beside value.Array (λ l. l.items) (items_of_key ps) ks ls h.items)
-    ∙ all_made key_eq key_eq_equiv f ks c.into_iter.ensures.into_iter_gives.3 ∙ ap (Made key_eq key_eq_equiv f) h.keys
+    c.loop-key.invariant ∙ ap (λ l. key_put_all [] (map with_array l)) yielded ∙ ap (key_put_all []) (beside value.Array (λ l. l.items) (items_of_key ps) ks ls (h.items ∙ ap (map (items_of_key ps)) (sym same)))
+    ∙ all_made key_eq key_eq_equiv f ks c.in_ok-keys.ensures.distinct ∙ ap (Made key_eq key_eq_equiv f) (same ∙ h.keys)

@@ -1,6 +1,6 @@
 use Rattle.std.proofs.Common.{arith}
 use Rattle.expr_pairs.proofs.Compared.{passed_by, found_at, found_none}
-use Rattle.expr_pairs.proofs.pairs.index_among.Goals as goal
+use Rattle.expr_pairs.proofs.few.index_among.Goals as goal
 
 pub loop-at-init : goal.loop-at-init
 loop-at-init g c = omega arith
