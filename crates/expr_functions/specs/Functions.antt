@@ -1,5 +1,5 @@
 -- The built-in of a name, by the names of all.
-use Rattle.std.specs.Prelude.{ℕ, List, Option, None, Some, bytes_eq}
+use Rattle.std.specs.Prelude.{◌≡◌, ℕ, List, Option, None, Some, bytes_eq, map}
 use Rattle.std.specs.Map.{lookup}
 use Rattle.std.specs.Option.{option_or}
 use Rattle.expr_functions.specs.declared.functions.TheConstants.{OF_THREE, OF_FOUR, OF_FIVE, OF_SIX, OF_SEVEN, OF_MORE}
@@ -34,3 +34,7 @@ beside_in_table name =
     option_or (found_in (λ word. word.now) OF_SEVEN name) (
     found_in (λ word. word.now) OF_MORE name
     )))))
+
+-- that the built-in of each line stands beside its name in the program's table
+abbrev pub AreBesideInTable : List (List ℕ × Builtin) → Type 0
+AreBesideInTable lines = map (λ line. beside_in_table line.0) lines ≡ map (λ line. Some line.1) lines

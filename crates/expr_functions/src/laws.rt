@@ -1,7 +1,7 @@
 //! That the table of the program is the definition's list of names.
-ghost use Rattle.std.specs.Prelude.{◌≡◌, Some, map};
+ghost use Rattle.std.specs.Prelude.{◌≡◌, Some};
 ghost use Rattle.std.specs.List.{All};
-ghost use Rattle.expr_functions.specs.Functions.{beside_in_table, builtin_named};
+ghost use Rattle.expr_functions.specs.Functions.{AreBesideInTable, builtin_named};
 ghost use Rattle.expr_functions.specs.Names.{built_in_names};
 
 use crate::functions::{OF_FIVE, OF_FOUR, OF_MORE, OF_SEVEN, OF_SIX, OF_THREE};
@@ -16,5 +16,5 @@ pub fn each_name_finds_its_call()
     ensures six { All (λ line. builtin_named line.0.now ≡ Some line.1) OF_SIX }
     ensures seven { All (λ line. builtin_named line.0.now ≡ Some line.1) OF_SEVEN }
     ensures more { All (λ line. builtin_named line.0.now ≡ Some line.1) OF_MORE }
-    ensures every { map (λ line. beside_in_table line.0) built_in_names ≡ map (λ line. Some line.1) built_in_names }
+    ensures every { AreBesideInTable built_in_names }
 {}

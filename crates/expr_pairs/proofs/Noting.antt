@@ -1,12 +1,12 @@
 -- What notes of keys say of a search, and how they stay when a key is added.
-use Rattle.std.proofs.Common.{◌≡◌, ℕ, zero, suc, ◌+◌, ◌<◌, ◌⊎◌, inl, inr, Bool, true, false, cond, List, [], ◌∷◌, ◌++◌, length, slice_get, position, Option, Some, None, IsSome, is_some, refl, sym, ap, subst, ◌∙◌, arith, true≢false, length-append}
+use Rattle.std.proofs.Common.{◌≡◌, ℕ, zero, suc, ◌+◌, ◌<◌, ◌⊎◌, inl, inr, Bool, true, false, cond, List, [], ◌∷◌, ◌++◌, length, slice_get, position, Some, None, IsSome, is_some, refl, sym, ap, subst, ◌∙◌, arith, true≢false, length-append}
 use native.Mathlib.Decide.{dec_lt}
 use Rattle.std.specs.Cmp.{Equal-is}
 use Rattle.std.specs.FinMap.{nat_cmp-IsAntisymmetric}
 use Rattle.std.specs.Ordering.{is_eq, nat_cmp}
 use Rattle.std.specs.BTreeMap.{BTreeMap, is_at}
 use Rattle.std.specs.Map.{lookup}
-use Rattle.std.proofs.lemmas.Option.{none-some, same_Some, slice_get_within}
+use Rattle.std.proofs.lemmas.Option.{none-some, same_Some}
 use Rattle.expr_pairs.specs.Places.{AreNoted, AreTaken, IsNoted, IsUnderFree, place_at, slot_of, slots}
 use Rattle.expr_pairs.proofs.Positions.{no_place}
 
