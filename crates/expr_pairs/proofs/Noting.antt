@@ -43,18 +43,18 @@ module _ {K : Type 0} (passes : K → Bool) (keys : List K) (places : BTreeMap �
         elim (dec_lt n noted.rank) [
           | yes less ↦ true≢false (sym (noted.before n less) ∙ ap is_some free)
           | no not_less ↦ elim noted.here [
-              | inl e ↦ absurd (omega (arith, e, few, not_less))
-              | inr here ↦ elim (dec_lt noted.rank n) [
-                  | yes less ↦
-                      let b = before noted.rank less in
-                      let same : b.place ≡ i = same_Some _ _ (sym b.noted ∙ here) in
-                      let key : b.key ≡ k = same_Some _ _ (sym b.there ∙ ap (slice_get keys) same ∙ at) in
-                      true≢false (sym passing ∙ ap passes (sym key) ∙ b.fails)
-                  | no not_more ↦
-                      let rank : noted.rank ≡ n = omega (arith, not_less, not_more) in
-                      none-some i (sym free ∙ ap (λ r. place_at places (slot_of hash r)) (sym rank) ∙ here)
-                ]
+            | inl e ↦ absurd (omega (arith, e, few, not_less))
+            | inr here ↦ elim (dec_lt noted.rank n) [
+              | yes less ↦
+                  let b = before noted.rank less in
+                  let same : b.place ≡ i = same_Some _ _ (sym b.noted ∙ here) in
+                  let key : b.key ≡ k = same_Some _ _ (sym b.there ∙ ap (slice_get keys) same ∙ at) in
+                  true≢false (sym passing ∙ ap passes (sym key) ∙ b.fails)
+              | no not_more ↦
+                  let rank : noted.rank ≡ n = omega (arith, not_less, not_more) in
+                  none-some i (sym free ∙ ap (λ r. place_at places (slot_of hash r)) (sym rank) ∙ here)
             ]
+          ]
         ]
 
     -- so there is none
@@ -115,10 +115,10 @@ module _ {K : Type 0} (key_hash : K → ℕ) (keys : List K) (k : K) where
       each = λ i l at. elim (place_in keys k i l at) [
         | inl before ↦ noted_too (key_hash l) i under.free (noted.each i l before)
         | inr last ↦ subst (λ j. IsNoted new (key_hash l) j) (sym last.0) (subst (λ x. IsNoted new (key_hash x) (length keys)) (sym last.1) (record {
-            rank = under.rank;
-            before = λ rank l. taken_too _ (under.before rank l);
-            here = inr (ap (place_at new) (sym under.is) ∙ put);
-          }))
+          rank = under.rank;
+          before = λ rank l. taken_too _ (under.before rank l);
+          here = inr (ap (place_at new) (sym under.is) ∙ put);
+        }))
       ];
       within = λ q i at. within_too q i (noted.within q) at;
     }

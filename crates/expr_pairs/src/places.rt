@@ -39,11 +39,7 @@ fn key_hash<Q: Hash>(key: &Q) -> u64
 }
 
 /// Where the key stands for which a query stands, among keys that are noted.
-pub(crate) fn spot_of<K: Eq + Hash, Q: Equivalent<K>>(
-    keys: &[K],
-    places: &Places,
-    key: Q,
-) -> Spot
+pub(crate) fn spot_of<K: Eq + Hash, Q: Equivalent<K>>(keys: &[K], places: &Places, key: Q) -> Spot
     requires noted { AreNoted (λ k. key_hash (K.hash_input k)) keys.now places.now }
     requires distinct { IsDistinct K.eq keys.now }
     ensures { IsSpot (position (Q.equivalent key) keys.now) (key_hash (Q.hash_input key)) places.now result }

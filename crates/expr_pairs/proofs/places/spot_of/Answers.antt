@@ -13,13 +13,13 @@ returns-in_default g c =
     let free : place_at c.args.places.now slot ≡ None = sym c.get.ensures.value ∙ ap option_copied c.in_default.is in
     let hash : c.key_hash-hash.result ≡ key_hash (g.Q.Hash.hash_input c.args.key) = c.key_hash-hash.ensures in (
       absent (g.Q.Equivalent.equivalent c.args.key) c.args.keys.now c.args.places.now c.key_hash-hash.result c.loop-rank.rank c.loop-rank-test.true c.loop-rank.invariant free
-        (λ k. key_hash (g.K.Hash.hash_input k)) c.requires.noted (λ k y. hash ∙ ap key_hash (g.met.Q.Equivalent.respects_hash c.args.key k y)),
+          (λ k. key_hash (g.K.Hash.hash_input k)) c.requires.noted (λ k y. hash ∙ ap key_hash (g.met.Q.Equivalent.respects_hash c.args.key k y)),
       subst (λ h. IsUnderFree c.args.places.now h slot) hash (record {
         rank = c.loop-rank.rank;
         before = passed_taken (g.Q.Equivalent.equivalent c.args.key) c.args.keys.now c.args.places.now c.key_hash-hash.result c.loop-rank.rank c.loop-rank.invariant;
         is = refl;
         free = free;
-      })
+      }),
     )
 
 pub returns-then-equivalent : goal.returns-then-equivalent

@@ -25,7 +25,7 @@ invariant_of-self-in-Free g c =
     let new = c.insert.new.self in
     let written = c.in_ok-insert-in-Free.ensures.updates in
     let noted : AreNoted h (ks ++ c.args.key ∷ []) new = noted_under h ks c.args.key old new c.in-Free.slot
-        (λ q. written.0 q ∙ ap (λ p. cond (is_eq (nat_cmp c.in-Free.slot q)) (Some p) (place_at old q)) len) c.self.invariant.1 c.in-Free.ensures.1 (written.1 ∙ ap Some len) in
+    (λ q. written.0 q ∙ ap (λ p. cond (is_eq (nat_cmp c.in-Free.slot q)) (Some p) (place_at old q)) len) c.self.invariant.1 c.in-Free.ensures.1 (written.1 ∙ ap Some len) in
     (subst (IsDistinct g.K.PartialEq.eq) (sym items) (IsDistinct-push g.met.K.Eq.laws ks c.args.key c.self.invariant.0 m.any), subst (λ l. AreNoted h l new) (sym items) noted)
 
 pub invariant_of-self-in-Crowded : goal.invariant_of-self-in-Crowded
