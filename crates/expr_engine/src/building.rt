@@ -1,8 +1,10 @@
 //! Values that a call hands in.
-ghost use Rattle.std.specs.Prelude.{◌≡◌, ◌≢◌, ◌⊎◌, ◌+ℤ◌, IfErr, IfOk, IsSomeAnd, OnOk};
+ghost use Rattle.std.specs.Prelude.{◌≡◌, ◌≢◌, ◌⊎◌, ◌+ℤ◌, IfErr, IfOk, IsSomeAnd, Ok, OnOk};
+ghost use Rattle.expr_encoding.specs.Optional.{value_or_refusal};
+ghost use Rattle.expr_encoding.specs.Reading.{json_value};
 ghost use Rattle.expr_engine.specs.Effects.{HandsIn, MakesArray, MakesMap, PushesValue, Unbuilds};
 ghost use Rattle.expr_engine.specs.Engines.{KeepsThings, KeepsRest};
-ghost use Rattle.expr_engine.specs.Reasons.{HandsNothingIn, KindRefuses};
+ghost use Rattle.expr_engine.specs.Reasons.{HandsNothingIn, JsonRefuses, KindRefuses};
 ghost use Rattle.expr_exchange.specs.Builder.{HasLast, values_of};
 ghost use Rattle.expr_exchange.specs.Kinds.{kind_numbered};
 ghost use Rattle.expr_exchange.specs.Refusals.{IsForMemory, NotMeant, status_of};
@@ -12,8 +14,12 @@ use crate::call::Call;
 use crate::engine::Engine;
 use crate::running::utf8;
 use expr::Value;
-use expr_encoding::from_json;
+use expr_encoding::{JsonReader, from_json};
 use expr_exchange::{HostError, Kind, Misuse, scalar_of};
+use std::alloc::Global;
+
+/// The longest JSON text, in bytes, that is read in memory which is kept for the next one.
+const MOST_KEPT: usize = 1 << 16;
 
 /// The value that a call hands in.
 pub fn value_of_call(engine: &mut Engine, call: &Call<'_>) -> Result<Value, HostError>
@@ -45,9 +51,22 @@ fn value_of_kind(engine: &mut Engine, call: &Call<'_>, kind: Kind) -> Result<Val
     match kind {
         Kind::Built => engine.built.pop(),
         Kind::Looked => Ok(engine.answer.part().clone()?),
-        Kind::Json => Ok(from_json(engine.alloc, utf8(call.text)?)?),
+        Kind::Json => read_json(engine.alloc, &mut engine.reader, call.text),
         _ => scalar_of(engine.alloc, kind, call.number, call.fraction, call.text),
     }
+}
+
+/// The value of a JSON text that is handed in. A long text is read in memory of its own, so that an engine keeps little.
+fn read_json(alloc: Global, reader: &mut JsonReader, text: &[u8]) -> Result<Value, HostError>
+    ensures value { IfOk result (λ v. value_or_refusal (json_value text.now) ≡ Ok v) }
+    ensures why { IfErr result (JsonRefuses text.now) }
+    ensures found { IfErr result (λ e. e ≢ HostError.Unknown) }
+{
+    let text = utf8(text)?;
+    if text.len() > MOST_KEPT {
+        return Ok(from_json(alloc, text)?);
+    }
+    Ok(reader.read(alloc, text)?)
 }
 
 /// Puts the value that is handed in behind those that were built.

@@ -32,6 +32,7 @@ use crate::lent::LentNames;
 use crate::rule::Rule;
 use crate::waiting_run::WaitingRun;
 use expr::{Context, Error, Limits, Outcome, Value, line_column_of};
+use expr_encoding::JsonReader;
 use expr_exchange::{HostError, Misuse, ValueBuilder, ValueCursor, limit_text};
 use expr_handles::{Handle, HandleMap};
 use expr_needs::with_nil;
@@ -50,6 +51,8 @@ pub struct Engine {
     pub answer: ValueCursor,
     pub said: String,
     pub waits: WaitingRun,
+    /// What reads JSON that is handed in. Its memory is used again for the next text.
+    pub reader: JsonReader,
     /// What texts and runs may take. Without limits they may take all that there is.
     pub limits: Option<Limits>,
 }
@@ -80,6 +83,7 @@ impl Engine {
             answer: ValueCursor::new(alloc),
             said: String::new(alloc),
             waits: WaitingRun::new(alloc),
+            reader: JsonReader::new(alloc),
             limits: Some(Limits::for_strangers()),
         }
     }
@@ -588,6 +592,7 @@ impl Engine {
         self.answer = ValueCursor::new(alloc);
         self.said = String::new(alloc);
         self.waits = WaitingRun::new(alloc);
+        self.reader = JsonReader::new(alloc);
     }
 
     /// Notes what is said of a refusal, and where a text is refused.
