@@ -1,23 +1,33 @@
 """Reads Markdown, for bin/pages and bin/snippets."""
+
+from __future__ import annotations
+
+import dataclasses
 import re
+from collections.abc import Iterable, Iterator
 
 
+@dataclasses.dataclass
 class Block:
-    """A part of a page: a `heading`, `prose` (a paragraph or an item of a list), a `cell`, a `quote` or `code`."""
+    """A part of a page."""
 
-    def __init__(self, kind, line, text="", language=None):
-        self.kind, self.line, self.text, self.language = kind, line, text, language
+    kind: str
+    """`heading`, `prose` (a paragraph or an item of a list), `cell`, `quote` or `code`."""
+    line: int
+    text: str = ""
+    language: str = ""
 
 
-def blocks_of(lines):
+def blocks_of(lines: Iterable[tuple[int, str]]) -> Iterator[Block]:
     """Yields the blocks of Markdown, given as pairs of a line's number and its text."""
-    block, fence, is_after_blank = None, None, True
+    block: Block | None = None
+    fence, is_after_blank = "", True
     for number, line in lines:
         opening = re.match(r"\s*(```|~~~)\s*(\S*)", line)
-        if fence:
+        if block and fence:
             if line.strip() == fence:
                 yield block
-                block, fence = None, None
+                block, fence = None, ""
             else:
                 block.text += line + "\n"
             continue
@@ -38,7 +48,7 @@ def blocks_of(lines):
             cells = [cell.strip() for cell in re.split(r"(?<!\\)\|", line.strip().strip("|"))]
             yield from (Block("cell", number, cell) for cell in cells if not re.fullmatch(r":?-+:?", cell))
         elif is_code:
-            block = block or Block("code", number, language="")
+            block = block or Block("code", number)
             block.text += line[4:] + "\n"
         elif line.strip():
             block = block or Block("prose", number)

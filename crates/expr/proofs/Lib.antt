@@ -1,5 +1,4 @@
 pub mod Bracketed
 pub mod Ending
-pub mod SameText
-pub mod Stopping
 pub mod Placed
+pub mod SameText

@@ -1,11 +1,11 @@
-//! Functions that a host adds, which are kept and called later.
+//! Functions that a host adds to an environment.
 use expr_meaning::ExprCall;
 use expr_value::{Result, Value};
 
-/// A function that a host adds: a closure that is kept, and called on the name and the arguments of a call.
+/// A function that a host adds: a closure that takes the name and the arguments of a call.
 pub type Function = Box<dyn Fn(ExprCall) -> Result<Value>>;
 
-/// A function that may be called on all arguments.
+/// A function that accepts any arguments.
 #[derive(Drop)]
 pub struct BoxedFunction {
     pub function: Function,
@@ -13,7 +13,7 @@ pub struct BoxedFunction {
 }
 
 impl BoxedFunction {
-    /// What the function answers.
+    /// Calls the function. Returns its value or its error.
     pub fn call(&self, call: ExprCall) -> Result<Value>
         ensures { Function.post self.now.function call result }
     {

@@ -1,4 +1,4 @@
-//! The arguments of a call, by number and kinds.
+//! Number and kinds of the arguments of a call.
 ghost use Rattle.std.specs.Prelude.{◌≡◌, IfOk, Ok, Err, Some, None};
 ghost use Rattle.expr_value.specs.Answers.{ReturnsExactly};
 ghost use Rattle.std.specs.Option.{option_copied, option_map};
@@ -8,11 +8,15 @@ ghost use Rattle.expr_arguments.specs.Arrays.{array_items};
 ghost use Rattle.expr_arguments.specs.Arguments.{without_arguments, one_duration, one_integer, two_integers, one_text, two_texts, two_texts_and_limit, one_or_two_texts, text_and_integer, three_texts_and_limit, array_and_text, array_and_more, one_of, two_of, any_value};
 
 use crate::array::{Array, array_of};
-use expr_cow::CowValue;
+use crate::cow::CowValue;
 use expr_value::{Items, Result, Value, refusal};
 use std::alloc::Global;
 
-/// An answer that goes with no arguments; with any it is a refusal.
+/// Returns `answer` if there are no arguments.
+///
+/// # Errors
+///
+/// Returns `ExprError` if there is an argument.
 pub fn without_arguments(alloc: Global, arguments: &[CowValue<'_>], answer: Value) -> Result<Value>
     ensures { ReturnsExactly result (without_arguments arguments.now answer) }
 {
@@ -22,7 +26,7 @@ pub fn without_arguments(alloc: Global, arguments: &[CowValue<'_>], answer: Valu
     }
 }
 
-/// The argument, if it is one length of time, in nanoseconds.
+/// The nanoseconds, if there is one argument and it is a duration.
 pub fn one_duration(arguments: &[CowValue<'_>]) -> Option<i64>
     ensures { result ≡ one_duration arguments.now }
 {
@@ -32,7 +36,7 @@ pub fn one_duration(arguments: &[CowValue<'_>]) -> Option<i64>
     }
 }
 
-/// The argument, if it is one integer.
+/// The integer, if there is one argument and it is an integer.
 pub fn one_integer(arguments: &[CowValue<'_>]) -> Option<i64>
     ensures { result ≡ one_integer arguments.now }
 {
@@ -42,7 +46,7 @@ pub fn one_integer(arguments: &[CowValue<'_>]) -> Option<i64>
     }
 }
 
-/// The arguments, if they are two integers.
+/// The integers, if there are two arguments and both are integers.
 pub fn two_integers(arguments: &[CowValue<'_>]) -> Option<(i64, i64)>
     ensures { result ≡ two_integers arguments.now }
 {
@@ -52,7 +56,7 @@ pub fn two_integers(arguments: &[CowValue<'_>]) -> Option<(i64, i64)>
     }
 }
 
-/// The argument, if it is one text.
+/// The string, if there is one argument and it is a string.
 pub fn one_text<'a>(arguments: &'a [CowValue<'_>]) -> Option<&'a str>
     ensures { option_map (λ s. s.now) result ≡ one_text arguments.now }
 {
@@ -62,7 +66,7 @@ pub fn one_text<'a>(arguments: &'a [CowValue<'_>]) -> Option<&'a str>
     }
 }
 
-/// The arguments, if they are two texts.
+/// The strings, if there are two arguments and both are strings.
 pub fn two_texts<'a>(arguments: &'a [CowValue<'_>]) -> Option<(&'a str, &'a str)>
     ensures { option_map (λ p. (p.0.now, p.1.now)) result ≡ two_texts arguments.now }
 {
@@ -72,7 +76,7 @@ pub fn two_texts<'a>(arguments: &'a [CowValue<'_>]) -> Option<(&'a str, &'a str)
     }
 }
 
-/// Two texts and a limit, which is -1 where it isn't given.
+/// Two strings and an optional limit, which is -1 if it is missing. `None` for other arguments.
 pub fn two_texts_and_limit<'a>(arguments: &'a [CowValue<'_>]) -> Option<(&'a str, &'a str, i64)>
     ensures { option_map (λ p. (p.0.now, p.1.now, p.2)) result ≡ two_texts_and_limit arguments.now }
 {
@@ -87,7 +91,7 @@ pub fn two_texts_and_limit<'a>(arguments: &'a [CowValue<'_>]) -> Option<(&'a str
     Some((first.get().as_string()?, second.get().as_string()?, limit))
 }
 
-/// A text, and another that is empty where it isn't given.
+/// A string and an optional second one, which is empty if it is missing. `None` for other arguments.
 pub fn one_or_two_texts<'a>(arguments: &'a [CowValue<'_>]) -> Option<(&'a str, &'a str)>
     ensures { option_map (λ p. (p.0.now, p.1.now)) result ≡ one_or_two_texts arguments.now }
 {
@@ -98,7 +102,7 @@ pub fn one_or_two_texts<'a>(arguments: &'a [CowValue<'_>]) -> Option<(&'a str, &
     }
 }
 
-/// A text and an integer.
+/// A string and an integer. `None` for other arguments.
 pub fn text_and_integer<'a>(arguments: &'a [CowValue<'_>]) -> Option<(&'a str, i64)>
     ensures { option_map (λ p. (p.0.now, p.1)) result ≡ text_and_integer arguments.now }
 {
@@ -108,7 +112,7 @@ pub fn text_and_integer<'a>(arguments: &'a [CowValue<'_>]) -> Option<(&'a str, i
     }
 }
 
-/// Three texts and a limit, which is -1 where it isn't given.
+/// Three strings and an optional limit, which is -1 if it is missing. `None` for other arguments.
 pub fn three_texts_and_limit<'a>(
     arguments: &'a [CowValue<'_>],
 ) -> Option<(&'a str, &'a str, &'a str, i64)>
@@ -128,7 +132,7 @@ pub fn three_texts_and_limit<'a>(
     Some((first, second, third.get().as_string()?, limit))
 }
 
-/// The argument, if it is one.
+/// The argument, if there is one.
 pub fn one_value<'a>(arguments: &'a [CowValue<'_>]) -> Option<&'a Value>
     ensures { option_copied result ≡ one_of any_value arguments.now }
 {
@@ -138,7 +142,7 @@ pub fn one_value<'a>(arguments: &'a [CowValue<'_>]) -> Option<&'a Value>
     }
 }
 
-/// The arguments, if they are two.
+/// The arguments, if there are two.
 pub fn two_values<'a>(arguments: &'a [CowValue<'_>]) -> Option<(&'a Value, &'a Value)>
     ensures { option_map (λ p. (p.0.now, p.1.now)) result ≡ two_of any_value any_value arguments.now }
 {
@@ -148,7 +152,7 @@ pub fn two_values<'a>(arguments: &'a [CowValue<'_>]) -> Option<(&'a Value, &'a V
     }
 }
 
-/// An array, and a text that is empty where it isn't given.
+/// An array and an optional string, which is empty if it is missing. `None` for other arguments.
 pub fn array_and_text<'a>(arguments: &'a [CowValue<'_>]) -> Option<(&'a [Value], &'a str)>
     ensures { option_map (λ p. (p.0.now, p.1.now)) result ≡ array_and_text arguments.now }
 {
@@ -159,7 +163,7 @@ pub fn array_and_text<'a>(arguments: &'a [CowValue<'_>]) -> Option<(&'a [Value],
     }
 }
 
-/// The argument, moved out, if it is one array.
+/// Moves the argument out, if there is one and it is an array.
 pub fn one_array<'a>(arguments: &mut [CowValue<'a>]) -> Option<Array<'a>>
     ensures { option_map array_items result ≡ one_of items_of arguments.old }
 {
@@ -169,7 +173,7 @@ pub fn one_array<'a>(arguments: &mut [CowValue<'a>]) -> Option<Array<'a>>
     }
 }
 
-/// An array, moved out, and an integer.
+/// Moves an array out, and returns it with an integer. `None` for other arguments.
 pub fn array_and_integer<'a>(arguments: &mut [CowValue<'a>]) -> Option<(Array<'a>, i64)>
     ensures { option_map (λ p. (array_items p.0, p.1)) result ≡ two_of items_of integer_of arguments.old }
 {
@@ -180,7 +184,11 @@ pub fn array_and_integer<'a>(arguments: &mut [CowValue<'a>]) -> Option<(Array<'a
     Some((array_of(arguments[0].take_cow())?, number))
 }
 
-/// An array, and one more argument if there is one. Other arguments are refused.
+/// An array and an optional second argument.
+///
+/// # Errors
+///
+/// Returns `ExprError` for other arguments.
 pub fn array_and_more<'s>(
     alloc: Global,
     args: Items<CowValue<'s>>,
@@ -207,7 +215,7 @@ pub fn array_and_more<'s>(
     ))
 }
 
-// The array that a value is; any other value is refused.
+// The array that a value is. Any other value gives `ExprError`.
 fn array_or_refusal<'s>(alloc: Global, value: CowValue<'s>) -> Result<Array<'s>>
     ensures value { IfOk result (λ array. items_of value.entry ≡ Some (array_items array)) }
     ensures refusal { RefusesWith result (λ k. (items_of value.entry ≡ None) × (k ≡ evaluation)) }

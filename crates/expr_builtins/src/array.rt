@@ -1,4 +1,5 @@
-//! Items of an array among the arguments: of the call's own they are moved out, and of a lent one copied.
+//! Items of an array among the arguments. Those of an owned array are moved out, and those of a borrowed one are
+//! copied.
 ghost use Rattle.std.specs.Prelude.{◌≡◌, take, IfOk};
 ghost use Rattle.expr_arguments.specs.Arrays.{array_items};
 ghost use Rattle.expr_builtins.specs.Collections.{item_or_nil};
@@ -8,7 +9,7 @@ use expr_arguments::Array;
 use expr_value::{Result, Value};
 use std::alloc::Global;
 
-/// The item at a place, or nil.
+/// The item at an index, from 0, or nil if there is none.
 pub(crate) fn item_at(array: Array<'_>, place: usize) -> Result<Value>
     ensures ok { IfOk result (λ v. v ≡ item_or_nil (array_items array.entry) place) }
     ensures err { OnlyMemory result }
@@ -40,7 +41,7 @@ fn item_copied(items: &[Value], place: usize) -> Result<Value>
     }
 }
 
-/// The first items, so many.
+/// The first `count` items, or all if there are fewer.
 pub(crate) fn first_items(alloc: Global, array: Array<'_>, count: usize) -> Result<Vec<Value>>
     ensures ok { IfOk result (λ first. first.items ≡ take count (array_items array.entry)) }
     ensures err { OnlyMemory result }

@@ -1,18 +1,21 @@
-//! The calls on bits.
+//! Built-ins on bits.
 ghost use Rattle.std.specs.Prelude.{◌≡◌};
 ghost use Rattle.expr_value.specs.Answers.{Returns};
-ghost use Rattle.expr_builtins.specs.Bits.{Called, bitand, bitor, bitxor, bitnand, bitnot, bitshl, bitshr, bitushr, shifted_left, shifted_right, shifted_unsigned};
+ghost use Rattle.expr_builtins.specs.Bits.{BitCalled, bitand, bitor, bitxor, bitnand, bitnot, bitshl, bitshr, bitushr, shifted_left, shifted_right, shifted_unsigned};
 
-use expr_arguments::{one_integer, two_integers};
-use expr_cow::CowValue;
+use expr_arguments::{CowValue, one_integer, two_integers};
 use expr_functions::BitCall;
 use expr_value::{Result, Value, refusal};
 use std::alloc::Global;
 
-/// What a call on bits gives on these arguments. Other numbers and kinds of arguments than it takes are refused with
-/// [`expr_value::Error::ExprError`].
+/// Calls a built-in on bits with these arguments.
+///
+/// # Errors
+///
+/// Returns [`ExprError`](expr_value::Error::ExprError) if the built-in doesn't take this number or these kinds of
+/// arguments, or if a shift is below 0.
 pub fn call_on_bits(alloc: Global, call: BitCall, arguments: &[CowValue<'_>]) -> Result<Value>
-    ensures { Returns result (Called call arguments.now) }
+    ensures { Returns result (BitCalled call arguments.now) }
 {
     match call {
         BitCall::Bitand => bitand(alloc, arguments),
@@ -26,7 +29,7 @@ pub fn call_on_bits(alloc: Global, call: BitCall, arguments: &[CowValue<'_>]) ->
     }
 }
 
-/// The bits that are set in both integers.
+/// `bitand`: the bits that are set in both integers.
 fn bitand(alloc: Global, arguments: &[CowValue<'_>]) -> Result<Value>
     ensures { Returns result (λ answer. answer ≡ bitand arguments.now) }
 {
@@ -36,7 +39,7 @@ fn bitand(alloc: Global, arguments: &[CowValue<'_>]) -> Result<Value>
     Ok(Value::Integer(a & b))
 }
 
-/// The bits that are set in either integer.
+/// `bitor`: the bits that are set in either integer.
 fn bitor(alloc: Global, arguments: &[CowValue<'_>]) -> Result<Value>
     ensures { Returns result (λ answer. answer ≡ bitor arguments.now) }
 {
@@ -46,7 +49,7 @@ fn bitor(alloc: Global, arguments: &[CowValue<'_>]) -> Result<Value>
     Ok(Value::Integer(a | b))
 }
 
-/// The bits that are set in one integer alone.
+/// `bitxor`: the bits that are set in exactly one of two integers.
 fn bitxor(alloc: Global, arguments: &[CowValue<'_>]) -> Result<Value>
     ensures { Returns result (λ answer. answer ≡ bitxor arguments.now) }
 {
@@ -56,7 +59,7 @@ fn bitxor(alloc: Global, arguments: &[CowValue<'_>]) -> Result<Value>
     Ok(Value::Integer(a ^ b))
 }
 
-/// The first integer with the bits of the second cleared.
+/// `bitnand`: the bits of the first integer that aren't set in the second.
 fn bitnand(alloc: Global, arguments: &[CowValue<'_>]) -> Result<Value>
     ensures { Returns result (λ answer. answer ≡ bitnand arguments.now) }
 {
@@ -66,7 +69,7 @@ fn bitnand(alloc: Global, arguments: &[CowValue<'_>]) -> Result<Value>
     Ok(Value::Integer(a & !b))
 }
 
-/// The bits that are not set in an integer.
+/// `bitnot`: the bits that aren't set in an integer.
 fn bitnot(alloc: Global, arguments: &[CowValue<'_>]) -> Result<Value>
     ensures { Returns result (λ answer. answer ≡ bitnot arguments.now) }
 {
@@ -108,7 +111,7 @@ fn shifted_unsigned(a: i64, count: u64) -> i64
     }
 }
 
-/// An integer shifted to the left. A count below 0 is refused; bits shifted out are lost.
+/// `bitshl`: an integer shifted to the left. Bits that are shifted out are lost. A shift below 0 is an error.
 fn bitshl(alloc: Global, arguments: &[CowValue<'_>]) -> Result<Value>
     ensures { Returns result (λ answer. answer ≡ bitshl arguments.now) }
 {
@@ -121,7 +124,7 @@ fn bitshl(alloc: Global, arguments: &[CowValue<'_>]) -> Result<Value>
     Ok(Value::Integer(shifted_left(a, count as u64)))
 }
 
-/// An integer shifted to the right, with its sign kept. A count below 0 is refused.
+/// `bitshr`: an integer shifted to the right, with its sign kept. A shift below 0 is an error.
 fn bitshr(alloc: Global, arguments: &[CowValue<'_>]) -> Result<Value>
     ensures { Returns result (λ answer. answer ≡ bitshr arguments.now) }
 {
@@ -134,7 +137,7 @@ fn bitshr(alloc: Global, arguments: &[CowValue<'_>]) -> Result<Value>
     Ok(Value::Integer(shifted_right(a, count as u64)))
 }
 
-/// An integer shifted to the right, with zeros from the left. A count below 0 is refused.
+/// `bitushr`: an integer shifted to the right, with zeros from the left. A shift below 0 is an error.
 fn bitushr(alloc: Global, arguments: &[CowValue<'_>]) -> Result<Value>
     ensures { Returns result (λ answer. answer ≡ bitushr arguments.now) }
 {

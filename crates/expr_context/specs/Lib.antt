@@ -1,1 +1,4 @@
 pub mod Context
+pub mod Contexts
+pub mod Lookups
+pub mod Told

@@ -1,4 +1,4 @@
-//! What kind of work a call is.
+//! The kinds of work that calls do.
 ghost use Rattle.std.specs.Prelude.{◌≡◌};
 ghost use Rattle.expr_costs.specs.Calls.{cost_kind_named, kind_of_higher_order, kind_on_collections, kind_on_numbers, kind_on_texts, kind_on_values};
 
@@ -7,50 +7,50 @@ use expr_functions::{
     ValueCall,
 };
 
-/// What kind of work a call is beside the finding of its name.
+/// The kind of work that a call does, besides finding its name.
 #[derive(Clone, Copy, Debug, Drop)]
 pub enum CostKind {
-    /// None that is worth a count.
+    /// Nothing that counts.
     Finds,
-    /// It reads texts.
+    /// Reads strings.
     Reads,
-    /// It reads or makes a time.
+    /// Reads or makes a time.
     Times,
-    /// It takes characters off the ends of a text.
+    /// Removes characters from the ends of a string.
     Trims,
-    /// It changes the case of a text.
+    /// Changes the case of a string.
     Cases,
-    /// It cuts a text to pieces.
+    /// Splits a string.
     Splits,
-    /// It puts one text in the place of another.
+    /// Replaces one string by another.
     Replaces,
-    /// It repeats a text.
+    /// Repeats a string.
     Repeats,
-    /// It joins texts.
+    /// Joins strings.
     Joins,
-    /// It copies items or entries.
+    /// Copies items or entries.
     Copies,
-    /// It seeks a key.
+    /// Looks a key up.
     Seeks,
-    /// It puts pairs into a map.
+    /// Puts pairs into a map.
     Pairs,
-    /// It compares each item with the others.
+    /// Compares each item with the others.
     Compares,
-    /// It sorts items.
+    /// Sorts items.
     Sorts,
-    /// It puts items under keys.
+    /// Puts items under keys.
     Groups,
-    /// It looks at each item.
+    /// Looks at each item.
     Walks,
-    /// It looks at all that its arguments hold.
+    /// Looks at everything in its arguments.
     Weighs,
-    /// It prints a value.
+    /// Prints a value.
     Prints,
-    /// It writes JSON.
+    /// Writes JSON.
     Writes,
-    /// It reads JSON.
+    /// Reads JSON.
     Parses,
-    /// It reads or writes base 64.
+    /// Reads or writes Base64.
     Recodes,
 }
 
@@ -67,7 +67,7 @@ impl CostKind {
     }
 }
 
-/// The kind of a built-in that asks a predicate, beside what it asks.
+/// The kind of a built-in with a predicate, without the work of the predicate.
 fn of_higher_order(call: HigherOrderCall) -> CostKind
     ensures { result ≡ kind_of_higher_order call }
 {
@@ -99,7 +99,7 @@ fn on_values(call: ValueCall) -> CostKind
     }
 }
 
-/// The kind of a call on arrays and maps: it copies them, unless it is told otherwise.
+/// The kind of a call on arrays and maps. It copies them, unless this table says something else.
 fn on_collections(call: CollectionCall) -> CostKind
     ensures { result ≡ kind_on_collections call }
 {
@@ -119,7 +119,7 @@ fn on_collections(call: CollectionCall) -> CostKind
     }
 }
 
-/// The kind of a call on texts: it reads them, unless it is told otherwise.
+/// The kind of a call on strings. It reads them, unless this table says something else.
 fn on_texts(call: TextCall) -> CostKind
     ensures { result ≡ kind_on_texts call }
 {
@@ -133,7 +133,8 @@ fn on_texts(call: TextCall) -> CostKind
     }
 }
 
-/// The kind of a call on numbers: it looks at all that its arguments hold, unless it is told otherwise.
+/// The kind of a call on numbers. It looks at everything in its arguments, unless this table says something
+/// else.
 fn on_numbers(call: NumberCall) -> CostKind
     ensures { result ≡ kind_on_numbers call }
 {

@@ -1,10 +1,10 @@
-//! How many entries a value has and all that it holds.
+//! The number of entries in a value and in everything that it contains.
 ghost use Rattle.std.specs.Prelude.{◌≡◌};
 ghost use Rattle.expr_costs.specs.Measures.{IsRemainder, UpTo, entries_inside as inside, entries_within as within};
 
 use expr_value::Value;
 
-/// How many entries a value has and all that it holds, up to a bound.
+/// The number of entries in a value and in everything that it contains, up to a bound.
 #[inline(always)]
 pub fn entries_inside(value: &Value, bound: u64) -> Option<u64>
     ensures entries { UpTo bound (inside value.now) (λ n. n) result }
@@ -13,7 +13,8 @@ pub fn entries_inside(value: &Value, bound: u64) -> Option<u64>
     Some(bound - left)
 }
 
-/// What is left of a bound once they are taken of it. The walk allocates nothing.
+/// Subtracts these entries from a bound. Returns what is left, or None if they are more. It allocates
+/// nothing.
 #[cycle(walk)]
 #[inline(always)]
 fn take_entries(value: &Value, bound: u64) -> Option<u64>
@@ -33,7 +34,7 @@ fn take_entries(value: &Value, bound: u64) -> Option<u64>
     }
 }
 
-/// The same of each of some values.
+/// Subtracts the entries of each of these values from a bound.
 #[cycle(walk)]
 fn take_from_all(values: &[Value], bound: u64) -> Option<u64>
     ensures { IsRemainder bound (within values.now) result }

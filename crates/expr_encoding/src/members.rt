@@ -1,4 +1,4 @@
-//! Members of an object whose names are lent.
+//! Members of a JSON object, with borrowed names.
 ghost use Rattle.std.specs.Prelude.{◌≡◌, IfOk};
 ghost use Rattle.std.specs.Option.{option_copied};
 ghost use Rattle.expr_encoding.specs.Tokens.{lent_pairs};
@@ -11,18 +11,18 @@ use expr_value::{Result, Value};
 use std::alloc::Global;
 use std::marker::Model;
 
-/// The members of an object. Contracts see the list of their pairs.
+/// The members of a JSON object. Contracts see the list of the pairs.
 #[derive(Drop)]
 pub struct Members<'t> {
     place: MembersSource<'t>,
 }
 
-/// Where members stand.
+/// Where the members are kept.
 #[derive(Drop)]
 pub(crate) enum MembersSource<'t> {
-    /// By rising names, which a text lends.
+    /// Sorted by name. The names are borrowed from the JSON.
     Text(BorrowedMembers<'t>),
-    /// In a context of their own.
+    /// In a context that owns them.
     Owned(Context),
 }
 
@@ -41,7 +41,7 @@ impl<'t> Model for Members<'t> {
 }
 
 impl<'t> Members<'t> {
-    /// Members whose names are lent.
+    /// Members with borrowed names.
     pub(crate) fn of_text(lent: BorrowedMembers<'t>) -> Members<'t>
         ensures { result ≡ lent_pairs lent.entry.entries }
     {
@@ -59,7 +59,7 @@ impl<'t> Members<'t> {
         }
     }
 
-    /// The value under a name.
+    /// The value of a name, or `None`.
     pub fn get(&self, name: &str) -> Option<&Value>
         ensures { option_copied result ≡ find name.now self.now }
     {
@@ -69,7 +69,7 @@ impl<'t> Members<'t> {
         }
     }
 
-    /// The members as a context, names and values copied.
+    /// Copies the names and values into a context.
     pub fn to_context(&self, alloc: Global) -> Result<Context>
         ensures ok { IfOk result (λ c. c ≡ self.now) }
         ensures err { OnlyMemory result }
@@ -81,7 +81,7 @@ impl<'t> Members<'t> {
     }
 }
 
-/// The value under a name, where a text lends the names.
+/// The value of a name, among borrowed names.
 fn find_lent<'m>(lent: &'m BorrowedMembers<'_>, name: &str) -> Option<&'m Value>
     ensures { option_copied result ≡ find name.now (lent_pairs lent.now.entries) }
 {

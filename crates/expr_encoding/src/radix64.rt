@@ -1,4 +1,4 @@
-//! Base64 of texts, by the standard alphabet with padding.
+//! Base64 of strings, in the standard alphabet with padding (RFC 4648, section 4).
 ghost use Rattle.expr_value.specs.Answers.{Returns, ReturnsExactly};
 ghost use Rattle.expr_encoding.specs.Base64.{Decodes, FromBase64, encoded_text, in_base64};
 
@@ -7,7 +7,11 @@ use base64::engine::general_purpose::STANDARD;
 use expr_value::{Error, Result, Text, Value, refusal};
 use std::alloc::Global;
 
-/// A text as Base64, by the standard alphabet with padding. Other kinds are refused.
+/// Encodes a string in Base64, in the standard alphabet with padding.
+///
+/// # Errors
+///
+/// Returns `ExprError` if the value isn't a string.
 pub fn to_base64(alloc: Global, value: &Value) -> Result<Value>
     ensures { ReturnsExactly result (in_base64 value.now) }
 {
@@ -17,7 +21,11 @@ pub fn to_base64(alloc: Global, value: &Value) -> Result<Value>
     }
 }
 
-/// The text of which a text is the Base64. A text that is the standard encoding of no text, and other kinds, are refused.
+/// Decodes a string from Base64, in the standard alphabet with padding.
+///
+/// # Errors
+///
+/// Returns `ExprError` if the value isn't a string, or isn't the Base64 of UTF-8.
 pub fn from_base64(alloc: Global, value: &Value) -> Result<Value>
     ensures { Returns result (FromBase64 value.now) }
 {

@@ -1,5 +1,4 @@
 pub mod Adding
-pub mod Asks
 pub mod Effects
 pub mod Engines
 pub mod Faults

@@ -1,16 +1,15 @@
-//! Asks about limits.
+//! Calls about limits.
 ghost use Rattle.std.specs.Prelude.{◌≡◌, ◌≢◌, IfErr, IsErrAnd, MatchOption, None, Ok, OnOk, Some};
 ghost use Rattle.expr_engine.specs.Effects.{LetsGoOfLimits, SetsLimit};
 ghost use Rattle.expr_engine.specs.Engines.{KeepsThings};
 ghost use Rattle.expr_engine.specs.Limiting.{limits_asked, with_limit};
 ghost use Rattle.expr_exchange.specs.Refusals.{IsMisuse};
 
-use crate::call::Call;
 use crate::engine::Engine;
-use expr::{Limit, Limits};
-use expr_exchange::{HostError, Misuse, limit_numbered};
+use expr_exchange::{Call, HostError, Misuse, limit_numbered};
+use expr_limits::{Limit, Limits};
 
-/// Sets the limit of a number, and the others to those for strangers where there are none.
+/// Sets the limit of a number. If there were no limits, the others become those for untrusted expressions.
 pub fn set_limit(engine: &mut Engine, call: &Call<'_>) -> Result<(), HostError>
     ensures done { OnOk result (SetsLimit engine.old engine.new call.now) }
     ensures set { MatchOption (limits_asked engine.old.limits call.now.kind call.now.number)
@@ -28,18 +27,18 @@ pub fn set_limit(engine: &mut Engine, call: &Call<'_>) -> Result<(), HostError>
     let Ok(number) = u64::try_from(call.number) else {
         return Err(HostError::Misuse(Misuse::NegativeLimit));
     };
-    let limits = engine.limits.unwrap_or(Limits::for_strangers());
+    let limits = engine.limits.unwrap_or(Limits::untrusted());
     engine.limits = Some(with_limit(limits, limit, number));
     Ok(())
 }
 
-/// Limits of which one is another number.
+/// These limits, one of them with another number.
 fn with_limit(limits: Limits, limit: Limit, number: u64) -> Limits
     ensures { result ≡ with_limit limit number limits }
 {
     match limit {
-        Limit::Height => Limits {
-            height: number as usize,
+        Limit::Nesting => Limits {
+            nesting: number as usize,
             ..limits
         },
         Limit::Patterns => Limits {
@@ -61,7 +60,7 @@ fn with_limit(limits: Limits, limit: Limit, number: u64) -> Limits
     }
 }
 
-/// Lets go of all limits.
+/// Removes all limits.
 pub fn let_go_of_limits(engine: &mut Engine) -> Result<(), HostError>
     ensures done { OnOk result (LetsGoOfLimits engine.old engine.new) }
     ensures ok { result ≡ Ok tt }

@@ -1,5 +1,7 @@
+pub mod Asks
 pub mod Builder
 pub mod Cursor
+pub mod HandleMap
 pub mod Kinds
 pub mod Limits
 pub mod Maps

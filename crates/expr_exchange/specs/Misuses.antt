@@ -1,4 +1,4 @@
--- What a host did wrong, in words.
+-- The messages for a host's mistakes.
 use Rattle.std.specs.Prelude.{ℕ, List, codes}
 use Rattle.expr_exchange.specs.declared.misuse.Misuse.{Misuse}
 use Rattle.expr_exchange.specs.declared.misuse.Misuse.TheVariants as misuse

@@ -1,15 +1,15 @@
-//! Why a host gets no answer.
+//! The errors that a host sees.
 ghost use Rattle.std.specs.Prelude.{◌≡◌};
 ghost use Rattle.expr_exchange.specs.Refusals.{status_of};
 ghost use Rattle.expr_exchange.specs.declared.host_error.HostError.TheVariants.{Language};
 ghost use Rattle.expr_error.specs.declared.error.Error.TheVariants.{MemoryError};
 
 use crate::misuse::Misuse;
-use expr_meter::Limit;
+use expr_limits::Limit;
 use expr_value::Error;
 use std::alloc::{AllocError, AllocFailed};
 
-/// How a call ended. A host knows the endings by their numbers, from 0 in the order in which they stand here.
+/// How a call ended. A host knows these by their numbers, from 0 in the order of this list.
 #[derive(Clone, Copy, Debug, PartialEq, Eq)]
 pub enum Status {
     Done,
@@ -18,45 +18,45 @@ pub enum Status {
     Evaluation,
     Pattern,
     Memory,
-    /// A handle finds nothing: it is out of date, or was never given.
+    /// A handle finds nothing: its thing was dropped, or the engine never gave it.
     Unknown,
-    /// A call asks for what can't be: an unknown number, bytes that are not UTF-8, an item that isn't there.
+    /// A call makes no sense: an unknown number, bytes that are not UTF-8, an item that doesn't exist.
     Misuse,
     /// A run waits for the host's reply to a call of one of its functions.
     Asks,
-    /// A run came to another call than the one that was replied to.
+    /// A run came to another call than the recorded one.
     Differs,
-    /// A text's tree is higher than the limit.
-    Height,
-    /// A text's literal patterns weigh more than the limit.
+    /// The tree of an expression is higher than the limit.
+    Nesting,
+    /// The literal patterns of an expression weigh more than the limit.
     Patterns,
     /// A run takes more steps than the limit.
     Steps,
     /// A run makes a value that is deeper than the limit.
     Depth,
-    /// A run holds more at once than the limit.
+    /// The values that a run holds weigh more than the limit.
     Size,
 }
 
-/// Why a host gets no answer.
+/// Why a host gets no result.
 #[derive(Drop)]
 pub enum HostError {
-    /// The language refuses.
+    /// An error of the language.
     Language(Error),
     /// A handle finds nothing.
     Unknown,
-    /// A call asks for what can't be.
+    /// A call makes no sense.
     Misuse(Misuse),
     /// A run waits for the host's reply.
     Asks,
-    /// A run came to another call than the one that was replied to.
+    /// A run came to another call than the recorded one.
     Differs,
-    /// A text or a run would have passed this limit.
+    /// A compilation or a run would have passed this limit.
     Stopped(Limit),
 }
 
 impl HostError {
-    /// How a call ends that is refused.
+    /// The status of a call with this error.
     pub fn status(&self) -> Status
         ensures { result ≡ status_of self.now }
     {
@@ -70,7 +70,7 @@ impl HostError {
             HostError::Misuse(_) => Status::Misuse,
             HostError::Asks => Status::Asks,
             HostError::Differs => Status::Differs,
-            HostError::Stopped(Limit::Height) => Status::Height,
+            HostError::Stopped(Limit::Nesting) => Status::Nesting,
             HostError::Stopped(Limit::Patterns) => Status::Patterns,
             HostError::Stopped(Limit::Steps) => Status::Steps,
             HostError::Stopped(Limit::Depth) => Status::Depth,

@@ -1,2 +1,4 @@
 pub mod Functions
 pub mod Names
+pub mod OperatorTexts
+pub mod Strictness

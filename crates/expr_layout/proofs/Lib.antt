@@ -1,3 +1,4 @@
 pub mod Findings
 pub mod OneLayout
+pub mod Prefixes
 pub mod Tokens

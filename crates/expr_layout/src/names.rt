@@ -1,8 +1,8 @@
-//! The first three letters of the names of months and of days of the week.
+//! Short names of months and weekdays.
 ghost use Rattle.std.specs.Prelude.{◌≡◌, take};
 ghost use Rattle.expr_value.specs.Strings.{month_name, weekday_name};
 
-/// The first three letters of a month's name.
+/// First three letters of a month's name, where 1 is January.
 pub(crate) fn short_month_name(number: u32) -> &'static str
     ensures { result.now ≡ take 3 (month_name number) }
 {
@@ -23,7 +23,7 @@ pub(crate) fn short_month_name(number: u32) -> &'static str
     }
 }
 
-/// The first three letters of the name of a day of the week.
+/// First three letters of a weekday's name, where 0 is Sunday.
 pub(crate) fn short_weekday_name(number: u32) -> &'static str
     ensures { result.now ≡ take 3 (weekday_name number) }
 {

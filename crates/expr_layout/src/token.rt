@@ -6,13 +6,13 @@ pub enum Field {
     Month,
     Day,
     Hour,
-    /// The hour of half a day, from 1 to 12.
+    /// The hour on a 12-hour clock, from 1 to 12.
     HalfHour,
     Minute,
     Second,
 }
 
-/// What stands before a number that has fewer digits than its places.
+/// What fills a number that has fewer digits than its width.
 #[derive(Clone, Copy, Debug, PartialEq, Eq)]
 pub enum Pad {
     Zero,
@@ -20,7 +20,7 @@ pub enum Pad {
     Nothing,
 }
 
-/// Which parts of an offset are written, and whether colons stand between them.
+/// Which parts of an offset are written, and whether with colons.
 #[derive(Clone, Copy, Debug, PartialEq, Eq)]
 pub enum Spelling {
     Hours,
@@ -30,7 +30,7 @@ pub enum Spelling {
     ColonSeconds,
 }
 
-/// What a layout prints or reads at a place.
+/// What a layout prints or reads.
 #[derive(Clone, Copy, Debug, PartialEq, Eq)]
 pub enum LayoutToken {
     LongMonth,
@@ -46,21 +46,21 @@ pub enum LayoutToken {
     UpperHalf,
     /// `am` or `pm`.
     LowerHalf,
-    /// The text of the place.
+    /// The name of the time zone, or the offset.
     Zone,
     Offset(Spelling),
-    /// `Z` for no offset, and else the offset.
+    /// `Z` for offset zero, otherwise the offset.
     Zulu(Spelling),
-    /// A separator and so many digits of the second's fraction.
+    /// A separator and this number of decimals of the second.
     Fraction(char, u32),
-    /// The same without zeros at the end.
+    /// A separator and decimals of the second, without trailing zeros. Nothing if all are zero.
     ShortFraction(char, u32),
-    /// A character that stands for itself.
+    /// A character that is printed and read as it is.
     Literal(char),
-    /// A number in just two digits, in stamps.
+    /// A number in exactly two digits. Only the forms that `date` reads without a layout have it.
     TwoDigits(Field),
-    /// `T`, `t` or a space, in stamps.
+    /// `T`, `t` or a space. Only the forms that `date` reads without a layout have it.
     Mark,
-    /// `Z`, `z`, or an offset in hours and minutes, in stamps.
+    /// `Z`, `z`, or an offset in hours and minutes. Only the forms that `date` reads without a layout have it.
     StampOffset,
 }

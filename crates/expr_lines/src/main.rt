@@ -1,4 +1,5 @@
-//! The program `expr_lines`: keeps, counts or rewrites records, one JSON object a line, by an expression.
+//! The program `expr_lines`: filters, counts or rewrites records with an expression. Each line is a record in
+//! JSON.
 #![tactic(auto)]
 
 mod options;
@@ -7,8 +8,8 @@ mod reports;
 
 use expr::{Context, Environment};
 use expr_records::{
-    Course, FAILED, JsonReader, LineBuffer, Query, Sieve, StreamEnd, Tally, bind, code_of_text,
-    finish,
+    Course, FAILED, JsonReader, LineBuffer, Query, RecordFilter, StreamEnd, Tally, bind,
+    code_of_text, finish,
 };
 use jiff::Timestamp;
 use options::Options;
@@ -19,17 +20,17 @@ use std::io::{BufReader, BufWriter, ErrorKind, IsTerminal, Read, Stderr, Write};
 use std::process::ExitCode;
 use std::{env, fs};
 
-/// Wrong words, or a text that doesn't compile.
+/// The status for wrong arguments and for an expression that doesn't compile.
 const USAGE: u8 = 2;
 
-/// How many bytes are read or written at once.
+/// How many bytes are read or written at a time.
 const BUFFER: usize = 1 << 16;
 
 fn main(rt: HostRuntime) -> ExitCode {
     let words: Result<Vec<String>, AllocError> = match env::args(&rt) {
         Ok(args) => args.collect(rt.alloc()),
         Err(error) if error.kind() == ErrorKind::InvalidData => {
-            let _ = writeln!(rt.stderr(), "expr_lines: a word is not UTF-8");
+            let _ = writeln!(rt.stderr(), "expr_lines: an argument is not UTF-8");
             return ExitCode::from(USAGE);
         }
         Err(_) => Err(AllocError),
@@ -47,7 +48,7 @@ fn main(rt: HostRuntime) -> ExitCode {
     }
 }
 
-/// Does what the options ask for, and answers the status.
+/// Does what the options ask for, and returns the status.
 fn run(rt: &HostRuntime, options: &Options) -> u8 {
     let alloc = rt.alloc();
     let mut err = rt.stderr();
@@ -69,7 +70,7 @@ fn run(rt: &HostRuntime, options: &Options) -> u8 {
     let Ok(out) = BufWriter::with_capacity(alloc, BUFFER, rt.stdout()) else {
         return FAILED;
     };
-    let mut sieve = Sieve {
+    let mut record_filter = RecordFilter {
         judge: Query::new(alloc, &environment, &names, options.purpose, &code),
         stops: options.stops,
         held: LineBuffer::new(alloc, options.bound),
@@ -78,10 +79,10 @@ fn run(rt: &HostRuntime, options: &Options) -> u8 {
         err,
         tally: Tally::new(),
     };
-    work(rt, options, &mut sieve)
+    work(rt, options, &mut record_filter)
 }
 
-/// The values of the words `NAME=CODE` under their names, or None where one is refused, which is said.
+/// The context of the arguments `NAME=CODE`. Returns None if one of them fails, and reports why.
 fn names_of<E: Write>(
     alloc: Global,
     environment: &Environment,
@@ -103,11 +104,11 @@ fn names_of<E: Write>(
     Some(names)
 }
 
-/// Brings the files through a sieve, and answers the status.
+/// Processes the files, and returns the status.
 fn work<W: Write, E: Write>(
     rt: &HostRuntime,
     options: &Options,
-    sieve: &mut Sieve<Query<Environment>, W, E>,
+    record_filter: &mut RecordFilter<Query<Environment>, W, E>,
 ) -> u8 {
     let mut course = Course::Done;
     let mut names = options.files.as_slice();
@@ -115,46 +116,50 @@ fn work<W: Write, E: Write>(
         names = &["-"];
     }
     for name in names {
-        let end = sift_named(rt, options, *name, sieve);
-        tell_end(&mut sieve.err, *name, &end);
+        let end = process_named(rt, options, *name, record_filter);
+        tell_end(&mut record_filter.err, *name, &end);
         course = course.after(&end);
         if end.is_last() {
             break;
         }
     }
     if matches!(course, Course::Done | Course::Unread) {
-        if let Err(error) = finish(&mut sieve.out, options.purpose, &sieve.tally) {
+        if let Err(error) = finish(
+            &mut record_filter.out,
+            options.purpose,
+            &record_filter.tally,
+        ) {
             let end = StreamEnd::Unwritten(error);
-            tell_end(&mut sieve.err, "standard output", &end);
+            tell_end(&mut record_filter.err, "standard output", &end);
             course = course.after(&end);
         }
     }
-    course.status(&sieve.tally, options.purpose.seeks())
+    course.status(&record_filter.tally, options.purpose.seeks())
 }
 
-/// Brings a file through a sieve, of which `-` is standard input.
-fn sift_named<W: Write, E: Write>(
+/// Processes a file. The name `-` is standard input.
+fn process_named<W: Write, E: Write>(
     rt: &HostRuntime,
     options: &Options,
     name: &str,
-    sieve: &mut Sieve<Query<Environment>, W, E>,
+    record_filter: &mut RecordFilter<Query<Environment>, W, E>,
 ) -> StreamEnd {
     let alloc = rt.alloc();
     if name == "-" {
         let stream = ProgressReader::new(rt.stdin(), rt, progress_of(rt, options, 0));
-        return sift_stream(alloc, name, stream, sieve);
+        return process_stream(alloc, name, stream, record_filter);
     }
     match fs::open(rt, name) {
         Ok(file) => {
             let length = file.metadata().map_or(0, |data| data.len());
             let stream = ProgressReader::new(file, rt, progress_of(rt, options, length));
-            sift_stream(alloc, name, stream, sieve)
+            process_stream(alloc, name, stream, record_filter)
         }
         Err(error) => StreamEnd::Unread(error),
     }
 }
 
-/// The progress of a stream of some length, if it is to be told and standard error is a terminal.
+/// The progress of a stream of this length, if it is wanted and standard error is a terminal.
 fn progress_of(rt: &HostRuntime, options: &Options, length: u64) -> Option<Progress<Stderr>> {
     let err = rt.stderr();
     if options.tells && err.is_terminal() {
@@ -164,15 +169,15 @@ fn progress_of(rt: &HostRuntime, options: &Options, length: u64) -> Option<Progr
     }
 }
 
-/// Brings a stream through a sieve.
-fn sift_stream<R: Read + Drop, W: Write, E: Write>(
+/// Processes a stream.
+fn process_stream<R: Read + Drop, W: Write, E: Write>(
     alloc: Global,
     name: &str,
     stream: R,
-    sieve: &mut Sieve<Query<Environment>, W, E>,
+    record_filter: &mut RecordFilter<Query<Environment>, W, E>,
 ) -> StreamEnd {
     match BufReader::with_capacity(alloc, BUFFER, stream) {
-        Ok(mut reader) => sieve.sift(alloc, name, &mut reader),
+        Ok(mut reader) => record_filter.process(alloc, name, &mut reader),
         Err(error) => StreamEnd::Unread(error),
     }
 }

@@ -1,9 +1,9 @@
-//! How far the reading of a stream is, told on a terminal.
+//! The progress of reading, shown on a terminal.
 use memchr::memchr_iter;
 use std::io::{self, Read, Write};
 use std::rt::Clock;
 
-/// A stream that tells, about once a second, how much of it was read and how fast.
+/// A stream that shows, about once a second, how much of it was read and how fast.
 #[derive(Drop)]
 pub struct ProgressReader<'k, T, E, K> {
     inner: T,
@@ -11,23 +11,23 @@ pub struct ProgressReader<'k, T, E, K> {
     progress: Option<Progress<E>>,
 }
 
-/// What was read of a stream.
+/// How much of a stream was read.
 #[derive(Drop)]
 pub struct Progress<E> {
-    /// Where it is told.
+    /// Where the progress is shown.
     err: E,
-    /// When the reading began, in whole seconds.
+    /// When the reading started, in whole seconds.
     start: u64,
-    /// How many seconds after that it was told last.
+    /// When the progress was last shown, in seconds after the start.
     told: u64,
     bytes: u64,
     records: u64,
-    /// How long the stream is, or 0 where that isn't known.
+    /// The length of the stream in bytes, or 0 if it is not known.
     length: u64,
 }
 
 impl<E: Write> Progress<E> {
-    /// That of a stream of which nothing was read yet.
+    /// The progress at the start of a stream.
     pub fn new<K: Clock>(clock: &K, length: u64, err: E) -> Progress<E> {
         let start = clock.monotonic().map_or(0, |time| time.as_secs());
         Progress {
@@ -40,7 +40,8 @@ impl<E: Write> Progress<E> {
         }
     }
 
-    /// Notes what was read, and tells of it if a second has passed. At the end of the stream what was told is wiped away.
+    /// Counts the bytes that were read, and shows the progress if a second has passed. At the end of the
+    /// stream it erases what it showed.
     fn note<K: Clock>(&mut self, clock: &K, bytes: &[u8]) {
         self.bytes = self.bytes.saturating_add(bytes.len() as u64);
         let lines = memchr_iter(b'\n', bytes).count();
@@ -57,7 +58,7 @@ impl<E: Write> Progress<E> {
         }
     }
 
-    /// Tells how much was read in some seconds. The next that is written takes its place.
+    /// Shows how much was read in this many seconds. The next output overwrites it.
     fn tell(&mut self, seconds: u64) {
         let seconds = seconds.max(1);
         let megabytes = self.bytes / 1_000_000;
@@ -77,7 +78,7 @@ impl<E: Write> Progress<E> {
 }
 
 impl<'k, T, E, K> ProgressReader<'k, T, E, K> {
-    /// A stream whose progress is told, or isn't.
+    /// Creates a stream that shows this progress, or none.
     pub fn new(
         inner: T,
         clock: &'k K,

@@ -1,4 +1,5 @@
-//! From a program to its flat code: blocks of instructions in memory.
+//! Lowering: from a program to its code, the copy of it that a host keeps, and what the code needs from a
+//! host.
 #![tactic(auto)]
 
 mod blocks;
@@ -7,10 +8,13 @@ mod forms;
 mod kept;
 mod literals;
 mod lowering;
+mod name_set;
+mod needs;
 mod safety;
 mod scopes;
 mod worklist;
 
 pub use code::Code;
-pub use expr_instructions::{Block, Instruction, Pointer, PredicateCall};
-pub use kept::KeptCode;
+pub use expr_code::{Block, Instruction, Pointer, PredicateCall};
+pub use kept::OwnedCode;
+pub use needs::{functions_of, missing_names, with_nil};

@@ -1,2 +1,3 @@
 pub mod InZone
 pub mod Shown
+pub mod Stored

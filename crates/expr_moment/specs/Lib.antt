@@ -1,3 +1,4 @@
+pub mod AddedZones
 pub mod Dates
 pub mod Fields
 pub mod Zones

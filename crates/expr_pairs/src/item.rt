@@ -1,15 +1,15 @@
-//! One element of a list, with the answer as one equation.
+//! Access to one element of a list, with a contract that is one equation.
 ghost use Rattle.std.specs.Prelude.{◌≡◌, slice_get};
 ghost use Rattle.std.specs.Option.{option_copied};
 
-/// `items.get(at)`, with its answer as one equation.
+/// Returns `items.get(at)`, with a contract that is one equation.
 pub fn item_at<T>(items: &[T], at: usize) -> Option<&T>
     ensures { option_copied result ≡ slice_get items.now at }
 {
     items.get(at)
 }
 
-/// The element at an index, moved out.
+/// Takes the element at an index out of a vector. The other elements are dropped.
 pub fn item_moved<T: Drop>(items: Vec<T>, at: usize) -> Option<T>
     ensures { result ≡ slice_get items.items at }
 {

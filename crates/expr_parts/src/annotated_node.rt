@@ -1,4 +1,5 @@
-//! Nodes made from parts. Beside each stands whether a hash name is free in it, so that promotion walks no tree, and the height of the tree that it was read from.
+//! Nodes made from their parts. Each carries whether it has a free `#`, so that promotion walks no tree, and the height
+//! of the tree that it was read from.
 ghost use Rattle.std.specs.Prelude.{◌≡◌, suc, IfOk, string_bytes};
 ghost use Rattle.std.specs.Option.{option_map};
 ghost use Rattle.expr_tree.specs.KeptPatterns.{bound_operations, operations, postfix_operations, right_of, node_patterns};
@@ -6,26 +7,27 @@ ghost use Rattle.expr_tree.specs.Term.{name, literal, postfix};
 ghost use Rattle.expr_tree.specs.TermOf.{term_of, postfix_term, bound_term};
 ghost use Rattle.expr_parts.specs.Kept.{IsKept, IsKeptOf, KeepPatterns};
 ghost use Rattle.expr_parts.specs.Promotion.{bound_has_free_hash, has_free_hash as hash_stands_free, postfix_has_free_hash};
-ghost use Rattle.expr_parts.specs.Parts.{bound_with, leaf, brackets_of, unary_of, range_of, operation_of, coalesce_of, conditional_of, index_of, member_of, field_of, slice_of, pipe_of, ternary_of, method_of};
+ghost use Rattle.expr_parts.specs.Parts.{bound_with, leaf, brackets_of, unary_of, range_of, operation_of, coalesce_of, conditional_of, index_node, member_of, hash_field, slice_of, pipe_of, ternary_of, method_of};
 ghost use Rattle.expr_parts.specs.Parts as parts;
 
 use crate::arguments::Arguments;
 use crate::program::AnnotatedProgram;
+use expr_functions::operator::{Operator, UnaryOperator};
 use expr_tree::node::{CompiledRegex, Node, Pattern, PostfixOperator, Unbuilt};
-use expr_tree::operator::{Operator, UnaryOperator};
 use expr_value::{Text, Value};
 use std::alloc::{AllocError, Global};
 use std::marker::Model;
 
-/// A node, whether a hash name is free in it, and the height of the tree that it was read from. Contracts see the node's tree and the height.
-/// It stands in memory of its own, so that a part is moved in a few words, and stays there where it becomes part of another.
+/// A node, whether a name with `#` is free in it, and the height of the tree that it was read from. Contracts see the
+/// node's tree and the height. The node is boxed, so that a part is moved in a few words and stays in its box when it
+/// becomes part of another.
 pub struct AnnotatedNode {
     node: Box<Node>,
     pub(crate) has_free_hash: bool,
     pub(crate) height: usize,
 }
 
-// Written out so that letting go of one is a single step in the proofs above.
+// Written by hand so that dropping one is a single step in proofs of callers.
 impl Drop for AnnotatedNode {
     fn drop(self) {
         let AnnotatedNode {
@@ -55,7 +57,8 @@ impl Model for AnnotatedNode {
         × KeepPatterns (operations p.node.value) };
 }
 
-// The height of a tree by that of the highest inside it. One that doesn't fit is refused, though no memory holds the tokens of so high a tree.
+// The height of a tree, from the greatest height inside it. Overflow is an error, though no memory holds the tokens of
+// so high a tree.
 pub(crate) fn height_above(height: usize) -> Result<usize, AllocError>
     ensures { IfOk result (λ h. h ≡ suc height) }
 {
@@ -70,7 +73,7 @@ impl AnnotatedNode {
         self.height
     }
 
-    // A node in memory of its own, with what stands beside it.
+    // A boxed node with its annotations.
     pub(crate) fn made(
         alloc: Global,
         node: Node,
@@ -95,7 +98,7 @@ impl AnnotatedNode {
         &self.node
     }
 
-    /// A name or hash name.
+    /// A name, with `#` if it has one.
     pub fn name(alloc: Global, ident: String) -> Result<AnnotatedNode, AllocError>
         ensures { IfOk result (λ p. p ≡ leaf (name (string_bytes ident))) }
     {
@@ -110,13 +113,9 @@ impl AnnotatedNode {
         AnnotatedNode::made(alloc, Node::Value(value), false, 1)
     }
 
-    /// A field of the item at hand: the member of `#`.
-    ///
-    /// # Errors
-    ///
-    /// `AllocError`, if a growth is refused.
+    /// `.name` alone: a member of the current item `#`.
     pub fn field(alloc: Global, name: Text) -> Result<AnnotatedNode, AllocError>
-        ensures { IfOk result (λ p. p ≡ field_of name) }
+        ensures { IfOk result (λ p. p ≡ hash_field name) }
     {
         let hash = String::from_str(alloc, "#")?;
         let idx = Box::new(alloc, Node::Value(Value::String(name)))?;
@@ -144,7 +143,7 @@ impl AnnotatedNode {
         })
     }
 
-    /// The integers from the first to the last.
+    /// The integers from `first` to `last`, both included.
     pub fn range(
         alloc: Global,
         first: AnnotatedNode,
@@ -172,7 +171,7 @@ impl AnnotatedNode {
         AnnotatedNode::made(alloc, Node::Unary { operator, node }, has_free_hash, height)
     }
 
-    /// The node, alone.
+    /// Takes the node out.
     pub fn into_node(self) -> Node
         ensures term { term_of result ≡ self.term }
         ensures patterns { KeepPatterns (operations result) }
@@ -185,7 +184,7 @@ impl AnnotatedNode {
         Box::into_inner(node)
     }
 
-    /// The node, alone, in its own memory.
+    /// Takes the node out, in its box.
     pub fn into_box(self) -> Box<Node>
         ensures term { term_of result.value ≡ self.term }
         ensures patterns { KeepPatterns (operations result.value) }
@@ -221,7 +220,7 @@ impl AnnotatedNode {
         AnnotatedNode::made(alloc, node, has_free_hash, height)
     }
 
-    /// A choice between two programs.
+    /// A condition that chooses between two programs.
     pub fn conditional(
         alloc: Global,
         condition: AnnotatedNode,
@@ -243,14 +242,14 @@ impl AnnotatedNode {
         AnnotatedNode::made(alloc, node, has_free_hash, height)
     }
 
-    /// An operand and its index.
+    /// An operand with an index.
     pub fn index(
         alloc: Global,
         operand: AnnotatedNode,
         key: AnnotatedNode,
         optional: bool,
     ) -> Result<AnnotatedNode, AllocError>
-        ensures { IfOk result (λ p. p ≡ index_of operand key optional) }
+        ensures { IfOk result (λ p. p ≡ index_node operand key optional) }
     {
         let in_key = key.has_free_hash;
         let height = height_above(operand.height().max(key.height()))?;
@@ -263,7 +262,7 @@ impl AnnotatedNode {
         )
     }
 
-    /// An operand and its member.
+    /// An operand with a member.
     pub fn member(
         alloc: Global,
         operand: AnnotatedNode,
@@ -282,7 +281,7 @@ impl AnnotatedNode {
         )
     }
 
-    /// An operand and the bounds of its slice, either of which may be left out.
+    /// A slice of an operand. Either bound may be missing.
     pub fn slice(
         alloc: Global,
         operand: AnnotatedNode,
@@ -304,7 +303,7 @@ impl AnnotatedNode {
         )
     }
 
-    /// An operand, and what stands in for it where it is nil.
+    /// An operand, and the node that replaces it if it is nil.
     pub fn coalesce(
         alloc: Global,
         operand: AnnotatedNode,
@@ -318,7 +317,7 @@ impl AnnotatedNode {
         operand.with_postfix(alloc, PostfixOperator::Default(other), in_other, height)
     }
 
-    /// An operand, passed to a call.
+    /// An operand that is piped into a call.
     pub fn pipe(
         alloc: Global,
         operand: AnnotatedNode,
@@ -332,7 +331,7 @@ impl AnnotatedNode {
         operand.with_postfix(alloc, PostfixOperator::Pipe(call), in_call, height)
     }
 
-    /// A condition, and what it chooses from.
+    /// A condition with `?` and `:`.
     pub fn ternary(
         alloc: Global,
         condition: AnnotatedNode,
@@ -353,7 +352,7 @@ impl AnnotatedNode {
         )
     }
 
-    /// A receiver and the call of its method.
+    /// A method call on a receiver.
     pub fn method(
         alloc: Global,
         receiver: AnnotatedNode,
@@ -373,7 +372,7 @@ impl AnnotatedNode {
         )
     }
 
-    // The node with what stands behind it, at a height.
+    // The node with a postfix operator, at this height.
     fn with_postfix(
         self,
         alloc: Global,
@@ -400,7 +399,7 @@ impl AnnotatedNode {
     }
 }
 
-// Whether a hash name is free in a bound of a slice.
+// Whether a name with `#` is free in a bound of a slice.
 fn is_free_in(bound: &Option<AnnotatedNode>) -> bool
     ensures { result ≡ bound_has_free_hash (bound_with bound.now) }
 {
@@ -419,7 +418,7 @@ fn bound_height(bound: &Option<AnnotatedNode>) -> usize
     }
 }
 
-// The text of a node that is the literal of one.
+// The string, if a node is a string literal.
 fn literal_text(node: &Node) -> Option<&str>
     ensures { option_map (λ t. t.now) result ≡ (node_patterns node.now).text }
 {
@@ -429,7 +428,7 @@ fn literal_text(node: &Node) -> Option<&str>
     }
 }
 
-// What is kept of the pattern on the right of an operator.
+// The pattern that an operator keeps of its right operand.
 fn kept_pattern(
     alloc: Global,
     operator: Operator,
@@ -446,7 +445,7 @@ fn kept_pattern(
     }
 }
 
-// The pattern of a text, or why there is none.
+// The compiled pattern of a source, or why there is none.
 fn pattern_of(alloc: Global, text: &str) -> Result<CompiledRegex, AllocError>
     ensures { IfOk result (IsKeptOf text.now) }
 {
@@ -458,7 +457,7 @@ fn pattern_of(alloc: Global, text: &str) -> Result<CompiledRegex, AllocError>
     }
 }
 
-// A bound of a slice, in its own memory.
+// A bound of a slice, boxed.
 fn box_of(bound: Option<AnnotatedNode>) -> Option<Box<Node>>
     ensures bound { bound_term result ≡ bound_with bound }
     ensures patterns { KeepPatterns (bound_operations result) }

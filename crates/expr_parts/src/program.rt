@@ -1,4 +1,4 @@
-//! Programs made from their lines, one after another, and from what they answer.
+//! Programs made from their lines, added one by one, and from the expression at the end.
 ghost use Rattle.std.specs.Prelude.{◌≡◌, IfOk, OnOk, OnErr, string_bytes};
 ghost use Rattle.expr_tree.specs.KeptPatterns.{program_operations};
 ghost use Rattle.expr_tree.specs.TermOf.{program_term};
@@ -10,14 +10,15 @@ use expr_tree::node::{Node, Program};
 use std::alloc::{AllocError, Global};
 use std::marker::Model;
 
-/// A program, whether a hash name is free in it, and the height of its highest tree. Contracts see its lines and what it answers, and the height.
+/// A program, whether a name with `#` is free in it, and the height of its highest tree. Contracts see its lines, its
+/// expression and the height.
 pub struct AnnotatedProgram {
     program: Box<Program>,
     pub(crate) has_free_hash: bool,
     height: usize,
 }
 
-// Written out so that letting go of one is a single step in the proofs above.
+// Written by hand so that dropping one is a single step in proofs of callers.
 impl Drop for AnnotatedProgram {
     fn drop(self) {
         let AnnotatedProgram {
@@ -48,7 +49,7 @@ impl Model for AnnotatedProgram {
 }
 
 impl AnnotatedProgram {
-    /// The program, alone.
+    /// Takes the program out.
     pub fn into_program(self) -> Program
         ensures block { program_term result ≡ self.block }
         ensures patterns { KeepPatterns (program_operations result) }
@@ -61,7 +62,7 @@ impl AnnotatedProgram {
         Box::into_inner(program)
     }
 
-    /// The program, alone, in its own memory.
+    /// Takes the program out, boxed.
     pub fn into_box(self) -> Box<Program>
         ensures block { program_term result.value ≡ self.block }
         ensures patterns { KeepPatterns (program_operations result.value) }
@@ -74,7 +75,7 @@ impl AnnotatedProgram {
         program
     }
 
-    /// How many trees stand one inside another at most.
+    /// The greatest number of trees one inside another.
     pub fn height(&self) -> usize
         ensures { result ≡ self.now.height }
     {
@@ -82,14 +83,14 @@ impl AnnotatedProgram {
     }
 }
 
-/// The lines of a program, as far as they have been read.
+/// The lines of a program that have been read.
 pub struct Lines {
     lines: Vec<(String, Node)>,
     has_free_hash: bool,
     height: usize,
 }
 
-// Written out so that letting go of one is a single step in the proofs above.
+// Written by hand so that dropping one is a single step in proofs of callers.
 impl Drop for Lines {
     fn drop(self) {
         let Lines {
@@ -130,7 +131,7 @@ impl Lines {
         }
     }
 
-    /// Adds the line that names a value.
+    /// Adds a line, with its name and value.
     pub fn push(&mut self, name: String, value: AnnotatedNode) -> Result<(), AllocError>
         ensures ok { OnOk result (self.new ≡ line_more self.old (string_bytes name) value) }
         ensures err { OnErr result (self.new ≡ self.old) }
@@ -143,11 +144,7 @@ impl Lines {
         Ok(())
     }
 
-    /// The program of these lines that answers a node.
-    ///
-    /// # Errors
-    ///
-    /// `AllocError`, if a growth is refused.
+    /// The program of these lines and this expression.
     pub fn finish(self, last: AnnotatedNode) -> Result<AnnotatedProgram, AllocError>
         ensures { IfOk result (λ p. p ≡ block_of_lines self last) }
     {

@@ -7,3 +7,4 @@ pub mod Grouped
 pub mod Grouping
 pub mod Remaining
 pub mod Runs
+pub mod Sorting

@@ -1,25 +1,24 @@
-//! The items of an array that are left to ask about.
+//! The items for which the predicate is still to be called.
 ghost use Rattle.std.specs.Prelude.{◌≡◌, ◌∷◌, [], MatchOption, reverse};
 ghost use Rattle.expr_arguments.specs.Arrays.{array_items};
 ghost use Rattle.expr_predicates.specs.Remaining.{items_remaining};
 
-use expr_arguments::Array;
-use expr_cow::CowValue;
+use expr_arguments::{Array, CowValue};
 use expr_value::Value;
 
-/// The items that are left, as they are held.
+/// The items that remain, owned or borrowed.
 #[derive(Drop)]
 pub(crate) enum Remaining<'s> {
-    /// The run's own; the next one is the last.
+    /// Owned by the run, in reverse: the next item is the last.
     Owned(Vec<Value>),
-    /// Lent, to be asked about from the front.
+    /// Borrowed. The next item is the first.
     Front(&'s [Value]),
-    /// Lent, to be asked about from the back.
+    /// Borrowed. The next item is the last.
     Back(&'s [Value]),
 }
 
 impl<'s> Remaining<'s> {
-    /// The items of an array, from the first to the last.
+    /// The items of an array, from first to last.
     pub(crate) fn forward(array: Array<'s>) -> Remaining<'s>
         ensures { items_remaining result ≡ array_items array.entry }
     {
@@ -33,7 +32,7 @@ impl<'s> Remaining<'s> {
         }
     }
 
-    /// The items of an array, from the last to the first.
+    /// The items of an array, from last to first.
     pub(crate) fn backward(array: Array<'s>) -> Remaining<'s>
         ensures { items_remaining result ≡ reverse (array_items array.entry) }
     {
@@ -43,7 +42,7 @@ impl<'s> Remaining<'s> {
         }
     }
 
-    /// The next item, by value.
+    /// Moves out the next item.
     #[inline(always)]
     pub(crate) fn pop(&mut self) -> Option<CowValue<'s>>
         ensures { MatchOption result ((items_remaining self.old ≡ []) × (items_remaining self.new ≡ []))

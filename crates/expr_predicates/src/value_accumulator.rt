@@ -1,34 +1,35 @@
-//! What is kept of the answers where items or answers are.
+//! Accumulators of built-ins that keep items or results.
 ghost use Rattle.std.specs.Prelude.{◌≡◌, ◌∷◌, ◌++◌, [], List, IfOk, IfSome, IsSomeAnd, OnOk, Some, None, true, false, if◌then◌else◌};
 ghost use Rattle.std.specs.Option.{option_or};
 ghost use Rattle.expr_value.specs.Answers.{Returns};
 ghost use Rattle.expr_value.specs.Values.{key_of};
 ghost use Rattle.expr_error.specs.ErrorKind.{evaluation, OnlyMemory, RefusesWith};
 ghost use Rattle.expr_value.specs.declared.key.Key.{Key as key};
-ghost use Rattle.expr_sorting.specs.Sorting.{sort_key};
+ghost use Rattle.expr_predicates.specs.Sorting.{sort_key};
 
 use crate::grouping::group_by_key;
 use crate::scalar_accumulator::is_true;
-use expr_cow::{Cow, CowValue};
+use crate::sorting::sort_by_keys;
+use expr_arguments::{Cow, CowValue};
 use expr_functions::HigherOrderCall;
-use expr_sorting::sort_by_keys;
 use expr_value::{Items, Key, Result, Value, refusal};
 use std::alloc::{AllocError, Global};
 
-/// What is kept of the items and answers so far.
+/// What is kept of the items and results so far.
 #[derive(Drop)]
 pub(crate) enum ValueAccumulator {
-    /// The answers.
+    /// The results.
     Map(Vec<Value>),
-    /// The items whose answer was true.
+    /// The items whose result was true.
     Filter(Vec<Value>),
-    /// The first item whose answer was true.
+    /// The first item whose result was true.
     Find(Option<Value>),
-    /// The last answer, or what they begin with; nil while it is out.
+    /// The last result, or the initial value. Nil while it is moved out.
     Reduce(Value),
-    /// The items beside their keys.
+    /// The items with their keys.
     GroupBy(Vec<(Key, Value)>),
-    /// The items beside their keys, and whether they are to go downward. An answer that is no key is checked at the end.
+    /// The items with their keys, and whether the order is descending. A result that can't be a key is found at the
+    /// end.
     SortBy(bool, Vec<(Key, Value)>),
 }
 
@@ -36,7 +37,7 @@ impl ValueAccumulator {
     ghost use Rattle.expr_predicates.specs.Folds.{Fold, ItemAnswer, FoldOutcome, refuses_answer, has_stopped, values_fold};
     ghost use Rattle.expr_predicates.specs.Accumulators.{ValuesRepresent, ValuesRepresentRest};
 
-    /// What is kept before any answer, for a built-in that keeps items or answers.
+    /// The accumulator before any result, for a built-in that keeps items or results.
     pub(crate) fn at_start(alloc: Global, call: HigherOrderCall) -> Option<ValueAccumulator>
         ensures begun { IfSome result (λ a. IsSomeAnd (values_fold call) (λ t. ValuesRepresent a t [])) }
         ensures none { result ≡ None → values_fold call ≡ None }
@@ -51,7 +52,7 @@ impl ValueAccumulator {
         }
     }
 
-    /// Whether no more is to be asked.
+    /// Whether no more results are needed.
     pub(crate) fn has_stopped(&self) -> bool
         ensures { (t : Fold) (rs : List ItemAnswer) → ValuesRepresent self.now t rs
             → result ≡ has_stopped t rs }
@@ -62,7 +63,7 @@ impl ValueAccumulator {
         }
     }
 
-    /// One more answer, about this item. An item that is lent is copied where it is kept.
+    /// Adds a result, for this item. A borrowed item is copied if it is kept.
     #[inline(always)]
     pub(crate) fn take(&mut self, alloc: Global, item: CowValue<'_>, answer: Value) -> Result<()>
         ensures kept { IfOk result (λ _. (t : Fold) (rs : List ItemAnswer) → ValuesRepresentRest self.old t rs
@@ -93,7 +94,7 @@ impl ValueAccumulator {
         }
     }
 
-    /// What the answers come to.
+    /// The value of the call.
     pub(crate) fn outcome(self, alloc: Global) -> Result<Value>
         ensures { (t : Fold) (rs : List ItemAnswer) → ValuesRepresent self t rs
             → Returns result (FoldOutcome t rs) }
@@ -109,9 +110,9 @@ impl ValueAccumulator {
     }
 }
 
-// Each of these that is called seldom stands alone, so that a turn pays for the locals of its own built-in.
+// The functions below are called rarely. They are separate so that a step pays only for the locals of its own built-in.
 
-/// An item kept, if it is to be.
+/// Keeps an item if `is_kept` is true.
 #[inline(always)]
 fn keep_if(
     kept: &mut Vec<Value>,
@@ -127,7 +128,7 @@ fn keep_if(
     }
 }
 
-/// An item kept.
+/// Keeps an item.
 #[inline(always)]
 fn keep_item(kept: &mut Vec<Value>, item: CowValue<'_>) -> std::result::Result<(), AllocError>
     ensures { OnOk result (kept.new.items ≡ kept.old.items ++ item.entry ∷ []) }
@@ -138,7 +139,7 @@ fn keep_item(kept: &mut Vec<Value>, item: CowValue<'_>) -> std::result::Result<(
     }
 }
 
-/// A copy of an item kept.
+/// Keeps a copy of an item.
 #[inline(never)]
 fn keep_copy(kept: &mut Vec<Value>, item: &Value) -> std::result::Result<(), AllocError>
     ensures { OnOk result (kept.new.items ≡ kept.old.items ++ item.now ∷ []) }
@@ -146,7 +147,7 @@ fn keep_copy(kept: &mut Vec<Value>, item: &Value) -> std::result::Result<(), All
     put_last(kept, item.clone()?)
 }
 
-/// A value kept.
+/// Adds a value at the end.
 #[inline(always)]
 fn put_last(kept: &mut Vec<Value>, value: Value) -> std::result::Result<(), AllocError>
     ensures { OnOk result (kept.new.items ≡ kept.old.items ++ value ∷ []) }
@@ -158,7 +159,7 @@ fn put_last(kept: &mut Vec<Value>, value: Value) -> std::result::Result<(), Allo
     Ok(())
 }
 
-/// What was found, or else this item, if it is what is sought.
+/// Keeps an item if it is what is searched and none was found before.
 #[inline(never)]
 fn find_if(
     found: &mut Option<Value>,
@@ -173,7 +174,7 @@ fn find_if(
     Ok(())
 }
 
-/// The value of an item, copied where it is lent.
+/// The value of an item, copied if it is borrowed.
 fn own_value(item: CowValue<'_>) -> std::result::Result<Value, AllocError>
     ensures { IfOk result (λ v. v ≡ item.entry) }
 {
@@ -183,7 +184,7 @@ fn own_value(item: CowValue<'_>) -> std::result::Result<Value, AllocError>
     }
 }
 
-/// One more item beside its key, which is a scalar.
+/// Adds an item with its key, which is a scalar.
 #[inline(never)]
 fn put_beside(
     alloc: Global,
@@ -202,7 +203,7 @@ fn put_beside(
     Ok(())
 }
 
-/// One more item beside its key, which is nil where the answer is no scalar.
+/// Adds an item with its key, which is nil if the result is no scalar.
 #[inline(never)]
 fn put_by(pairs: &mut Vec<(Key, Value)>, answer: Value, item: CowValue<'_>) -> Result<()>
     ensures ok { IfOk result (λ _. pairs.new.items ≡ pairs.old.items ++ (sort_key answer, item.entry) ∷ []) }

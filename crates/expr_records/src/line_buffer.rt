@@ -1,21 +1,21 @@
 //! The bytes of a line as they are read.
 ghost use Rattle.std.specs.Prelude.{◌≡◌, ◌++◌, [], ℕ, List};
-ghost use Rattle.expr_records.specs.LineBuffers.{Holds};
+ghost use Rattle.expr_records.specs.LineBuffers.{BufferHolds};
 
 use std::alloc::Global;
 
-/// How the bytes that came of a line are held.
+/// What a buffer holds of the bytes of a line.
 #[derive(Clone, Copy, Debug, PartialEq, Eq)]
 pub enum LineState {
-    /// All of them are there.
+    /// All of them.
     Fits,
-    /// There are more of them than the bound, and they are let go.
+    /// None: there are more of them than the bound.
     TooLong,
-    /// A growth was refused for them, and they are let go.
+    /// None: an allocation for them failed.
     NoMemory,
 }
 
-/// A line as far as it was read, no longer than a bound in bytes. Its memory is used again for the next one.
+/// A line as far as it was read, of at most a bound in bytes. Its memory is used again for the next line.
 #[derive(Drop)]
 pub struct LineBuffer {
     pub bytes: Vec<u8>,
@@ -24,9 +24,9 @@ pub struct LineBuffer {
 }
 
 impl LineBuffer {
-    /// No bytes yet. It takes no memory.
+    /// Creates an empty buffer. It allocates no memory.
     pub fn new(alloc: Global, bound: usize) -> LineBuffer
-        ensures empty { Holds result [] }
+        ensures empty { BufferHolds result [] }
         ensures bound { result.bound ≡ bound }
     {
         LineBuffer {
@@ -36,18 +36,19 @@ impl LineBuffer {
         }
     }
 
-    /// Lets go of what is held, for the next line.
+    /// Clears the buffer for the next line.
     pub fn clear(&mut self)
-        ensures empty { Holds self.new [] }
+        ensures empty { BufferHolds self.new [] }
         ensures bound { self.new.bound ≡ self.old.bound }
     {
         self.bytes.clear();
         self.state = LineState::Fits;
     }
 
-    /// Adds bytes to those that came.
+    /// Adds bytes to the line.
     pub fn add(&mut self, part: &[u8])
-        ensures added { (bytes : List ℕ) → Holds self.old bytes → Holds self.new (bytes ++ part.now) }
+        ensures added { (bytes : List ℕ) → BufferHolds self.old bytes
+            → BufferHolds self.new (bytes ++ part.now) }
         ensures bound { self.new.bound ≡ self.old.bound }
     {
         if self.state != LineState::Fits {

@@ -1,50 +1,50 @@
-//! What a line comes to.
+//! The outcome of a line.
 ghost use Rattle.std.specs.Prelude.{◌≡◌};
 ghost use Rattle.expr_records.specs.Outcomes.{is_kept, is_refused};
 
-use expr::{Error, Text};
+use expr_value::{Error, Text};
 use std::fmt;
 
-/// Why a record is refused. Its text is the kind, and what there is to say of it.
+/// Why a record failed. It prints as the kind of the error and its message.
 #[derive(Debug, Drop)]
 pub enum Refusal {
     /// The line is longer than the bound.
     TooLong,
-    /// A growth was refused for the line.
+    /// An allocation for the line failed.
     NoMemory,
     /// The line is not UTF-8.
     NotText,
-    /// It is no text of JSON, or has a number that isn't whole or doesn't fit 64 bits.
+    /// The line is not JSON, or it has a number that isn't whole or doesn't fit in 64 bits.
     NotJson(Error),
-    /// Its JSON is no object.
+    /// The JSON of the line is not an object.
     NotObject,
-    /// The expression refuses.
+    /// The expression fails.
     Expression(Error),
-    /// The expression's answer is not a boolean.
+    /// The value of the expression is not a boolean.
     NotBoolean,
-    /// The expression's answer has no JSON.
+    /// The value of the expression can't be written as JSON.
     NotWritable(Error),
 }
 
-/// What a line comes to.
+/// The outcome of a line.
 #[derive(Drop)]
 pub enum LineOutcome {
-    /// There is no record in it.
+    /// The line has no record.
     Blank,
-    /// The expression says that it isn't kept.
+    /// The expression says not to keep the record.
     Dropped,
-    /// It is kept, as it is.
+    /// The record is kept as it is.
     Kept,
-    /// It is counted.
+    /// The record is counted.
     Counted,
-    /// What it becomes: the answer's JSON.
+    /// The record becomes this: the JSON of the expression's value.
     Rewritten(Text),
-    /// Its record is refused.
+    /// The record has an error.
     Refused(Refusal),
 }
 
 impl LineOutcome {
-    /// Whether it counts as kept: it is kept, counted or rewritten.
+    /// Whether the record is kept, counted or rewritten.
     pub fn is_kept(&self) -> bool
         ensures { result ≡ is_kept self.now }
     {
@@ -54,7 +54,7 @@ impl LineOutcome {
         }
     }
 
-    /// Whether its record is refused.
+    /// Whether the record has an error.
     pub fn is_refused(&self) -> bool
         ensures { result ≡ is_refused self.now }
     {
@@ -77,7 +77,7 @@ impl fmt::Display for Refusal {
     }
 }
 
-/// Writes a refusal of the expression, its kind first.
+/// Writes an error of the expression, its kind first.
 fn write_refusal<W: fmt::Write>(f: &mut fmt::Formatter<W>, error: &Error) -> fmt::Result {
     match error {
         Error::MemoryError => write!(f, "memory: {error}"),

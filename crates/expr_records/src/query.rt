@@ -1,32 +1,36 @@
-//! An expression that is ready to be asked about records.
+//! An expression that is ready to run on records.
 ghost use Rattle.std.specs.Prelude.{◌≡◌, ◌≢◌, ◌↔◌, ℕ, List, Err, IfOk, IsTrue};
-ghost use Rattle.expr.specs.KeptCodes.{kept_blocks};
-ghost use Rattle.expr.specs.Texts.{IsRefusedWithin};
+ghost use Rattle.expr_lowering.specs.OwnedCodes.{owned_blocks};
+ghost use Rattle.expr_eval.specs.Texts.{IsRefusedWithin};
 ghost use Rattle.expr_records.specs.RecordCode.{IsCodeOf, may_answer};
 ghost use Rattle.expr_syntax.specs.Texts.{IsPlaced};
 ghost use Rattle.expr_value.specs.Answers.{Returns};
 ghost use Rattle.expr_error.specs.ErrorKind.{RefusesWith};
 
 use crate::record::Record;
-use expr::laws::execution_answers_programs;
-use expr::{Code, Context, KeptCode, KeptMachine, Pattern, Result, Value, compile_within};
+use expr_context::Context;
 use expr_encoding::Members;
-use expr_meaning::Functions;
+use expr_lowering::{Code, OwnedCode};
+use expr_machine::ReusableMachine;
+use expr_meaning::{Functions, execution_answers_programs};
+use expr_syntax::compile_within;
+use expr_tree::node::Pattern;
+use expr_value::{Result, Value};
 use std::alloc::Global;
 
-/// What is done with the records.
+/// What to do with the records.
 #[derive(Clone, Copy, Debug, PartialEq, Eq)]
 pub enum Purpose {
-    /// Those for which the expression answers so are kept.
+    /// Keep those for which the expression returns this boolean.
     Keep(bool),
-    /// Those for which the expression answers so are counted.
+    /// Count those for which the expression returns this boolean.
     Count(bool),
-    /// Each becomes the expression's answer.
+    /// Replace each by the value of the expression.
     Rewrite,
 }
 
 impl Purpose {
-    /// Whether some of the records are sought.
+    /// Whether the query selects some of the records.
     pub fn seeks(self) -> bool
         ensures { IsTrue result ↔ (self ≢ Purpose.Rewrite) }
     {
@@ -37,16 +41,16 @@ impl Purpose {
     }
 }
 
-/// The greatest height of an expression's tree: evaluation takes stack by depth.
+/// The greatest height of an expression's tree: evaluation takes stack in proportion to it.
 pub const HEIGHT: usize = 500;
 
-/// The code of an expression's text.
+/// Compiles an expression to code that owns its parts.
 ///
 /// # Errors
 ///
-/// What [`compile_within`] refuses of a text whose tree may be no higher than 500.
-pub fn code_of_text(alloc: Global, text: &str) -> Result<KeptCode>
-    ensures code { IfOk result (λ code. IsCodeOf text.now (kept_blocks code)) }
+/// Returns the errors of [`compile_within`] for a greatest height of 500.
+pub fn code_of_text(alloc: Global, text: &str) -> Result<OwnedCode>
+    ensures code { IfOk result (λ code. IsCodeOf text.now (owned_blocks code)) }
     ensures refused { RefusesWith result
         (λ k. IsRefusedWithin 500 text.now (Err k)) }
     ensures place { IsPlaced text.now result }
@@ -56,25 +60,25 @@ pub fn code_of_text(alloc: Global, text: &str) -> Result<KeptCode>
     Ok(code)
 }
 
-/// An expression's code, in one machine for all records, and what it is asked in.
+/// The code of an expression, with one machine for all records, the host and the names.
 #[derive(Drop)]
 pub struct Query<'h, H> {
-    /// What the host has added to the language.
+    /// The host's additions to the language.
     pub host: &'h H,
-    /// The names that stand before those of each record.
+    /// The names that come before those of each record.
     pub names: &'h Context,
-    pub machine: KeptMachine<'h, Box<Value>, Box<String>, Box<Pattern>>,
+    pub machine: ReusableMachine<'h, Box<Value>, Box<String>, Box<Pattern>>,
     pub purpose: Purpose,
 }
 
 impl<'h, H: Functions> Query<'h, H> {
-    /// The query of an expression's code.
+    /// Creates the query of an expression's code.
     pub fn new(
         alloc: Global,
         host: &'h H,
         names: &'h Context,
         purpose: Purpose,
-        code: &'h KeptCode,
+        code: &'h OwnedCode,
     ) -> Query<'h, H>
         ensures code { result.machine.code.now ≡ code.now }
         ensures names { result.names.now ≡ names.now }
@@ -84,18 +88,19 @@ impl<'h, H: Functions> Query<'h, H> {
         Query {
             host,
             names,
-            machine: KeptMachine::new(alloc, code),
+            machine: ReusableMachine::new(alloc, code),
             purpose,
         }
     }
 
-    /// What the expression answers of a record.
+    /// Evaluates the expression on a record and returns its value.
     ///
     /// # Errors
     ///
-    /// The first refusal in the order of evaluation: `ExprError`, or `MemoryError` where a growth is refused.
+    /// Returns the first error in the order of evaluation: `ExprError`, or `MemoryError` if an allocation
+    /// fails.
     pub fn answer(&mut self, members: Members<'_>) -> Result<Value>
-        ensures answer { (text : List ℕ) → IsCodeOf text (kept_blocks self.old.machine.code.now)
+        ensures answer { (text : List ℕ) → IsCodeOf text (owned_blocks self.old.machine.code.now)
             → Returns result (may_answer (H.host self.old.host.now) self.old.names.now text members.entry) }
         ensures same { self.new ≡ self.old }
     {

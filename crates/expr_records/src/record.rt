@@ -1,18 +1,19 @@
-//! Records: JSON objects, whose members are lent as names.
+//! Records: JSON objects whose members are names for the expression.
 ghost use Rattle.std.specs.Prelude.{◌≡◌, IfOk, IfErr, Some};
 ghost use Rattle.std.specs.List.{list_all};
-ghost use Rattle.expr_records.specs.Lines.{is_space, text_of};
+ghost use Rattle.expr_records.specs.Lines.{is_space, line_text};
 ghost use Rattle.expr_records.specs.Records.{IsRecord, MayRefuseText, members_of};
 
 use crate::outcome::Refusal;
-use expr::{Context, ContextProvider, Result, Value};
+use expr_context::{Context, ContextProvider};
 use expr_encoding::{JsonReader, Members};
+use expr_value::{Result, Value};
 use std::alloc::Global;
 
-/// The mark by which some systems say that a file is UTF-8.
+/// The byte order mark that some systems put at the start of a UTF-8 file.
 const MARK: &[u8] = b"\xEF\xBB\xBF";
 
-/// The members of a record, and the names that stand before them. `$env` shows the record alone.
+/// The members of a record, and the names that come before them. `$env` is the record alone.
 #[derive(Drop)]
 pub struct Record<'t, 'n> {
     pub members: Members<'t>,
@@ -36,9 +37,9 @@ impl<'t, 'n> ContextProvider for Record<'t, 'n> {
     }
 }
 
-/// A line without the mark at its front.
+/// A line without the byte order mark at its start.
 pub fn text_of(line: &[u8]) -> &[u8]
-    ensures { result.now ≡ text_of line.now }
+    ensures { result.now ≡ line_text line.now }
 {
     match line.strip_prefix(MARK) {
         Some(rest) => rest,
@@ -46,7 +47,7 @@ pub fn text_of(line: &[u8]) -> &[u8]
     }
 }
 
-/// Whether there is nothing but spaces, tabs and carriage returns.
+/// Whether there are only spaces, tabs and carriage returns.
 pub fn is_blank(text: &[u8]) -> bool
     ensures { result ≡ list_all is_space text.now }
 {
@@ -54,7 +55,7 @@ pub fn is_blank(text: &[u8]) -> bool
         .all(|byte| matches!(*byte, b' ' | b'\t' | b'\r'))
 }
 
-/// The members of the object that a text of JSON holds.
+/// The members of the object that a string of JSON holds.
 fn object_of<'t>(
     alloc: Global,
     reader: &'t mut JsonReader,
@@ -70,11 +71,11 @@ fn object_of<'t>(
     }
 }
 
-/// The members of the object that a text of JSON in UTF-8 holds, its numbers all whole.
+/// The members of the JSON object in these bytes. They must be UTF-8, and all numbers must be whole.
 ///
 /// # Errors
 ///
-/// Why the text is no record.
+/// Returns why the bytes are not a record.
 pub fn record_of<'t>(
     alloc: Global,
     reader: &'t mut JsonReader,

@@ -1,4 +1,4 @@
-//! What the program `expr` does with its words and its streams.
+//! The command line of the program `expr`: its arguments, its output and its status.
 #![tactic(auto)]
 
 pub mod serve;

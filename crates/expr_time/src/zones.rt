@@ -1,4 +1,4 @@
-//! Zones by name, and the built-ins that answer a zone or the present moment.
+//! Time zones by name, and the built-ins `timezone` and `now`.
 ghost use Rattle.std.specs.Prelude.{◌≡◌, IfOk};
 ghost use Rattle.std.specs.Option.{option_copied};
 ghost use Rattle.expr_value.specs.Answers.{ReturnsExactly};
@@ -6,26 +6,25 @@ ghost use Rattle.expr_time.specs.Zones.{now_answer, timezone_answer, zone_named}
 ghost use Rattle.expr_error.specs.ErrorKind.{OnlyMemory};
 
 use crate::moments::in_utc;
-use expr_arguments::one_text;
-use expr_cow::CowValue;
+use expr_arguments::{CowValue, one_text};
 use expr_datetime::utc;
 use expr_value::{DateTimeValue, Result, TimezoneValue, Value, refusal};
 use std::alloc::Global;
 
-/// The zones that a host has added, by their names.
+/// The time zones that a program has added, by name.
 pub trait Zones {
     ghost use Rattle.std.specs.Prelude.{ℕ, List, Option};
     ghost use Rattle.expr_datetime.specs.declared.zone.TimezoneValue.{TimezoneValue as Zone};
 
-    /// Which zones there are.
+    /// Which time zones there are.
     ghost zones: { Self → List ℕ → Option Zone };
 
-    /// The zone that was added under a name.
+    /// The time zone with this name, or `None`.
     fn zone(&self, name: &str) -> Option<&TimezoneValue>
         ensures { option_copied result ≡ zones self.now name.now };
 }
 
-/// No added zones: UTC alone, which is always there.
+/// No time zones but UTC, which is always there.
 #[derive(Clone, Copy, Debug)]
 pub struct UtcAlone;
 
@@ -39,7 +38,7 @@ impl Zones for UtcAlone {
     }
 }
 
-/// The zone of a name: UTC, or one that was added.
+/// The time zone with this name: UTC or an added one.
 pub(crate) fn zone_named<Z: Zones>(
     alloc: Global,
     zones: &Z,
@@ -57,7 +56,7 @@ pub(crate) fn zone_named<Z: Zones>(
     }
 }
 
-/// The built-in `timezone`: UTC, or the zone that was added under a name.
+/// `timezone`: UTC, or an added time zone, by name.
 pub(crate) fn timezone<Z: Zones>(
     alloc: Global,
     zones: &Z,
@@ -75,7 +74,7 @@ pub(crate) fn timezone<Z: Zones>(
     }
 }
 
-/// The built-in `now`: a moment in UTC, where the host has set one.
+/// `now`: a DateTime in UTC, if the program has set one.
 pub(crate) fn now(
     alloc: Global,
     moment: Option<&DateTimeValue>,

@@ -1,0 +1,101 @@
+//! The rule engine of docs/RATTLE.md: what a rule comes to for an order, in the shop's environment.
+use crate::lines::Row;
+use expr::{
+    Context, ContextProvider, Environment, Error, ExprCall, Program, Result, Value, compile,
+    compile_within, line_column_of, run, value,
+};
+use std::alloc::Global;
+
+/// Whether an order is large: a host in ten lines.
+pub fn is_large(alloc: Global, price: i64, count: i64) -> Result<bool> {
+    let program = compile(alloc, "price * count > 100")?;
+    let mut context = Context::new(alloc);
+    context.insert("price".to_string(alloc)?, Value::Integer(price))?;
+    context.insert("count".to_string(alloc)?, Value::Integer(count))?;
+    let answer = run(alloc, &program, &context)?;
+    Ok(matches!(answer, Value::Bool(true)))
+}
+
+/// So many percent of an amount, cut toward zero.
+pub fn percent(alloc: Global, call: &ExprCall) -> Result<Value> {
+    match call.args.as_slice() {
+        [Value::Integer(amount), Value::Integer(rate)] => {
+            Ok(Value::Integer(amount.wrapping_mul(*rate) / 100))
+        }
+        _ => Err(Error::ExprError("percent takes an amount and a rate".to_string(alloc)?)),
+    }
+}
+
+/// A record, and the number of its line, which rules see as `line`: names that a host lends without a map of its own.
+#[derive(Drop)]
+pub struct Order {
+    pub record: Context,
+    pub line: Value,
+}
+
+impl ContextProvider for Order {
+    ghost use Rattle.std.specs.Prelude.{Some, codes, bytes_eq, if◌then◌else◌};
+    ghost use Rattle.expr.specs.NamedPairs.{find};
+
+    ghost context = { λ order. record {
+      value_of = λ name. if bytes_eq name (codes "line") then Some order.line else find name order.record;
+      map = order.record;
+    } };
+
+    fn get(&self, key: &str) -> Option<&Value> {
+        if key == "line" {
+            return Some(&self.line);
+        }
+        self.record.get(key)
+    }
+
+    fn to_context(&self, alloc: Global) -> Result<Context> {
+        self.record.to_context(alloc)
+    }
+}
+
+/// What a refusal of `compile` is shown as to the author of a rule.
+pub fn refusal_text(alloc: Global, code: &str, error: &Error) -> Result<String> {
+    match error {
+        Error::PestError(place) => {
+            let at = line_column_of(alloc, code, *place)?;
+            Ok(format!(in alloc; "line {}, column {}\n{}", at.line, at.column, at.shown)?)
+        }
+        Error::ParseError(message) => Ok(message.clone()?),
+        other => Ok(other.to_string(alloc)?),
+    }
+}
+
+/// The record of a line, which is a JSON object.
+fn record_of(alloc: Global, shop: &Environment, reader: &Program, line: &str) -> Result<Context> {
+    let mut context = Context::new(alloc);
+    context.insert("text".to_string(alloc)?, value!(in alloc; line)?)?;
+    let value = shop.run(alloc, reader, &context)?;
+    Context::try_from(alloc, value)
+}
+
+/// What a rule, whose tree has a height of 500 at most, comes to for the record of a line, the first.
+fn judge(alloc: Global, code: &str, line: &str) -> Result<Value> {
+    let mut shop = Environment::new(alloc);
+    shop.add_function(
+        "percent",
+        Box::new(alloc, move |call: ExprCall| percent(alloc, &call))?,
+    )?;
+    let reader = compile(alloc, "fromJSON(text)")?;
+    let rule = compile_within(alloc, code, 500)?;
+    let record = record_of(alloc, &shop, &reader, line)?;
+    let order = Order {
+        record,
+        line: Value::Integer(1),
+    };
+    shop.run(alloc, &rule, &order)
+}
+
+/// What a rule comes to for the order that stands behind it, or what is shown to its author. Out of memory the work ends.
+pub fn order_text(alloc: Global, row: &Row) -> Result<String> {
+    match judge(alloc, row.text(0), row.text(1)) {
+        Ok(value) => Ok(value.to_string(alloc)?),
+        Err(Error::MemoryError) => Err(Error::MemoryError),
+        Err(error) => refusal_text(alloc, row.text(0), &error),
+    }
+}

@@ -1,3 +1,0 @@
-pub mod Durations
-pub mod Methods
-pub mod Reading

@@ -1,0 +1,15 @@
+-- The world of an evaluation: its host, and its names with the bindings of a scope.
+use Rattle.expr_eval.specs.declared.evaluation.Evaluation.{Evaluation}
+use Rattle.expr_meaning.specs.Host.{Host}
+use Rattle.expr_meaning.specs.World.{World, world_of}
+use Rattle.expr_context.specs.Context.{ContextView}
+use Rattle.expr_eval.specs.Scope.{context_in}
+use Rattle.expr_eval.specs.declared.scope.Scope.{Scope}
+
+-- inside a scope, given the worlds of its host and its provider
+abbrev pub here : {H P : Type 0} → (H → Host) → (P → ContextView) → Evaluation H P → Scope → World
+here host_of context_of evaluation scope = world_of (host_of evaluation.host.now) (context_in scope (context_of evaluation.provider))
+
+-- without bindings
+abbrev pub outermost : {H P : Type 0} → (H → Host) → (P → ContextView) → Evaluation H P → World
+outermost host_of context_of evaluation = world_of (host_of evaluation.host.now) (context_of evaluation.provider)

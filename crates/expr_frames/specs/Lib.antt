@@ -1,4 +1,0 @@
-pub mod Programs
-pub mod Nodes
-pub mod ReadErrors
-pub mod Measures

@@ -1,0 +1,11 @@
+-- Which operands an operator evaluates, from left to right.
+use Rattle.expr_functions.specs.declared.operator.Operator.{Operator}
+use Rattle.expr_functions.specs.declared.operator.Operator.TheVariants.{And, Or, Matches}
+use Rattle.expr_functions.specs.declared.strictness.Strictness.{Strictness}
+use Rattle.expr_functions.specs.declared.strictness.Strictness.TheVariants.{Both, EndsAtFalse, EndsAtTrue, Pattern}
+
+abbrev pub operator_strictness : Operator → Strictness
+operator_strictness And = EndsAtFalse
+operator_strictness Or = EndsAtTrue
+operator_strictness Matches = Pattern
+operator_strictness op = Both

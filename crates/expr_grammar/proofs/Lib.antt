@@ -1,5 +1,0 @@
-pub mod Inside
-pub mod Measures
-pub mod Complete
-pub mod Sound
-pub mod Closing

@@ -1,3 +1,0 @@
-pub mod InMemory
-pub mod Patterns
-pub mod Shapes

@@ -1,0 +1,5 @@
+pub mod Deep
+pub mod Empty
+pub mod Growing
+mod Passing
+mod Sums

@@ -1,4 +1,0 @@
-mod Prefixes
-mod Reach
-mod Runs
-mod Whole

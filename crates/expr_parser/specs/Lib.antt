@@ -1,3 +1,0 @@
-pub mod Parsed
-pub mod Reading
-pub mod Texts

@@ -1,4 +1,0 @@
-pub mod Deep
-pub mod Growing
-mod Passing
-mod Sums

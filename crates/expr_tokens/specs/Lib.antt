@@ -1,0 +1,12 @@
+pub mod Brackets
+pub mod Grammar
+pub mod Height
+pub mod Kinds
+pub mod Lexer
+pub mod Machine
+pub mod Prefixes
+pub mod Printed
+pub mod Reading
+pub mod Spellings
+pub mod Steps
+pub mod Tokens
