@@ -209,10 +209,7 @@ pub fn array_and_more<'s>(
             }
         }
     }
-    Err(refusal(
-        alloc,
-        "the function takes an array and at most one more argument",
-    ))
+    Err(refusal(alloc, "expected an array and at most one more argument"))
 }
 
 // The array that a value is. Any other value gives `ExprError`.
@@ -222,6 +219,6 @@ fn array_or_refusal<'s>(alloc: Global, value: CowValue<'s>) -> Result<Array<'s>>
 {
     match array_of(value.into_cow()) {
         Some(array) => Ok(array),
-        None => Err(refusal(alloc, "the function takes an array")),
+        None => Err(refusal(alloc, "expected an array as first argument")),
     }
 }

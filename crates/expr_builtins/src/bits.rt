@@ -119,7 +119,7 @@ fn bitshl(alloc: Global, arguments: &[CowValue<'_>]) -> Result<Value>
         return Err(refusal(alloc, "bitshl takes two integers"));
     };
     if count < 0 {
-        return Err(refusal(alloc, "bitshl takes no count below 0"));
+        return Err(refusal(alloc, "bitshl takes a shift of 0 or more"));
     }
     Ok(Value::Integer(shifted_left(a, count as u64)))
 }
@@ -132,7 +132,7 @@ fn bitshr(alloc: Global, arguments: &[CowValue<'_>]) -> Result<Value>
         return Err(refusal(alloc, "bitshr takes two integers"));
     };
     if count < 0 {
-        return Err(refusal(alloc, "bitshr takes no count below 0"));
+        return Err(refusal(alloc, "bitshr takes a shift of 0 or more"));
     }
     Ok(Value::Integer(shifted_right(a, count as u64)))
 }
@@ -145,7 +145,7 @@ fn bitushr(alloc: Global, arguments: &[CowValue<'_>]) -> Result<Value>
         return Err(refusal(alloc, "bitushr takes two integers"));
     };
     if count < 0 {
-        return Err(refusal(alloc, "bitushr takes no count below 0"));
+        return Err(refusal(alloc, "bitushr takes a shift of 0 or more"));
     }
     Ok(Value::Integer(shifted_unsigned(a, count as u64)))
 }

@@ -62,7 +62,7 @@ fn len(alloc: Global, arguments: &[CowValue<'_>]) -> Result<Value>
         return Err(refusal(alloc, "len takes one value"));
     };
     let Some(count) = size(value) else {
-        return Err(refusal(alloc, "len takes an array, a text, bytes or a map"));
+        return Err(refusal(alloc, "len takes an array, a string, bytes or a map"));
     };
     Ok(Value::from(count))
 }
@@ -115,7 +115,7 @@ fn take_items(alloc: Global, arguments: &mut [CowValue<'_>]) -> Result<Value>
         return Err(refusal(alloc, "take takes an array and an integer"));
     };
     if count < 0 {
-        return Err(refusal(alloc, "take takes no count below 0"));
+        return Err(refusal(alloc, "take takes a count of 0 or more"));
     }
     let items = first_items(alloc, array, count as usize)?;
     Ok(Value::Array(Items::from_vec(items)))
@@ -228,10 +228,10 @@ fn join(alloc: Global, arguments: &[CowValue<'_>]) -> Result<Value>
     ensures { Returns result (λ answer. answer ≡ join arguments.now) }
 {
     let Some((items, separator)) = array_and_text(arguments) else {
-        return Err(refusal(alloc, "join takes an array, and perhaps a text"));
+        return Err(refusal(alloc, "join takes an array and an optional string"));
     };
     let Some(parts) = texts(alloc, items)? else {
-        return Err(refusal(alloc, "join takes an array of texts"));
+        return Err(refusal(alloc, "join takes an array of strings"));
     };
     let text = join_texts(alloc, &parts, separator)?;
     Ok(Value::String(Text::from_string(text)))
@@ -315,7 +315,10 @@ fn from_pairs(alloc: Global, arguments: &mut [CowValue<'_>]) -> Result<Value>
     };
     let items = each_cow(alloc, array)?;
     let Some(pairs) = pairs_of_items(alloc, items)? else {
-        return Err(refusal(alloc, "fromPairs takes an array of arrays of two"));
+        return Err(refusal(
+            alloc,
+            "fromPairs takes an array of arrays with two items each",
+        ));
     };
     let map = KeyedMap::from_pairs(alloc, pairs)?;
     Ok(Value::KeyedMap(map))

@@ -40,7 +40,7 @@ fn int(alloc: Global, arguments: &[CowValue<'_>]) -> Result<Value>
     match value {
         Value::Integer(number) => Ok(Value::Integer(*number)),
         Value::String(text) => read(alloc, text.as_str()),
-        _ => Err(refusal(alloc, "int takes an integer or a text")),
+        _ => Err(refusal(alloc, "int takes an integer or a string")),
     }
 }
 
@@ -49,7 +49,10 @@ fn read(alloc: Global, text: &str) -> Result<Value>
 {
     match text.parse::<i64>() {
         Ok(number) => Ok(Value::Integer(number)),
-        Err(_) => Err(refusal(alloc, "int reads a sign and digits, within 64 bits")),
+        Err(_) => Err(refusal(
+            alloc,
+            "int takes a string with an optional sign and digits, within 64 bits",
+        )),
     }
 }
 

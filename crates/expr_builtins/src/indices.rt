@@ -12,7 +12,7 @@ pub(crate) fn index_of(alloc: Global, arguments: &[CowValue<'_>]) -> Result<Valu
     ensures { Returns result (λ answer. answer ≡ index_of arguments.now) }
 {
     let Some((text, sought)) = two_texts(arguments) else {
-        return Err(refusal(alloc, "indexOf takes two texts"));
+        return Err(refusal(alloc, "indexOf takes two strings"));
     };
     Ok(place_or_less(least_place(text, sought)))
 }
@@ -22,7 +22,7 @@ pub(crate) fn last_index_of(alloc: Global, arguments: &[CowValue<'_>]) -> Result
     ensures { Returns result (λ answer. answer ≡ last_index_of arguments.now) }
 {
     let Some((text, sought)) = two_texts(arguments) else {
-        return Err(refusal(alloc, "lastIndexOf takes two texts"));
+        return Err(refusal(alloc, "lastIndexOf takes two strings"));
     };
     Ok(place_or_less(greatest_place(text, sought)))
 }

@@ -57,7 +57,10 @@ fn abs(alloc: Global, arguments: &[CowValue<'_>]) -> Result<Value>
 fn of_fractions(alloc: Global) -> Result<Value>
     ensures { Returns result (λ answer. answer ≡ Err evaluation) }
 {
-    Err(refusal(alloc, "there are no numbers with fractions"))
+    Err(refusal(
+        alloc,
+        "this function returns a fraction, and the language has no fractions",
+    ))
 }
 
 /// `max`: the greatest of integers and of arrays of them, at every depth, or nil if there are none.
@@ -68,7 +71,7 @@ fn greatest(alloc: Global, arguments: Vec<CowValue<'_>>) -> Result<Value>
         return Err(refusal(alloc, "max takes at least one argument"));
     }
     let Some(numbers) = flat_integers(alloc, arguments)? else {
-        return Err(refusal(alloc, "max takes integers and arrays of them"));
+        return Err(refusal(alloc, "max takes integers and arrays of integers"));
     };
     Ok(greatest_of(&numbers))
 }
@@ -81,7 +84,7 @@ fn least(alloc: Global, arguments: Vec<CowValue<'_>>) -> Result<Value>
         return Err(refusal(alloc, "min takes at least one argument"));
     }
     let Some(numbers) = flat_integers(alloc, arguments)? else {
-        return Err(refusal(alloc, "min takes integers and arrays of them"));
+        return Err(refusal(alloc, "min takes integers and arrays of integers"));
     };
     Ok(least_of(&numbers))
 }

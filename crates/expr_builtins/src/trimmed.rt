@@ -21,7 +21,7 @@ pub(crate) fn trim(alloc: Global, arguments: &[CowValue<'_>]) -> Result<Value>
         return Value::text(alloc, without_space(text));
     }
     let Some((text, set)) = two_texts(arguments) else {
-        return Err(refusal(alloc, "trim takes one or two texts"));
+        return Err(refusal(alloc, "trim takes one or two strings"));
     };
     let set = characters(alloc, set)?;
     if set.len() <= FEW {

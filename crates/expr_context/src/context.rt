@@ -133,7 +133,7 @@ impl Context {
     {
         match value {
             Value::Map(pairs) => Ok(Context { pairs }),
-            _ => Err(refusal(alloc, "a context is made of a map")),
+            _ => Err(refusal(alloc, "a context must be made of a map with names as keys")),
         }
     }
 

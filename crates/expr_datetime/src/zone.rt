@@ -70,7 +70,10 @@ impl TimezoneValue {
             → OnlyMemory result }
     {
         let Some(rules) = ZoneRules::from_rules(rules.to_plain()) else {
-            return Err(refusal(alloc, "a zone is a fixed offset or a rule"));
+            return Err(refusal(
+                alloc,
+                "time zone rules must be a fixed offset or a POSIX rule, not a database table",
+            ));
         };
         Ok(TimezoneValue {
             name: Text::copy(alloc, name)?,

@@ -20,7 +20,7 @@ pub fn call_encoding(alloc: Global, call: EncodingCall, arguments: &[CowValue<'_
     ensures { Returns result (EncodingMayReturn call arguments.now) }
 {
     let Some(value) = one_value(arguments) else {
-        return Err(refusal(alloc, "this call takes one argument"));
+        return Err(refusal(alloc, "expected one argument"));
     };
     encode(alloc, call, value)
 }
@@ -41,7 +41,7 @@ fn read_json(alloc: Global, value: &Value) -> Result<Value>
 {
     match value {
         Value::String(text) => from_json(alloc, text.as_str()),
-        _ => Err(refusal(alloc, "fromJSON takes a text")),
+        _ => Err(refusal(alloc, "fromJSON takes a string")),
     }
 }
 

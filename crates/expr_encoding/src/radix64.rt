@@ -17,7 +17,7 @@ pub fn to_base64(alloc: Global, value: &Value) -> Result<Value>
 {
     match value {
         Value::String(text) => Ok(Value::String(encode(alloc, text.as_str())?)),
-        _ => Err(refusal(alloc, "toBase64 takes a text")),
+        _ => Err(refusal(alloc, "toBase64 takes a string")),
     }
 }
 
@@ -31,7 +31,7 @@ pub fn from_base64(alloc: Global, value: &Value) -> Result<Value>
 {
     match value {
         Value::String(text) => Ok(Value::String(decode(alloc, text.as_str())?)),
-        _ => Err(refusal(alloc, "fromBase64 takes a text")),
+        _ => Err(refusal(alloc, "fromBase64 takes a string")),
     }
 }
 
@@ -47,10 +47,13 @@ fn decode(alloc: Global, text: &str) -> Result<Text>
     let bytes = match STANDARD.decode(alloc, text.as_bytes()) {
         Ok(bytes) => bytes,
         Err(DecodeAllocError::OutOfMemory) => return Err(Error::MemoryError),
-        Err(DecodeAllocError::DecodeError(_)) => return Err(refusal(alloc, "not a Base64 text")),
+        Err(DecodeAllocError::DecodeError(_)) => return Err(refusal(
+            alloc,
+            "the string is not valid Base64",
+        )),
     };
     match String::from_utf8(bytes) {
         Ok(decoded) => Ok(Text::from_string(decoded)),
-        Err(_) => Err(refusal(alloc, "not the Base64 of a text")),
+        Err(_) => Err(refusal(alloc, "the decoded bytes are not valid UTF-8")),
     }
 }

@@ -19,7 +19,7 @@ use std::alloc::Global;
 
 /// The message for a JSON number that is no value, because it has a fraction or an exponent or doesn't fit in 64 bits.
 const NOT_WHOLE: &str =
-    "a JSON number is not whole, or too large: the language has no fractions, so use cents, or round";
+    "a JSON number has a fraction or an exponent, or does not fit in 64 bits: use integers, such as cents";
 
 /// Reads one JSON document after another. Its memory is reused for the next one.
 #[derive(Drop)]
@@ -87,7 +87,7 @@ fn read_data(alloc: Global, text: &str) -> Result<Value>
             if error.is_memory() {
                 Err(Error::MemoryError)
             } else {
-                Err(refusal(alloc, "not a JSON text"))
+                Err(refusal(alloc, "the string is not valid JSON"))
             }
         }
     }

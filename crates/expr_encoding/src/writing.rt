@@ -52,7 +52,10 @@ fn data_of(alloc: Global, value: &Value) -> Result<Json>
         Value::Array(items) => Ok(Json::Array(items_data(alloc, items.as_slice())?)),
         Value::Bytes(bytes) => Ok(Json::from(STANDARD.encode(alloc, bytes.as_slice())?)),
         Value::Map(map) => Ok(Json::Object(members_data(alloc, map)?)),
-        Value::KeyedMap(_) => Err(refusal(alloc, "JSON has no maps by keys")),
+        Value::KeyedMap(_) => Err(refusal(
+            alloc,
+            "a map with keys other than strings can't be written as JSON",
+        )),
     }
 }
 

@@ -53,7 +53,10 @@ impl Additions {
     {
         match offset_ahead(seconds) {
             Some(offset) => self.add(name, TimeZone::fixed(offset)),
-            None => Err(refusal(self.alloc, "no clock is so far ahead")),
+            None => Err(refusal(
+                self.alloc,
+                "the offset of a time zone must be within 25:59:59",
+            )),
         }
     }
 
@@ -72,7 +75,10 @@ impl Additions {
     {
         match TimeZone::posix(rule) {
             Ok(rules) => self.add(name, rules),
-            Err(_) => Err(refusal(self.alloc, "no rule of a zone in POSIX's form")),
+            Err(_) => Err(refusal(
+                self.alloc,
+                "invalid time zone rule: expected the form of POSIX, such as EST5EDT,M3.2.0,M11.1.0",
+            )),
         }
     }
 
@@ -105,7 +111,7 @@ impl Additions {
     {
         let alloc = self.alloc;
         if name == "UTC" {
-            return Err(refusal(alloc, "the zone UTC is always known"));
+            return Err(refusal(alloc, "the time zone UTC can't be replaced"));
         }
         let zone = TimezoneValue::named(alloc, name, rules)?;
         let name = String::from_str(alloc, name)?;

@@ -38,10 +38,10 @@ pub fn refusal(alloc: Global, text: &str) -> Error
 impl fmt::Display for Error {
     fn fmt<W: fmt::Write>(&self, f: &mut fmt::Formatter<W>) -> fmt::Result {
         match self {
-            Error::PestError(place) => write!(f, "unexpected input at byte {place}"),
+            Error::PestError(place) => write!(f, "syntax error at byte {place}"),
             Error::ParseError(message) => write!(f, "{message}"),
             Error::ExprError(message) => write!(f, "{message}"),
-            Error::RegexError(error) => write!(f, "bad pattern: {error}"),
+            Error::RegexError(error) => write!(f, "invalid regular expression: {error}"),
             Error::MemoryError => write!(f, "out of memory"),
         }
     }

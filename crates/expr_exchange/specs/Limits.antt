@@ -13,7 +13,7 @@ limit_by_number number = slice_get all_limits number
 -- the message if this limit is passed
 abbrev pub text_of_limit : Limit → List ℕ
 text_of_limit Nesting = codes "the expression nests deeper than the limit"
-text_of_limit Patterns = codes "the patterns of the text weigh more than the limit"
+text_of_limit Patterns = codes "the patterns of the expression weigh more than the limit"
 text_of_limit Steps = codes "the run takes more steps than the limit"
 text_of_limit Depth = codes "the run makes a value that is deeper than the limit"
-text_of_limit Size = codes "the run holds more at once than the limit"
+text_of_limit Size = codes "the values of the run weigh more than the limit"

@@ -25,9 +25,9 @@ pub fn limit_text(limit: Limit) -> &'static str
 {
     match limit {
         Limit::Nesting => "the expression nests deeper than the limit",
-        Limit::Patterns => "the patterns of the text weigh more than the limit",
+        Limit::Patterns => "the patterns of the expression weigh more than the limit",
         Limit::Steps => "the run takes more steps than the limit",
         Limit::Depth => "the run makes a value that is deeper than the limit",
-        Limit::Size => "the run holds more at once than the limit",
+        Limit::Size => "the values of the run weigh more than the limit",
     }
 }

@@ -43,21 +43,21 @@ impl Misuse {
         ensures { result.now ≡ text_of_misuse self }
     {
         match self {
-            Misuse::UnknownAsk => "no call has this number",
-            Misuse::UnknownKind => "no kind of value has this number",
-            Misuse::UnknownLimit => "no limit has this number",
-            Misuse::NegativeLimit => "a limit is below 0",
-            Misuse::NotUtf8 => "a name or a text isn't UTF-8",
-            Misuse::NoWord => "the name isn't a word",
+            Misuse::UnknownAsk => "unknown call number",
+            Misuse::UnknownKind => "unknown kind number",
+            Misuse::UnknownLimit => "unknown limit number",
+            Misuse::NegativeLimit => "a limit must be 0 or more",
+            Misuse::NotUtf8 => "a name or a string is not UTF-8",
+            Misuse::NoWord => "the name is not a word of the language",
             Misuse::NothingBuilt => "no value was built",
-            Misuse::TooFewBuilt => "fewer values were built than the call takes",
-            Misuse::NoPart => "the value has no part of this number",
-            Misuse::AtWhole => "the whole value is looked at already",
+            Misuse::TooFewBuilt => "the call takes more values than were built",
+            Misuse::NoPart => "the value has no item or key of this number",
+            Misuse::AtWhole => "the cursor is on the whole value already",
             Misuse::NoCallWaits => "no call waits for a reply",
-            Misuse::NoMoment => "no moment has these seconds and nanoseconds",
-            Misuse::NoMonth => "a month is a number from 1 to 12",
-            Misuse::NoWeekday => "a day of the week is a number from 0 to 6",
-            Misuse::NoScalar => "a value of this kind is built of its parts, or made by a program",
+            Misuse::NoMoment => "the seconds and nanoseconds of a DateTime are out of range",
+            Misuse::NoMonth => "a month must be a number from 1 to 12",
+            Misuse::NoWeekday => "a day of the week must be a number from 0 to 6",
+            Misuse::NoScalar => "a value of this kind can't be passed as a number or a string",
         }
     }
 }

@@ -23,7 +23,10 @@ pub fn format(alloc: Global, moment: &DateTimeValue, arguments: &[CowValue<'_>])
     ensures { Returns result (Formats moment.now (one_text arguments.now)) }
 {
     let Some(layout) = one_text(arguments) else {
-        return Err(refusal(alloc, "Format takes a layout"));
+        return Err(refusal(
+            alloc,
+            "Format takes a layout string, such as \"2006-01-02\"",
+        ));
     };
     format_by(alloc, moment, layout)
 }

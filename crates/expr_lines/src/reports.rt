@@ -16,7 +16,7 @@ pub fn tell_refused_text<E: Write>(alloc: Global, err: &mut E, text: &str, error
         if let Ok(at) = line_column_of(alloc, text, *place) {
             let _ = writeln!(
                 err,
-                "expr_lines: the expression has a fault in line {}, column {}\n{}",
+                "expr_lines: syntax error at line {}, column {}\n{}",
                 at.line, at.column, at.shown
             );
             return;

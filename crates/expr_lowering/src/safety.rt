@@ -39,7 +39,10 @@ impl<L: Drop, N: Drop, P: Drop> Code<L, N, P> {
         ensures needed { RefusesWith result (λ _. IsSafeShape first later → ⊥) }
     {
         if !are_safe(alloc, &first, &later)? {
-            return Err(refusal(alloc, "these blocks are not safe to run"));
+            return Err(refusal(
+                alloc,
+                "the blocks are not safe: a jump, a call or an operand leaves them",
+            ));
         }
         Ok(Code {
             first,

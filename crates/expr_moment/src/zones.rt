@@ -24,7 +24,10 @@ pub fn moment_or_refusal(alloc: Global, moment: Option<DateTimeValue>) -> Result
 {
     match moment {
         Some(moment) => Value::datetime(alloc, moment),
-        None => Err(refusal(alloc, "no such moment, or out of range")),
+        None => Err(refusal(
+            alloc,
+            "this date and time does not exist in the time zone, or is out of range",
+        )),
     }
 }
 

@@ -86,7 +86,7 @@ pub fn modulo(alloc: Global, left: &Value, right: &Value) -> Result<Value>
     match (left, right) {
         (Value::Integer(a), Value::Integer(b)) => {
             if *b == 0 {
-                return Err(refusal(alloc, "operator % does not take 0 on its right"));
+                return Err(refusal(alloc, "division by zero: the right operand of % is 0"));
             }
             Ok(Value::Integer(a.wrapping_rem(*b)))
         }

@@ -45,7 +45,7 @@ pub fn not_indexed(alloc: Global, value: &Value, key: &Value) -> Error
 {
     let value = kind_of(value);
     let key = kind_of(key);
-    refusal_of(format!(in alloc; "no index of {value} by {key}"))
+    refusal_of(format!(in alloc; "{value} cannot be indexed by {key}"))
 }
 
 /// The error for a value of another kind than the expected one.
@@ -53,7 +53,7 @@ pub fn unexpected_kind(alloc: Global, expected: &str, met: &Value) -> Error
     ensures { IsOfKind result evaluation }
 {
     let met = kind_of(met);
-    refusal_of(format!(in alloc; "expected {expected}, met {met}"))
+    refusal_of(format!(in alloc; "expected {expected}, found {met}"))
 }
 
 /// The error for the operand of a unary operator that takes another kind.
@@ -61,7 +61,7 @@ pub fn unexpected_after(alloc: Global, operator: &str, expected: &str, met: &Val
     ensures { IsOfKind result evaluation }
 {
     let met = kind_of(met);
-    refusal_of(format!(in alloc; "expected {expected} after {operator}, met {met}"))
+    refusal_of(format!(in alloc; "expected {expected} after {operator}, found {met}"))
 }
 
 /// The kind of a value, for messages.

@@ -41,7 +41,10 @@ pub fn difference(alloc: Global, moment: &DateTimeValue, other: &DateTimeValue) 
 {
     match moment.checked_difference(other) {
         Some(nanoseconds) => Ok(Value::Duration(nanoseconds)),
-        None => Err(refusal(alloc, "these moments are too far apart")),
+        None => Err(refusal(
+            alloc,
+            "the DateTimes are too far apart for a Duration, at most some 292 years",
+        )),
     }
 }
 
@@ -50,6 +53,6 @@ fn moment_or_refusal(alloc: Global, moment: Option<DateTimeValue>) -> Result<Val
 {
     match moment {
         Some(moment) => Value::datetime(alloc, moment),
-        None => Err(refusal(alloc, "this moment is out of range")),
+        None => Err(refusal(alloc, "the DateTime is out of range, years -9999 to 9999")),
     }
 }

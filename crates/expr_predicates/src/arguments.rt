@@ -23,7 +23,7 @@ pub(crate) fn direction(alloc: Global, order: &Value) -> Result<bool>
     match order.as_string() {
         Some("desc") => Ok(true),
         Some("asc") => Ok(false),
-        _ => Err(refusal(alloc, "a direction is \"asc\" or \"desc\"")),
+        _ => Err(refusal(alloc, "the order must be \"asc\" or \"desc\"")),
     }
 }
 

@@ -174,7 +174,7 @@ impl<'s> PredicateRun<'s> {
         ensures refused { RefusesWith result (λ k. fold_of_call call args.entry given ≡ Err k) }
     {
         if !given && !runs_alone(call) {
-            return Err(refusal(alloc, "the function takes a predicate"));
+            return Err(refusal(alloc, "this function takes a predicate, such as {# > 0}"));
         }
         let (array, more) = array_and_more(alloc, args)?;
         match more {
@@ -222,7 +222,7 @@ impl<'s> PredicateRun<'s> {
     {
         match Accumulator::at_start(alloc, call) {
             Some(gathered) => Ok(PredicateRun::forward(array, gathered)),
-            None => Err(refusal(alloc, "the function takes one more argument")),
+            None => Err(refusal(alloc, "expected a second argument")),
         }
     }
 
@@ -253,7 +253,7 @@ impl<'s> PredicateRun<'s> {
                     Accumulator::Values(ValueAccumulator::SortBy(down, Vec::new(alloc))),
                 ))
             }
-            _ => Err(refusal(alloc, "the function takes an array alone")),
+            _ => Err(refusal(alloc, "expected an array as the only argument")),
         }
     }
 
@@ -298,7 +298,7 @@ impl<'s> PredicateRun<'s> {
                     gathered: Accumulator::Values(ValueAccumulator::Reduce(acc)),
                 })
             }
-            None => Err(refusal(alloc, "reduce of no items takes a value to begin with")),
+            None => Err(refusal(alloc, "reduce of an empty array needs an initial value")),
         }
     }
 

@@ -125,8 +125,11 @@ impl ScalarAccumulator {
         ensures { IsOfKind result evaluation }
     {
         match self {
-            ScalarAccumulator::Sum(_) => refusal(alloc, "sum takes integers"),
-            _ => refusal(alloc, "count takes a predicate that answers a boolean"),
+            ScalarAccumulator::Sum(_) => refusal(
+                alloc,
+                "sum takes integers, or a predicate that returns an integer",
+            ),
+            _ => refusal(alloc, "count takes a predicate that returns a boolean"),
         }
     }
 

@@ -19,7 +19,10 @@ pub fn sort_by_keys(alloc: Global, down: bool, pairs: Vec<(Key, Value)>) -> Resu
 {
     if !are_alike(&pairs) {
         drop(pairs);
-        return Err(refusal(alloc, "keys are all Integers or all Strings"));
+        return Err(refusal(
+            alloc,
+            "the keys of sortBy must be all integers or all strings",
+        ));
     }
     let mut pairs = pairs;
     sort_pairs(down, &mut pairs)?;
@@ -37,7 +40,10 @@ pub fn sort_items(alloc: Global, down: bool, items: Vec<Value>) -> Result<Value>
 {
     let mut keys = own_keys(alloc, items)?;
     if !are_alike(&keys) {
-        return Err(refusal(alloc, "sort takes integers or texts"));
+        return Err(refusal(
+            alloc,
+            "sort takes an array of integers or an array of strings",
+        ));
     }
     sort_pairs(down, &mut keys)?;
     let items = values_of(alloc, keys)?;

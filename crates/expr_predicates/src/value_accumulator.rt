@@ -197,7 +197,7 @@ fn put_beside(
     ensures err { RefusesWith result (λ k. (key_of answer ≡ None) × (k ≡ evaluation)) }
 {
     let Some(key) = answer.into_key() else {
-        return Err(refusal(alloc, "groupBy takes a predicate that answers a scalar"));
+        return Err(refusal(alloc, "groupBy takes a predicate that returns a scalar"));
     };
     pairs.push((key, item.into_value()?))?;
     Ok(())

@@ -65,13 +65,13 @@ impl LineOutcome {
 impl fmt::Display for Refusal {
     fn fmt<W: fmt::Write>(&self, f: &mut fmt::Formatter<W>) -> fmt::Result {
         match self {
-            Refusal::TooLong => write!(f, "record: the line is longer than the bound"),
-            Refusal::NoMemory => write!(f, "memory: none for the line"),
+            Refusal::TooLong => write!(f, "record: the line is too long"),
+            Refusal::NoMemory => write!(f, "memory: out of memory while reading the line"),
             Refusal::NotText => write!(f, "record: not UTF-8"),
             Refusal::NotJson(error) => write!(f, "record: {error}"),
-            Refusal::NotObject => write!(f, "record: not an object"),
+            Refusal::NotObject => write!(f, "record: expected a JSON object"),
             Refusal::Expression(error) => write_refusal(f, error),
-            Refusal::NotBoolean => write!(f, "answer: neither true nor false"),
+            Refusal::NotBoolean => write!(f, "result: expected true or false"),
             Refusal::NotWritable(error) => write!(f, "answer: {error}"),
         }
     }

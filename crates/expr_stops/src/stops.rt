@@ -217,7 +217,7 @@ impl Stops {
         ensures waits { RefusesWith result (λ k. (k ≡ evaluation) × (waiting_call_of self.old ≡ None)) }
     {
         let Some(stop) = self.asked.take() else {
-            return Err(refusal(self.alloc, "no call waits for an answer"));
+            return Err(refusal(self.alloc, "no call waits for a reply"));
         };
         let Stop { call, place } = stop;
         match self.given.push(CallReply { call, reply }) {

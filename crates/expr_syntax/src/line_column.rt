@@ -31,7 +31,7 @@ pub fn line_column_of(alloc: Global, text: &str, place: usize) -> Result<LineCol
     ensures kept { IsCharBoundary text.now place → OnlyMemory result }
 {
     let Some((before, after)) = text.split_at_checked(place) else {
-        return Err(refusal(alloc, "no character begins there"));
+        return Err(refusal(alloc, "the offset is inside a character or beyond the end"));
     };
     let left = last_line(before);
     let shown = caret_lines(alloc, left, first_line(after))?;

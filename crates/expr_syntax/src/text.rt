@@ -40,7 +40,10 @@ pub fn compile_within(alloc: Global, code: &str, height: usize) -> Result<Progra
     let program = read_program(alloc, code)?;
     let tree_height = program.height();
     if tree_height > height {
-        return Err(refusal(alloc, "the expression nests deeper than is allowed"));
+        return Err(refusal(
+            alloc,
+            "the expression nests too deeply: its tree is higher than the limit",
+        ));
     }
     Ok(program.into_program())
 }
@@ -55,7 +58,10 @@ pub(crate) fn read_program(alloc: Global, code: &str) -> Result<AnnotatedProgram
     match parse(alloc, code) {
         Ok(program) => Ok(program),
         Err(ParseError::Syntax(place)) => Err(Error::PestError(place)),
-        Err(ParseError::Literal) => Err(refusal(alloc, "an integer literal is 2^63 or more")),
+        Err(ParseError::Literal) => Err(refusal(
+            alloc,
+            "an integer literal is greater than 9223372036854775807",
+        )),
         Err(ParseError::Memory) => Err(Error::MemoryError),
     }
 }

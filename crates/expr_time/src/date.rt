@@ -64,12 +64,15 @@ fn of_three<Z: Zones>(
         return of_layout(alloc, zone, second, third);
     }
     let Some(name) = third.as_string() else {
-        return Err(refusal(alloc, "date takes the name of a zone"));
+        return Err(refusal(
+            alloc,
+            "date takes the name of a time zone as third argument",
+        ));
     };
     let zone = zone_named(alloc, zones, name)?;
     match zone {
         Some(zone) => of_layout(alloc, &zone, first, second),
-        None => Err(refusal(alloc, "no such zone")),
+        None => Err(refusal(alloc, "unknown time zone")),
     }
 }
 
@@ -77,7 +80,7 @@ fn of_text(alloc: Global, zone: &TimezoneValue, text: &Value) -> Result<Value>
     ensures { Returns result (DatesText zone.now (string_of text.now)) }
 {
     let Some(text) = text.as_string() else {
-        return Err(refusal(alloc, "date reads a text"));
+        return Err(refusal(alloc, "date takes a string"));
     };
     answer(alloc, by_form(text), zone)
 }
@@ -86,10 +89,10 @@ fn of_layout(alloc: Global, zone: &TimezoneValue, text: &Value, layout: &Value) 
     ensures { Returns result (DatesLayout zone.now (string_of text.now) (string_of layout.now)) }
 {
     let Some(text) = text.as_string() else {
-        return Err(refusal(alloc, "date reads a text"));
+        return Err(refusal(alloc, "date takes a string"));
     };
     let Some(layout) = layout.as_string() else {
-        return Err(refusal(alloc, "date takes a layout"));
+        return Err(refusal(alloc, "date takes a layout string, such as \"2006-01-02\""));
     };
     by_layout(alloc, zone, text, layout)
 }
@@ -106,7 +109,10 @@ fn answer(alloc: Global, found: Option<KnownFields>, zone: &TimezoneValue) -> Re
 {
     match found {
         Some(found) => moment(alloc, &found, zone),
-        None => Err(refusal(alloc, "this text says no moment")),
+        None => Err(refusal(
+            alloc,
+            "the string is not a date in a known form, or does not fit the layout",
+        )),
     }
 }
 
@@ -114,7 +120,7 @@ fn moment(alloc: Global, found: &KnownFields, zone: &TimezoneValue) -> Result<Va
     ensures { Returns result (MomentMayReturn found.now zone.now) }
 {
     let Some(civil) = civil_of(found) else {
-        return Err(refusal(alloc, "there is no such time"));
+        return Err(refusal(alloc, "there is no such date or time of day"));
     };
     match found.offset {
         Some(seconds) => at_offset(alloc, seconds, civil),
@@ -131,7 +137,7 @@ fn at_offset(alloc: Global, seconds: i32, civil: DateTime) -> Result<Value>
     }
     match Offset::from_seconds(seconds) {
         Ok(offset) => moment_or_refusal(alloc, civil_at_offset(offset, civil)),
-        Err(_) => Err(refusal(alloc, "no such offset")),
+        Err(_) => Err(refusal(alloc, "the offset is out of range")),
     }
 }
 

@@ -199,7 +199,7 @@ pub fn duration(alloc: Global, arguments: &[CowValue<'_>]) -> Result<Value>
     ensures { Returns result (Duration arguments.now) }
 {
     let Some(text) = one_text(arguments) else {
-        return Err(refusal(alloc, "duration takes a text"));
+        return Err(refusal(alloc, "duration takes a string"));
     };
     read(alloc, text)
 }
@@ -209,6 +209,9 @@ fn read(alloc: Global, text: &str) -> Result<Value>
 {
     match parse_length(text) {
         Some(nanoseconds) => Ok(Value::Duration(nanoseconds)),
-        None => Err(refusal(alloc, "duration reads numbers with units, within 64 bits")),
+        None => Err(refusal(
+            alloc,
+            "duration takes a string such as \"1h30m\", within 64 bits of nanoseconds",
+        )),
     }
 }

@@ -190,7 +190,7 @@ fn location_answer(
     ensures { ReturnsExactly result (location_answer arguments.now (location_of moment.now)) }
 {
     let Some(zone) = location(alloc, moment)? else {
-        return Err(refusal(alloc, "this moment is in no zone"));
+        return Err(refusal(alloc, "this DateTime has an offset and no time zone"));
     };
     let zone = Value::timezone(alloc, zone)?;
     without_arguments(alloc, arguments, zone)
@@ -236,11 +236,14 @@ fn subtract(alloc: Global, moment: &DateTimeValue, arguments: &[CowValue<'_>]) -
     ensures { ReturnsExactly result (answer_on (one_moment arguments.now) (between moment.now)) }
 {
     let Some(other) = one_moment(arguments) else {
-        return Err(refusal(alloc, "Sub takes a moment"));
+        return Err(refusal(alloc, "Sub takes a DateTime"));
     };
     match moment.checked_difference(other) {
         Some(nanoseconds) => Ok(Value::Duration(nanoseconds)),
-        None => Err(refusal(alloc, "these moments are too far apart")),
+        None => Err(refusal(
+            alloc,
+            "the DateTimes are too far apart for a Duration, at most some 292 years",
+        )),
     }
 }
 
@@ -248,7 +251,10 @@ fn add_date(alloc: Global, moment: &DateTimeValue, arguments: &[CowValue<'_>]) -
     ensures { Returns result (AddsDates moment.now (three_integers arguments.now)) }
 {
     let Some((years, months, days)) = three_integers(arguments) else {
-        return Err(refusal(alloc, "AddDate takes years, months and days"));
+        return Err(refusal(
+            alloc,
+            "AddDate takes years, months and days as three integers",
+        ));
     };
     later_date(alloc, moment, years, months, days)
 }
@@ -263,7 +269,10 @@ fn later_date(
     ensures { Returns result (AddsDate moment.now years months days) }
 {
     let Some(date) = date_after(date_shown(moment), years, months, days) else {
-        return Err(refusal(alloc, "no such date, or out of range"));
+        return Err(refusal(
+            alloc,
+            "the date is out of range, years -9999 to 9999, or does not exist in the time zone",
+        ));
     };
     let civil = DateTime::from_parts(date, time_shown(moment));
     let found = civil_beside(moment, civil)?;
@@ -305,7 +314,7 @@ fn after(alloc: Global, moment: &DateTimeValue, arguments: &[CowValue<'_>]) -> R
         (λ u. Ok (Value.Bool (int_lt (instant u) (instant moment.now))))) }
 {
     let Some(other) = one_moment(arguments) else {
-        return Err(refusal(alloc, "After takes a moment"));
+        return Err(refusal(alloc, "After takes a DateTime"));
     };
     let is_after = other.timestamp().as_nanosecond() < moment.timestamp().as_nanosecond();
     Ok(Value::Bool(is_after))
@@ -316,7 +325,7 @@ fn before(alloc: Global, moment: &DateTimeValue, arguments: &[CowValue<'_>]) -> 
         (λ u. Ok (Value.Bool (int_lt (instant moment.now) (instant u))))) }
 {
     let Some(other) = one_moment(arguments) else {
-        return Err(refusal(alloc, "Before takes a moment"));
+        return Err(refusal(alloc, "Before takes a DateTime"));
     };
     let is_before = moment.timestamp().as_nanosecond() < other.timestamp().as_nanosecond();
     Ok(Value::Bool(is_before))
@@ -327,7 +336,7 @@ fn equal(alloc: Global, moment: &DateTimeValue, arguments: &[CowValue<'_>]) -> R
         (λ u. Ok (Value.Bool (int_eq (instant moment.now) (instant u))))) }
 {
     let Some(other) = one_moment(arguments) else {
-        return Err(refusal(alloc, "Equal takes a moment"));
+        return Err(refusal(alloc, "Equal takes a DateTime"));
     };
     let is_equal = moment.timestamp().as_nanosecond() == other.timestamp().as_nanosecond();
     Ok(Value::Bool(is_equal))
@@ -338,7 +347,7 @@ fn compare(alloc: Global, moment: &DateTimeValue, arguments: &[CowValue<'_>]) ->
         (λ u. Ok (Value.Integer (comparison moment.now u)))) }
 {
     let Some(other) = one_moment(arguments) else {
-        return Err(refusal(alloc, "Compare takes a moment"));
+        return Err(refusal(alloc, "Compare takes a DateTime"));
     };
     Ok(Value::Integer(comparison(moment, other)))
 }

@@ -65,12 +65,12 @@ pub(crate) fn timezone<Z: Zones>(
     ensures { ReturnsExactly result (timezone_answer (Z.zones zones.now) arguments.now) }
 {
     let Some(name) = one_text(arguments) else {
-        return Err(refusal(alloc, "timezone takes the name of a zone"));
+        return Err(refusal(alloc, "timezone takes the name of a time zone"));
     };
     let zone = zone_named(alloc, zones, name)?;
     match zone {
         Some(zone) => Value::timezone(alloc, zone),
-        None => Err(refusal(alloc, "no such zone")),
+        None => Err(refusal(alloc, "unknown time zone")),
     }
 }
 
@@ -83,7 +83,10 @@ pub(crate) fn now(
     ensures { ReturnsExactly result (now_answer (option_copied moment.entry) arguments.now) }
 {
     let Some(moment) = moment else {
-        return Err(refusal(alloc, "the present moment is not known"));
+        return Err(refusal(
+            alloc,
+            "now is not set: the program must set the current time",
+        ));
     };
     in_utc(alloc, moment, arguments)
 }
