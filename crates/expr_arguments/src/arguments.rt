@@ -9,6 +9,7 @@ ghost use Rattle.expr_arguments.specs.Arguments.{without_arguments, one_duration
 
 use crate::array::{Array, array_of};
 use crate::cow::CowValue;
+use crate::messages::unexpected_arguments;
 use expr_value::{Items, Result, Value, refusal};
 use std::alloc::Global;
 
@@ -22,7 +23,7 @@ pub fn without_arguments(alloc: Global, arguments: &[CowValue<'_>], answer: Valu
 {
     match arguments {
         [] => Ok(answer),
-        _ => Err(refusal(alloc, "this method takes no arguments")),
+        _ => Err(unexpected_arguments(alloc, "this method takes no arguments", arguments)),
     }
 }
 
@@ -163,17 +164,20 @@ pub fn array_and_text<'a>(arguments: &'a [CowValue<'_>]) -> Option<(&'a [Value],
     }
 }
 
-/// Moves the argument out, if there is one and it is an array.
+/// Moves the argument out, if there is one and it is an array. Nothing is moved otherwise.
 pub fn one_array<'a>(arguments: &mut [CowValue<'a>]) -> Option<Array<'a>>
     ensures { option_map array_items result ≡ one_of items_of arguments.old }
 {
     match arguments {
-        [array] => array_of(array.take_cow()),
+        [array] => {
+            array.get().as_array()?;
+            array_of(array.take_cow())
+        }
         _ => None,
     }
 }
 
-/// Moves an array out, and returns it with an integer. `None` for other arguments.
+/// Moves an array out, and returns it with an integer. `None` for other arguments, and then nothing is moved.
 pub fn array_and_integer<'a>(arguments: &mut [CowValue<'a>]) -> Option<(Array<'a>, i64)>
     ensures { option_map (λ p. (array_items p.0, p.1)) result ≡ two_of items_of integer_of arguments.old }
 {
@@ -181,6 +185,7 @@ pub fn array_and_integer<'a>(arguments: &mut [CowValue<'a>]) -> Option<(Array<'a
         return None;
     };
     let number = number.get().as_integer()?;
+    arguments[0].get().as_array()?;
     Some((array_of(arguments[0].take_cow())?, number))
 }
 

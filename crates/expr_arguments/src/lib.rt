@@ -12,6 +12,7 @@
 mod arguments;
 mod array;
 mod cow;
+mod messages;
 mod position;
 mod times;
 
@@ -24,5 +25,8 @@ pub use array::{
     Array, array_of, count_items, cows_of_values, each_cow, into_items, values_of_cows,
 };
 pub use cow::{Cow, CowValue};
+pub use messages::{
+    kind_of, refusal_of, unexpected_arguments, unexpected_integer, unexpected_value, unknown_zone,
+};
 pub use position::item;
 pub use times::{one_moment, one_zone, three_integers, timezone_in};

@@ -3,9 +3,11 @@ ghost use Rattle.std.specs.Prelude.{◌≡◌};
 ghost use Rattle.expr_value.specs.Answers.{Returns};
 ghost use Rattle.expr_builtins.specs.Bits.{BitCalled, bitand, bitor, bitxor, bitnand, bitnot, bitshl, bitshr, bitushr, shifted_left, shifted_right, shifted_unsigned};
 
-use expr_arguments::{CowValue, one_integer, two_integers};
+use expr_arguments::{
+    CowValue, one_integer, two_integers, unexpected_arguments, unexpected_integer,
+};
 use expr_functions::BitCall;
-use expr_value::{Result, Value, refusal};
+use expr_value::{Result, Value};
 use std::alloc::Global;
 
 /// Calls a built-in on bits with these arguments.
@@ -34,7 +36,7 @@ fn bitand(alloc: Global, arguments: &[CowValue<'_>]) -> Result<Value>
     ensures { Returns result (λ answer. answer ≡ bitand arguments.now) }
 {
     let Some((a, b)) = two_integers(arguments) else {
-        return Err(refusal(alloc, "bitand takes two integers"));
+        return Err(unexpected_arguments(alloc, "bitand takes two integers", arguments));
     };
     Ok(Value::Integer(a & b))
 }
@@ -44,7 +46,7 @@ fn bitor(alloc: Global, arguments: &[CowValue<'_>]) -> Result<Value>
     ensures { Returns result (λ answer. answer ≡ bitor arguments.now) }
 {
     let Some((a, b)) = two_integers(arguments) else {
-        return Err(refusal(alloc, "bitor takes two integers"));
+        return Err(unexpected_arguments(alloc, "bitor takes two integers", arguments));
     };
     Ok(Value::Integer(a | b))
 }
@@ -54,7 +56,7 @@ fn bitxor(alloc: Global, arguments: &[CowValue<'_>]) -> Result<Value>
     ensures { Returns result (λ answer. answer ≡ bitxor arguments.now) }
 {
     let Some((a, b)) = two_integers(arguments) else {
-        return Err(refusal(alloc, "bitxor takes two integers"));
+        return Err(unexpected_arguments(alloc, "bitxor takes two integers", arguments));
     };
     Ok(Value::Integer(a ^ b))
 }
@@ -64,7 +66,7 @@ fn bitnand(alloc: Global, arguments: &[CowValue<'_>]) -> Result<Value>
     ensures { Returns result (λ answer. answer ≡ bitnand arguments.now) }
 {
     let Some((a, b)) = two_integers(arguments) else {
-        return Err(refusal(alloc, "bitnand takes two integers"));
+        return Err(unexpected_arguments(alloc, "bitnand takes two integers", arguments));
     };
     Ok(Value::Integer(a & !b))
 }
@@ -74,7 +76,7 @@ fn bitnot(alloc: Global, arguments: &[CowValue<'_>]) -> Result<Value>
     ensures { Returns result (λ answer. answer ≡ bitnot arguments.now) }
 {
     let Some(a) = one_integer(arguments) else {
-        return Err(refusal(alloc, "bitnot takes an integer"));
+        return Err(unexpected_arguments(alloc, "bitnot takes an integer", arguments));
     };
     Ok(Value::Integer(!a))
 }
@@ -116,10 +118,10 @@ fn bitshl(alloc: Global, arguments: &[CowValue<'_>]) -> Result<Value>
     ensures { Returns result (λ answer. answer ≡ bitshl arguments.now) }
 {
     let Some((a, count)) = two_integers(arguments) else {
-        return Err(refusal(alloc, "bitshl takes two integers"));
+        return Err(unexpected_arguments(alloc, "bitshl takes two integers", arguments));
     };
     if count < 0 {
-        return Err(refusal(alloc, "bitshl takes a shift of 0 or more"));
+        return Err(unexpected_integer(alloc, "bitshl takes a shift of 0 or more", count));
     }
     Ok(Value::Integer(shifted_left(a, count as u64)))
 }
@@ -129,10 +131,10 @@ fn bitshr(alloc: Global, arguments: &[CowValue<'_>]) -> Result<Value>
     ensures { Returns result (λ answer. answer ≡ bitshr arguments.now) }
 {
     let Some((a, count)) = two_integers(arguments) else {
-        return Err(refusal(alloc, "bitshr takes two integers"));
+        return Err(unexpected_arguments(alloc, "bitshr takes two integers", arguments));
     };
     if count < 0 {
-        return Err(refusal(alloc, "bitshr takes a shift of 0 or more"));
+        return Err(unexpected_integer(alloc, "bitshr takes a shift of 0 or more", count));
     }
     Ok(Value::Integer(shifted_right(a, count as u64)))
 }
@@ -142,10 +144,10 @@ fn bitushr(alloc: Global, arguments: &[CowValue<'_>]) -> Result<Value>
     ensures { Returns result (λ answer. answer ≡ bitushr arguments.now) }
 {
     let Some((a, count)) = two_integers(arguments) else {
-        return Err(refusal(alloc, "bitushr takes two integers"));
+        return Err(unexpected_arguments(alloc, "bitushr takes two integers", arguments));
     };
     if count < 0 {
-        return Err(refusal(alloc, "bitushr takes a shift of 0 or more"));
+        return Err(unexpected_integer(alloc, "bitushr takes a shift of 0 or more", count));
     }
     Ok(Value::Integer(shifted_unsigned(a, count as u64)))
 }

@@ -15,7 +15,8 @@ use crate::cuts::join_texts;
 use crate::{distinct, nested};
 use expr_arguments::{
     Array, CowValue, array_and_integer, array_and_text, array_of, count_items, each_cow,
-    into_items, item, one_array, one_value, two_values,
+    into_items, item, one_array, one_value, two_values, unexpected_arguments, unexpected_integer,
+    unexpected_value,
 };
 use expr_functions::CollectionCall;
 use expr_value::{Items, Key, KeyedMap, Result, Text, Value, ValueMap, refusal};
@@ -59,10 +60,10 @@ fn len(alloc: Global, arguments: &[CowValue<'_>]) -> Result<Value>
     ensures { Returns result (λ answer. answer ≡ len arguments.now) }
 {
     let Some(value) = one_value(arguments) else {
-        return Err(refusal(alloc, "len takes one value"));
+        return Err(unexpected_arguments(alloc, "len takes one value", arguments));
     };
     let Some(count) = size(value) else {
-        return Err(refusal(alloc, "len takes an array, a string, bytes or a map"));
+        return Err(unexpected_value(alloc, "len takes an array, a string, bytes or a map", value));
     };
     Ok(Value::from(count))
 }
@@ -91,7 +92,7 @@ fn first(alloc: Global, arguments: &mut [CowValue<'_>]) -> Result<Value>
     ensures { Returns result (λ answer. answer ≡ first arguments.old) }
 {
     let Some(array) = one_array(arguments) else {
-        return Err(refusal(alloc, "first takes an array"));
+        return Err(unexpected_arguments(alloc, "first takes an array", arguments));
     };
     item_at(array, 0)
 }
@@ -101,7 +102,7 @@ fn last(alloc: Global, arguments: &mut [CowValue<'_>]) -> Result<Value>
     ensures { Returns result (λ answer. answer ≡ last arguments.old) }
 {
     let Some(array) = one_array(arguments) else {
-        return Err(refusal(alloc, "last takes an array"));
+        return Err(unexpected_arguments(alloc, "last takes an array", arguments));
     };
     let last = count_items(&array).saturating_sub(1);
     item_at(array, last)
@@ -112,10 +113,10 @@ fn take_items(alloc: Global, arguments: &mut [CowValue<'_>]) -> Result<Value>
     ensures { Returns result (λ answer. answer ≡ take_items arguments.old) }
 {
     let Some((array, count)) = array_and_integer(arguments) else {
-        return Err(refusal(alloc, "take takes an array and an integer"));
+        return Err(unexpected_arguments(alloc, "take takes an array and an integer", arguments));
     };
     if count < 0 {
-        return Err(refusal(alloc, "take takes a count of 0 or more"));
+        return Err(unexpected_integer(alloc, "take takes a count of 0 or more", count));
     }
     let items = first_items(alloc, array, count as usize)?;
     Ok(Value::Array(Items::from_vec(items)))
@@ -126,7 +127,7 @@ fn reverse(alloc: Global, arguments: &mut [CowValue<'_>]) -> Result<Value>
     ensures { Returns result (λ answer. answer ≡ reversed_array arguments.old) }
 {
     let Some(array) = one_array(arguments) else {
-        return Err(refusal(alloc, "reverse takes an array"));
+        return Err(unexpected_arguments(alloc, "reverse takes an array", arguments));
     };
     let mut items = into_items(alloc, array)?;
     items.reverse();
@@ -138,12 +139,12 @@ fn keys(alloc: Global, arguments: &[CowValue<'_>]) -> Result<Value>
     ensures { Returns result (λ answer. answer ≡ keys arguments.now) }
 {
     let Some(value) = one_value(arguments) else {
-        return Err(refusal(alloc, "keys takes a map"));
+        return Err(unexpected_arguments(alloc, "keys takes a map", arguments));
     };
     match value {
         Value::Map(map) => names(alloc, map.keys()),
         Value::KeyedMap(map) => scalars(alloc, map.keys()),
-        _ => Err(refusal(alloc, "keys takes a map")),
+        _ => Err(unexpected_value(alloc, "keys takes a map", value)),
     }
 }
 
@@ -174,7 +175,7 @@ fn values(alloc: Global, arguments: &[CowValue<'_>]) -> Result<Value>
     ensures { Returns result (λ answer. answer ≡ values arguments.now) }
 {
     let Some(value) = one_value(arguments) else {
-        return Err(refusal(alloc, "values takes a map"));
+        return Err(unexpected_arguments(alloc, "values takes a map", arguments));
     };
     match value {
         Value::Map(map) => {
@@ -185,7 +186,7 @@ fn values(alloc: Global, arguments: &[CowValue<'_>]) -> Result<Value>
             let values = map.values().to_vec(alloc)?;
             Ok(Value::Array(Items::from_vec(values)))
         }
-        _ => Err(refusal(alloc, "values takes a map")),
+        _ => Err(unexpected_value(alloc, "values takes a map", value)),
     }
 }
 
@@ -194,7 +195,7 @@ fn get(alloc: Global, arguments: &[CowValue<'_>]) -> Result<Value>
     ensures { Returns result (λ answer. answer ≡ get arguments.now) }
 {
     let Some((value, key)) = two_values(arguments) else {
-        return Err(refusal(alloc, "get takes a value and a key"));
+        return Err(unexpected_arguments(alloc, "get takes a value and a key", arguments));
     };
     match (value, key) {
         (Value::Array(items), Value::Integer(place)) => {
@@ -206,9 +207,10 @@ fn get(alloc: Global, arguments: &[CowValue<'_>]) -> Result<Value>
         },
         (Value::Map(map), Value::String(name)) => copied_or_nil(map.get(name.as_str())),
         (Value::KeyedMap(map), _) => copied_or_nil(map.get(key)),
-        _ => Err(refusal(
+        _ => Err(unexpected_arguments(
             alloc,
             "get takes an array or bytes and an integer, or a map and a key",
+            arguments,
         )),
     }
 }
@@ -228,7 +230,11 @@ fn join(alloc: Global, arguments: &[CowValue<'_>]) -> Result<Value>
     ensures { Returns result (λ answer. answer ≡ join arguments.now) }
 {
     let Some((items, separator)) = array_and_text(arguments) else {
-        return Err(refusal(alloc, "join takes an array and an optional string"));
+        return Err(unexpected_arguments(
+            alloc,
+            "join takes an array and an optional string",
+            arguments,
+        ));
     };
     let Some(parts) = texts(alloc, items)? else {
         return Err(refusal(alloc, "join takes an array of strings"));
@@ -258,12 +264,12 @@ fn to_pairs(alloc: Global, arguments: &[CowValue<'_>]) -> Result<Value>
     ensures { Returns result (λ answer. answer ≡ to_pairs arguments.now) }
 {
     let Some(value) = one_value(arguments) else {
-        return Err(refusal(alloc, "toPairs takes a map"));
+        return Err(unexpected_arguments(alloc, "toPairs takes a map", arguments));
     };
     match value {
         Value::Map(map) => named_pairs(alloc, map),
         Value::KeyedMap(map) => keyed_pairs(alloc, map),
-        _ => Err(refusal(alloc, "toPairs takes a map")),
+        _ => Err(unexpected_value(alloc, "toPairs takes a map", value)),
     }
 }
 
@@ -311,7 +317,7 @@ fn from_pairs(alloc: Global, arguments: &mut [CowValue<'_>]) -> Result<Value>
     ensures { Returns result (λ answer. answer ≡ from_pairs arguments.old) }
 {
     let Some(array) = one_array(arguments) else {
-        return Err(refusal(alloc, "fromPairs takes an array"));
+        return Err(unexpected_arguments(alloc, "fromPairs takes an array", arguments));
     };
     let items = each_cow(alloc, array)?;
     let Some(pairs) = pairs_of_items(alloc, items)? else {

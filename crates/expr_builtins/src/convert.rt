@@ -4,7 +4,7 @@ ghost use Rattle.expr_value.specs.declared.value.Value.{out-Value};
 ghost use Rattle.expr_value.specs.Answers.{Returns};
 ghost use Rattle.expr_builtins.specs.Conversions.{ConversionCalled, Int, ReadsInteger, string, kind_text, type_name};
 
-use expr_arguments::{CowValue, one_value};
+use expr_arguments::{CowValue, one_value, unexpected_arguments, unexpected_value};
 use expr_functions::ConversionCall;
 use expr_value::{Result, Text, Value, refusal};
 use std::alloc::Global;
@@ -35,12 +35,12 @@ fn int(alloc: Global, arguments: &[CowValue<'_>]) -> Result<Value>
     ensures { Returns result (Int arguments.now) }
 {
     let Some(value) = one_value(arguments) else {
-        return Err(refusal(alloc, "int takes one value"));
+        return Err(unexpected_arguments(alloc, "int takes one value", arguments));
     };
     match value {
         Value::Integer(number) => Ok(Value::Integer(*number)),
         Value::String(text) => read(alloc, text.as_str()),
-        _ => Err(refusal(alloc, "int takes an integer or a string")),
+        _ => Err(unexpected_value(alloc, "int takes an integer or a string", value)),
     }
 }
 
@@ -61,7 +61,7 @@ fn string(alloc: Global, arguments: &[CowValue<'_>]) -> Result<Value>
     ensures { Returns result (λ answer. answer ≡ string arguments.now) }
 {
     let Some(value) = one_value(arguments) else {
-        return Err(refusal(alloc, "string takes one value"));
+        return Err(unexpected_arguments(alloc, "string takes one value", arguments));
     };
     let text = value.string_text(alloc)?;
     Ok(Value::String(Text::from_string(text)))
@@ -72,7 +72,7 @@ fn type_name(alloc: Global, arguments: &[CowValue<'_>]) -> Result<Value>
     ensures { Returns result (λ answer. answer ≡ type_name arguments.now) }
 {
     let Some(value) = one_value(arguments) else {
-        return Err(refusal(alloc, "type takes one value"));
+        return Err(unexpected_arguments(alloc, "type takes one value", arguments));
     };
     Value::text(alloc, kind_text(value))
 }

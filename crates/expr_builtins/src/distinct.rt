@@ -6,8 +6,8 @@ ghost use Rattle.expr_value.specs.Values.{at_key, key_of};
 ghost use Rattle.expr_builtins.specs.Distinct.{uniq, distinct, keys_among, with_new};
 ghost use Rattle.expr_error.specs.ErrorKind.{OnlyMemory};
 
-use expr_arguments::{CowValue, each_cow, one_array};
-use expr_value::{Items, Key, OrderedMap, Result, Value, refusal};
+use expr_arguments::{CowValue, each_cow, one_array, unexpected_arguments};
+use expr_value::{Items, Key, OrderedMap, Result, Value};
 use std::alloc::Global;
 
 /// The most items that are compared with each other, which costs less than a look-up of their keys.
@@ -18,7 +18,7 @@ pub(crate) fn uniq(alloc: Global, arguments: &mut [CowValue<'_>]) -> Result<Valu
     ensures { Returns result (λ answer. answer ≡ uniq arguments.old) }
 {
     let Some(array) = one_array(arguments) else {
-        return Err(refusal(alloc, "uniq takes an array"));
+        return Err(unexpected_arguments(alloc, "uniq takes an array", arguments));
     };
     let items = distinct(alloc, each_cow(alloc, array)?)?;
     Ok(Value::Array(Items::from_vec(items)))

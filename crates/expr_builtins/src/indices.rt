@@ -3,8 +3,8 @@ ghost use Rattle.std.specs.Prelude.{◌≡◌};
 ghost use Rattle.expr_value.specs.Answers.{Returns};
 ghost use Rattle.expr_builtins.specs.Indices.{index_of, last_index_of, least_place, greatest_place, place_or_less};
 
-use expr_arguments::{CowValue, two_texts};
-use expr_value::{Result, Value, refusal};
+use expr_arguments::{CowValue, two_texts, unexpected_arguments};
+use expr_value::{Result, Value};
 use std::alloc::Global;
 
 /// `indexOf`: the byte offset of the first match of a string in another, or -1.
@@ -12,7 +12,7 @@ pub(crate) fn index_of(alloc: Global, arguments: &[CowValue<'_>]) -> Result<Valu
     ensures { Returns result (λ answer. answer ≡ index_of arguments.now) }
 {
     let Some((text, sought)) = two_texts(arguments) else {
-        return Err(refusal(alloc, "indexOf takes two strings"));
+        return Err(unexpected_arguments(alloc, "indexOf takes two strings", arguments));
     };
     Ok(place_or_less(least_place(text, sought)))
 }
@@ -22,7 +22,7 @@ pub(crate) fn last_index_of(alloc: Global, arguments: &[CowValue<'_>]) -> Result
     ensures { Returns result (λ answer. answer ≡ last_index_of arguments.now) }
 {
     let Some((text, sought)) = two_texts(arguments) else {
-        return Err(refusal(alloc, "lastIndexOf takes two strings"));
+        return Err(unexpected_arguments(alloc, "lastIndexOf takes two strings", arguments));
     };
     Ok(place_or_less(greatest_place(text, sought)))
 }

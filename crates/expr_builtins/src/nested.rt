@@ -6,8 +6,10 @@ ghost use Rattle.expr_arguments.specs.Arrays.{array_items};
 ghost use Rattle.expr_builtins.specs.Nested.{flatten, all_flat_items};
 ghost use Rattle.expr_error.specs.ErrorKind.{OnlyMemory};
 
-use expr_arguments::{Array, Cow, CowValue, each_cow, one_array, values_of_cows};
-use expr_value::{Items, Result, Value, refusal};
+use expr_arguments::{
+    Array, Cow, CowValue, each_cow, one_array, unexpected_arguments, values_of_cows,
+};
+use expr_value::{Items, Result, Value};
 use std::alloc::Global;
 
 /// `flatten`: an array whose nested arrays are replaced by their items, at every depth.
@@ -15,7 +17,7 @@ pub(crate) fn flatten(alloc: Global, arguments: &mut [CowValue<'_>]) -> Result<V
     ensures { Returns result (λ answer. answer ≡ flatten arguments.old) }
 {
     let Some(array) = one_array(arguments) else {
-        return Err(refusal(alloc, "flatten takes an array"));
+        return Err(unexpected_arguments(alloc, "flatten takes an array", arguments));
     };
     let found = flat_items(alloc, each_cow(alloc, array)?)?;
     let items = values_of_cows(alloc, found)?;

@@ -10,7 +10,7 @@ ghost use Rattle.expr_builtins.specs.Nested.{all_flat_items};
 ghost use Rattle.expr_builtins.specs.Numbers.{NumberCalled, abs, choice_of, greatest, least};
 
 use crate::nested::flat_items;
-use expr_arguments::{CowValue, one_integer};
+use expr_arguments::{CowValue, one_integer, unexpected_arguments};
 use expr_functions::NumberCall;
 use expr_value::{Result, Value, refusal};
 use std::alloc::Global;
@@ -48,7 +48,7 @@ fn abs(alloc: Global, arguments: &[CowValue<'_>]) -> Result<Value>
     ensures { Returns result (λ answer. answer ≡ abs arguments.now) }
 {
     let Some(a) = one_integer(arguments) else {
-        return Err(refusal(alloc, "abs takes an integer"));
+        return Err(unexpected_arguments(alloc, "abs takes an integer", arguments));
     };
     Ok(Value::Integer(a.wrapping_abs()))
 }

@@ -9,7 +9,7 @@ use crate::split_after::parts_after;
 use crate::{indices, trimmed};
 use expr_arguments::{
     CowValue, one_or_two_texts, one_text, text_and_integer, three_texts_and_limit, two_texts,
-    two_texts_and_limit,
+    two_texts_and_limit, unexpected_arguments, unexpected_integer,
 };
 use expr_error::{has_back, has_front};
 use expr_functions::TextCall;
@@ -47,7 +47,7 @@ fn has_prefix(alloc: Global, arguments: &[CowValue<'_>]) -> Result<Value>
     ensures { Returns result (λ answer. answer ≡ has_prefix arguments.now) }
 {
     let Some((text, front)) = two_texts(arguments) else {
-        return Err(refusal(alloc, "hasPrefix takes two strings"));
+        return Err(unexpected_arguments(alloc, "hasPrefix takes two strings", arguments));
     };
     Ok(Value::Bool(has_front(text, front)))
 }
@@ -57,7 +57,7 @@ fn has_suffix(alloc: Global, arguments: &[CowValue<'_>]) -> Result<Value>
     ensures { Returns result (λ answer. answer ≡ has_suffix arguments.now) }
 {
     let Some((text, back)) = two_texts(arguments) else {
-        return Err(refusal(alloc, "hasSuffix takes two strings"));
+        return Err(unexpected_arguments(alloc, "hasSuffix takes two strings", arguments));
     };
     Ok(Value::Bool(has_back(text, back)))
 }
@@ -67,7 +67,7 @@ fn trim_prefix(alloc: Global, arguments: &[CowValue<'_>]) -> Result<Value>
     ensures { Returns result (λ answer. answer ≡ trim_prefix arguments.now) }
 {
     let Some((text, front)) = one_or_two_texts(arguments) else {
-        return Err(refusal(alloc, "trimPrefix takes one or two strings"));
+        return Err(unexpected_arguments(alloc, "trimPrefix takes one or two strings", arguments));
     };
     Value::text(alloc, without_front(text, front))
 }
@@ -77,7 +77,7 @@ fn trim_suffix(alloc: Global, arguments: &[CowValue<'_>]) -> Result<Value>
     ensures { Returns result (λ answer. answer ≡ trim_suffix arguments.now) }
 {
     let Some((text, back)) = one_or_two_texts(arguments) else {
-        return Err(refusal(alloc, "trimSuffix takes one or two strings"));
+        return Err(unexpected_arguments(alloc, "trimSuffix takes one or two strings", arguments));
     };
     Value::text(alloc, without_back(text, back))
 }
@@ -105,7 +105,11 @@ fn split(alloc: Global, arguments: &[CowValue<'_>]) -> Result<Value>
     ensures { Returns result (λ answer. answer ≡ split arguments.now) }
 {
     let Some((text, separator, limit)) = two_texts_and_limit(arguments) else {
-        return Err(refusal(alloc, "split takes two strings and an optional limit"));
+        return Err(unexpected_arguments(
+            alloc,
+            "split takes two strings and an optional limit",
+            arguments,
+        ));
     };
     let found = parts(alloc, text, separator, limit)?;
     array_of_texts(alloc, &found)
@@ -116,7 +120,11 @@ fn split_after(alloc: Global, arguments: &[CowValue<'_>]) -> Result<Value>
     ensures { Returns result (λ answer. answer ≡ split_after arguments.now) }
 {
     let Some((text, separator, limit)) = two_texts_and_limit(arguments) else {
-        return Err(refusal(alloc, "splitAfter takes two strings and an optional limit"));
+        return Err(unexpected_arguments(
+            alloc,
+            "splitAfter takes two strings and an optional limit",
+            arguments,
+        ));
     };
     let parts = parts_after(alloc, text, separator, limit)?;
     Ok(Value::Array(Items::from_vec(parts)))
@@ -138,7 +146,11 @@ fn replace(alloc: Global, arguments: &[CowValue<'_>]) -> Result<Value>
     ensures { Returns result (λ answer. answer ≡ replace arguments.now) }
 {
     let Some((text, from, to, limit)) = three_texts_and_limit(arguments) else {
-        return Err(refusal(alloc, "replace takes three strings and an optional limit"));
+        return Err(unexpected_arguments(
+            alloc,
+            "replace takes three strings and an optional limit",
+            arguments,
+        ));
     };
     let text = replace_matches(alloc, text, from, to, limit)?;
     Ok(Value::String(Text::from_string(text)))
@@ -149,21 +161,23 @@ fn repeat_text(alloc: Global, arguments: &[CowValue<'_>]) -> Result<Value>
     ensures { Returns result (λ answer. answer ≡ repeat_text arguments.now) }
 {
     let Some((text, count)) = text_and_integer(arguments) else {
-        return Err(refusal(alloc, "repeat takes a string and an integer"));
+        return Err(unexpected_arguments(alloc, "repeat takes a string and an integer", arguments));
     };
     repeat_times(alloc, text, count)
 }
+
+const REPEAT_TAKES: &str = "repeat takes a count from 0 to 1000000";
 
 fn repeat_times(alloc: Global, text: &str, count: i64) -> Result<Value>
     ensures { Returns result (λ answer. answer ≡ repeated_text text.now count) }
 {
     if count < 0 {
-        return Err(refusal(alloc, "repeat takes a count from 0 to 1000000"));
+        return Err(unexpected_integer(alloc, REPEAT_TAKES, count));
+    }
+    if count > 1_000_000 {
+        return Err(unexpected_integer(alloc, REPEAT_TAKES, count));
     }
     let count = count as usize;
-    if count > 1_000_000 {
-        return Err(refusal(alloc, "repeat takes a count from 0 to 1000000"));
-    }
     if count.checked_mul(text.len()).is_none() {
         return Err(refusal(alloc, "the result of repeat is too long"));
     }
@@ -175,7 +189,7 @@ fn upper(alloc: Global, arguments: &[CowValue<'_>]) -> Result<Value>
     ensures { Returns result (Upper arguments.now) }
 {
     let Some(text) = one_text(arguments) else {
-        return Err(refusal(alloc, "upper takes a string"));
+        return Err(unexpected_arguments(alloc, "upper takes a string", arguments));
     };
     Ok(Value::String(Text::from_string(text.to_uppercase(alloc)?)))
 }
@@ -185,7 +199,7 @@ fn lower(alloc: Global, arguments: &[CowValue<'_>]) -> Result<Value>
     ensures { Returns result (Lower arguments.now) }
 {
     let Some(text) = one_text(arguments) else {
-        return Err(refusal(alloc, "lower takes a string"));
+        return Err(unexpected_arguments(alloc, "lower takes a string", arguments));
     };
     Ok(Value::String(Text::from_string(text.to_lowercase(alloc)?)))
 }

@@ -6,8 +6,8 @@ ghost use Rattle.std.specs.Str.{chars};
 ghost use Rattle.expr_value.specs.Answers.{Returns};
 ghost use Rattle.expr_builtins.specs.Trimmed.{Trim, IsTrimmed};
 
-use expr_arguments::{CowValue, one_text, two_texts};
-use expr_value::{Result, Value, refusal};
+use expr_arguments::{CowValue, one_text, two_texts, unexpected_arguments};
+use expr_value::{Result, Value};
 use std::alloc::{AllocError, Global};
 
 /// The most characters that are searched one by one, which costs less than sorting them.
@@ -21,7 +21,7 @@ pub(crate) fn trim(alloc: Global, arguments: &[CowValue<'_>]) -> Result<Value>
         return Value::text(alloc, without_space(text));
     }
     let Some((text, set)) = two_texts(arguments) else {
-        return Err(refusal(alloc, "trim takes one or two strings"));
+        return Err(unexpected_arguments(alloc, "trim takes one or two strings", arguments));
     };
     let set = characters(alloc, set)?;
     if set.len() <= FEW {

@@ -5,9 +5,9 @@ ghost use Rattle.expr_encoding.specs.Calls.{EncodingMayReturn, Encodes, in_json_
 use crate::radix64::{from_base64, to_base64};
 use crate::reading::from_json;
 use crate::writing::to_json;
-use expr_arguments::{CowValue, one_value};
+use expr_arguments::{CowValue, one_value, unexpected_arguments, unexpected_value};
 use expr_functions::EncodingCall;
-use expr_value::{Result, Value, refusal};
+use expr_value::{Result, Value};
 use std::alloc::Global;
 
 /// Calls a built-in that reads or writes an encoding, with one argument.
@@ -20,7 +20,7 @@ pub fn call_encoding(alloc: Global, call: EncodingCall, arguments: &[CowValue<'_
     ensures { Returns result (EncodingMayReturn call arguments.now) }
 {
     let Some(value) = one_value(arguments) else {
-        return Err(refusal(alloc, "expected one argument"));
+        return Err(unexpected_arguments(alloc, "expected one argument", arguments));
     };
     encode(alloc, call, value)
 }
@@ -41,7 +41,7 @@ fn read_json(alloc: Global, value: &Value) -> Result<Value>
 {
     match value {
         Value::String(text) => from_json(alloc, text.as_str()),
-        _ => Err(refusal(alloc, "fromJSON takes a string")),
+        _ => Err(unexpected_value(alloc, "fromJSON takes a string", value)),
     }
 }
 

@@ -4,6 +4,7 @@ ghost use Rattle.expr_encoding.specs.Base64.{Decodes, FromBase64, encoded_text, 
 
 use base64::DecodeAllocError;
 use base64::engine::general_purpose::STANDARD;
+use expr_arguments::unexpected_value;
 use expr_value::{Error, Result, Text, Value, refusal};
 use std::alloc::Global;
 
@@ -17,7 +18,7 @@ pub fn to_base64(alloc: Global, value: &Value) -> Result<Value>
 {
     match value {
         Value::String(text) => Ok(Value::String(encode(alloc, text.as_str())?)),
-        _ => Err(refusal(alloc, "toBase64 takes a string")),
+        _ => Err(unexpected_value(alloc, "toBase64 takes a string", value)),
     }
 }
 
@@ -31,7 +32,7 @@ pub fn from_base64(alloc: Global, value: &Value) -> Result<Value>
 {
     match value {
         Value::String(text) => Ok(Value::String(decode(alloc, text.as_str())?)),
-        _ => Err(refusal(alloc, "fromBase64 takes a string")),
+        _ => Err(unexpected_value(alloc, "fromBase64 takes a string", value)),
     }
 }
 

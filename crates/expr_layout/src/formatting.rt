@@ -8,8 +8,8 @@ ghost use Rattle.expr_error.specs.ErrorKind.{OnlyMemory};
 use crate::layout::tokens_of;
 use crate::print::show;
 use crate::token::{Field, LayoutToken, Pad, Spelling};
-use expr_arguments::{CowValue, one_text};
-use expr_value::{DateTimeValue, Result, Text, Value, refusal};
+use expr_arguments::{CowValue, one_text, unexpected_arguments};
+use expr_value::{DateTimeValue, Result, Text, Value};
 use std::alloc::Global;
 use std::fmt;
 use std::fmt::{Formatter, Write};
@@ -23,9 +23,10 @@ pub fn format(alloc: Global, moment: &DateTimeValue, arguments: &[CowValue<'_>])
     ensures { Returns result (Formats moment.now (one_text arguments.now)) }
 {
     let Some(layout) = one_text(arguments) else {
-        return Err(refusal(
+        return Err(unexpected_arguments(
             alloc,
             "Format takes a layout string, such as \"2006-01-02\"",
+            arguments,
         ));
     };
     format_by(alloc, moment, layout)

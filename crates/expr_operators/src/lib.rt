@@ -27,6 +27,6 @@ pub use cow::{part_of, slice_of};
 pub use expr_arguments::CowValue;
 pub use laws::{outside_is_not_within, part_stands_between_front_and_back, unequal_is_not_equal};
 pub use matching::match_pattern;
-pub use messages::{refusal_of, unexpected_kind, unknown_function, unknown_method, unknown_name};
+pub use messages::{unexpected_kind, unknown_function, unknown_method, unknown_name};
 pub use operators::{apply, as_condition, as_truth, judge, prefix};
 pub use positions::{index, range, range_between, slice, slice_bound, slice_lent};

@@ -3,19 +3,10 @@ ghost use Rattle.std.specs.Prelude.{Err};
 ghost use Rattle.expr_value.specs.Answers.{ReturnsExactly};
 ghost use Rattle.expr_error.specs.ErrorKind.{evaluation, IsOfKind};
 
+use expr_arguments::{kind_of, refusal_of};
 use expr_value::{Error, Value};
-use std::alloc::{AllocError, Global};
+use std::alloc::Global;
 use std::fmt::Display;
-
-/// An `ExprError` with this message, or `MemoryError` if there was no memory for it.
-pub fn refusal_of(text: Result<String, AllocError>) -> Error
-    ensures { IsOfKind result evaluation }
-{
-    match text {
-        Ok(text) => Error::ExprError(text),
-        Err(_) => Error::MemoryError,
-    }
-}
 
 /// The error for operands that an operator doesn't take.
 pub fn mismatch<D: Display>(alloc: Global, operator: &D, left: &Value, right: &Value) -> Error
@@ -62,25 +53,6 @@ pub fn unexpected_after(alloc: Global, operator: &str, expected: &str, met: &Val
 {
     let met = kind_of(met);
     refusal_of(format!(in alloc; "expected {expected} after {operator}, found {met}"))
-}
-
-/// The kind of a value, for messages.
-fn kind_of(value: &Value) -> &'static str {
-    match value {
-        Value::Integer(_) => "an Integer",
-        Value::Bool(_) => "a Bool",
-        Value::Nil => "nil",
-        Value::String(_) => "a String",
-        Value::Duration(_) => "a Duration",
-        Value::Month(_) => "a Month",
-        Value::Weekday(_) => "a Weekday",
-        Value::DateTime(_) => "a DateTime",
-        Value::Timezone(_) => "a Timezone",
-        Value::Array(_) => "an Array",
-        Value::Bytes(_) => "Bytes",
-        Value::Map(_) => "a Map",
-        Value::KeyedMap(_) => "a KeyedMap",
-    }
 }
 
 /// The error for a name that neither the context nor a `let` line has.

@@ -4,9 +4,9 @@ ghost use Rattle.expr_value.specs.Answers.{ReturnsExactly};
 ghost use Rattle.expr_value.specs.Values.{string_of};
 ghost use Rattle.expr_predicates.specs.Calls.{direction_named, direction_of, runs_alone};
 
-use expr_arguments::CowValue;
+use expr_arguments::{CowValue, unexpected_value};
 use expr_functions::HigherOrderCall;
-use expr_value::{Result, Value, refusal};
+use expr_value::{Result, Value};
 use std::alloc::Global;
 
 /// Whether a built-in needs no predicate. Without one, each item is the predicate's result for itself.
@@ -23,7 +23,7 @@ pub(crate) fn direction(alloc: Global, order: &Value) -> Result<bool>
     match order.as_string() {
         Some("desc") => Ok(true),
         Some("asc") => Ok(false),
-        _ => Err(refusal(alloc, "the order must be \"asc\" or \"desc\"")),
+        _ => Err(unexpected_value(alloc, "the order must be \"asc\" or \"desc\"", order)),
     }
 }
 

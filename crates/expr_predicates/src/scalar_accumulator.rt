@@ -6,6 +6,7 @@ ghost use Rattle.expr_error.specs.ErrorKind.{evaluation, RefusesWith, IsOfKind};
 ghost use Rattle.expr_value.specs.declared.value.Value.{Value as value};
 ghost use Rattle.expr_predicates.specs.Folds.{place_or_none};
 
+use expr_arguments::unexpected_value;
 use expr_functions::HigherOrderCall;
 use expr_value::{Error, Result, Value, refusal};
 use std::alloc::Global;
@@ -121,15 +122,20 @@ impl ScalarAccumulator {
 
     /// The error for a result that isn't accepted.
     #[inline(never)]
-    fn refusal(&self, alloc: Global) -> Error
+    fn refusal(&self, alloc: Global, answer: &Value) -> Error
         ensures { IsOfKind result evaluation }
     {
         match self {
-            ScalarAccumulator::Sum(_) => refusal(
+            ScalarAccumulator::Sum(_) => unexpected_value(
                 alloc,
                 "sum takes integers, or a predicate that returns an integer",
+                answer,
             ),
-            _ => refusal(alloc, "count takes a predicate that returns a boolean"),
+            _ => unexpected_value(
+                alloc,
+                "count takes a predicate that returns a boolean",
+                answer,
+            ),
         }
     }
 
@@ -149,7 +155,7 @@ impl ScalarAccumulator {
         if self.note(asked, answer) {
             Ok(())
         } else {
-            Err(self.refusal(alloc))
+            Err(self.refusal(alloc, answer))
         }
     }
 

@@ -10,7 +10,7 @@ ghost use Rattle.expr_arguments.specs.Times.{timezone_of};
 
 use crate::civil::civil_of;
 use crate::zones::{Zones, zone_named};
-use expr_arguments::{CowValue, timezone_in};
+use expr_arguments::{CowValue, timezone_in, unexpected_arguments, unexpected_value, unknown_zone};
 use expr_datetime::utc;
 use expr_layout::{Field, KnownFields, LayoutToken, Pad, read_all, tokens_of};
 use expr_moment::{civil_at_offset, civil_in_zone, moment_or_refusal};
@@ -36,7 +36,7 @@ pub(crate) fn date<Z: Zones>(alloc: Global, zones: &Z, arguments: &[CowValue<'_>
         }
         [first, second] => of_two(alloc, first.get(), second.get()),
         [first, second, third] => of_three(alloc, zones, first.get(), second.get(), third.get()),
-        _ => Err(refusal(alloc, "date takes one to three arguments")),
+        _ => Err(unexpected_arguments(alloc, "date takes one to three arguments", arguments)),
     }
 }
 
@@ -64,15 +64,16 @@ fn of_three<Z: Zones>(
         return of_layout(alloc, zone, second, third);
     }
     let Some(name) = third.as_string() else {
-        return Err(refusal(
+        return Err(unexpected_value(
             alloc,
             "date takes the name of a time zone as third argument",
+            third,
         ));
     };
     let zone = zone_named(alloc, zones, name)?;
     match zone {
         Some(zone) => of_layout(alloc, &zone, first, second),
-        None => Err(refusal(alloc, "unknown time zone")),
+        None => Err(unknown_zone(alloc, name)),
     }
 }
 
@@ -80,7 +81,7 @@ fn of_text(alloc: Global, zone: &TimezoneValue, text: &Value) -> Result<Value>
     ensures { Returns result (DatesText zone.now (string_of text.now)) }
 {
     let Some(text) = text.as_string() else {
-        return Err(refusal(alloc, "date takes a string"));
+        return Err(unexpected_value(alloc, "date takes a string", text));
     };
     answer(alloc, by_form(text), zone)
 }
@@ -89,10 +90,14 @@ fn of_layout(alloc: Global, zone: &TimezoneValue, text: &Value, layout: &Value) 
     ensures { Returns result (DatesLayout zone.now (string_of text.now) (string_of layout.now)) }
 {
     let Some(text) = text.as_string() else {
-        return Err(refusal(alloc, "date takes a string"));
+        return Err(unexpected_value(alloc, "date takes a string", text));
     };
     let Some(layout) = layout.as_string() else {
-        return Err(refusal(alloc, "date takes a layout string, such as \"2006-01-02\""));
+        return Err(unexpected_value(
+            alloc,
+            "date takes a layout string, such as \"2006-01-02\"",
+            layout,
+        ));
     };
     by_layout(alloc, zone, text, layout)
 }

@@ -7,7 +7,7 @@ ghost use Rattle.expr_time.specs.LengthMethods.{Duration, ReadsLength, absolute,
 ghost use Rattle.expr_error.specs.ErrorKind.{OnlyMemory};
 
 use crate::spelling::parse_length;
-use expr_arguments::{CowValue, one_duration, one_text, without_arguments};
+use expr_arguments::{CowValue, one_duration, one_text, unexpected_arguments, without_arguments};
 use expr_datetime::show_duration;
 use expr_value::{Result, Text, Value, refusal};
 use std::alloc::Global;
@@ -130,7 +130,7 @@ fn truncate(alloc: Global, nanoseconds: i64, arguments: &[CowValue<'_>]) -> Resu
     ensures { ReturnsExactly result (by_step (one_duration arguments.now) (truncated_nanos nanoseconds)) }
 {
     let Some(step) = one_duration(arguments) else {
-        return Err(refusal(alloc, "Truncate takes a duration"));
+        return Err(unexpected_arguments(alloc, "Truncate takes a duration", arguments));
     };
     Ok(Value::Duration(truncated_to(nanoseconds, step)))
 }
@@ -149,7 +149,7 @@ fn round(alloc: Global, nanoseconds: i64, arguments: &[CowValue<'_>]) -> Result<
     ensures { ReturnsExactly result (by_step (one_duration arguments.now) (rounded_nanos nanoseconds)) }
 {
     let Some(step) = one_duration(arguments) else {
-        return Err(refusal(alloc, "Round takes a duration"));
+        return Err(unexpected_arguments(alloc, "Round takes a duration", arguments));
     };
     Ok(Value::Duration(rounded_to(nanoseconds, step)))
 }
@@ -199,7 +199,7 @@ pub fn duration(alloc: Global, arguments: &[CowValue<'_>]) -> Result<Value>
     ensures { Returns result (Duration arguments.now) }
 {
     let Some(text) = one_text(arguments) else {
-        return Err(refusal(alloc, "duration takes a string"));
+        return Err(unexpected_arguments(alloc, "duration takes a string", arguments));
     };
     read(alloc, text)
 }

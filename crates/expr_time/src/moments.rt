@@ -16,7 +16,8 @@ ghost use Rattle.expr_moment.specs.Zones.{moment_or_refusal, location_of};
 ghost use Rattle.expr_error.specs.ErrorKind.{OnlyMemory};
 
 use expr_arguments::{
-    CowValue, one_duration, one_moment, one_zone, three_integers, without_arguments,
+    CowValue, one_duration, one_moment, one_zone, three_integers, unexpected_arguments,
+    without_arguments,
 };
 use expr_datetime::{show_stamp_of, utc};
 use expr_layout::format;
@@ -215,7 +216,7 @@ fn in_given_zone(alloc: Global, moment: &DateTimeValue, arguments: &[CowValue<'_
         (λ zone. Ok (Value.DateTime (moment_in moment.now (Named zone))))) }
 {
     let Some(zone) = one_zone(arguments) else {
-        return Err(refusal(alloc, "In takes a timezone"));
+        return Err(unexpected_arguments(alloc, "In takes a timezone", arguments));
     };
     let moment = in_zone(moment, zone)?;
     Value::datetime(alloc, moment)
@@ -226,7 +227,7 @@ fn add(alloc: Global, moment: &DateTimeValue, arguments: &[CowValue<'_>]) -> Res
         (answer_on (one_duration arguments.now) (λ n. moment_or_refusal (moment_later moment.now n))) }
 {
     let Some(nanoseconds) = one_duration(arguments) else {
-        return Err(refusal(alloc, "Add takes a duration"));
+        return Err(unexpected_arguments(alloc, "Add takes a duration", arguments));
     };
     let moment = moment.clone()?;
     moment_or_refusal(alloc, moment.checked_add_signed(nanoseconds))
@@ -236,7 +237,7 @@ fn subtract(alloc: Global, moment: &DateTimeValue, arguments: &[CowValue<'_>]) -
     ensures { ReturnsExactly result (answer_on (one_moment arguments.now) (between moment.now)) }
 {
     let Some(other) = one_moment(arguments) else {
-        return Err(refusal(alloc, "Sub takes a DateTime"));
+        return Err(unexpected_arguments(alloc, "Sub takes a DateTime", arguments));
     };
     match moment.checked_difference(other) {
         Some(nanoseconds) => Ok(Value::Duration(nanoseconds)),
@@ -251,9 +252,10 @@ fn add_date(alloc: Global, moment: &DateTimeValue, arguments: &[CowValue<'_>]) -
     ensures { Returns result (AddsDates moment.now (three_integers arguments.now)) }
 {
     let Some((years, months, days)) = three_integers(arguments) else {
-        return Err(refusal(
+        return Err(unexpected_arguments(
             alloc,
             "AddDate takes years, months and days as three integers",
+            arguments,
         ));
     };
     later_date(alloc, moment, years, months, days)
@@ -285,7 +287,7 @@ fn round(alloc: Global, moment: &DateTimeValue, arguments: &[CowValue<'_>]) -> R
         (at_instant (instant_rounded (instant moment.now) step) (moment_zone moment.now)))) }
 {
     let Some(step) = one_duration(arguments) else {
-        return Err(refusal(alloc, "Round takes a duration"));
+        return Err(unexpected_arguments(alloc, "Round takes a duration", arguments));
     };
     let found = at_instant(
         moment,
@@ -300,7 +302,7 @@ fn truncate(alloc: Global, moment: &DateTimeValue, arguments: &[CowValue<'_>]) -
         (at_instant (instant_truncated (instant moment.now) step) (moment_zone moment.now)))) }
 {
     let Some(step) = one_duration(arguments) else {
-        return Err(refusal(alloc, "Truncate takes a duration"));
+        return Err(unexpected_arguments(alloc, "Truncate takes a duration", arguments));
     };
     let found = at_instant(
         moment,
@@ -314,7 +316,7 @@ fn after(alloc: Global, moment: &DateTimeValue, arguments: &[CowValue<'_>]) -> R
         (λ u. Ok (Value.Bool (int_lt (instant u) (instant moment.now))))) }
 {
     let Some(other) = one_moment(arguments) else {
-        return Err(refusal(alloc, "After takes a DateTime"));
+        return Err(unexpected_arguments(alloc, "After takes a DateTime", arguments));
     };
     let is_after = other.timestamp().as_nanosecond() < moment.timestamp().as_nanosecond();
     Ok(Value::Bool(is_after))
@@ -325,7 +327,7 @@ fn before(alloc: Global, moment: &DateTimeValue, arguments: &[CowValue<'_>]) -> 
         (λ u. Ok (Value.Bool (int_lt (instant moment.now) (instant u))))) }
 {
     let Some(other) = one_moment(arguments) else {
-        return Err(refusal(alloc, "Before takes a DateTime"));
+        return Err(unexpected_arguments(alloc, "Before takes a DateTime", arguments));
     };
     let is_before = moment.timestamp().as_nanosecond() < other.timestamp().as_nanosecond();
     Ok(Value::Bool(is_before))
@@ -336,7 +338,7 @@ fn equal(alloc: Global, moment: &DateTimeValue, arguments: &[CowValue<'_>]) -> R
         (λ u. Ok (Value.Bool (int_eq (instant moment.now) (instant u))))) }
 {
     let Some(other) = one_moment(arguments) else {
-        return Err(refusal(alloc, "Equal takes a DateTime"));
+        return Err(unexpected_arguments(alloc, "Equal takes a DateTime", arguments));
     };
     let is_equal = moment.timestamp().as_nanosecond() == other.timestamp().as_nanosecond();
     Ok(Value::Bool(is_equal))
@@ -347,7 +349,7 @@ fn compare(alloc: Global, moment: &DateTimeValue, arguments: &[CowValue<'_>]) ->
         (λ u. Ok (Value.Integer (comparison moment.now u)))) }
 {
     let Some(other) = one_moment(arguments) else {
-        return Err(refusal(alloc, "Compare takes a DateTime"));
+        return Err(unexpected_arguments(alloc, "Compare takes a DateTime", arguments));
     };
     Ok(Value::Integer(comparison(moment, other)))
 }

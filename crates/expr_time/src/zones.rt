@@ -6,7 +6,7 @@ ghost use Rattle.expr_time.specs.Zones.{now_answer, timezone_answer, zone_named}
 ghost use Rattle.expr_error.specs.ErrorKind.{OnlyMemory};
 
 use crate::moments::in_utc;
-use expr_arguments::{CowValue, one_text};
+use expr_arguments::{CowValue, one_text, unexpected_arguments, unknown_zone};
 use expr_datetime::utc;
 use expr_value::{DateTimeValue, Result, TimezoneValue, Value, refusal};
 use std::alloc::Global;
@@ -65,12 +65,16 @@ pub(crate) fn timezone<Z: Zones>(
     ensures { ReturnsExactly result (timezone_answer (Z.zones zones.now) arguments.now) }
 {
     let Some(name) = one_text(arguments) else {
-        return Err(refusal(alloc, "timezone takes the name of a time zone"));
+        return Err(unexpected_arguments(
+            alloc,
+            "timezone takes the name of a time zone",
+            arguments,
+        ));
     };
     let zone = zone_named(alloc, zones, name)?;
     match zone {
         Some(zone) => Value::timezone(alloc, zone),
-        None => Err(refusal(alloc, "unknown time zone")),
+        None => Err(unknown_zone(alloc, name)),
     }
 }
 
