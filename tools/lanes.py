@@ -1,0 +1,61 @@
+"""In which order proofs run side by side, and how many processors each gets."""
+
+from __future__ import annotations
+
+import pathlib
+import re
+from collections.abc import Mapping, Sequence
+from typing import Generic, TypeVar
+
+Task = TypeVar("Task")
+
+# A proof gains little from more jobs than this.
+MOST_JOBS = 3
+# A proof is on the critical chain where what is behind it takes more than this share of what all that is left takes.
+CRITICAL = 0.8
+
+
+def seconds_of(table: pathlib.Path) -> dict[str, int]:
+    """Returns the seconds of each crate's proof, by the table of docs/GATE.md: | `crate` | edits | seconds |."""
+    found = re.findall(r"(?m)^\| `(\w+)` \| \d+ \| ([\d,]+) \|", table.read_text(encoding="utf-8"))
+    return {name: int(seconds.replace(",", "")) for name, seconds in found}
+
+
+class Plan(Generic[Task]):
+    """Which tasks come next. The order of the tasks is such that each comes after those that it waits for."""
+
+    def __init__(self, seconds: Mapping[Task, float], waits: Mapping[Task, Sequence[Task]], lanes: int) -> None:
+        self.seconds, self.waits, self.lanes = seconds, waits, lanes
+        self.left = sum(seconds.values())
+        self.behind: dict[Task, float] = dict.fromkeys(seconds, 0.0)
+        """The seconds of the longest chain that begins with a task."""
+        for task in reversed(list(seconds)):
+            self.behind[task] += seconds[task]
+            for it in waits[task]:
+                self.behind[it] = max(self.behind[it], self.behind[task])
+        self.order = sorted(seconds, key=lambda it: -self.behind[it])
+        self.running: dict[Task, int] = {}
+        self.ended: set[Task] = set()
+
+    def ready(self) -> list[Task]:
+        """Returns the tasks that wait for nothing, those with the longest chain behind them first."""
+        return [it for it in self.order if all(below in self.ended for below in self.waits[it])]
+
+    def begin(self) -> tuple[Task, int] | None:
+        """Returns a task that begins now, with the number of its jobs, or nothing where no lane is idle."""
+        idle, ready = self.lanes - sum(self.running.values()), self.ready()
+        if idle <= 0 or not ready:
+            return None
+        task = ready[0]
+        jobs = max(1, min(MOST_JOBS, idle - len(ready) + 1))
+        if self.behind[task] > CRITICAL * self.left / self.lanes:
+            jobs = max(jobs, min(2, idle))
+        self.order.remove(task)
+        self.running[task] = jobs
+        return task, jobs
+
+    def end(self, task: Task) -> None:
+        """Takes note that a task has ended."""
+        del self.running[task]
+        self.ended.add(task)
+        self.left -= self.seconds[task]
