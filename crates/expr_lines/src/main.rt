@@ -2,6 +2,11 @@
 //! JSON.
 #![tactic(auto)]
 
+ghost use Rattle.std.specs.Prelude.{◌≡◌, ◌≢◌, ◌↔◌, Bool, IsTrue};
+ghost use Rattle.expr_records.specs.declared.course.Course.{Course};
+ghost use Rattle.expr_records.specs.declared.query.Purpose.TheVariants as Purpose;
+ghost use Rattle.expr_records.specs.Courses.{status_after};
+
 mod options;
 mod progress;
 mod reports;
@@ -109,7 +114,10 @@ fn work<W: Write, E: Write>(
     rt: &HostRuntime,
     options: &Options,
     record_filter: &mut RecordFilter<Query<Environment>, W, E>,
-) -> u8 {
+) -> u8
+    ensures { (course : Course) × (seeks : Bool) × (IsTrue seeks ↔ (options.now.purpose ≢ Purpose.Rewrite))
+        × (result ≡ status_after course record_filter.new.tally seeks) }
+{
     let mut course = Course::Done;
     let mut names = options.files.as_slice();
     if names.is_empty() {
