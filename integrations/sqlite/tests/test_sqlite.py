@@ -46,7 +46,7 @@ class Values(Case):
     def test_fractions(self) -> None:
         for value in (1.5, 1.0, 1e300, -0.0):
             with self.subTest(value=value):
-                self.assertTrue(self.error("x", "x", value).startswith("x: a JSON number is not whole"))
+                self.assertTrue(self.error("x", "x", value).startswith("x: a JSON number has a fraction"))
         self.assertEqual(self.error("x", "x", -math.inf), "x: infinity is no value of the language")
         self.assertIsNone(self.eval("x", "x", math.nan))  # SQLite makes NULL of it
 
