@@ -48,9 +48,9 @@ static int wrong_values(expr_engine *engine) {
     CHECK(says(engine, expr_set_nil(engine, context, "\xff", 1), "UTF-8"));
     CHECK(says(engine, expr_push_month(engine, 0), "month") && says(engine, expr_push_month(engine, 13), "month"));
     CHECK(says(engine, expr_push_weekday(engine, 7), "day"));
-    CHECK(says(engine, expr_push_datetime(engine, INT64_MAX, 0), "moment"));
-    CHECK(says(engine, expr_push_datetime(engine, 0, 1000000000), "moment"));
-    CHECK(says(engine, expr_set_now(engine, host, INT64_MIN, 0), "moment"));
+    CHECK(says(engine, expr_push_datetime(engine, INT64_MAX, 0), "DateTime"));
+    CHECK(says(engine, expr_push_datetime(engine, 0, 1000000000), "DateTime"));
+    CHECK(says(engine, expr_set_now(engine, host, INT64_MIN, 0), "DateTime"));
     CHECK(says(engine, expr_make_array(engine, 3), "") && says(engine, expr_make_map(engine, SIZE_MAX), ""));
     CHECK(says(engine, expr_set_built(engine, context, "x", EXPR_Z), "built"));
     CHECK(says(engine, expr_context_built(engine, &context), "built"));
@@ -77,7 +77,7 @@ static int fractions(expr_engine *engine) {
     static const char *const texts[] = {"1.5", "{\"price\": 1.5}", "[1, -0.25]", "1e2", "[{\"a\": [0.5]}]"};
     expr_context context;
     for (size_t i = 0; i < sizeof texts / sizeof *texts; i++) {
-        CHECK(expr_push_json(engine, texts[i], EXPR_Z) == EXPR_EVALUATION && strstr(expr_message(engine), "whole"));
+        CHECK(expr_push_json(engine, texts[i], EXPR_Z) == EXPR_EVALUATION && strstr(expr_message(engine), "fraction"));
     }
     CHECK(expr_context_json(engine, texts[1], EXPR_Z, &context) == EXPR_EVALUATION && strstr(expr_message(engine), "cents"));
     CHECK(expr_push_json(engine, "{", EXPR_Z) == EXPR_EVALUATION && !strstr(expr_message(engine), "cents"));

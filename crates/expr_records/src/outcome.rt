@@ -72,7 +72,7 @@ impl fmt::Display for Refusal {
             Refusal::NotObject => write!(f, "record: expected a JSON object"),
             Refusal::Expression(error) => write_refusal(f, error),
             Refusal::NotBoolean => write!(f, "result: expected true or false"),
-            Refusal::NotWritable(error) => write!(f, "answer: {error}"),
+            Refusal::NotWritable(error) => write!(f, "result: {error}"),
         }
     }
 }

@@ -136,7 +136,7 @@ impl TryFrom<Value> for Context {
     fn try_from(value: Value) -> Result<Context> {
         match value {
             Value::Map(values) => Ok(Context::from(values)),
-            _ => Err(Error::ExprError("a context is made of a map".into())),
+            _ => Err(Error::ExprError("a context must be made of a map with names as keys".into())),
         }
     }
 }

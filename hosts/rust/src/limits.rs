@@ -114,7 +114,7 @@ impl fmt::Display for Limit {
             Limit::Patterns => "the patterns of the expression weigh more than the limit of patterns",
             Limit::Steps => "the run takes more steps than the limit of steps",
             Limit::Depth => "the run makes a value that is deeper than the limit of depth",
-            Limit::Size => "the run holds more at once than the limit of size",
+            Limit::Size => "the values of the run weigh more than the limit of size",
             Limit::Calls => "the run calls your functions more often than the limit of calls",
         })
     }

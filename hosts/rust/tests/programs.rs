@@ -37,8 +37,8 @@ fn a_value_that_no_program_reads_may_be_anything() {
     assert_eq!(eval("x + 1", &record), Ok(Value::Integer(3)));
     for (code, why) in [
         ("zone", "zone: a zone can't be handed in"),
-        ("month", "month: a month is a number from 1 to 12"),
-        ("moment", "moment: no moment has these seconds and nanoseconds"),
+        ("month", "month: a month must be a number from 1 to 12"),
+        ("moment", "moment: the seconds and nanoseconds of a DateTime are out of range"),
         ("len($env)", "zone: a zone can't be handed in"),
     ] {
         let error = eval(code, &record).unwrap_err();
@@ -106,19 +106,19 @@ fn misuse_says_what_was_wrong() {
     let nothing = Context::new();
     let mut env = Environment::new();
     env.add_function("not a word", |_| Ok(Value::Nil));
-    assert_eq!(env.eval("1", &nothing), Err(Error::MisuseError("not a word: the name isn't a word".into())));
+    assert_eq!(env.eval("1", &nothing), Err(Error::MisuseError("not a word: the name is not a word of the language".into())));
     let mut env = Environment::new();
     env.set_now(0, 1_000_000_000);
-    let why = "no moment has these seconds and nanoseconds";
+    let why = "the seconds and nanoseconds of a DateTime are out of range";
     assert_eq!(env.eval("1", &nothing), Err(Error::MisuseError(why.into())));
     env.set_now(0, 0);
     assert_eq!(env.eval("now().Year()", &nothing), Ok(Value::Integer(1970)));
     let why = |value: Value| eval("x", &Context::from_iter([("x", value!([1, value]))])).unwrap_err();
-    assert_eq!(why(Value::Month(0)), Error::MisuseError("x: a month is a number from 1 to 12".into()));
-    assert_eq!(why(Value::Weekday(7)), Error::MisuseError("x: a day of the week is a number from 0 to 6".into()));
+    assert_eq!(why(Value::Month(0)), Error::MisuseError("x: a month must be a number from 1 to 12".into()));
+    assert_eq!(why(Value::Weekday(7)), Error::MisuseError("x: a day of the week must be a number from 0 to 6".into()));
     let mut env = Environment::new();
     env.add_function("f", |_| Ok(Value::Weekday(7)));
-    assert_eq!(env.eval("f()", &nothing), Err(Error::MisuseError("a day of the week is a number from 0 to 6".into())));
+    assert_eq!(env.eval("f()", &nothing), Err(Error::MisuseError("a day of the week must be a number from 0 to 6".into())));
     assert_eq!(env.eval("1 + 1", &nothing), Ok(Value::Integer(2)));
 }
 

@@ -46,7 +46,7 @@ class Values(Case):
     def test_fractions(self) -> None:
         for value in (1.5, 1.0, 1e300, -0.0):
             with self.subTest(value=value):
-                self.assertTrue(self.error("x", "x", value).startswith("x: a JSON number is not whole"))
+                self.assertTrue(self.error("x", "x", value).startswith("x: a JSON number has a fraction"))
         self.assertEqual(self.error("x", "x", -math.inf), "x: infinity is no value of the language")
         self.assertIsNone(self.eval("x", "x", math.nan))  # SQLite makes NULL of it
 
@@ -100,8 +100,8 @@ class Errors(Case):
         self.assertEqual(self.error("price >", "{}"), "line 1, column 8: syntax error")
         self.assertEqual(self.error("let x = 1;\nx +", "{}"), "line 2, column 4: syntax error")
         self.assertEqual(self.error("nope", "{}"), "unknown name nope")
-        self.assertEqual(self.error("x", '{"x": 1.5}')[:30], "x: a JSON number is not whole,")
-        self.assertEqual(self.error("x matches '('", "x", ""), "bad pattern: regex parse error at 0..1: unclosed group")
+        self.assertEqual(self.error("x", '{"x": 1.5}')[:31], "x: a JSON number has a fraction")
+        self.assertEqual(self.error("x matches '('", "x", ""), "invalid regular expression: regex parse error at 0..1: unclosed group")
 
     def test_the_connection_goes_on(self) -> None:
         for rule in ("price >", "nope", "1 / 0", "len(1..2000000)", "9223372036854775808"):
@@ -119,7 +119,7 @@ class Errors(Case):
         limits = [
             ("len(1..2000000)", "the run takes more steps than the limit"),
             ("-" * 200 + "1", "the expression nests deeper than the limit"),
-            ('"a" matches "\\w{500}"', "the patterns of the text weigh more than the limit"),
+            ('"a" matches "\\w{500}"', "the patterns of the expression weigh more than the limit"),
             ("1" * 65_537, "the rule has 65537 bytes, where 65536 are the most"),
         ]
         for rule, message in limits:
@@ -152,7 +152,7 @@ class Json(Case):
     def check(self, value: str) -> None:
         """A record with a value that the rule doesn't read, and one with a value that it does."""
         record = f'{{"before": 0, "other": {value}, "a": 1}}'
-        should = 1 if self.is_json(record) else "not a JSON text"
+        should = 1 if self.is_json(record) else "the string is not valid JSON"
         with self.subTest(record=record):
             try:
                 self.assertEqual(self.eval("a", record), should)
@@ -186,9 +186,9 @@ class Json(Case):
 
     def test_records(self) -> None:
         for record in ("[1]", "1", '"a"', "null", "true"):
-            self.assertEqual(self.error("a", record), "a context is made of a map")
+            self.assertEqual(self.error("a", record), "a context must be made of a map with names as keys")
         for record in ("", "{", '{"a": 1', '{"a": 1}}', '{"a": 1} x', '{"a": 1,}', '{"a" = 1}', '{a: 1}'):
-            self.assertEqual(self.error("a", record), "not a JSON text")
+            self.assertEqual(self.error("a", record), "the string is not valid JSON")
         self.assertEqual(self.eval("len(x)", '{"x": ' + "[" * 126 + "]" * 126 + "}"), 1)
         self.error("len(x)", '{"x": ' + "[" * 127 + "]" * 127 + "}")
         self.assertEqual(self.one("SELECT expr_eval('a', CAST(x'7b2261223a317d' AS TEXT))"), 1)
