@@ -42,14 +42,17 @@ class Plan(Generic[Task]):
         return [it for it in self.order if all(below in self.ended for below in self.waits[it])]
 
     def begin(self) -> tuple[Task, int] | None:
-        """Returns a task that begins now, with the number of its jobs, or nothing where no lane is idle."""
+        """Returns a task that begins now, with the number of its jobs, or nothing where no lane is idle.
+
+        One on the critical chain has two jobs, though there may be one lane for it: it would go on with one job when lanes are idle.
+        """
         idle, ready = self.lanes - sum(self.running.values()), self.ready()
         if idle <= 0 or not ready:
             return None
         task = ready[0]
         jobs = max(1, min(MOST_JOBS, idle - len(ready) + 1))
         if self.behind[task] > CRITICAL * self.left / self.lanes:
-            jobs = max(jobs, min(2, idle))
+            jobs = max(jobs, min(2, self.lanes))
         self.order.remove(task)
         self.running[task] = jobs
         return task, jobs

@@ -28,6 +28,14 @@ class PlanTest(unittest.TestCase):
         self.assertEqual(plan.behind["low"], 30)
         self.assertEqual([plan.begin(), plan.begin(), plan.begin(), plan.begin()], [("low", 2), ("a", 1), ("b", 1), None])
 
+    def test_the_longest_chain_goes_on_with_two_jobs(self) -> None:
+        plan = chain_and_leaves(2)
+        self.assertEqual([plan.begin(), plan.begin()], [("low", 2), None])
+        plan.end("low")
+        plan.running["a"] = 1
+        plan.order.remove("a")
+        self.assertEqual(plan.begin(), ("middle", 2))
+
     def test_a_task_waits_for_those_below(self) -> None:
         plan = chain_and_leaves(4)
         while plan.begin() is not None:
@@ -50,7 +58,7 @@ class PlanTest(unittest.TestCase):
             plan, ended = chain_and_leaves(lanes), []
             while len(ended) < 7:
                 while plan.begin() is not None:
-                    self.assertLessEqual(sum(plan.running.values()), lanes)
+                    self.assertLessEqual(sum(plan.running.values()), lanes + (lanes > 1))
                 task = next(iter(plan.running))
                 plan.end(task)
                 ended.append(task)
