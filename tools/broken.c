@@ -1,9 +1,8 @@
-// Goes below a program by LD_PRELOAD and breaks its streams: bin/lines_runs and bin/expr_runs say what for.
+// Goes below a program by LD_PRELOAD and breaks its streams: bin/lines_runs says what for.
 //
-// Each read of standard input and each write to standard output moves at most BROKEN_STEP bytes, and each write to standard
-// error where BROKEN_ERRORS is 1. The read or the write (BROKEN_CALL: `read`, `write`, or `error` for one to standard error) of
-// the number BROKEN_AT, from 1, fails with the error BROKEN_ERROR, a number. Those behind it fail as well where BROKEN_STAYS
-// is 1.
+// Each read of standard input and each write to standard output moves at most BROKEN_STEP bytes. The read or the write
+// (BROKEN_CALL: `read` or `write`) of the number BROKEN_AT, from 1, fails with the error BROKEN_ERROR, a number. Those behind
+// it fail as well where BROKEN_STAYS is 1.
 #define _GNU_SOURCE
 #include <errno.h>
 #include <stdlib.h>
@@ -34,17 +33,15 @@ ssize_t read(int file, void *bytes, size_t count) {
     return syscall(SYS_read, file, bytes, count);
 }
 
-static int is_breakable(int file) { return file == 1 || (file == 2 && value("BROKEN_ERRORS", 0) == 1); }
-
 ssize_t write(int file, const void *bytes, size_t count) {
-    static long calls[3];
-    if (is_breakable(file) && is_broken(file == 1 ? "write" : "error", &calls[file], &count)) return -1;
+    static long calls;
+    if (file == 1 && is_broken("write", &calls, &count)) return -1;
     return syscall(SYS_write, file, bytes, count);
 }
 
-// To standard output and error only the first part that has bytes.
+// To standard output only the first part that has bytes.
 ssize_t writev(int file, const struct iovec *parts, int count) {
-    if (!is_breakable(file)) return syscall(SYS_writev, file, parts, count);
+    if (file != 1) return syscall(SYS_writev, file, parts, count);
     while (count > 1 && parts->iov_len == 0) parts++, count--;
     return write(file, parts->iov_base, parts->iov_len);
 }

@@ -1,33 +1,23 @@
 """Reads Markdown, for bin/pages and bin/snippets."""
-
-from __future__ import annotations
-
-import dataclasses
 import re
-from collections.abc import Iterable, Iterator
 
 
-@dataclasses.dataclass
 class Block:
-    """A part of a page."""
+    """A part of a page: a `heading`, `prose` (a paragraph or an item of a list), a `cell`, a `quote` or `code`."""
 
-    kind: str
-    """`heading`, `prose` (a paragraph or an item of a list), `cell`, `quote` or `code`."""
-    line: int
-    text: str = ""
-    language: str = ""
+    def __init__(self, kind, line, text="", language=None):
+        self.kind, self.line, self.text, self.language = kind, line, text, language
 
 
-def blocks_of(lines: Iterable[tuple[int, str]]) -> Iterator[Block]:
+def blocks_of(lines):
     """Yields the blocks of Markdown, given as pairs of a line's number and its text."""
-    block: Block | None = None
-    fence, is_after_blank = "", True
+    block, fence, is_after_blank = None, None, True
     for number, line in lines:
         opening = re.match(r"\s*(```|~~~)\s*(\S*)", line)
-        if block and fence:
+        if fence:
             if line.strip() == fence:
                 yield block
-                block, fence = None, ""
+                block, fence = None, None
             else:
                 block.text += line + "\n"
             continue
@@ -48,7 +38,7 @@ def blocks_of(lines: Iterable[tuple[int, str]]) -> Iterator[Block]:
             cells = [cell.strip() for cell in re.split(r"(?<!\\)\|", line.strip().strip("|"))]
             yield from (Block("cell", number, cell) for cell in cells if not re.fullmatch(r":?-+:?", cell))
         elif is_code:
-            block = block or Block("code", number)
+            block = block or Block("code", number, language="")
             block.text += line[4:] + "\n"
         elif line.strip():
             block = block or Block("prose", number)

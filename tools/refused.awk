@@ -24,7 +24,6 @@ NF != 5 { print "fault: a record of " NF " parts: " $0; faults++; next }
 # what a row's run says that has all its memory
 function wanted(row,    text) {
     text = own[row]
-    if (text == "!usage") return "2\t\tusage\\n"
     if (form == "expr") return text ~ /^!/ ? "1\t\t" substr(text, 2) "\\n" : "0\t" text "\\n\t"
     gsub(/\\/, "&&", text)
     return "0\t" text "\\n\t"

@@ -1,10 +1,10 @@
-/* The three calls of the engine, as crates/expr_c and crates/expr_exchange/src/call.rt have them. exprlang.h stands on these. A
- * host in another language may use them in its place. hosts/border.py keeps all that is written here as it is there. */
+/* The three calls of the engine, as crates/expr_c and crates/expr_engine/src/call.rt have them. exprlang.h stands on these. A
+ * host in another language may use them in its place. hosts/border.py compares all that is written here with those sources. */
 #ifndef EXPRLANG_BORDER_H
 #define EXPRLANG_BORDER_H
 #include "exprlang.h"
 
-/* As `Handle` of crates/expr_exchange/src/handles.rt. */
+/* As `Handle` of crates/expr_handles/src/lib.rt. */
 typedef struct { uint32_t tag, place; uint64_t number; } handle;
 
 /* As `Call` of call.rt; a slice is a pointer, which is never null, and a length. */
@@ -59,14 +59,10 @@ uint32_t expr_c_tag(void);
 
 /* As `Ask` of call.rt. */
 enum ask {
-    /* begin: asks, by hosts/border.py --write */
     COMPILE, NAMES, RUN, CONTEXT, CONTEXT_OF, SET, PUSH, ARRAY, MAP, UNBUILD, LOOK, DOWN, UP, KEY, SHOWN, TEXT, JSON, SAID,
     ENVIRONMENT, FIXED_ZONE, ZONE_RULE, NOW, DROP_PROGRAM, DROP_CONTEXT, DROP_ENVIRONMENT, CLEAR, NAME, ANSWER, REFUSE,
     WAITING_CALL, LIMIT, UNLIMITED, USES_ENV, FUNCTIONS, FILL_MISSING
-    /* end: asks */
 };
 /* As `Kind` of crates/expr_exchange/src/kind.rt, behind those of expr_kind. */
-/* begin: kinds, by hosts/border.py --write */
 enum { KIND_JSON = EXPR_KEYED_MAP + 1, KIND_BUILT, KIND_LOOKED };
-/* end: kinds */
 #endif

@@ -5,7 +5,7 @@
 
 int main() {
     expr_engine *engine = expr_open();
-    expr_limits limits = EXPR_LIMITS_UNTRUSTED;
+    expr_limits limits = EXPR_LIMITS_FOR_STRANGERS;
     limits.steps = 10000;
     expr_context order;
     expr_answer answer;

@@ -17,7 +17,7 @@ _Static_assert(sizeof(expr_place) == 24 && offsetof(expr_place, byte) == 0 && of
                offsetof(expr_place, column) == 16, "as in _library.py");
 _Static_assert(sizeof(expr_answer) == 24 && offsetof(expr_answer, kind) == 0 && offsetof(expr_answer, fraction) == 4 &&
                offsetof(expr_answer, number) == 8 && offsetof(expr_answer, text) == 16, "as in _library.py");
-_Static_assert(sizeof(expr_limits) == 48 && offsetof(expr_limits, struct_size) == 0 && offsetof(expr_limits, nesting) == 8 &&
+_Static_assert(sizeof(expr_limits) == 48 && offsetof(expr_limits, struct_size) == 0 && offsetof(expr_limits, height) == 8 &&
                offsetof(expr_limits, patterns) == 16 && offsetof(expr_limits, steps) == 24 &&
                offsetof(expr_limits, depth) == 32 && offsetof(expr_limits, size) == 40, "as in _library.py");
 
@@ -155,7 +155,7 @@ const char *expr_message(expr_engine *engine) {
 const char *expr_status_word(expr_status status) {
     static const char *const words[] = {"ok",        "syntax",         "literal", "evaluation", "pattern",
                                         "out of memory", "unknown handle", "misuse",  "asks",       "differs",
-                                        "nesting limit", "patterns limit", "steps limit", "depth limit", "size limit"};
+                                        "height limit", "patterns limit", "steps limit", "depth limit", "size limit"};
     return (unsigned)status < sizeof words / sizeof *words ? words[status] : "?";
 }
 
@@ -172,10 +172,10 @@ expr_status expr_set_limits(expr_engine *engine, const expr_limits *limits) {
     if (!engine) return EXPR_MISUSE;
     if (!limits) return misused(engine, "the pointer to the limits is null");
     if (limits->struct_size != sizeof *limits) {
-        return misused(engine, "struct_size is not the size of expr_limits in this library: begin with EXPR_LIMITS_UNTRUSTED");
+        return misused(engine, "struct_size is not the size of expr_limits in this library: begin with EXPR_LIMITS_FOR_STRANGERS");
     }
-    /* as `Limit` of crates/expr_limits/src/limit.rt */
-    const int64_t numbers[] = {limits->nesting, limits->patterns, limits->steps, limits->depth, limits->size};
+    /* as `Limit` of crates/expr_meter/src/limit.rt */
+    const int64_t numbers[] = {limits->height, limits->patterns, limits->steps, limits->depth, limits->size};
     const uint32_t count = sizeof numbers / sizeof *numbers;
     /* a limit that the engine does not take is asked first, so that all are set or none */
     for (uint32_t kind = 0; kind < count; kind++) {

@@ -82,7 +82,6 @@ static const expr_environment EXPR_NO_ENVIRONMENT = {0, 0, UINT64_MAX};
 
 /* How a call ended. */
 typedef enum {
-    /* begin: statuses, by hosts/border.py --write */
     EXPR_OK,
     EXPR_SYNTAX,     /* the string is no expression: see expr_place */
     EXPR_LITERAL,    /* a number of 2^63 or more */
@@ -93,20 +92,18 @@ typedef enum {
     EXPR_MISUSE,     /* a call that makes no sense: bytes that are not UTF-8, an item that does not exist, a null pointer */
     EXPR_ASKS,       /* a run waits for your reply: see expr_add_name */
     EXPR_DIFFERS,    /* a run came to another call than the one that you replied to: see expr_add_name */
-    EXPR_LIMIT_NESTING,  /* the tree of a string is higher than the limit: see expr_set_limits */
+    EXPR_LIMIT_HEIGHT,   /* the tree of a string is higher than the limit: see expr_set_limits */
     EXPR_LIMIT_PATTERNS, /* the literal patterns of a string weigh more than the limit */
     EXPR_LIMIT_STEPS,    /* a run takes more steps than the limit */
     EXPR_LIMIT_DEPTH,    /* a run makes a value that is deeper than the limit */
     EXPR_LIMIT_SIZE      /* a run holds more at once than the limit */
-    /* end: statuses */
 } expr_status;
 
 /* Whether a call stopped at a limit: then it is neither done nor an error of the language. */
-#define EXPR_IS_LIMIT(status) ((unsigned)(status) - EXPR_LIMIT_NESTING <= (unsigned)(EXPR_LIMIT_SIZE - EXPR_LIMIT_NESTING))
+#define EXPR_IS_LIMIT(status) ((unsigned)(status) - EXPR_LIMIT_HEIGHT <= (unsigned)(EXPR_LIMIT_SIZE - EXPR_LIMIT_HEIGHT))
 
 /* The kind of a value. */
 typedef enum {
-    /* begin: kinds, by hosts/border.py --write */
     EXPR_NIL,
     EXPR_BOOL,
     EXPR_INTEGER,
@@ -120,7 +117,6 @@ typedef enum {
     EXPR_ARRAY,
     EXPR_MAP,      /* its keys are strings */
     EXPR_KEYED_MAP /* its keys are any scalars */
-    /* end: kinds */
 } expr_kind;
 
 /* A position in a string: the offset in bytes from 0, and the line and the character in that line from 1. */
@@ -141,7 +137,7 @@ typedef struct {
 /* What compiles and runs may take. docs/LIMITS.md says what counts. */
 typedef struct {
     size_t struct_size; /* sizeof(expr_limits), as your header has it */
-    int64_t nesting;    /* how high the tree of a string may be: the most trees one inside another */
+    int64_t height;     /* how high the tree of a string may be: the most trees one inside another */
     int64_t patterns;   /* what the literal patterns of a string may weigh together */
     int64_t steps;      /* how many steps a run may take: an instruction, an item that it looks at, 16 bytes of a string */
     int64_t depth;      /* how deep the values may be that a run makes: an array or a map is one level above its parts */
@@ -149,7 +145,7 @@ typedef struct {
 } expr_limits;
 
 /* The limits for untrusted strings, which an engine has at first. To set others, change a copy. */
-static const expr_limits EXPR_LIMITS_UNTRUSTED = {sizeof(expr_limits), 100, 100000, 1000000, 1000, 1000000};
+static const expr_limits EXPR_LIMITS_FOR_STRANGERS = {sizeof(expr_limits), 100, 100000, 1000000, 1000, 1000000};
 
 /* Returns what the library is: its version, the kit and the checksum of the sources that it was made of, and at the end `proved`
  * or `unproved`. So: "0.1.0, kit rattle-kit-13f, sources 160ede8a12d28189, proved". */
@@ -171,13 +167,13 @@ const char *expr_status_word(expr_status status);
 
 /* --- limits ---
  *
- *     expr_limits limits = EXPR_LIMITS_UNTRUSTED;
+ *     expr_limits limits = EXPR_LIMITS_FOR_STRANGERS;
  *     limits.steps = 10000;
  *     expr_set_limits(engine, &limits);
  *
- * The engine keeps them until you set others. Each compile takes nesting and patterns. Each run takes the other three, and so
+ * The engine keeps them until you set others. Each compile takes height and patterns. Each run takes the other three, and so
  * does each reply (see expr_add_name), with nothing used up yet. A program runs within the limits that are set when it runs.
- * Its nesting is what it was: compile untrusted strings within limits. Setting limits leaves what you compiled, built or
+ * Its height is what it was: compile untrusted strings within a height. Setting limits leaves what you compiled, built or
  * got as an answer, and a call that waits for a reply. */
 
 /* Sets all limits. It is EXPR_MISUSE, and changes none, if one is below 0, if `limits` is null, or if its struct_size is not
@@ -188,7 +184,7 @@ expr_status expr_set_unlimited(expr_engine *engine);
 
 /* --- programs --- */
 
-/* Compiles a string, within the limits nesting and patterns. `place` says where a string is no expression; it may be null. If
+/* Compiles a string, within the limits height and patterns. `place` says where a string is no expression; it may be null. If
  * the call fails, `program` is a handle that finds nothing. */
 expr_status expr_compile(expr_engine *engine, const char *text, size_t length, expr_program *program, expr_place *place);
 /* Says which names a program reads, each on a line, and how many there are. `#`, the item of a predicate, is among them;
@@ -373,7 +369,7 @@ expr_status expr_refuse(expr_engine *engine, const char *text, size_t length, ex
  *
  *     expr_clear, expr_unbuild, expr_set_unlimited, expr_look     nothing else
  *     expr_set_limits                                             MISUSE
- *     expr_compile                                                SYNTAX LITERAL MEMORY MISUSE and LIMIT_NESTING LIMIT_PATTERNS
+ *     expr_compile                                                SYNTAX LITERAL MEMORY MISUSE and LIMIT_HEIGHT LIMIT_PATTERNS
  *     expr_names, expr_functions, expr_fill_missing               UNKNOWN MEMORY
  *     expr_uses_env, expr_drop_..                                 UNKNOWN
  *     expr_context_new, expr_environment_new                      MEMORY

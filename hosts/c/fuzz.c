@@ -73,7 +73,7 @@ static void compile_any(uint32_t at) {
         expr_drop_program(engine, programs[at]);
         programs[at] = program;
     }
-    int is_stopped = status == EXPR_LIMIT_NESTING || status == EXPR_LIMIT_PATTERNS;
+    int is_stopped = status == EXPR_LIMIT_HEIGHT || status == EXPR_LIMIT_PATTERNS;
     if (is_stopped ? is_unlimited : status > EXPR_MISUSE || status == EXPR_UNKNOWN || status == EXPR_MEMORY) FAIL("compile");
     if (status == EXPR_SYNTAX && (place.byte > length || place.line < 1 || place.column < 1)) FAIL("place");
     bytes += strlen(expr_message(engine));
@@ -95,14 +95,14 @@ static void fill_any(uint32_t at) {
     if (next(8) == 0) expr_unbuild(engine);
 }
 
-/* A number of a limit: none, few, many, or the usual one; or one that is none. */
-static int64_t any_number(int64_t of_untrusted) {
+/* A number of a limit: none, few, many, or what strangers have; or one that is none. */
+static int64_t any_number(int64_t of_strangers) {
     switch (next(6)) {
     case 0: return 0;
     case 1: return next(20);
     case 2: return next(2000);
     case 3: return next(40) ? INT64_MAX : -1 - (int64_t)next(9);
-    default: return of_untrusted;
+    default: return of_strangers;
     }
 }
 
@@ -113,7 +113,7 @@ static void limit(void) {
 
 static void limit_any(void) {
     expr_limits other = {sizeof other, any_number(100), any_number(100000), any_number(1000000), any_number(1000), any_number(1000000)};
-    int is_misuse = other.nesting < 0 || other.patterns < 0 || other.steps < 0 || other.depth < 0 || other.size < 0;
+    int is_misuse = other.height < 0 || other.patterns < 0 || other.steps < 0 || other.depth < 0 || other.size < 0;
     if (expr_set_limits(engine, &other) != (is_misuse ? EXPR_MISUSE : EXPR_OK)) FAIL("limits");
     if (!is_misuse) {
         limits = other;
@@ -248,7 +248,7 @@ int main(int count, char **words) {
     if (!engine || !forged) return 9;
     if (!has_host()) return 9;
     expr_c_open(forged, expr_c_tag());
-    limits = EXPR_LIMITS_UNTRUSTED;
+    limits = EXPR_LIMITS_FOR_STRANGERS;
     memset(programs, 0xff, sizeof programs);
     memset(contexts, 0xff, sizeof contexts);
     for (uint32_t turn = 0; turn < turns; turn++) {

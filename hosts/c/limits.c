@@ -11,9 +11,9 @@ static void add(char *text, size_t room, size_t count, const char *piece) {
     for (; count > 0 && length + more < room; count--, length += more) memcpy(text + length, piece, more + 1);
 }
 
-/* Texts that take much, within the limits for untrusted expressions, which an engine has at first. Those of the table come to that of
+/* Texts that take much, within the limits for strangers, which an engine has at first. Those of the table come to that of
  * steps, in which all that is made counts too; and where that is as wide as can be, to that of which they take much. */
-static int untrusted(expr_engine *engine) {
+static int strangers(expr_engine *engine) {
     static const struct { const char *text; expr_status much; } rows[] = {
         {"len(1..100000000)", EXPR_LIMIT_SIZE},
         {"len(repeat(repeat(\"a\", 1000000), 1000000))", EXPR_LIMIT_SIZE},
@@ -39,7 +39,7 @@ static int untrusted(expr_engine *engine) {
         CHECK(expr_set_limits(engine, &wide) == EXPR_OK);
         CHECK(expr_eval(engine, rows[i].text, EXPR_Z, ALONE, &answer) == rows[i].much && *expr_message(engine));
         CHECK(expr_look(engine, &answer) == EXPR_OK && answer.number == 42);
-        CHECK(expr_set_limits(engine, &EXPR_LIMITS_UNTRUSTED) == EXPR_OK);
+        CHECK(expr_set_limits(engine, &EXPR_LIMITS_FOR_STRANGERS) == EXPR_OK);
     }
     /* arguments that are copied count in size before they do in steps */
     add(wide_call, sizeof wide_call, 1, "let a = 1..100000; map(a");
@@ -49,9 +49,9 @@ static int untrusted(expr_engine *engine) {
     add(deep, sizeof deep, 200, "(");
     add(deep, sizeof deep, 1, "1");
     add(deep, sizeof deep, 200, ")");
-    CHECK(expr_compile(engine, deep, EXPR_Z, &program, &place) == EXPR_LIMIT_NESTING && *expr_message(engine));
+    CHECK(expr_compile(engine, deep, EXPR_Z, &program, &place) == EXPR_LIMIT_HEIGHT && *expr_message(engine));
     CHECK(expr_run(engine, program, ALONE, NULL) == EXPR_UNKNOWN);
-    CHECK(expr_eval(engine, deep, EXPR_Z, ALONE, NULL) == EXPR_LIMIT_NESTING);
+    CHECK(expr_eval(engine, deep, EXPR_Z, ALONE, NULL) == EXPR_LIMIT_HEIGHT);
     CHECK(expr_compile(engine, deep, strlen(deep) - 1, &program, &place) == EXPR_SYNTAX); /* there is no tree at all */
     add(heavy, sizeof heavy, 400, "\"a\" matches \"\\\\w{20}\" or ");
     add(heavy, sizeof heavy, 1, "true");
@@ -76,17 +76,17 @@ static int64_t least(expr_engine *engine, const char *text, int which) {
         if (set(engine, numbers) != EXPR_OK) return -1;
         expr_status status = expr_eval(engine, text, EXPR_Z, ALONE, NULL);
         if (status == EXPR_OK) high = middle;
-        else if (status == (expr_status)(EXPR_LIMIT_NESTING + which)) low = middle + 1;
+        else if (status == (expr_status)(EXPR_LIMIT_HEIGHT + which)) low = middle + 1;
         else return -1;
     }
     return low;
 }
 
-enum { NESTING, PATTERNS, STEPS, DEPTH, SIZE };
+enum { HEIGHT, PATTERNS, STEPS, DEPTH, SIZE };
 
 /* A run stops exactly where its limit is, by the numbers of docs/LIMITS.md. */
 static int exactly(expr_engine *engine) {
-    CHECK(least(engine, "((1))", NESTING) == 3 && least(engine, "1", NESTING) == 1);
+    CHECK(least(engine, "((1))", HEIGHT) == 3 && least(engine, "1", HEIGHT) == 1);
     CHECK(least(engine, "1 + 1", PATTERNS) == 0 && least(engine, "\"a\" matches \"b\"", PATTERNS) == 12);
     CHECK(least(engine, "\"a\" matches \"b\" or \"a\" matches \"\\\\d{3}\"", PATTERNS) == 12 + 424);
     CHECK(least(engine, "1 + 2", DEPTH) == 0 && least(engine, "[[1]]", DEPTH) == 2 && least(engine, "{a: [1]}", DEPTH) == 2);
@@ -98,17 +98,17 @@ static int exactly(expr_engine *engine) {
     CHECK(few > 100 && more - few >= 200);
     few = least(engine, "len(1..1000)", SIZE), more = least(engine, "len(1..3000)", SIZE);
     CHECK(few > 1000 && more - few == 2000);
-    CHECK(expr_set_limits(engine, &EXPR_LIMITS_UNTRUSTED) == EXPR_OK);
+    CHECK(expr_set_limits(engine, &EXPR_LIMITS_FOR_STRANGERS) == EXPR_OK);
     return 0;
 }
 
 /* Setting limits: all or none, kept until others are set, and by name there are none. */
 static int settings(expr_engine *engine) {
-    expr_limits limits = EXPR_LIMITS_UNTRUSTED;
+    expr_limits limits = EXPR_LIMITS_FOR_STRANGERS;
     expr_program program, kept;
     expr_context context;
     expr_answer answer;
-    CHECK(limits.nesting == 100 && limits.patterns == 100000 && limits.steps == 1000000 && limits.depth == 1000 &&
+    CHECK(limits.height == 100 && limits.patterns == 100000 && limits.steps == 1000000 && limits.depth == 1000 &&
           limits.size == 1000000);
     CHECK(expr_set_limits(NULL, &limits) == EXPR_MISUSE && expr_set_unlimited(NULL) == EXPR_MISUSE);
     CHECK(expr_set_limits(engine, NULL) == EXPR_MISUSE);
@@ -131,18 +131,18 @@ static int settings(expr_engine *engine) {
     CHECK(expr_push_integer(engine, 7) == EXPR_OK);
     limits = (expr_limits){sizeof limits, 0, 0, 0, 0, 0};
     CHECK(expr_set_limits(engine, &limits) == EXPR_OK);
-    CHECK(expr_compile(engine, "1", EXPR_Z, &program, NULL) == EXPR_LIMIT_NESTING);
+    CHECK(expr_compile(engine, "1", EXPR_Z, &program, NULL) == EXPR_LIMIT_HEIGHT);
     CHECK(expr_run(engine, kept, EXPR_NO_ENVIRONMENT, context, &answer) == EXPR_LIMIT_STEPS);
     CHECK(expr_set_unlimited(engine) == EXPR_OK);
     CHECK(expr_set_built(engine, context, "built", EXPR_Z) == EXPR_MISUSE);
     CHECK(expr_run(engine, kept, EXPR_NO_ENVIRONMENT, context, &answer) == EXPR_OK && answer.number == 10);
     /* setting limits leaves what is being built */
-    CHECK(expr_push_integer(engine, 7) == EXPR_OK && expr_set_limits(engine, &EXPR_LIMITS_UNTRUSTED) == EXPR_OK);
+    CHECK(expr_push_integer(engine, 7) == EXPR_OK && expr_set_limits(engine, &EXPR_LIMITS_FOR_STRANGERS) == EXPR_OK);
     CHECK(expr_set_unlimited(engine) == EXPR_OK && expr_set_built(engine, context, "built", EXPR_Z) == EXPR_OK);
     CHECK(expr_eval(engine, "len(1..2000000)", EXPR_Z, ALONE, &answer) == EXPR_OK && answer.number == 2000000);
     CHECK(expr_eval(engine, "len(reduce(1..2000, [#acc], 0))", EXPR_Z, ALONE, &answer) == EXPR_OK && answer.number == 1);
     /* the last that are set hold */
-    CHECK(expr_set_limits(engine, &EXPR_LIMITS_UNTRUSTED) == EXPR_OK);
+    CHECK(expr_set_limits(engine, &EXPR_LIMITS_FOR_STRANGERS) == EXPR_OK);
     CHECK(expr_eval(engine, "len(1..2000000)", EXPR_Z, ALONE, &answer) == EXPR_LIMIT_STEPS);
     CHECK(expr_run(engine, kept, EXPR_NO_ENVIRONMENT, context, &answer) == EXPR_OK && answer.number == 10);
     return 0;
@@ -151,7 +151,7 @@ static int settings(expr_engine *engine) {
 /* A run that waits: each turn has the limits anew, and one that stops waits for nothing. */
 static int waiting(expr_engine *engine) {
     const char *text = "all(1..1000, {# > 0}) and f(1) > 0 and f(2) > 0 and len(1..f(3)) > 0";
-    expr_limits limits = EXPR_LIMITS_UNTRUSTED;
+    expr_limits limits = EXPR_LIMITS_FOR_STRANGERS;
     expr_environment host;
     expr_program program;
     expr_answer answer;
@@ -186,16 +186,16 @@ static int waiting(expr_engine *engine) {
     CHECK(expr_asked(engine, NULL, NULL) == EXPR_MISUSE);
     /* a text that is too high isn't run, so that the other still waits */
     CHECK(expr_run(engine, program, host, EXPR_NO_CONTEXT, &answer) == EXPR_ASKS);
-    limits.nesting = 1;
+    limits.height = 1;
     CHECK(expr_set_limits(engine, &limits) == EXPR_OK);
-    CHECK(expr_eval(engine, "1 + 1", EXPR_Z, host, EXPR_NO_CONTEXT, &answer) == EXPR_LIMIT_NESTING);
+    CHECK(expr_eval(engine, "1 + 1", EXPR_Z, host, EXPR_NO_CONTEXT, &answer) == EXPR_LIMIT_HEIGHT);
     CHECK(expr_asked(engine, NULL, &answer) == EXPR_OK && answer.number == 1);
-    return expr_set_limits(engine, &EXPR_LIMITS_UNTRUSTED) != EXPR_OK;
+    return expr_set_limits(engine, &EXPR_LIMITS_FOR_STRANGERS) != EXPR_OK;
 }
 
 static int words(void) {
     for (int status = EXPR_OK; status <= EXPR_LIMIT_SIZE; status++) {
-        CHECK(EXPR_IS_LIMIT(status) == (status >= EXPR_LIMIT_NESTING) && *expr_status_word((expr_status)status) != '?');
+        CHECK(EXPR_IS_LIMIT(status) == (status >= EXPR_LIMIT_HEIGHT) && *expr_status_word((expr_status)status) != '?');
         for (int other = EXPR_OK; other < status; other++) {
             CHECK(strcmp(expr_status_word((expr_status)status), expr_status_word((expr_status)other)));
         }
@@ -207,7 +207,7 @@ static int words(void) {
 int main(void) {
     expr_engine *engine = expr_open();
     CHECK(engine);
-    int failed = untrusted(engine) || exactly(engine) || settings(engine) || waiting(engine) || words();
+    int failed = strangers(engine) || exactly(engine) || settings(engine) || waiting(engine) || words();
     expr_close(engine);
     if (!failed) printf("limits: ok\n");
     return failed;

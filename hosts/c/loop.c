@@ -1,5 +1,5 @@
 /* loop WAY COUNT TEXT [NAME=NUMBER].. : so many times compiles TEXT (compile), runs its program among the names (run), does
- * both (eval), or asks the least that there is (ask); within the limits for untrusted expressions, or within none if UNLIMITED is set. */
+ * both (eval), or asks the least that there is (ask); within the limits for strangers, or within none if UNLIMITED is set. */
 #include "exprlang.h"
 #include <stdio.h>
 #include <stdlib.h>

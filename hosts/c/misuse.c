@@ -38,7 +38,7 @@ static int nulls(expr_engine *engine) {
 
 static int wrong_values(expr_engine *engine) {
     static const char far_away[] = "no zone has this many seconds";
-    expr_limits limits = EXPR_LIMITS_UNTRUSTED;
+    expr_limits limits = EXPR_LIMITS_FOR_STRANGERS;
     expr_environment host;
     expr_context context;
     expr_program program;

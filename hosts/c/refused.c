@@ -115,45 +115,6 @@ static void fill(expr_engine *engine, expr_program rule, expr_context sparse) {
     if (expr_drop_context(engine, sparse) != EXPR_OK) FAIL("drop");
 }
 
-/* Checks that names `a` to `i` come to their numbers, functions ask for a reply, and what has a number below 0 is not there. */
-static void check_numbers(expr_engine *engine, int kind, const int64_t *numbers, expr_environment host, expr_context context) {
-    static const char *const FORMATS[] = {"%c", "%c()", "date(\"2024-01-31T00:00:00Z\").In(timezone(\"%c\")).Minute()"};
-    for (int i = 0; i < 9; i++) {
-        char text[80];
-        expr_program program;
-        expr_answer answer;
-        snprintf(text, sizeof text, FORMATS[kind], 'a' + i);
-        if (!ok(expr_compile(engine, text, EXPR_Z, &program, NULL))) return;
-        expr_status status = expr_run(engine, program, host, context, &answer);
-        expr_drop_program(engine, program);
-        if (status == EXPR_MEMORY) { saw_memory = 1; return; }
-        if (numbers[i] < 0 ? status != EXPR_EVALUATION
-            : kind == 1    ? status != EXPR_ASKS
-                           : status != EXPR_OK || answer.number != numbers[i]) FAIL("a refused addition changes what is there");
-    }
-}
-
-/* Adds names, functions and zones, and two of them again: an addition that is refused leaves what was there before. */
-static void additions(expr_engine *engine) {
-    for (int kind = 0; kind < 3; kind++) {
-        int64_t numbers[] = {-1, -1, -1, -1, -1, -1, -1, -1, -1};
-        expr_context context;
-        expr_environment host;
-        int is_done = ok(expr_context_new(engine, &context)) & ok(expr_environment_new(engine, &host));
-        for (int i = 0; is_done && i < 11; i++) {
-            char name = (char)('a' + i % 9);
-            int64_t number = i < 9 ? i : 59;
-            expr_status status = kind == 0   ? expr_set_integer(engine, context, &name, 1, number)
-                                 : kind == 1 ? expr_add_name(engine, host, &name, 1)
-                                             : expr_add_fixed_zone(engine, host, &name, 1, (int32_t)number * 60);
-            if (ok(status)) numbers[i % 9] = number;
-            else check_numbers(engine, kind, numbers, host, context);
-        }
-        expr_drop_context(engine, context);
-        expr_drop_environment(engine, host);
-    }
-}
-
 /* All kinds of work; the parts that are refused are passed over. */
 static void work(expr_engine *engine) {
     expr_program rule;
@@ -177,7 +138,6 @@ static void work(expr_engine *engine) {
         build(engine, context);
     }
     contexts(engine);
-    additions(engine);
     if (has_host) reply(engine, host);
     if (has_rule) {
         int is_done = ok(expr_names(engine, rule, &count, &names));
@@ -193,7 +153,7 @@ static void work(expr_engine *engine) {
     stop(engine, "reduce(1..9, [#acc], 0)", EXPR_LIMIT_DEPTH);
     stop(engine, "all(1..50, {all(1..50, {[#] != [0]})})", EXPR_LIMIT_STEPS);
     stop(engine, "\"a\" matches \"\\\\w{9}\"", EXPR_LIMIT_PATTERNS);
-    stop(engine, "[[[[[[[[[[[[[[[[[[[[[[[1]]]]]]]]]]]]]]]]]]]]]]]", EXPR_LIMIT_NESTING);
+    stop(engine, "[[[[[[[[[[[[[[[[[[[[[[[1]]]]]]]]]]]]]]]]]]]]]]]", EXPR_LIMIT_HEIGHT);
     if (has_rule && expr_drop_program(engine, rule) != EXPR_OK) FAIL("drop");
     if (has_context && expr_drop_context(engine, context) != EXPR_OK) FAIL("drop");
     if (has_host && expr_drop_environment(engine, host) != EXPR_OK) FAIL("drop");

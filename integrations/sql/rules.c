@@ -15,7 +15,7 @@ struct kept_rule {
 
 /* The limits for untrusted strings, with another weight of literal patterns. */
 static void limit_patterns(rules *all, int64_t patterns) {
-    expr_limits limits = EXPR_LIMITS_UNTRUSTED;
+    expr_limits limits = EXPR_LIMITS_FOR_STRANGERS;
     limits.patterns = patterns;
     expr_set_limits(all->engine, &limits);
 }
@@ -184,7 +184,7 @@ static expr_status compiled(rules *all, const char *text, size_t length, kept_ru
     expr_status status = expr_compile(all->engine, text, length, &program, &all->place);
     int is_heavy = status == EXPR_LIMIT_PATTERNS;
     if (is_heavy) {
-        limit_patterns(all, EXPR_LIMITS_UNTRUSTED.patterns);
+        limit_patterns(all, EXPR_LIMITS_FOR_STRANGERS.patterns);
         status = expr_compile(all->engine, text, length, &program, &all->place);
         limit_patterns(all, LIGHT_PATTERNS);
     }

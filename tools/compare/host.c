@@ -1,5 +1,5 @@
 /* Ours from C: PROGRAM PART TURNS CODE [NAME=JSON].. does a part so many times: `compile` (and lets the program go), or `run` of a
-   program that is kept, in a context that is kept; both within the limits for untrusted expressions, which an engine has at first, and without
+   program that is kept, in a context that is kept; both within the limits for strangers, which an engine has at first, and without
    limits where the part is `compile-unlimited` or `run-unlimited`. The answer goes to standard output, and the nanoseconds of all
    turns to standard error. */
 #include "exprlang.h"

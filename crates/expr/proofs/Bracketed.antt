@@ -1,15 +1,15 @@
--- The expressions of a pair are read, and their programs compared, by computing.
+-- The texts of a pair are read, and their programs compared, by computing.
 use Rattle.std.proofs.Common.{◌≡◌, ℕ, Bool, true, false, List, [], ◌∷◌, Option, Some, None, refl, sym, ap, ◌∙◌}
 use Rattle.std.specs.List.{AllByRecursion, list_all}
 use Rattle.std.specs.Option.{option_and_then}
 use Rattle.std.proofs.lemmas.Bool.{and_parts, false≢true}
-use Rattle.expr_tokens.proofs.Lexing.{reads_lex}
-use Rattle.expr_tokens.specs.Lexer.{lex, lex_at_most}
-use Rattle.expr_tokens.specs.declared.token.Token.{Token}
-use Rattle.expr_tokens.proofs.Sound.{sound}
-use Rattle.expr_tokens.specs.Grammar.{TreeProgram, IntegerFits, program_tokens}
-use Rattle.expr_tokens.specs.Machine.{parse, tree_of}
-use Rattle.expr_parts.specs.Programs.{program_of}
+use Rattle.expr_token.proofs.Lexing.{reads_lex}
+use Rattle.expr_token.specs.Lexer.{lex, lex_at_most}
+use Rattle.expr_token.specs.declared.token.Token.{Token}
+use Rattle.expr_grammar.proofs.Sound.{sound}
+use Rattle.expr_grammar.specs.Grammar.{TreeProgram, IntegerFits, program_tokens}
+use Rattle.expr_grammar.specs.Machine.{parse, tree_of}
+use Rattle.expr_frames.specs.Programs.{program_of}
 use Rattle.expr_syntax.specs.Texts.{IsTreeOf}
 use Rattle.expr.specs.Bracketed.{HaveOneProgram, bracketed_pairs}
 

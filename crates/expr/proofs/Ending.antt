@@ -1,58 +1,67 @@
--- The ending of an expression within limits, by that of a code of its program, and its possible results.
-use Rattle.std.proofs.Common.{◌≡◌, ◌≤◌, ℕ, IfOk, List, Result, Ok, Err, ◌⊎◌, inl, inr, refl, sym, ap, ◌∙◌, subst}
+-- How a text ends within limits, by how a code of its program does, and what it may answer then.
+use Rattle.std.proofs.Common.{◌≡◌, ◌≤◌, ℕ, IfOk, List, Result, Ok, Err, ◌⊎◌, inl, inr, refl, sym, ap, ◌∙◌, subst, arith}
 use Rattle.std.specs.Result.{IsErrAnd}
 use Rattle.std.specs.Str.{IsCharBoundary}
-use Rattle.expr_meaning.proofs.Correct.{exact_code}
+use Rattle.expr_code.proofs.Correct.{exact_code}
 use Rattle.expr_code.specs.Codes.{IsCode}
-use Rattle.expr_code.specs.Instructions.{Op}
-use Rattle.expr_meaning.specs.CodeRuns.{CodeAnswers}
+use Rattle.expr_code.specs.Machine.{CodeAnswers, Op}
 use Rattle.expr_costs.specs.Costs.{costs_in}
-use Rattle.expr_limits.specs.Outcomes.{OnAnswer, ReturnsOutcome}
+use Rattle.expr_limited.specs.Outcomes.{OnAnswer, ReturnsOutcome}
 use Rattle.expr_meaning.specs.Allows.{AllowsBlock}
-use Rattle.expr_meaning.proofs.Forgotten.{code_forgets}
-use Rattle.expr_limits.specs.Counting.{ending_of}
-use Rattle.expr_limits.specs.Rooms.{Room, rooms}
-use Rattle.expr_limits.specs.declared.limit.Limit.{Limit}
-use Rattle.expr_limits.specs.declared.limit.Limit.TheVariants.{Nesting, Patterns, Steps, Depth, Size}
-use Rattle.expr_limits.specs.declared.limits.Limits.{Limits}
-use Rattle.expr_limits.specs.declared.outcome.Outcome.{Outcome}
-use Rattle.expr_limits.specs.declared.outcome.Outcome.TheVariants.{Answered, Stopped}
+use Rattle.expr_meter.proofs.Forgotten.{code_forgets}
+use Rattle.expr_meter.specs.Counting.{ending_of}
+use Rattle.expr_meter.specs.Rooms.{Room, rooms}
+use Rattle.expr_meter.specs.declared.limit.Limit.{Limit}
+use Rattle.expr_meter.specs.declared.limit.Limit.TheVariants.{Height, Patterns, Steps, Depth, Size}
+use Rattle.expr_meter.specs.declared.limits.Limits.{Limits}
+use Rattle.expr_meter.specs.declared.outcome.Outcome.{Outcome}
+use Rattle.expr_meter.specs.declared.outcome.Outcome.TheVariants.{Answered, Stopped}
 use Rattle.expr_meaning.specs.World.{World}
-use Rattle.expr_limits.specs.Sizes.{depth}
-use Rattle.expr_syntax.specs.Bounds.{IsLight}
+use Rattle.expr_sizes.specs.Sizes.{depth}
+use Rattle.expr_syntax.specs.Bounds.{IsCompiledBounded, IsHigher, IsLight}
 use Rattle.expr_syntax.specs.Texts.{IsPlaced, IsProgramOf, IsProgramWithin}
 use Rattle.expr_tree.specs.Term.{Block}
-use Rattle.expr_error.specs.ErrorKind.{ErrorKind, error_kind, memory}
+use Rattle.expr_tree.specs.declared.node.Program.{Program}
+use Rattle.expr_error.specs.ErrorKind.{ErrorKind, evaluation, error_kind, literal, memory, pattern, syntax}
 use Rattle.expr_error.specs.declared.error.Error.{Error}
 use Rattle.expr_error.specs.declared.error.Error.TheVariants.{PestError, ParseError, ExprError, RegexError, MemoryError}
 use Rattle.expr_value.specs.declared.value.Value.{Value}
-use Rattle.expr_limited.specs.Given.{MayGive}
-use Rattle.expr_syntax.specs.CompiledLimited.{IsCompiledLimited}
-use Rattle.expr.specs.Limited.{AnswersTextLimited, CodeEnds, EndsText, TextEnds, run_room}
-use Rattle.expr_syntax.specs.Refused.{IsRefused}
-use Rattle.expr_eval.specs.Texts.{IsOwnFault, MayAnswer}
-use Rattle.expr_eval.proofs.Faults.{boundary_of_run, place_of_run}
-use Rattle.expr_syntax.proofs.Passed.{same_place}
-use Rattle.expr_meaning.proofs.Stopping.{stops_of_runs}
+use Rattle.expr.specs.Limited.{AnswersTextLimited, CodeEnds, EndsText, IsCompiledLimited, MayGive, TextEnds, room_of}
+use Rattle.expr_eval.specs.Texts.{IsOwnFault, IsRefused, IsRefusedWithin, MayAnswer, MayAnswerWithin}
+use Rattle.expr_eval.proofs.Faults.{boundary_of_run, place_of_run, same_place}
+use Rattle.expr.proofs.Stopping.{stops_of_runs}
 
--- the program of a tree within a height is one of the expression
+-- the program of a tree within a height is one of the text
 pub of_within : (text : List ℕ) (height : ℕ) (b : Block) → IsProgramWithin text height b → IsProgramOf text b
 of_within text height b p = record { tree = p.tree; is_tree = p.is_tree; literals = p.within.0; same = p.same }
 
+-- what refuses a text within bounds, refuses it within limits, and so it does where it is passed on
+module _ (text : List ℕ) (limits : Limits) where
+  refused_bounded : (e : Error) → IsCompiledBounded text limits.height limits.patterns (Err e) → IsCompiledLimited text limits (Err e)
+  refused_bounded (PestError place) h = h
+  refused_bounded (ParseError message) h = h
+  refused_bounded (ExprError message) h = h
+  refused_bounded (RegexError error) h = h
+  refused_bounded MemoryError h = h
+
+  pub passed_bounded : (e : Error) → IsCompiledBounded text limits.height limits.patterns (Err e) → (r : Result (Outcome Program) Error) → IsErrAnd r (λ x. x ≡ e) → IsCompiledLimited text limits r
+  passed_bounded e h (Ok o) is = absurd is
+  passed_bounded e h (Err x) is = subst (λ y. IsCompiledLimited text limits (Err y)) (sym is) (refused_bounded e h)
+
 module _ (world : World) where
-  -- the result of code within limits is one of the code
+  -- what a code answers within limits, it may answer
   pub code_answers : (blocks : List (List Op)) (limits : Limits) (r : Result (Outcome Value) Error) → ReturnsOutcome r (CodeEnds world blocks limits) → MayGive r (CodeAnswers world blocks)
-  code_answers blocks limits (Ok (Answered v)) (left, p) = code_forgets rooms (costs_in world.host) world blocks (run_room limits) (Ok v) left p
+  code_answers blocks limits (Ok (Answered v)) (left, p) = code_forgets rooms (costs_in world.host) world blocks (room_of limits) (Ok v) left p
   code_answers blocks limits (Ok (Stopped limit)) p = tt
-  code_answers blocks limits (Err e) p = λ m. code_forgets rooms (costs_in world.host) world blocks (run_room limits) (Err (error_kind e)) (run_room limits) (p m)
+  code_answers blocks limits (Err e) p = λ m. code_forgets rooms (costs_in world.host) world blocks (room_of limits) (Err (error_kind e)) (room_of limits) (p m)
 
   module _ (text : List ℕ) (limits : Limits) where
-    -- a code of the expression's program
-    module _ (b : Block) (blocks : List (List Op)) (within : IsProgramWithin text limits.nesting b) (light : IsLight text limits.patterns) (code : IsCode b blocks) where
+    -- a code of the text's program
+    module _ (b : Block) (blocks : List (List Op)) (within : IsProgramWithin text limits.height b) (light : IsLight text limits.patterns) (code : IsCode b blocks) where
       pub text_ends : (r : Result (Outcome Value) Error) → ReturnsOutcome r (CodeEnds world blocks limits) → EndsText world text limits r
       text_ends (Ok (Answered v)) (left, p) = (left, (b, blocks, within, light, code, p))
-      text_ends (Ok (Stopped Nesting)) p = absurd (stops_of_runs (costs_in world.host) world blocks (run_room limits) Nesting p)
-      text_ends (Ok (Stopped Patterns)) p = absurd (stops_of_runs (costs_in world.host) world blocks (run_room limits) Patterns p)
+      text_ends (Ok (Stopped Height)) p = absurd (stops_of_runs (costs_in world.host) world blocks (room_of limits) Height p)
+      text_ends (Ok (Stopped Patterns)) p = absurd (stops_of_runs (costs_in world.host) world blocks (room_of limits) Patterns p)
       text_ends (Ok (Stopped Steps)) p = (b, blocks, within, light, code, p)
       text_ends (Ok (Stopped Depth)) p = (b, blocks, within, light, code, p)
       text_ends (Ok (Stopped Size)) p = (b, blocks, within, light, code, p)
@@ -63,18 +72,18 @@ module _ (world : World) where
       program_gives (Ok (Stopped limit)) p = tt
       program_gives (Err e) p = λ m. (exact_code world b blocks code (Err (error_kind e))).0 (code_answers blocks limits (Err e) p m)
 
-      -- a syntax error of the expression is none of the code
+      -- a syntax fault of the text's own is none of the code's
       pub run_place : (r : Result (Outcome Value) Error) → ReturnsOutcome r (CodeEnds world blocks limits) → IsOwnFault text world.host → IsPlaced text r
       run_place (Ok o) p own = tt
-      run_place (Err e) p own = same_place Value (Outcome Value) text e (place_of_run text world b (of_within text limits.nesting b within) (Err e) (program_gives (Err e) p) own)
+      run_place (Err e) p own = same_place Value (Outcome Value) text e (place_of_run text world b (of_within text limits.height b within) (Err e) (program_gives (Err e) p) own)
 
       pub run_boundary : (r : Result (Outcome Value) Error) → ReturnsOutcome r (CodeEnds world blocks limits) → IsOwnFault text world.host → (place : ℕ) → r ≡ Err (PestError place) → IsCharBoundary text place
       run_boundary r p own place is =
-          boundary_of_run text world b (of_within text limits.nesting b within) (Err (PestError place)) (
+          boundary_of_run text world b (of_within text limits.height b within) (Err (PestError place)) (
           program_gives (Err (PestError place)) (subst (λ s. ReturnsOutcome s (CodeEnds world blocks limits)) is p)
           ) own place refl
 
-    -- the errors of compiling, and where it stops
+    -- what compiling refuses, and where it stops
     refused_ends : (e : Error) → IsCompiledLimited text limits (Err e) → EndsText world text limits (Err e)
     refused_ends (PestError place) h = λ m. inl h
     refused_ends (ParseError message) h = λ m. inl h
@@ -87,29 +96,46 @@ module _ (world : World) where
     passed_ends e h (Err x) is = subst (λ y. EndsText world text limits (Err y)) (sym is) (refused_ends e h)
 
     pub stopped_ends : (limit : Limit) → IsCompiledLimited text limits (Ok (Stopped limit)) → EndsText world text limits (Ok (Stopped limit))
-    stopped_ends Nesting h = h
+    stopped_ends Height h = h
     stopped_ends Patterns h = h
     stopped_ends Steps h = absurd h
     stopped_ends Depth h = absurd h
     stopped_ends Size h = absurd h
 
-    -- if memory is lacking in between
+    pub stopped_higher : (limit : Limit) → limit ≡ Height → EndsText world text limits (Ok (Stopped limit)) → IsHigher text limits.height
+    stopped_higher limit is h = subst (λ l. EndsText world text limits (Ok (Stopped l))) is h
+
+    -- where memory is refused in between
     pub memory_ends : (e : Error) → error_kind e ≡ memory → (r : Result (Outcome Value) Error) → IsErrAnd r (λ x. x ≡ e) → EndsText world text limits r
     memory_ends e is_memory (Ok o) is = absurd is
     memory_ends e is_memory (Err x) is = λ m. absurd (m (ap error_kind is ∙ is_memory))
 
-    -- the expression's program allows the result of such a run
-    run_allowed : (a : Result Value ErrorKind) (left : Room) → TextEnds world text limits (ending_of a left) → (b : Block) × IsProgramWithin text limits.nesting b × AllowsBlock world b a
-    run_allowed a left (b, blocks, within, light, code, p) = (b, within, (exact_code world b blocks code a).0 (code_forgets rooms (costs_in world.host) world blocks (run_room limits) a left p))
+    -- what such a run answers, the text's program allows
+    run_allowed : (a : Result Value ErrorKind) (left : Room) → TextEnds world text limits (ending_of a left) → (b : Block) × IsProgramWithin text limits.height b × AllowsBlock world b a
+    run_allowed a left (b, blocks, within, light, code, p) = (b, within, (exact_code world b blocks code a).0 (code_forgets rooms (costs_in world.host) world blocks (room_of limits) a left p))
 
     run_answers : (a : Result Value ErrorKind) (left : Room) → TextEnds world text limits (ending_of a left) → MayAnswer text world a
-    run_answers a left p = let q = run_allowed a left p in inl (q.0, of_within text limits.nesting q.0 q.1, q.2)
+    run_answers a left p = let q = run_allowed a left p in inl (q.0, of_within text limits.height q.0 q.1, q.2)
 
-    either_answers : (f : ErrorKind) → IsRefused text (Err f) ⊎ TextEnds world text limits (ending_of (Err f) (run_room limits)) → MayAnswer text world (Err f)
+    run_answers_within : (a : Result Value ErrorKind) (left : Room) → TextEnds world text limits (ending_of a left) → MayAnswerWithin limits.height text world a
+    run_answers_within a left p = inl (run_allowed a left p)
+
+    refused_within : (f : ErrorKind) → IsRefused text (Err f) → IsRefusedWithin limits.height text (Err f)
+    refused_within syntax h = h
+    refused_within literal h = record { tree = h.tree; is_tree = h.is_tree; beyond = λ fits. h.literals fits.0 }
+    refused_within evaluation h = h
+    refused_within pattern h = h
+    refused_within memory h = h
+
+    either_answers : (f : ErrorKind) → IsRefused text (Err f) ⊎ TextEnds world text limits (ending_of (Err f) (room_of limits)) → MayAnswer text world (Err f)
     either_answers f (inl h) = inr h
-    either_answers f (inr p) = run_answers (Err f) (run_room limits) p
+    either_answers f (inr p) = run_answers (Err f) (room_of limits) p
 
-    -- the result of an expression within limits is one of the expression
+    either_within : (f : ErrorKind) → IsRefused text (Err f) ⊎ TextEnds world text limits (ending_of (Err f) (room_of limits)) → MayAnswerWithin limits.height text world (Err f)
+    either_within f (inl h) = inr (refused_within f h)
+    either_within f (inr p) = run_answers_within (Err f) (room_of limits) p
+
+    -- what a text answers within limits, it may answer
     pub text_answers : (r : Result (Outcome Value) Error) → EndsText world text limits r → MayGive r (MayAnswer text world)
     text_answers (Ok (Answered v)) (left, p) = run_answers (Ok v) left p
     text_answers (Ok (Stopped limit)) p = tt
@@ -119,7 +145,22 @@ module _ (world : World) where
     passed_depth e (Ok o) is = absurd is
     passed_depth e (Err x) is = tt
 
-    -- the ending of an expression that fails before its code runs
+    -- what a text comes to that is refused before its code is run
     pub text_refused : (e : Error) (r : Result (Outcome Value) Error) → IsErrAnd r (λ x. x ≡ e) → EndsText world text limits r → (IsOwnFault text world.host → IsPlaced text r)
         → (IsOwnFault text world.host → (place : ℕ) → r ≡ Err (PestError place) → IsCharBoundary text place) → AnswersTextLimited world text limits r
     text_refused e r is ends placed bounded = record { outcome = ends; answer = text_answers r ends; depth = passed_depth e r is; place = placed; boundary = bounded }
+
+    -- and so it may where no tree is higher than is allowed
+    module _ (height : ℕ) (same : limits.height ≡ height) where
+      pub text_answers_within : (r : Result (Outcome Value) Error) → EndsText world text limits r → MayGive r (MayAnswerWithin height text world)
+      text_answers_within (Ok (Answered v)) (left, p) = subst (λ n. MayAnswerWithin n text world (Ok v)) same (run_answers_within (Ok v) left p)
+      text_answers_within (Ok (Stopped limit)) p = tt
+      text_answers_within (Err e) p = λ m. subst (λ n. MayAnswerWithin n text world (Err (error_kind e))) same (either_within (error_kind e) (p m))
+
+      -- one that is higher is beyond what is allowed
+      pub higher_answers : IsHigher text limits.height → MayAnswerWithin height text world (Err literal)
+      higher_answers h = inr (record {
+        tree = h.tree;
+        is_tree = h.is_tree;
+        beyond = λ fits. (let more = h.higher in let most = fits.1 in omega (arith, more, most, same));
+      })

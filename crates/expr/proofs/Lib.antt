@@ -1,4 +1,5 @@
 pub mod Bracketed
 pub mod Ending
-pub mod Placed
 pub mod SameText
+pub mod Stopping
+pub mod Placed

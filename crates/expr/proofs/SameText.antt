@@ -1,23 +1,23 @@
--- Readable values that print alike are equal.
+-- Readable values of one printed text are one.
 use Rattle.std.proofs.Common.{◌≡◌, ℕ, IsTrue, List, [], None, Ok, sym, ap, ◌∙◌, subst}
-use Rattle.expr_tokens.proofs.Lexing.{one_reading}
-use Rattle.expr_tokens.specs.Printed.{is_readable}
+use Rattle.expr_token.proofs.Lexing.{one_reading}
+use Rattle.expr_printed.specs.Printed.{is_readable}
 use Rattle.expr_tree.specs.Term.{Block, answers}
-use Rattle.expr_tokens.proofs.Complete.{one_tree}
-use Rattle.expr_tokens.specs.Grammar.{Spells}
-use Rattle.expr_parts.specs.Programs.{program_of}
+use Rattle.expr_grammar.proofs.Complete.{one_tree}
+use Rattle.expr_grammar.specs.Grammar.{Spells}
+use Rattle.expr_frames.specs.Programs.{program_of}
 use Rattle.expr_syntax.proofs.Printed.{printed_program}
 use Rattle.expr_syntax.specs.Printed.{printed_term}
 use Rattle.expr_syntax.specs.Texts.{IsProgramOf}
 use Rattle.expr_value.specs.Values.{text_of}
 use Rattle.expr_value.specs.declared.value.Value.{Value}
 use Rattle.expr_meaning.specs.Allows.{AllowsBlock}
-use Rattle.expr_context.specs.Context.{ContextView}
+use Rattle.expr_steps.specs.Context.{ContextView}
 use Rattle.expr_meaning.specs.Host.{no_host}
 use Rattle.expr_meaning.specs.World.{world_of}
 use Rattle.expr_eval.proofs.Meant.{printed_only}
 
--- an expression has one program
+-- a text has one program
 one_program : (text : List ℕ) (b c : Block) → IsProgramOf text b → IsProgramOf text c → b ≡ c
 one_program text b c p q =
     p.same

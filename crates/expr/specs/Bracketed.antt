@@ -1,9 +1,9 @@
--- Expressions, and the same with brackets as the levels put them.
+-- Texts, and the same with brackets where the levels put them.
 use Rattle.std.specs.Prelude.{ℕ, List, [], ◌∷◌, codes}
 use Rattle.expr_syntax.specs.Texts.{IsProgramOf}
 use Rattle.expr_tree.specs.Term.{Block}
 
--- both expressions have a program, and it is the same
+-- two texts have a program, and one
 pub record HaveOneProgram (one other : List ℕ) : Type 0 where
   pub program : Block
   pub of_one : IsProgramOf one program

@@ -1,11 +1,11 @@
-//! Functions that a host adds to an environment.
+//! Functions that a host adds, which are kept and called later.
 use expr_meaning::ExprCall;
 use expr_value::{Result, Value};
 
-/// A function that a host adds: a closure that takes the name and the arguments of a call.
+/// A function that a host adds: a closure that is kept, and called on the name and the arguments of a call.
 pub type Function = Box<dyn Fn(ExprCall) -> Result<Value>>;
 
-/// A function that accepts any arguments.
+/// A function that may be called on all arguments.
 #[derive(Drop)]
 pub struct BoxedFunction {
     pub function: Function,
@@ -13,7 +13,7 @@ pub struct BoxedFunction {
 }
 
 impl BoxedFunction {
-    /// Calls the function. Returns its value or its error.
+    /// What the function answers.
     pub fn call(&self, call: ExprCall) -> Result<Value>
         ensures { Function.post self.now.function call result }
     {

@@ -1,11 +1,10 @@
-//! The macros: `value!` writes a value as a literal, and `bail!` returns an error.
+//! The macros: `value!`, by which a value is written as a literal, and `bail!`.
 
-/// Makes a value from a literal like JSON, as a [`Result`]. The allocator comes first, as in `format!`. Write
-/// `nil` for `null`. A list may end with a comma.
+/// A value from a literal like JSON's, as a [`Result`]. The allocator comes first, as in `format!`, `nil` stands in place of `null`,
+/// and a comma may end a list.
 ///
-/// An item, or a value of a map, may be an expression if its type has [`crate::assembly::IntoValue`]. A key
-/// may be an expression if it is a string with [`crate::assembly::IntoName`]. Put a key of more than one
-/// token in brackets, or end it with its colon.
+/// An expression may stand as an item or as a value of a map, if its type is one that [`crate::assembly::IntoValue`] takes, and as a
+/// key, if it is a text that [`crate::assembly::IntoName`] takes. A key of more than one token stands in brackets or ends at its colon.
 ///
 /// ```
 /// let value = value!(in alloc; {
@@ -15,7 +14,7 @@
 /// ```
 #[macro_export]
 macro_rules! value {
-    // Items of an array: each is added to the list.
+    // Items of an array, one after another onto the list so far.
     (@array $alloc:ident $list:expr;) => {
         $list
     };
@@ -35,7 +34,7 @@ macro_rules! value {
         $crate::value_unexpected!($unexpected)
     };
 
-    // Pairs of a map: the tokens of the key so far are in brackets.
+    // Pairs of a map: the tokens of the key so far stand in brackets.
     (@map $alloc:ident $map:expr; ()) => {
         $map
     };
@@ -80,24 +79,22 @@ macro_rules! value {
     };
 }
 
-/// Takes no arguments, so that the compiler names a wrong token of [`value!`].
+/// Takes no arguments, so that a token of [`value!`] that stands wrong is named by the compiler.
 #[macro_export]
 #[doc(hidden)]
 macro_rules! value_unexpected {
     () => {};
 }
 
-/// Takes an expression and a comma, so that the compiler names a value of [`value!`] that has no comma after
-/// it.
+/// Takes an expression and a comma, so that a value of [`value!`] with no comma after it is named by the compiler.
 #[macro_export]
 #[doc(hidden)]
 macro_rules! value_expect_expr_comma {
     ($e:expr , $($tt:tt)*) => {};
 }
 
-/// Returns from the enclosing function with an [`Error::ExprError`] of this message. If the message can't be
-/// allocated, the error is [`Error::MemoryError`]. The allocator comes first, as in
-/// `bail!(in alloc; "no field {name}")`.
+/// Leaves the enclosing function with an [`Error::ExprError`] of a text, or with an [`Error::MemoryError`] where that
+/// text cannot be made. The allocator comes first, as in `bail!(in alloc; "no field {name}")`.
 #[macro_export]
 macro_rules! bail {
     (in $alloc:expr; $($message:tt)+) => {

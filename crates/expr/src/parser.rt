@@ -1,6 +1,6 @@
-//! The older interface: a parser that holds an environment.
+//! The older way in: a parser that holds an environment.
 ghost use Rattle.std.specs.Prelude.{◌≡◌, None, OnErr, OnOk};
-ghost use Rattle.expr.specs.Hosted.{FindSame, FindsNothing, IsAdded, host_of, moment_set, function_named, zone_at};
+ghost use Rattle.expr.specs.Hosted.{FindSame, FindsNothing, IsAdded, host_of, moment_at, function_named, zone_at};
 ghost use Rattle.expr.specs.Parsers.{environment_of};
 ghost use Rattle.expr_meaning.specs.World.{world_of};
 ghost use Rattle.expr_syntax.specs.Promises.{CompilesText};
@@ -8,7 +8,7 @@ ghost use Rattle.expr_error.specs.ErrorKind.{OnlyMemory};
 ghost use Rattle.expr_value.specs.declared.value.Value.{Value};
 ghost use Rattle.expr_machine.specs.Promises.{RunsProgram};
 ghost use Rattle.expr_eval.specs.Promises.{AnswersText};
-ghost use Rattle.expr_eval.specs.NodePromises.{AnswersNode};
+ghost use Rattle.expr_evaluation.specs.Promises.{AnswersNode};
 
 use crate::boxed_function::Function;
 use crate::environment::Environment;
@@ -17,7 +17,7 @@ use expr_tree::node::{Node, Program};
 use expr_value::{Result, Value};
 use std::alloc::Global;
 
-/// An environment with a `compile` function.
+/// An environment, and `compile` beside it.
 #[deprecated(note = "take `Environment`, and `compile` for texts")]
 #[derive(Drop)]
 pub struct Parser {
@@ -25,23 +25,23 @@ pub struct Parser {
 }
 
 impl Parser {
-    /// Creates a parser that adds nothing. It allocates no memory.
+    /// A parser without additions. It takes no memory.
     pub fn new(alloc: Global) -> Parser
         ensures functions { FindsNothing (function_named (environment_of result)) }
         ensures zones { FindsNothing (zone_at (environment_of result)) }
-        ensures moment { moment_set (environment_of result) ≡ None }
+        ensures moment { moment_at (environment_of result) ≡ None }
     {
         Parser {
             environment: Environment::new(alloc),
         }
     }
 
-    /// Adds a function. It replaces an earlier function or a built-in of this name. On an error the parser
+    /// Adds a function, in place of an earlier one or of a built-in of this name. Where a growth is refused the parser
     /// stays as it was.
     ///
     /// # Errors
     ///
-    /// Returns `MemoryError` if an allocation fails.
+    /// `MemoryError` alone.
     pub fn add_function(&mut self, name: &str, function: Function) -> Result<()>
         requires { Function.IsAlwaysCallable function }
         ensures added { OnOk result (IsAdded (λ r. r.function) name.now function
@@ -49,28 +49,28 @@ impl Parser {
         ensures err { OnErr result (FindSame (function_named (environment_of self.old))
             (function_named (environment_of self.new))) }
         ensures zones { FindSame (zone_at (environment_of self.old)) (zone_at (environment_of self.new)) }
-        ensures moment { moment_set (environment_of self.new) ≡ moment_set (environment_of self.old) }
+        ensures moment { moment_at (environment_of self.new) ≡ moment_at (environment_of self.old) }
         ensures refusal { OnlyMemory result }
     {
         self.environment.add_function(name, function)
     }
 
-    /// Compiles an expression, as [`compile`](expr_syntax::compile) does.
+    /// The program of a text, as [`compile`](expr_syntax::compile) reads it.
     ///
     /// # Errors
     ///
-    /// Returns the errors of `compile`.
+    /// What `compile` refuses.
     pub fn compile(&self, alloc: Global, code: &str) -> Result<Program>
         ensures { CompilesText code.now result }
     {
         expr_syntax::compile(alloc, code)
     }
 
-    /// Runs a program in a context, as [`Environment::run`] does.
+    /// What a program answers in a context, as [`Environment::run`] says.
     ///
     /// # Errors
     ///
-    /// Returns the errors of [`Environment::run`].
+    /// What [`Environment::run`] refuses.
     pub fn run(&self, alloc: Global, program: &Program, ctx: &dyn ContextProvider) -> Result<Value>
         ensures { RunsProgram (world_of (host_of (environment_of self.now)) (context ctx.now)) program.now
             result }
@@ -78,11 +78,11 @@ impl Parser {
         self.environment.run(alloc, program, ctx)
     }
 
-    /// Evaluates an expression in a context, as [`Environment::eval`] does.
+    /// What a text answers in a context, as [`Environment::eval`] says.
     ///
     /// # Errors
     ///
-    /// Returns the errors of [`Environment::eval`].
+    /// What [`Environment::eval`] refuses.
     pub fn eval(&self, alloc: Global, code: &str, ctx: &dyn ContextProvider) -> Result<Value>
         ensures { AnswersText (world_of (host_of (environment_of self.now)) (context ctx.now)) code.now
             result }
@@ -90,11 +90,11 @@ impl Parser {
         self.environment.eval(alloc, code, ctx)
     }
 
-    /// Evaluates a node in a context, as [`Environment::eval_expr`] does.
+    /// What a node answers in a context, as [`Environment::eval_expr`] says.
     ///
     /// # Errors
     ///
-    /// Returns the errors of [`Environment::eval_expr`].
+    /// What [`Environment::eval_expr`] refuses.
     pub fn eval_expr(&self, alloc: Global, ctx: &dyn ContextProvider, node: &Node) -> Result<Value>
         ensures { AnswersNode (world_of (host_of (environment_of self.now)) (context ctx.now)) node.now
             result }

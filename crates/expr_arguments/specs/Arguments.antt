@@ -1,4 +1,4 @@
--- Number and kinds of the arguments of a call. A call with others fails.
+-- The arguments of a call, by number and kinds. A call with others is refused.
 use Rattle.std.specs.Prelude.{ℤ, negsuc, ℕ, List, [], ◌∷◌, Option, Some, None, Result, Ok, Err}
 use Rattle.std.specs.Option.{option_and_then, option_map}
 use Rattle.expr_error.specs.ErrorKind.{ErrorKind, evaluation}
@@ -6,7 +6,7 @@ use Rattle.expr_value.specs.Values.{duration_of, string_of, integer_of, items_of
 use Rattle.expr_value.specs.declared.value.Value.{Value}
 use Rattle.expr_value.specs.Answers.{Answer}
 
--- the result for arguments of the right kinds, or an error for others
+-- what a call answers on arguments of its kinds, and a refusal without them
 abbrev pub answer_on : {A : Type 0} → Option A → (A → Answer) → Answer
 answer_on None answers = Err evaluation
 answer_on (Some x) answers = answers x
@@ -57,19 +57,19 @@ one_text = one_of string_of
 abbrev pub two_texts : List Value → Option (List ℕ × List ℕ)
 two_texts = two_of string_of string_of
 
-abbrev pub with_piece_limit : Option (List ℕ × List ℕ) → Option ℤ → Option (List ℕ × List ℕ × ℤ)
-with_piece_limit None n = None
-with_piece_limit (Some p) n = option_map (λ k. (p.0, p.1, k)) n
+abbrev pub with_limit : Option (List ℕ × List ℕ) → Option ℤ → Option (List ℕ × List ℕ × ℤ)
+with_limit None n = None
+with_limit (Some p) n = option_map (λ k. (p.0, p.1, k)) n
 
--- two strings and a limit, which is -1 if it is missing
+-- two texts and a limit, which is -1 where it isn't given
 abbrev pub two_texts_and_limit : List Value → Option (List ℕ × List ℕ × ℤ)
 two_texts_and_limit [] = None
 two_texts_and_limit (s ∷ []) = None
-two_texts_and_limit (s ∷ t ∷ []) = with_piece_limit (both (string_of s) (string_of t)) (Some (negsuc 0))
-two_texts_and_limit (s ∷ t ∷ n ∷ []) = with_piece_limit (both (string_of s) (string_of t)) (integer_of n)
+two_texts_and_limit (s ∷ t ∷ []) = with_limit (both (string_of s) (string_of t)) (Some (negsuc 0))
+two_texts_and_limit (s ∷ t ∷ n ∷ []) = with_limit (both (string_of s) (string_of t)) (integer_of n)
 two_texts_and_limit (s ∷ t ∷ n ∷ m ∷ more) = None
 
--- a string, and another that is empty if it is missing
+-- a text, and another that is empty where it isn't given
 abbrev pub one_or_two_texts : List Value → Option (List ℕ × List ℕ)
 one_or_two_texts [] = None
 one_or_two_texts (s ∷ []) = option_map (λ a. (a, [])) (string_of s)
@@ -79,7 +79,7 @@ one_or_two_texts (s ∷ t ∷ u ∷ more) = None
 abbrev pub text_and_integer : List Value → Option (List ℕ × ℤ)
 text_and_integer = two_of string_of integer_of
 
--- three strings and a limit, which is -1 if it is missing
+-- three texts and a limit, which is -1 where it isn't given
 abbrev pub three_texts_and_limit : List Value → Option ((List ℕ × List ℕ) × (List ℕ × ℤ))
 three_texts_and_limit [] = None
 three_texts_and_limit (s ∷ []) = None
@@ -88,7 +88,7 @@ three_texts_and_limit (s ∷ t ∷ u ∷ []) = both (both (string_of s) (string_
 three_texts_and_limit (s ∷ t ∷ u ∷ n ∷ []) = both (both (string_of s) (string_of t)) (both (string_of u) (integer_of n))
 three_texts_and_limit (s ∷ t ∷ u ∷ n ∷ m ∷ more) = None
 
--- an array, and a string that is empty if it is missing
+-- an array, and a text that is empty where it isn't given
 abbrev pub array_and_text : List Value → Option (List Value × List ℕ)
 array_and_text [] = None
 array_and_text (v ∷ []) = option_map (λ xs. (xs, [])) (items_of v)

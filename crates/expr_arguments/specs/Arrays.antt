@@ -1,4 +1,4 @@
--- The items of an array, owned or borrowed.
+-- The items of an array, whoever owns it.
 use Rattle.std.specs.Prelude.{List}
 use Rattle.expr_value.specs.declared.value.Value.{Value}
 use Rattle.expr_arguments.specs.declared.array.Array.{Array}

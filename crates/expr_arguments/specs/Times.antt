@@ -1,4 +1,4 @@
--- DateTimes, time zones and date parts among the arguments.
+-- Moments, zones and lengths of dates among the arguments.
 use Rattle.std.specs.Prelude.{ℤ, List, [], ◌∷◌, Option, None, Some}
 use Rattle.expr_value.specs.Values.{integer_of, moment_of}
 use Rattle.expr_value.specs.declared.value.Value.{Value, out-Value}
@@ -7,11 +7,11 @@ use Rattle.expr_datetime.specs.declared.moment.DateTimeValue.{DateTimeValue}
 use Rattle.expr_datetime.specs.declared.zone.TimezoneValue.{TimezoneValue}
 use Rattle.expr_arguments.specs.Arguments.{one_of}
 
--- the time zone, if the value is one
+-- the zone of a zone
 abbrev pub timezone_of : Value → Option TimezoneValue
 timezone_of v = elim (out-Value v) [ Value-F.Timezone z ↦ Some z | _ ↦ None ]
 
--- the argument, if it is one DateTime or one time zone
+-- the argument, if it is one moment or one zone
 abbrev pub one_moment : List Value → Option DateTimeValue
 one_moment = one_of moment_of
 

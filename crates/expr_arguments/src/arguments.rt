@@ -1,4 +1,4 @@
-//! Number and kinds of the arguments of a call.
+//! The arguments of a call, by number and kinds.
 ghost use Rattle.std.specs.Prelude.{◌≡◌, IfOk, Ok, Err, Some, None};
 ghost use Rattle.expr_value.specs.Answers.{ReturnsExactly};
 ghost use Rattle.std.specs.Option.{option_copied, option_map};
@@ -8,15 +8,11 @@ ghost use Rattle.expr_arguments.specs.Arrays.{array_items};
 ghost use Rattle.expr_arguments.specs.Arguments.{without_arguments, one_duration, one_integer, two_integers, one_text, two_texts, two_texts_and_limit, one_or_two_texts, text_and_integer, three_texts_and_limit, array_and_text, array_and_more, one_of, two_of, any_value};
 
 use crate::array::{Array, array_of};
-use crate::cow::CowValue;
+use expr_cow::CowValue;
 use expr_value::{Items, Result, Value, refusal};
 use std::alloc::Global;
 
-/// Returns `answer` if there are no arguments.
-///
-/// # Errors
-///
-/// Returns `ExprError` if there is an argument.
+/// An answer that goes with no arguments; with any it is a refusal.
 pub fn without_arguments(alloc: Global, arguments: &[CowValue<'_>], answer: Value) -> Result<Value>
     ensures { ReturnsExactly result (without_arguments arguments.now answer) }
 {
@@ -26,7 +22,7 @@ pub fn without_arguments(alloc: Global, arguments: &[CowValue<'_>], answer: Valu
     }
 }
 
-/// The nanoseconds, if there is one argument and it is a duration.
+/// The argument, if it is one length of time, in nanoseconds.
 pub fn one_duration(arguments: &[CowValue<'_>]) -> Option<i64>
     ensures { result ≡ one_duration arguments.now }
 {
@@ -36,7 +32,7 @@ pub fn one_duration(arguments: &[CowValue<'_>]) -> Option<i64>
     }
 }
 
-/// The integer, if there is one argument and it is an integer.
+/// The argument, if it is one integer.
 pub fn one_integer(arguments: &[CowValue<'_>]) -> Option<i64>
     ensures { result ≡ one_integer arguments.now }
 {
@@ -46,7 +42,7 @@ pub fn one_integer(arguments: &[CowValue<'_>]) -> Option<i64>
     }
 }
 
-/// The integers, if there are two arguments and both are integers.
+/// The arguments, if they are two integers.
 pub fn two_integers(arguments: &[CowValue<'_>]) -> Option<(i64, i64)>
     ensures { result ≡ two_integers arguments.now }
 {
@@ -56,7 +52,7 @@ pub fn two_integers(arguments: &[CowValue<'_>]) -> Option<(i64, i64)>
     }
 }
 
-/// The string, if there is one argument and it is a string.
+/// The argument, if it is one text.
 pub fn one_text<'a>(arguments: &'a [CowValue<'_>]) -> Option<&'a str>
     ensures { option_map (λ s. s.now) result ≡ one_text arguments.now }
 {
@@ -66,7 +62,7 @@ pub fn one_text<'a>(arguments: &'a [CowValue<'_>]) -> Option<&'a str>
     }
 }
 
-/// The strings, if there are two arguments and both are strings.
+/// The arguments, if they are two texts.
 pub fn two_texts<'a>(arguments: &'a [CowValue<'_>]) -> Option<(&'a str, &'a str)>
     ensures { option_map (λ p. (p.0.now, p.1.now)) result ≡ two_texts arguments.now }
 {
@@ -76,7 +72,7 @@ pub fn two_texts<'a>(arguments: &'a [CowValue<'_>]) -> Option<(&'a str, &'a str)
     }
 }
 
-/// Two strings and an optional limit, which is -1 if it is missing. `None` for other arguments.
+/// Two texts and a limit, which is -1 where it isn't given.
 pub fn two_texts_and_limit<'a>(arguments: &'a [CowValue<'_>]) -> Option<(&'a str, &'a str, i64)>
     ensures { option_map (λ p. (p.0.now, p.1.now, p.2)) result ≡ two_texts_and_limit arguments.now }
 {
@@ -91,7 +87,7 @@ pub fn two_texts_and_limit<'a>(arguments: &'a [CowValue<'_>]) -> Option<(&'a str
     Some((first.get().as_string()?, second.get().as_string()?, limit))
 }
 
-/// A string and an optional second one, which is empty if it is missing. `None` for other arguments.
+/// A text, and another that is empty where it isn't given.
 pub fn one_or_two_texts<'a>(arguments: &'a [CowValue<'_>]) -> Option<(&'a str, &'a str)>
     ensures { option_map (λ p. (p.0.now, p.1.now)) result ≡ one_or_two_texts arguments.now }
 {
@@ -102,7 +98,7 @@ pub fn one_or_two_texts<'a>(arguments: &'a [CowValue<'_>]) -> Option<(&'a str, &
     }
 }
 
-/// A string and an integer. `None` for other arguments.
+/// A text and an integer.
 pub fn text_and_integer<'a>(arguments: &'a [CowValue<'_>]) -> Option<(&'a str, i64)>
     ensures { option_map (λ p. (p.0.now, p.1)) result ≡ text_and_integer arguments.now }
 {
@@ -112,7 +108,7 @@ pub fn text_and_integer<'a>(arguments: &'a [CowValue<'_>]) -> Option<(&'a str, i
     }
 }
 
-/// Three strings and an optional limit, which is -1 if it is missing. `None` for other arguments.
+/// Three texts and a limit, which is -1 where it isn't given.
 pub fn three_texts_and_limit<'a>(
     arguments: &'a [CowValue<'_>],
 ) -> Option<(&'a str, &'a str, &'a str, i64)>
@@ -132,7 +128,7 @@ pub fn three_texts_and_limit<'a>(
     Some((first, second, third.get().as_string()?, limit))
 }
 
-/// The argument, if there is one.
+/// The argument, if it is one.
 pub fn one_value<'a>(arguments: &'a [CowValue<'_>]) -> Option<&'a Value>
     ensures { option_copied result ≡ one_of any_value arguments.now }
 {
@@ -142,7 +138,7 @@ pub fn one_value<'a>(arguments: &'a [CowValue<'_>]) -> Option<&'a Value>
     }
 }
 
-/// The arguments, if there are two.
+/// The arguments, if they are two.
 pub fn two_values<'a>(arguments: &'a [CowValue<'_>]) -> Option<(&'a Value, &'a Value)>
     ensures { option_map (λ p. (p.0.now, p.1.now)) result ≡ two_of any_value any_value arguments.now }
 {
@@ -152,7 +148,7 @@ pub fn two_values<'a>(arguments: &'a [CowValue<'_>]) -> Option<(&'a Value, &'a V
     }
 }
 
-/// An array and an optional string, which is empty if it is missing. `None` for other arguments.
+/// An array, and a text that is empty where it isn't given.
 pub fn array_and_text<'a>(arguments: &'a [CowValue<'_>]) -> Option<(&'a [Value], &'a str)>
     ensures { option_map (λ p. (p.0.now, p.1.now)) result ≡ array_and_text arguments.now }
 {
@@ -163,7 +159,7 @@ pub fn array_and_text<'a>(arguments: &'a [CowValue<'_>]) -> Option<(&'a [Value],
     }
 }
 
-/// Moves the argument out, if there is one and it is an array.
+/// The argument, moved out, if it is one array.
 pub fn one_array<'a>(arguments: &mut [CowValue<'a>]) -> Option<Array<'a>>
     ensures { option_map array_items result ≡ one_of items_of arguments.old }
 {
@@ -173,7 +169,7 @@ pub fn one_array<'a>(arguments: &mut [CowValue<'a>]) -> Option<Array<'a>>
     }
 }
 
-/// Moves an array out, and returns it with an integer. `None` for other arguments.
+/// An array, moved out, and an integer.
 pub fn array_and_integer<'a>(arguments: &mut [CowValue<'a>]) -> Option<(Array<'a>, i64)>
     ensures { option_map (λ p. (array_items p.0, p.1)) result ≡ two_of items_of integer_of arguments.old }
 {
@@ -184,11 +180,7 @@ pub fn array_and_integer<'a>(arguments: &mut [CowValue<'a>]) -> Option<(Array<'a
     Some((array_of(arguments[0].take_cow())?, number))
 }
 
-/// An array and an optional second argument.
-///
-/// # Errors
-///
-/// Returns `ExprError` for other arguments.
+/// An array, and one more argument if there is one. Other arguments are refused.
 pub fn array_and_more<'s>(
     alloc: Global,
     args: Items<CowValue<'s>>,
@@ -215,7 +207,7 @@ pub fn array_and_more<'s>(
     ))
 }
 
-// The array that a value is. Any other value gives `ExprError`.
+// The array that a value is; any other value is refused.
 fn array_or_refusal<'s>(alloc: Global, value: CowValue<'s>) -> Result<Array<'s>>
     ensures value { IfOk result (λ array. items_of value.entry ≡ Some (array_items array)) }
     ensures refusal { RefusesWith result (λ k. (items_of value.entry ≡ None) × (k ≡ evaluation)) }

@@ -1,26 +1,26 @@
-//! Arrays among the arguments, owned or borrowed. Items of an owned array are moved out, and items of a borrowed one
-//! are copied if they are kept.
+//! Arrays among the arguments, the call's own or lent: items of the one are moved out, and of the other copied where
+//! they are kept.
 ghost use Rattle.std.specs.Prelude.{◌≡◌, length, IfOk};
 ghost use Rattle.std.specs.Option.{option_map};
-ghost use Rattle.expr_arguments.specs.Cow.{cow_value};
+ghost use Rattle.expr_cow.specs.Cow.{cow_value};
 ghost use Rattle.expr_value.specs.Values.{items_of};
 ghost use Rattle.expr_arguments.specs.Arrays.{array_items};
 ghost use Rattle.expr_error.specs.ErrorKind.{OnlyMemory};
 
-use crate::cow::{Cow, CowValue};
+use expr_cow::{Cow, CowValue};
 use expr_value::{Items, Result, Value};
 use std::alloc::Global;
 
 /// The items of an array.
 #[derive(Drop)]
 pub enum Array<'a> {
-    /// The call owns them.
+    /// Of the call's own.
     Owned(Items<Value>),
-    /// They belong to an array elsewhere.
+    /// Of an array that stands elsewhere.
     Borrowed(&'a Items<Value>),
 }
 
-/// The array, or `None` if the value is none.
+/// The array that a value is.
 pub fn array_of(value: Cow<'_>) -> Option<Array<'_>>
     ensures { option_map array_items result ≡ items_of (cow_value value.entry) }
 {
@@ -31,7 +31,7 @@ pub fn array_of(value: Cow<'_>) -> Option<Array<'_>>
     }
 }
 
-/// Number of items.
+/// How many items there are.
 pub fn count_items(array: &Array<'_>) -> usize
     ensures { result ≡ length (array_items array.now) }
 {
@@ -41,7 +41,7 @@ pub fn count_items(array: &Array<'_>) -> usize
     }
 }
 
-/// Moves the items out of an owned array, or copies those of a borrowed one.
+/// All the items, to be kept.
 pub fn into_items<'a>(alloc: Global, array: Array<'a>) -> Result<Vec<Value>>
     ensures ok { IfOk result (λ all. all.items ≡ array_items array.entry) }
     ensures err { OnlyMemory result }
@@ -52,7 +52,7 @@ pub fn into_items<'a>(alloc: Global, array: Array<'a>) -> Result<Vec<Value>>
     }
 }
 
-/// The items one by one, owned or borrowed as the array is.
+/// The items, each held as the array is.
 pub fn each_cow(alloc: Global, array: Array<'_>) -> Result<Vec<CowValue<'_>>>
     ensures ok { IfOk result (λ held. held.items ≡ array_items array.entry) }
     ensures err { OnlyMemory result }
@@ -64,7 +64,7 @@ pub fn each_cow(alloc: Global, array: Array<'_>) -> Result<Vec<CowValue<'_>>>
     }
 }
 
-/// Wraps the values, which the call owns.
+/// The call's own values, as values that are owned or borrowed.
 pub fn cows_of_values<'a>(alloc: Global, values: Vec<Value>) -> Result<Items<CowValue<'a>>>
     ensures ok { IfOk result (λ held. held ≡ values.items) }
     ensures err { OnlyMemory result }
@@ -95,7 +95,7 @@ fn each_lent(alloc: Global, items: &[Value]) -> Result<Vec<CowValue<'_>>>
     Ok(held)
 }
 
-/// Unwraps the values. Those that are borrowed are copied.
+/// Values that are owned or borrowed, to be kept: those that are borrowed are copied.
 pub fn values_of_cows(alloc: Global, held: Vec<CowValue<'_>>) -> Result<Vec<Value>>
     ensures ok { IfOk result (λ values. values.items ≡ held.entry.items) }
     ensures err { OnlyMemory result }

@@ -1,18 +1,8 @@
-//! Arguments of calls, owned or borrowed: their number and kinds.
-//!
-//! - `CowValue` is a value that is owned, or borrowed from the host, the tree or a `let` line. Contracts see the value.
-//!   Of a `Cow` they also see which of the two it is. `Array` is an array among the arguments, owned or borrowed.
-//! - `specs/Arguments.antt` has a word for each list of kinds, such as `two_texts`. The definition of a built-in uses
-//!   that word, and `answer_on` returns an error for any other arguments.
-//! - `specs/AllocFree.antt` says which values allocate nothing, and `Parts.antt` what the part of a value at a key is.
-//!
-//! A function that returns a `Result` returns `MemoryError` if an allocation fails. `# Errors` lists its other errors.
+//! The arguments of calls, by number and kinds.
 #![tactic(auto)]
 
 mod arguments;
 mod array;
-mod cow;
-mod position;
 mod times;
 
 pub use arguments::{
@@ -23,6 +13,4 @@ pub use arguments::{
 pub use array::{
     Array, array_of, count_items, cows_of_values, each_cow, into_items, values_of_cows,
 };
-pub use cow::{Cow, CowValue};
-pub use position::item;
 pub use times::{one_moment, one_zone, three_integers, timezone_in};

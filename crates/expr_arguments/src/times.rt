@@ -1,12 +1,12 @@
-//! DateTimes, time zones and date parts among the arguments.
+//! Moments, zones and lengths of dates among the arguments.
 ghost use Rattle.std.specs.Prelude.{◌≡◌};
 ghost use Rattle.std.specs.Option.{option_copied};
 ghost use Rattle.expr_arguments.specs.Times.{one_moment, one_zone, three_integers, timezone_of};
 
-use crate::cow::CowValue;
+use expr_cow::CowValue;
 use expr_value::{DateTimeValue, TimezoneValue, Value};
 
-/// The DateTime, if there is one argument and it is a DateTime.
+/// The argument, if it is one moment.
 pub fn one_moment<'a>(arguments: &'a [CowValue<'_>]) -> Option<&'a DateTimeValue>
     ensures { option_copied result ≡ one_moment arguments.now }
 {
@@ -16,7 +16,7 @@ pub fn one_moment<'a>(arguments: &'a [CowValue<'_>]) -> Option<&'a DateTimeValue
     }
 }
 
-/// The time zone, if there is one argument and it is a time zone.
+/// The argument, if it is one zone.
 pub fn one_zone<'a>(arguments: &'a [CowValue<'_>]) -> Option<&'a TimezoneValue>
     ensures { option_copied result ≡ one_zone arguments.now }
 {
@@ -26,7 +26,7 @@ pub fn one_zone<'a>(arguments: &'a [CowValue<'_>]) -> Option<&'a TimezoneValue>
     }
 }
 
-/// The time zone, or `None` if the value is none.
+/// The zone of a zone.
 pub fn timezone_in(value: &Value) -> Option<&TimezoneValue>
     ensures { option_copied result ≡ timezone_of value.now }
 {
@@ -36,7 +36,7 @@ pub fn timezone_in(value: &Value) -> Option<&TimezoneValue>
     }
 }
 
-/// The integers, if there are three arguments and all are integers. Years, months and days are passed in this way.
+/// The arguments, if they are three integers, as years, months and days are.
 pub fn three_integers(arguments: &[CowValue<'_>]) -> Option<(i64, i64, i64)>
     ensures { result ≡ three_integers arguments.now }
 {

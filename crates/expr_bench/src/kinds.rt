@@ -1,46 +1,71 @@
-//! What is printed of a row of a kind: a function each, which says what its row is.
-use crate::lines::{Row, answer_text};
-use crate::page::Page;
-use crate::{calls, environments, programs, providers, rows, rules, tokens, value_calls, values};
-use expr::{Result, compile, compile_within};
+//! What is printed of a row of a kind: one function each, which says what its row is.
+use crate::topics::topic_text;
+use expr_bench_hosts::{additions, answers, deep, hosts, rows, served, values};
+use expr_bench_programs::{parts, plain, programs, tokens};
+use expr_bench_values::lines::Row;
+use expr_value::Result;
 use std::alloc::Global;
 
-/// What is printed of a row of a kind.
-pub fn kind_text(alloc: Global, kind: &str, row: &Row) -> Result<String> {
-    match kind {
-        "tokens" => tokens::tokens_text(alloc, row, false),
-        "starts" => tokens::tokens_text(alloc, row, true),
-        "program" => programs::shown_text(alloc, compile(alloc, row.text(0))),
-        "within" => {
-            let height = row.text(1).parse::<usize>().unwrap_or(0);
-            programs::shown_text(alloc, compile_within(alloc, row.text(0), height))
-        }
+/// What is printed of a row of texts and programs.
+fn text_of_programs(alloc: Global, kind: &str, row: &Row) -> Option<Result<String>> {
+    Some(match kind {
+        "tokens" => tokens::tokens_text(alloc, row),
+        "starts" => tokens::starts_text(alloc, row),
+        "program" => programs::program_text(alloc, row),
+        "within" => programs::within_text(alloc, row),
+        "names" => programs::names_text(alloc, row),
         "copy" => programs::copy_text(alloc, row),
-        "plain" => programs::plain_text(alloc, row),
-        "once" => rows::once_text(alloc, row),
-        "printed" => rows::once_text(alloc, row),
-        "made" => answer_text(alloc, values::made_answer(alloc, row)),
-        "string" => values::string_text(alloc, row),
-        "lent" => values::lent_text(alloc, row),
-        "odd" => providers::odd_text(alloc, row, false),
-        "refusing" => providers::odd_text(alloc, row, true),
-        "order" => rules::order_text(alloc, row),
-        "environment" => environments::environment_text(alloc, kind, row),
-        "parts" => environments::environment_text(alloc, kind, row),
-        "calls" => environments::environment_text(alloc, kind, row),
-        "topic" => topic_text(alloc, row.text(0)),
-        _ => Ok(String::from_str(alloc, "!!no such kind")?),
-    }
+        "parts" => parts::parts_text(alloc, row),
+        "plain" => plain::plain_text(alloc, row),
+        _ => return None,
+    })
 }
 
-/// What is printed of a topic, which only code can show.
-fn topic_text(alloc: Global, topic: &str) -> Result<String> {
-    let mut page = Page::new(alloc);
-    match topic {
-        "values" => value_calls::put_calls(alloc, &mut page)?,
-        "calls" => calls::put_calls(alloc, &mut page)?,
-        "sizes" => values::put_sizes(&mut page),
-        _ => page.put("!!no such topic"),
+/// What is printed of a row of hosts, and of the program `expr`.
+fn text_of_hosts(alloc: Global, kind: &str, row: &Row) -> Option<Result<String>> {
+    Some(match kind {
+        "functions" => hosts::functions_text(alloc, row),
+        "function_parts" => hosts::function_parts_text(alloc, row),
+        "hosted" => hosts::hosted_text(alloc, row),
+        "machine" => hosts::machine_text(alloc, row),
+        "parser" => hosts::parser_text(alloc, row),
+        "zones" => hosts::zones_text(alloc, row),
+        "zone_name" => hosts::zone_name_text(alloc, row),
+        "added_name" => additions::name_text(alloc, row),
+        "added_function" => additions::function_text(alloc, row),
+        "added_zone" => additions::zone_text(alloc, row),
+        "served" => served::served_text(alloc, row),
+        "cut_output" => served::cut_output_text(alloc, row),
+        "cut_errors" => served::cut_errors_text(alloc, row),
+        _ => return None,
+    })
+}
+
+/// What is printed of a row of answers, and of a topic.
+fn text_of_answers(alloc: Global, kind: &str, row: &Row) -> Option<Result<String>> {
+    Some(match kind {
+        "once" => rows::once_text(alloc, row),
+        "damaged" => rows::damages_text(alloc, row),
+        "limited" => rows::limited_text(alloc, row),
+        "odd" => answers::odd_text(alloc, row),
+        "refusing" => answers::refusing_text(alloc, row),
+        "made" => values::made_text(alloc, row),
+        "string" => values::string_text(alloc, row),
+        "lent" => values::lent_text(alloc, row),
+        "context" => values::context_text(alloc, row),
+        "nest" => deep::nest_text(alloc, row),
+        "topic" => topic_text(alloc, row.text(0)),
+        _ => return None,
+    })
+}
+
+/// What is printed of a row of a kind, if there is such a kind.
+pub fn kind_text(alloc: Global, kind: &str, row: &Row) -> Option<Result<String>> {
+    if let Some(text) = text_of_programs(alloc, kind, row) {
+        return Some(text);
     }
-    page.into_text()
+    if let Some(text) = text_of_hosts(alloc, kind, row) {
+        return Some(text);
+    }
+    text_of_answers(alloc, kind, row)
 }

@@ -1,43 +1,48 @@
-//! The program that reads the test rows and prints their results.
-//!
-//! A row is a line, and so is its result: a value, or `!` and the word for an error. In both, a backslash, newline, carriage
-//! return, tab and NUL are written `\\`, `\n`, `\r`, `\t`, `\0`, and a `%` at the beginning `\%`. Behind an expression, a line may
-//! bind names, each as a tab and `NAME=CODE`. A line `%KIND ..` asks for something else, which `kinds` says. `%by_tree` prints how
-//! many lines above it were also evaluated by recursion on the tree. `bin/rows` makes the lines.
+//! Vectors: reads a line for each expression and prints a line for its answer: its `Display`, or `!` and the word of its
+//! refusal. In both a backslash, newline, carriage return and tab are written `\\`, `\n`, `\r`, `\t`. After the
+//! expression a line may bind names, each as a tab and `NAME=CODE`. A line is answered by each way from a text to its
+//! answer. A line that begins with `%KIND ` is asked for something else, which `kinds` tells; `%by_tree rows` prints how many lines
+//! above it were answered by recursion on the tree too.
 #![tactic(auto)]
 
-pub mod calls;
-pub mod environments;
+mod engine;
 mod kinds;
-pub mod lines;
-pub mod page;
-pub mod programs;
-pub mod providers;
-pub mod rows;
-pub mod rules;
-mod shown;
-pub mod tokens;
-pub mod value_calls;
-pub mod values;
+mod topics;
 
-use crate::lines::{Row, escape};
-use crate::page::word_of;
-use crate::rows::row_text;
-use expr::Result;
+use expr_bench_hosts::rows::row_text;
+use expr_bench_values::lines::{Row, escape};
+use expr_bench_values::page::word_of;
+use expr_value::Result;
 use kinds::kind_text;
-use std::alloc::Global;
+use std::alloc::{AllocError, Global};
 use std::io;
 
-/// What is printed of a line. Where its tree is evaluated too, that is counted.
+/// What is printed of a line. An expression may begin with `%` too. Where it is answered by its tree too, that is counted.
 fn line_text(alloc: Global, line: &str, trees: &mut usize) -> Result<String> {
-    let Some(rest) = line.strip_prefix('%') else {
-        return row_text(alloc, &Row::read(alloc, line)?, trees);
-    };
-    let (kind, row) = rest.split_once(' ').unwrap_or((rest, ""));
-    if kind == "by_tree" {
+    if line == "%by_tree rows" {
         return Ok(trees.to_string(alloc)?);
     }
-    kind_text(alloc, kind, &Row::read(alloc, row)?)
+    if let Some(rest) = line.strip_prefix('%') {
+        let (kind, row) = rest.split_once(' ').unwrap_or((rest, ""));
+        if let Some(text) = kind_text(alloc, kind, &Row::read(alloc, row)?) {
+            return text;
+        }
+    }
+    row_text(alloc, &Row::read(alloc, line)?, trees)
+}
+
+/// Puts what is printed of a line.
+fn put_line(
+    alloc: Global,
+    line: &str,
+    trees: &mut usize,
+    answers: &mut String,
+) -> std::result::Result<(), AllocError> {
+    match line_text(alloc, line, trees) {
+        Ok(text) => answers.push_str(&escape(alloc, &text)?)?,
+        Err(error) => answers.push_str(word_of(&error))?,
+    }
+    answers.push('\n')
 }
 
 fn main(rt: HostRuntime) -> io::Result<()> {
@@ -46,11 +51,7 @@ fn main(rt: HostRuntime) -> io::Result<()> {
     let mut trees = 0;
     let mut answers = String::new(alloc);
     for line in lines.lines() {
-        match line_text(alloc, line, &mut trees) {
-            Ok(text) => answers.push_str(&escape(alloc, &text)?)?,
-            Err(error) => answers.push_str(word_of(&error))?,
-        }
-        answers.push('\n')?;
+        put_line(alloc, line, &mut trees, &mut answers)?;
     }
     print!(rt; "{answers}")
 }

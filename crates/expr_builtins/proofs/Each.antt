@@ -8,7 +8,7 @@ use Rattle.expr_value.specs.Values.{items_of, of_key}
 use Rattle.expr_value.specs.declared.key.Key.{Key}
 use Rattle.expr_value.specs.declared.value.Value as value
 use Rattle.expr_value.specs.declared.value.Value.{Value}
-use Rattle.expr_builtins.specs.Collections.{concatenated, named_pair, keyed_pair, pair}
+use Rattle.expr_builtins.specs.Collections.{in_a_row, named_pair, keyed_pair, pair}
 use Rattle.expr_arguments.specs.Arguments.{all_of}
 
 module _ {A : Type 0} (kind : Value → Option A) where
@@ -49,13 +49,13 @@ module _ {A : Type 0} (kind : Value → Option A) where
 -- the items of one array more, after those in front
 module _ (front : List Value) where
   abbrev rows : List (List Value) → List Value
-  rows xss = front ++ concatenated xss
+  rows xss = front ++ in_a_row xss
 
   row_pushed : (all xs : List Value) (done : Option (List (List Value))) → option_map rows done ≡ Some all → option_map rows (pushed items_of (Some xs) done) ≡ Some (all ++ xs)
   row_pushed all xs None e = absurd (cc)
   row_pushed all xs (Some xss) e =
-      ap (λ l. Some (front ++ l)) (flat_map-append (λ (ys : List Value). ys) xss (xs ∷ []) ∙ ap (λ l. concatenated xss ++ l) (append-nil xs))
-      ∙ ap Some (sym (append_assoc front (concatenated xss) xs)) ∙ ap (option_map (λ l. l ++ xs)) e
+      ap (λ l. Some (front ++ l)) (flat_map-append (λ (ys : List Value). ys) xss (xs ∷ []) ∙ ap (λ l. in_a_row xss ++ l) (append-nil xs))
+      ∙ ap Some (sym (append_assoc front (in_a_row xss) xs)) ∙ ap (option_map (λ l. l ++ xs)) e
 
   pub row_after : (vs : List Value) (v : Value) (all xs : List Value) → option_map rows (all_of items_of vs) ≡ Some all → items_of v ≡ Some xs → option_map rows (all_of items_of (vs ++ v ∷ [])) ≡ Some (all ++ xs)
   row_after vs v all xs e is =

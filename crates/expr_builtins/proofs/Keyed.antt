@@ -7,11 +7,10 @@ use Rattle.std.proofs.lemmas.Bool.{false≢true}
 use Rattle.std.proofs.lemmas.List.{append-nil}
 use Rattle.std.proofs.lemmas.List.Elements.{filter_map-append}
 use Rattle.std.proofs.lemmas.Map.Made.{is_some-lookup}
-use Rattle.expr_value.proofs.ScalarKeys.{equals-out}
 use Rattle.expr_value.specs.Keys.{key_eq, key_eq_equiv, key_put}
 use Rattle.expr_value.specs.Values.{at_key, equals, equals_layer, key_of}
 use Rattle.expr_value.specs.declared.key.Key.{Key}
-use Rattle.expr_value.specs.declared.value.Value.{Value, map-Value, out-Value}
+use Rattle.expr_value.specs.declared.value.Value.{Value, map-Value, out-Value, fold_out-Value}
 use Rattle.expr_value.specs.declared.value.Value.TheOpen.{Value-F}
 use Rattle.expr_builtins.specs.Distinct.{keys_among, with_new}
 
@@ -65,6 +64,9 @@ key_tested (Value-F.Bytes bs) = refl
 key_tested (Value-F.Map m) = refl
 key_tested (Value-F.KeyedMap m) = refl
 
+equals-out : (v w : Value) → equals v w ≡ equals_layer (map-Value Value (Value → Bool) equals (out-Value v)) (out-Value w)
+equals-out v w = λ i. fold_out-Value (Value → Bool) (λ layer u. equals_layer layer (out-Value u)) v i w
+
 equals_by_key : (v x : Value) (k : Key) → key_of x ≡ Some k → equals v x ≡ equal_keys (key_of v) (Some k)
 equals_by_key v x k is =
     equals-out v x ∙ same_layer (map-Value Value (Value → Bool) equals (out-Value v)) (out-Value x) (ap is_some is)
@@ -78,7 +80,7 @@ some_among : (vs : List Value) (x : Value) (k : Key) → key_of x ≡ Some k →
 some_among [] x k is = refl
 some_among (v ∷ vs) x k is = (λ i. equals_by_key v x k is i || some_among vs x k is i) ∙ among (key_of v) k (keys_among vs)
 
--- among values with the keys of a map, one equals a scalar exactly if the map has its key
+-- among values with the keys of a map, one equals a scalar exactly where the map has its key
 found_by_key : (m : List (Key × Unit {0})) (vs : List Value) (x : Value) (k : Key) → keys_of m ≡ keys_among vs → key_of x ≡ Some k
     → list_any (λ v. equals v x) vs ≡ is_some (lookup (key_eq k) m)
 found_by_key m vs x k same is = some_among vs x k is ∙ ap (list_any (key_eq k)) (sym same) ∙ sym (is_some-lookup (key_eq k) m)
@@ -96,7 +98,7 @@ with_known vs x known = ap (λ b. unless b vs x) known
 with_unknown : (vs : List Value) (x : Value) → list_any (λ v. equals v x) vs ≡ false → with_new vs x ≡ vs ++ x ∷ []
 with_unknown vs x unknown = ap (λ b. unless b vs x) unknown
 
--- the keys of the scalars stay if the new value is no scalar
+-- the keys of the scalars stay where the value more is none
 pub keys_without : (vs : List Value) (x : Value) → key_of x ≡ None → keys_among (with_new vs x) ≡ keys_among vs
 keys_without vs x is = either (list_any (λ v. equals v x) vs)
   where

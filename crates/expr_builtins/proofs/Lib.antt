@@ -1,13 +1,5 @@
-pub mod Afters
 pub mod Each
-pub mod Ends
-pub mod Extremes
 pub mod Keyed
-pub mod Matching
 pub mod Opening
 pub mod PairsBack
-pub mod Rejoined
-pub mod Searching
-pub mod Standing
-pub mod Trimming
 pub mod Unlike

@@ -83,7 +83,7 @@ module _ (waiting left : List Value) (v : Value) (popped : waiting ≡ left ++ v
   weights_before : weights waiting ≡ weights left + weight v
   weights_before = omega (arith, ap weights popped, weights-append left (v ∷ []))
 
-  -- an array is replaced by its items
+  -- an array's items wait in its place
   pub array_opened : (xs next : List Value) → v ≡ value.Array xs → next ≡ left ++ reverse xs → all_flat_items (reverse next) ≡ all_flat_items (reverse waiting)
   array_opened xs next is more =
       ap (λ l. all_flat_items (reverse l)) more ∙ ap all_flat_items (reverse-append left (reverse xs)) ∙ ap (λ l. all_flat_items (l ++ reverse left)) (reverse-reverse xs)

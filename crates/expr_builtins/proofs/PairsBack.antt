@@ -5,10 +5,9 @@ use Rattle.std.specs.Map.{keys_of}
 use Rattle.std.specs.Option.{option_and_then, option_map}
 use Rattle.std.proofs.lemmas.List.{append-nil}
 use Rattle.std.proofs.lemmas.Map.Keys.{IsDistinct-head, IsDistinct-tail}
-use Rattle.expr_value.proofs.ScalarKeys.{key_back}
 use Rattle.expr_value.specs.Answers.{Answer, Then}
 use Rattle.expr_value.specs.Keys.{key_eq, key_eq_equiv, key_put, key_put_all}
-use Rattle.expr_value.specs.Values.{items_of, of_key, scalar_pairs}
+use Rattle.expr_value.specs.Values.{items_of, key_of, of_key, scalar_pairs}
 use Rattle.expr_value.specs.declared.key.Key.{Key}
 use Rattle.expr_value.specs.declared.value.Value as value
 use Rattle.expr_value.specs.declared.value.Value.{Value, out-Value, the_lemmas}
@@ -52,6 +51,19 @@ put_apart done (e ∷ m) away apart =
 all_from_none : (m : Entries) → AllAway [] m
 all_from_none [] = tt
 all_from_none (e ∷ m) = (tt, all_from_none m)
+
+-- a key as a value, and back
+key_back : (k : Key) → key_of (of_key k) ≡ Some k
+unfolding Rattle.expr_value.specs.declared.value.Value.TheViews.out-Value denote.Hole.Carrier.out
+key_back Key.Nil = refl
+key_back (Key.Bool b) = refl
+key_back (Key.Integer n) = refl
+key_back (Key.String s) = refl
+key_back (Key.Duration n) = refl
+key_back (Key.Month n) = refl
+key_back (Key.Weekday n) = refl
+key_back (Key.DateTime t) = refl
+key_back (Key.Timezone z) = refl
 
 abbrev as_values : Entry → Value × Value
 as_values e = (of_key e.0, e.1)

@@ -19,7 +19,7 @@ some_equals x vs = list_any (λ v. equals v x) vs
 abbrev unless : Bool → List Value → Value → List Value
 unless known vs x = cond known vs (vs ++ x ∷ [])
 
--- what equals v doesn't equal x, if v doesn't equal x
+-- what equals v doesn't equal x, where v doesn't
 not_both : (v w x : Value) → equals v x ≡ false → equals v w ≡ true → equals w x ≡ false
 not_both v w x differ same = decided (equals w x) refl
   where

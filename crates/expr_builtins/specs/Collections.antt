@@ -1,4 +1,4 @@
--- Built-ins on arrays and maps.
+-- What the calls on arrays and maps give.
 use Rattle.std.specs.Prelude.{◌≡◌, ℕ, ◌-◌, ◌==◌, if◌then◌else◌, ℤ, pos, negsuc, List, [], ◌∷◌, length, take, map, reverse, slice_get, false, Option, None, Some, unwrap_or, flat_map, Ok, Err}
 use Rattle.std.specs.Int.{w64, cast_signed}
 use Rattle.std.specs.Map.{keys_of, values_of}
@@ -12,14 +12,14 @@ use Rattle.expr_value.specs.declared.value.Value as value
 use Rattle.expr_value.specs.declared.value.Value.{Value, out-Value}
 use Rattle.expr_value.specs.declared.value.Value.TheOpen.{Value-F}
 use Rattle.expr_value.specs.Answers.{Answer}
-use Rattle.expr_arguments.specs.Parts.{index_answer}
+use Rattle.expr_cow.specs.Parts.{index_answer}
 use Rattle.expr_arguments.specs.Arguments.{answer_on, one_of, two_of, any_value, all_of, array_and_text}
 use Rattle.expr_builtins.specs.Distinct as distinct
 use Rattle.expr_builtins.specs.Nested as nested
 use Rattle.expr_functions.specs.declared.functions.CollectionCall.{CollectionCall}
 use Rattle.expr_functions.specs.declared.functions.CollectionCall.TheVariants as is
 
--- number of items, characters, bytes or pairs
+-- how many items, characters, bytes or pairs there are
 abbrev pub size_layer : Value-F Value → Option ℕ
 size_layer (Value-F.String s) = Some (length (chars s))
 size_layer (Value-F.Array xs) = Some (length xs)
@@ -34,7 +34,7 @@ size_of v = size_layer (out-Value v)
 abbrev pub len : List Value → Answer
 len arguments = answer_on (option_and_then size_of (one_of any_value arguments)) (λ n. Ok (value.Integer (cast_signed w64 n)))
 
--- the item at an index, or nil
+-- the item at a place, or nil
 abbrev pub item_or_nil : List Value → ℕ → Value
 item_or_nil xs i = unwrap_or (slice_get xs i) value.Nil
 
@@ -99,41 +99,39 @@ two_items (k ∷ v ∷ w ∷ more) = None
 abbrev pub pair_of : Value → Option (Value × Value)
 pair_of v = option_and_then two_items (items_of v)
 
--- a map of arrays of two: a repeated key stays as first given, at its first position, and takes its last value. Keys
--- are scalars.
+-- a map of arrays of two: a repeated key stays as first given, in its place, and takes the later value; keys are scalars
 abbrev pub from_pairs : List Value → Answer
 from_pairs arguments = answer_on (option_and_then (all_of pair_of) (one_of items_of arguments)) (λ ps. answer_on (option_map (key_put_all []) (scalar_pairs ps)) (λ m. Ok (value.KeyedMap m)))
 
--- an array or bytes at an integer, a map with names at a string, a map with scalar keys at any value; nil if there is
--- nothing
+-- an array or bytes by an integer, a map by a text, a map by keys by any value; nil where there is none
 abbrev pub get : List Value → Answer
 get arguments = answer_on (two_of any_value any_value arguments) (λ a. index_answer a.0 a.1 false)
 
--- the strings of an array, with a separator between
+-- the texts of an array, with a separator between
 abbrev pub join : List Value → Answer
 join arguments = answer_on (array_and_text arguments) (λ a. answer_on (all_of string_of a.0) (λ ts. Ok (value.String (joined_text a.1 ts))))
 
--- the items of several arrays, one array after the other
-abbrev pub concatenated : List (List Value) → List Value
-concatenated xss = flat_map (λ xs. xs) xss
+-- the items of some arrays, one array after the other
+abbrev pub in_a_row : List (List Value) → List Value
+in_a_row xss = flat_map (λ xs. xs) xss
 
--- at least one array
+-- of at least one array
 abbrev pub concat : List Value → Answer
-concat arguments = if length arguments == 0 then Err evaluation else answer_on (option_map concatenated (all_of items_of arguments)) (λ xs. Ok (value.Array xs))
+concat arguments = if length arguments == 0 then Err evaluation else answer_on (option_map in_a_row (all_of items_of arguments)) (λ xs. Ok (value.Array xs))
 
--- what a built-in on arrays and maps may return
-abbrev pub CollectionCalled : CollectionCall → List Value → Answer → Type 0
-CollectionCalled is.Len arguments answer = answer ≡ len arguments
-CollectionCalled is.First arguments answer = answer ≡ first arguments
-CollectionCalled is.Last arguments answer = answer ≡ last arguments
-CollectionCalled is.Take arguments answer = answer ≡ take_items arguments
-CollectionCalled is.Reverse arguments answer = answer ≡ reversed_array arguments
-CollectionCalled is.Uniq arguments answer = answer ≡ distinct.uniq arguments
-CollectionCalled is.Flatten arguments answer = answer ≡ nested.flatten arguments
-CollectionCalled is.Concat arguments answer = answer ≡ concat arguments
-CollectionCalled is.Keys arguments answer = answer ≡ keys arguments
-CollectionCalled is.Values arguments answer = answer ≡ values arguments
-CollectionCalled is.ToPairs arguments answer = answer ≡ to_pairs arguments
-CollectionCalled is.Get arguments answer = answer ≡ get arguments
-CollectionCalled is.Join arguments answer = answer ≡ join arguments
-CollectionCalled is.FromPairs arguments answer = answer ≡ from_pairs arguments
+-- what a call on arrays and maps may answer
+abbrev pub Called : CollectionCall → List Value → Answer → Type 0
+Called is.Len arguments answer = answer ≡ len arguments
+Called is.First arguments answer = answer ≡ first arguments
+Called is.Last arguments answer = answer ≡ last arguments
+Called is.Take arguments answer = answer ≡ take_items arguments
+Called is.Reverse arguments answer = answer ≡ reversed_array arguments
+Called is.Uniq arguments answer = answer ≡ distinct.uniq arguments
+Called is.Flatten arguments answer = answer ≡ nested.flatten arguments
+Called is.Concat arguments answer = answer ≡ concat arguments
+Called is.Keys arguments answer = answer ≡ keys arguments
+Called is.Values arguments answer = answer ≡ values arguments
+Called is.ToPairs arguments answer = answer ≡ to_pairs arguments
+Called is.Get arguments answer = answer ≡ get arguments
+Called is.Join arguments answer = answer ≡ join arguments
+Called is.FromPairs arguments answer = answer ≡ from_pairs arguments

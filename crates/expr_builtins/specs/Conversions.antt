@@ -1,6 +1,7 @@
--- Built-ins that convert values.
-use Rattle.std.specs.Prelude.{◌≡◌, ℕ, List, Option, None, Some, Ok, Err, codes, FitsSigned}
+-- What the calls of conversion give.
+use Rattle.std.specs.Prelude.{◌≡◌, ℕ, List, Option, None, Some, Ok, Err, codes}
 use Rattle.std.specs.Int.{w64}
+use Rattle.std.specs.Prelude.{FitsSigned}
 use Rattle.std.specs.Str.Parse.{IsNumeral, without_leading_sign, signed_digits_value}
 use Rattle.expr_error.specs.ErrorKind.{evaluation}
 use Rattle.expr_value.specs.Strings.{string_text}
@@ -16,7 +17,7 @@ use Rattle.expr_functions.specs.declared.functions.ConversionCall.TheVariants as
 abbrev pub IsInteger : List ℕ → Type 0
 IsInteger s = IsNumeral 10 (without_leading_sign s) × FitsSigned w64 (signed_digits_value 10 s)
 
--- the integer that a string writes, or an error
+-- the integer of a text that is one; any other is refused
 abbrev pub ReadsInteger : List ℕ → Answer → Type 0
 ReadsInteger s (Ok v) = IsInteger s × (v ≡ value.Integer (signed_digits_value 10 s))
 ReadsInteger s (Err e) = (IsInteger s → ⊥) × (e ≡ evaluation)
@@ -30,7 +31,7 @@ abbrev pub IntOne : Option Value → Answer → Type 0
 IntOne None answer = answer ≡ Err evaluation
 IntOne (Some v) answer = IntLayer (out-Value v) answer
 
--- an integer itself, or the integer that a string writes
+-- an integer itself, or the integer of a text
 abbrev pub Int : List Value → Answer → Type 0
 Int arguments = IntOne (one_of any_value arguments)
 
@@ -55,8 +56,8 @@ kind_text (Value-F.Timezone z) = codes "time.Location"
 abbrev pub type_name : List Value → Answer
 type_name arguments = answer_on (one_of any_value arguments) (λ v. Ok (value.String (kind_text (out-Value v))))
 
--- what a built-in that converts may return
-abbrev pub ConversionCalled : ConversionCall → List Value → Answer → Type 0
-ConversionCalled is.Int arguments answer = Int arguments answer
-ConversionCalled is.String arguments answer = answer ≡ string arguments
-ConversionCalled is.Type arguments answer = answer ≡ type_name arguments
+-- what a call of conversion may answer
+abbrev pub Called : ConversionCall → List Value → Answer → Type 0
+Called is.Int arguments answer = Int arguments answer
+Called is.String arguments answer = answer ≡ string arguments
+Called is.Type arguments answer = answer ≡ type_name arguments

@@ -1,4 +1,4 @@
--- Items without those that equal an earlier item.
+-- Items without those that equal an earlier one.
 use Rattle.std.specs.Prelude.{if◌then◌else◌, not, List, [], ◌∷◌, ◌++◌, Ok}
 use Rattle.std.specs.List.{filter, filter_map, list_any}
 use Rattle.expr_value.specs.Values.{items_of, equals, key_of}
@@ -13,7 +13,7 @@ abbrev pub distinct : List Value → List Value
 distinct [] = []
 distinct (v ∷ vs) = v ∷ filter (λ w. not (equals v w)) (distinct vs)
 
--- one more value, unless it equals one that is there
+-- one value more, unless it equals one that is there
 abbrev pub with_new : List Value → Value → List Value
 with_new vs x = if list_any (λ v. equals v x) vs then vs else vs ++ x ∷ []
 

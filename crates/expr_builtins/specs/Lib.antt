@@ -2,11 +2,5 @@ pub mod Bits
 pub mod Collections
 pub mod Conversions
 pub mod Distinct
-pub mod Indices
-pub mod Matches
 pub mod Nested
 pub mod Numbers
-pub mod Places
-pub mod Text
-pub mod Texts
-pub mod Trimmed

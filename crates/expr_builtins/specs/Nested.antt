@@ -1,4 +1,4 @@
--- Arrays within arrays, flattened at every depth.
+-- Arrays within arrays, opened at every depth.
 use Rattle.std.specs.Prelude.{List, [], ◌∷◌, ◌++◌, flat_map, Ok}
 use Rattle.expr_value.specs.Values.{items_of}
 use Rattle.expr_value.specs.declared.value.Value as value
@@ -17,7 +17,7 @@ abbrev pub flat_items_layer : Value-F (Value → List Value) → Value → List 
 flat_items_layer (Value-F.Array opens) v = elim (out-Value v) [ Value-F.Array xs ↦ given_by_each opens xs | _ ↦ [] ]
 flat_items_layer layer v = v ∷ []
 
--- an array gives what its items give, one after the other. Any other value gives itself.
+-- an array gives what its items give, one after the other; any other value gives itself
 abbrev pub flat_items : Value → List Value
 flat_items v = fold-Value (Value → List Value) flat_items_layer v v
 

@@ -1,5 +1,4 @@
-//! Items of an array among the arguments. Those of an owned array are moved out, and those of a borrowed one are
-//! copied.
+//! Items of an array among the arguments: of the call's own they are moved out, and of a lent one copied.
 ghost use Rattle.std.specs.Prelude.{◌≡◌, take, IfOk};
 ghost use Rattle.expr_arguments.specs.Arrays.{array_items};
 ghost use Rattle.expr_builtins.specs.Collections.{item_or_nil};
@@ -9,7 +8,7 @@ use expr_arguments::Array;
 use expr_value::{Result, Value};
 use std::alloc::Global;
 
-/// The item at an index, from 0, or nil if there is none.
+/// The item at a place, or nil.
 pub(crate) fn item_at(array: Array<'_>, place: usize) -> Result<Value>
     ensures ok { IfOk result (λ v. v ≡ item_or_nil (array_items array.entry) place) }
     ensures err { OnlyMemory result }
@@ -41,7 +40,7 @@ fn item_copied(items: &[Value], place: usize) -> Result<Value>
     }
 }
 
-/// The first `count` items, or all if there are fewer.
+/// The first items, so many.
 pub(crate) fn first_items(alloc: Global, array: Array<'_>, count: usize) -> Result<Vec<Value>>
     ensures ok { IfOk result (λ first. first.items ≡ take count (array_items array.entry)) }
     ensures err { OnlyMemory result }

@@ -1,21 +1,18 @@
-//! Built-ins on bits.
+//! The calls on bits.
 ghost use Rattle.std.specs.Prelude.{◌≡◌};
 ghost use Rattle.expr_value.specs.Answers.{Returns};
-ghost use Rattle.expr_builtins.specs.Bits.{BitCalled, bitand, bitor, bitxor, bitnand, bitnot, bitshl, bitshr, bitushr, shifted_left, shifted_right, shifted_unsigned};
+ghost use Rattle.expr_builtins.specs.Bits.{Called, bitand, bitor, bitxor, bitnand, bitnot, bitshl, bitshr, bitushr, shifted_left, shifted_right, shifted_unsigned};
 
-use expr_arguments::{CowValue, one_integer, two_integers};
+use expr_arguments::{one_integer, two_integers};
+use expr_cow::CowValue;
 use expr_functions::BitCall;
 use expr_value::{Result, Value, refusal};
 use std::alloc::Global;
 
-/// Calls a built-in on bits with these arguments.
-///
-/// # Errors
-///
-/// Returns [`ExprError`](expr_value::Error::ExprError) if the built-in doesn't take this number or these kinds of
-/// arguments, or if a shift is below 0.
+/// What a call on bits gives on these arguments. Other numbers and kinds of arguments than it takes are refused with
+/// [`expr_value::Error::ExprError`].
 pub fn call_on_bits(alloc: Global, call: BitCall, arguments: &[CowValue<'_>]) -> Result<Value>
-    ensures { Returns result (BitCalled call arguments.now) }
+    ensures { Returns result (Called call arguments.now) }
 {
     match call {
         BitCall::Bitand => bitand(alloc, arguments),
@@ -29,7 +26,7 @@ pub fn call_on_bits(alloc: Global, call: BitCall, arguments: &[CowValue<'_>]) ->
     }
 }
 
-/// `bitand`: the bits that are set in both integers.
+/// The bits that are set in both integers.
 fn bitand(alloc: Global, arguments: &[CowValue<'_>]) -> Result<Value>
     ensures { Returns result (λ answer. answer ≡ bitand arguments.now) }
 {
@@ -39,7 +36,7 @@ fn bitand(alloc: Global, arguments: &[CowValue<'_>]) -> Result<Value>
     Ok(Value::Integer(a & b))
 }
 
-/// `bitor`: the bits that are set in either integer.
+/// The bits that are set in either integer.
 fn bitor(alloc: Global, arguments: &[CowValue<'_>]) -> Result<Value>
     ensures { Returns result (λ answer. answer ≡ bitor arguments.now) }
 {
@@ -49,7 +46,7 @@ fn bitor(alloc: Global, arguments: &[CowValue<'_>]) -> Result<Value>
     Ok(Value::Integer(a | b))
 }
 
-/// `bitxor`: the bits that are set in exactly one of two integers.
+/// The bits that are set in one integer alone.
 fn bitxor(alloc: Global, arguments: &[CowValue<'_>]) -> Result<Value>
     ensures { Returns result (λ answer. answer ≡ bitxor arguments.now) }
 {
@@ -59,7 +56,7 @@ fn bitxor(alloc: Global, arguments: &[CowValue<'_>]) -> Result<Value>
     Ok(Value::Integer(a ^ b))
 }
 
-/// `bitnand`: the bits of the first integer that aren't set in the second.
+/// The first integer with the bits of the second cleared.
 fn bitnand(alloc: Global, arguments: &[CowValue<'_>]) -> Result<Value>
     ensures { Returns result (λ answer. answer ≡ bitnand arguments.now) }
 {
@@ -69,7 +66,7 @@ fn bitnand(alloc: Global, arguments: &[CowValue<'_>]) -> Result<Value>
     Ok(Value::Integer(a & !b))
 }
 
-/// `bitnot`: the bits that aren't set in an integer.
+/// The bits that are not set in an integer.
 fn bitnot(alloc: Global, arguments: &[CowValue<'_>]) -> Result<Value>
     ensures { Returns result (λ answer. answer ≡ bitnot arguments.now) }
 {
@@ -111,7 +108,7 @@ fn shifted_unsigned(a: i64, count: u64) -> i64
     }
 }
 
-/// `bitshl`: an integer shifted to the left. Bits that are shifted out are lost. A shift below 0 is an error.
+/// An integer shifted to the left. A count below 0 is refused; bits shifted out are lost.
 fn bitshl(alloc: Global, arguments: &[CowValue<'_>]) -> Result<Value>
     ensures { Returns result (λ answer. answer ≡ bitshl arguments.now) }
 {
@@ -124,7 +121,7 @@ fn bitshl(alloc: Global, arguments: &[CowValue<'_>]) -> Result<Value>
     Ok(Value::Integer(shifted_left(a, count as u64)))
 }
 
-/// `bitshr`: an integer shifted to the right, with its sign kept. A shift below 0 is an error.
+/// An integer shifted to the right, with its sign kept. A count below 0 is refused.
 fn bitshr(alloc: Global, arguments: &[CowValue<'_>]) -> Result<Value>
     ensures { Returns result (λ answer. answer ≡ bitshr arguments.now) }
 {
@@ -137,7 +134,7 @@ fn bitshr(alloc: Global, arguments: &[CowValue<'_>]) -> Result<Value>
     Ok(Value::Integer(shifted_right(a, count as u64)))
 }
 
-/// `bitushr`: an integer shifted to the right, with zeros from the left. A shift below 0 is an error.
+/// An integer shifted to the right, with zeros from the left. A count below 0 is refused.
 fn bitushr(alloc: Global, arguments: &[CowValue<'_>]) -> Result<Value>
     ensures { Returns result (λ answer. answer ≡ bitushr arguments.now) }
 {

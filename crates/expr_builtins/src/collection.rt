@@ -1,4 +1,4 @@
-//! Built-ins on arrays and maps.
+//! The calls on arrays and maps.
 ghost use Rattle.std.specs.Prelude.{◌≡◌, ◌-◌, ◌++◌, None, Some, Ok, map, length, IfOk, OnOk};
 ghost use Rattle.std.specs.Option.{option_copied, option_map};
 ghost use Rattle.std.specs.Str.{chars};
@@ -7,34 +7,31 @@ ghost use Rattle.expr_value.specs.Values.{of_key, string_of, items_of};
 ghost use Rattle.expr_value.specs.Answers.{Returns};
 ghost use Rattle.expr_arguments.specs.Arguments.{all_of};
 ghost use Rattle.expr_arguments.specs.Arrays.{array_items};
-ghost use Rattle.expr_arguments.specs.Parts.{or_nil};
-ghost use Rattle.expr_builtins.specs.Collections.{CollectionCalled, len, size_of, first, last, take_items, reversed_array, keys, values, to_pairs, from_pairs, get, join, concat, pair_of, two_items, concatenated, pair, named_pair, keyed_pair};
+ghost use Rattle.expr_cow.specs.Parts.{or_nil};
+ghost use Rattle.expr_builtins.specs.Collections.{Called, len, size_of, first, last, take_items, reversed_array, keys, values, to_pairs, from_pairs, get, join, concat, pair_of, two_items, in_a_row, pair, named_pair, keyed_pair};
 
 use crate::array::{first_items, item_at};
-use crate::cuts::join_texts;
 use crate::{distinct, nested};
 use expr_arguments::{
-    Array, CowValue, array_and_integer, array_and_text, array_of, count_items, each_cow,
-    into_items, item, one_array, one_value, two_values,
+    Array, array_and_integer, array_and_text, array_of, count_items, each_cow, into_items,
+    one_array, one_value, two_values,
 };
+use expr_cow::{CowValue, item};
 use expr_functions::CollectionCall;
+use expr_strings::join_texts;
 use expr_value::{Items, Key, KeyedMap, Result, Text, Value, ValueMap, refusal};
 use std::alloc::{AllocError, Global};
 use std::mem;
 
-/// Calls a built-in on arrays and maps with these arguments. Parts that the result keeps are moved out of owned
-/// arguments and copied from borrowed ones.
-///
-/// # Errors
-///
-/// Returns [`ExprError`](expr_value::Error::ExprError) if the built-in doesn't take this number or these kinds of
-/// arguments, or if `take` is given a count below 0.
+/// What a call on arrays and maps gives on these arguments. What is kept of them is moved out of values of the
+/// call's own and copied of lent ones. Other numbers and kinds of arguments than it takes are refused with
+/// [`expr_value::Error::ExprError`].
 pub fn call_on_collections(
     alloc: Global,
     call: CollectionCall,
     arguments: &mut Vec<CowValue<'_>>,
 ) -> Result<Value>
-    ensures { Returns result (CollectionCalled call arguments.old.items) }
+    ensures { Returns result (Called call arguments.old.items) }
 {
     match call {
         CollectionCall::Len => len(alloc, arguments),
@@ -54,7 +51,7 @@ pub fn call_on_collections(
     }
 }
 
-/// `len`: number of items, characters, bytes or pairs.
+/// How many items, characters, bytes or pairs there are.
 fn len(alloc: Global, arguments: &[CowValue<'_>]) -> Result<Value>
     ensures { Returns result (λ answer. answer ≡ len arguments.now) }
 {
@@ -86,7 +83,7 @@ fn characters(text: &str) -> usize
     text.chars().count()
 }
 
-/// `first`: the first item of an array, or nil.
+/// The first item of an array, or nil.
 fn first(alloc: Global, arguments: &mut [CowValue<'_>]) -> Result<Value>
     ensures { Returns result (λ answer. answer ≡ first arguments.old) }
 {
@@ -96,7 +93,7 @@ fn first(alloc: Global, arguments: &mut [CowValue<'_>]) -> Result<Value>
     item_at(array, 0)
 }
 
-/// `last`: the last item of an array, or nil.
+/// The last item of an array, or nil.
 fn last(alloc: Global, arguments: &mut [CowValue<'_>]) -> Result<Value>
     ensures { Returns result (λ answer. answer ≡ last arguments.old) }
 {
@@ -107,7 +104,7 @@ fn last(alloc: Global, arguments: &mut [CowValue<'_>]) -> Result<Value>
     item_at(array, last)
 }
 
-/// `take`: the first items of an array, as many as the second argument says. A count below 0 is an error.
+/// The first items of an array, so many.
 fn take_items(alloc: Global, arguments: &mut [CowValue<'_>]) -> Result<Value>
     ensures { Returns result (λ answer. answer ≡ take_items arguments.old) }
 {
@@ -121,7 +118,7 @@ fn take_items(alloc: Global, arguments: &mut [CowValue<'_>]) -> Result<Value>
     Ok(Value::Array(Items::from_vec(items)))
 }
 
-/// `reverse`: the items of an array, the last first.
+/// The items of an array, the last first.
 fn reverse(alloc: Global, arguments: &mut [CowValue<'_>]) -> Result<Value>
     ensures { Returns result (λ answer. answer ≡ reversed_array arguments.old) }
 {
@@ -133,7 +130,7 @@ fn reverse(alloc: Global, arguments: &mut [CowValue<'_>]) -> Result<Value>
     Ok(Value::Array(Items::from_vec(items)))
 }
 
-/// `keys`: the keys of a map, in its order.
+/// The keys of a map, in its order.
 fn keys(alloc: Global, arguments: &[CowValue<'_>]) -> Result<Value>
     ensures { Returns result (λ answer. answer ≡ keys arguments.now) }
 {
@@ -169,7 +166,7 @@ fn scalars(alloc: Global, keys: &[Key]) -> Result<Value>
     Ok(Value::Array(Items::from_vec(items)))
 }
 
-/// `values`: the values of a map, in its order.
+/// The values of a map, in its order.
 fn values(alloc: Global, arguments: &[CowValue<'_>]) -> Result<Value>
     ensures { Returns result (λ answer. answer ≡ values arguments.now) }
 {
@@ -189,7 +186,7 @@ fn values(alloc: Global, arguments: &[CowValue<'_>]) -> Result<Value>
     }
 }
 
-/// `get`: the part of a value at a key, or nil.
+/// What a value has at a key, or nil.
 fn get(alloc: Global, arguments: &[CowValue<'_>]) -> Result<Value>
     ensures { Returns result (λ answer. answer ≡ get arguments.now) }
 {
@@ -223,7 +220,7 @@ fn copied_or_nil(found: Option<&Value>) -> Result<Value>
     }
 }
 
-/// `join`: the strings of an array, with a separator between.
+/// The texts of an array, with a separator between.
 fn join(alloc: Global, arguments: &[CowValue<'_>]) -> Result<Value>
     ensures { Returns result (λ answer. answer ≡ join arguments.now) }
 {
@@ -237,7 +234,7 @@ fn join(alloc: Global, arguments: &[CowValue<'_>]) -> Result<Value>
     Ok(Value::String(Text::from_string(text)))
 }
 
-// The strings, if all of these values are strings.
+// The texts that some values are, if each is one.
 fn texts(alloc: Global, items: &[Value]) -> Result<Option<Vec<&str>>>
     ensures ok { IfOk result (λ found. option_map
         (λ v. map (λ t. t.now) v.items) found ≡ all_of string_of items.now) }
@@ -253,7 +250,7 @@ fn texts(alloc: Global, items: &[Value]) -> Result<Option<Vec<&str>>>
     Ok(Some(parts))
 }
 
-/// `toPairs`: the pairs of a map, in its order, as arrays of two.
+/// The pairs of a map, in its order, as arrays of two.
 fn to_pairs(alloc: Global, arguments: &[CowValue<'_>]) -> Result<Value>
     ensures { Returns result (λ answer. answer ≡ to_pairs arguments.now) }
 {
@@ -305,8 +302,7 @@ fn pair(alloc: Global, key: Value, value: &Value) -> Result<Value>
     Ok(Value::Array(Items::from_vec(items)))
 }
 
-/// `fromPairs`: a map of arrays of two. A repeated key stays as first given, at its first position, and takes its last
-/// value.
+/// A map of arrays of two. A repeated key stays as first given, in its place, and takes the later value.
 fn from_pairs(alloc: Global, arguments: &mut [CowValue<'_>]) -> Result<Value>
     ensures { Returns result (λ answer. answer ≡ from_pairs arguments.old) }
 {
@@ -365,7 +361,7 @@ fn copy_two_items(items: &[Value]) -> Result<Option<(Value, Value)>>
     }
 }
 
-/// `concat`: the items of several arrays, one array after the other.
+/// The items of some arrays, one array after the other.
 fn concat(alloc: Global, arguments: Vec<CowValue<'_>>) -> Result<Value>
     ensures { Returns result (λ answer. answer ≡ concat arguments.entry.items) }
 {
@@ -378,10 +374,10 @@ fn concat(alloc: Global, arguments: Vec<CowValue<'_>>) -> Result<Value>
     Ok(Value::Array(Items::from_vec(items)))
 }
 
-// Allocates once, for the items of all arrays.
+// Grows once, by what there is in all the arrays.
 fn append_all(front: Vec<Value>, arrays: Vec<CowValue<'_>>) -> Result<Option<Vec<Value>>>
     ensures ok { IfOk result (λ found. option_map (λ v. v.items) found ≡ option_map
-        (λ rows. front.items ++ concatenated rows) (all_of items_of arrays.entry.items)) }
+        (λ rows. front.items ++ in_a_row rows) (all_of items_of arrays.entry.items)) }
     ensures err { OnlyMemory result }
 {
     let items = arrays.iter().filter_map(|array| array.get().as_array());

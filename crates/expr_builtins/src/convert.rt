@@ -1,26 +1,23 @@
-//! Built-ins that convert values.
+//! The calls of conversion.
 ghost use Rattle.std.specs.Prelude.{◌≡◌};
 ghost use Rattle.expr_value.specs.declared.value.Value.{out-Value};
 ghost use Rattle.expr_value.specs.Answers.{Returns};
-ghost use Rattle.expr_builtins.specs.Conversions.{ConversionCalled, Int, ReadsInteger, string, kind_text, type_name};
+ghost use Rattle.expr_builtins.specs.Conversions.{Called, Int, ReadsInteger, string, kind_text, type_name};
 
-use expr_arguments::{CowValue, one_value};
+use expr_arguments::one_value;
+use expr_cow::CowValue;
 use expr_functions::ConversionCall;
 use expr_value::{Result, Text, Value, refusal};
 use std::alloc::Global;
 
-/// Calls a built-in that converts, with these arguments.
-///
-/// # Errors
-///
-/// Returns [`ExprError`](expr_value::Error::ExprError) if the built-in doesn't take this number or these kinds of
-/// arguments, or if `int` finds no 64-bit integer in a string.
+/// What a call of conversion gives on these arguments. Other numbers and kinds of arguments than it takes are refused with
+/// [`expr_value::Error::ExprError`].
 pub fn call_conversion(
     alloc: Global,
     call: ConversionCall,
     arguments: &[CowValue<'_>],
 ) -> Result<Value>
-    ensures { Returns result (ConversionCalled call arguments.now) }
+    ensures { Returns result (Called call arguments.now) }
 {
     match call {
         ConversionCall::Int => int(alloc, arguments),
@@ -29,8 +26,7 @@ pub fn call_conversion(
     }
 }
 
-/// `int`: an integer itself, or the integer that a string writes with an optional sign and ASCII digits. It must fit in
-/// 64 bits.
+/// An integer itself, or the integer of a text: an optional sign and ASCII digits, within 64 bits.
 fn int(alloc: Global, arguments: &[CowValue<'_>]) -> Result<Value>
     ensures { Returns result (Int arguments.now) }
 {
@@ -53,7 +49,7 @@ fn read(alloc: Global, text: &str) -> Result<Value>
     }
 }
 
-/// `string`: a value in print. A string is itself, and the pairs of a map are in the order of their keys.
+/// The text of a value: a text itself, and the pairs of a map in the order of their keys.
 fn string(alloc: Global, arguments: &[CowValue<'_>]) -> Result<Value>
     ensures { Returns result (λ answer. answer ≡ string arguments.now) }
 {
@@ -64,7 +60,7 @@ fn string(alloc: Global, arguments: &[CowValue<'_>]) -> Result<Value>
     Ok(Value::String(Text::from_string(text)))
 }
 
-/// `type`: the name of a value's kind.
+/// The name of a value's kind.
 fn type_name(alloc: Global, arguments: &[CowValue<'_>]) -> Result<Value>
     ensures { Returns result (λ answer. answer ≡ type_name arguments.now) }
 {

@@ -1,4 +1,4 @@
-//! Removing items that equal an earlier one.
+//! Items without those that equal an earlier one.
 ghost use Rattle.std.specs.Prelude.{◌≡◌, is_some, IfOk, OnOk};
 ghost use Rattle.std.specs.Map.{keys_of};
 ghost use Rattle.expr_value.specs.Answers.{Returns};
@@ -6,14 +6,15 @@ ghost use Rattle.expr_value.specs.Values.{at_key, key_of};
 ghost use Rattle.expr_builtins.specs.Distinct.{uniq, distinct, keys_among, with_new};
 ghost use Rattle.expr_error.specs.ErrorKind.{OnlyMemory};
 
-use expr_arguments::{CowValue, each_cow, one_array};
+use expr_arguments::{each_cow, one_array};
+use expr_cow::CowValue;
 use expr_value::{Items, Key, OrderedMap, Result, Value, refusal};
 use std::alloc::Global;
 
-/// The most items that are compared with each other, which costs less than a look-up of their keys.
+/// Up to how many items are compared with each other, which costs less than a look-up of their keys.
 const FEW: usize = 32;
 
-/// `uniq`: the items of an array that equal no earlier item.
+/// The items of an array that equal no earlier one.
 pub(crate) fn uniq(alloc: Global, arguments: &mut [CowValue<'_>]) -> Result<Value>
     ensures { Returns result (λ answer. answer ≡ uniq arguments.old) }
 {
@@ -34,7 +35,7 @@ fn distinct(alloc: Global, items: Vec<CowValue<'_>>) -> Result<Vec<Value>>
     distinct_many(alloc, items)
 }
 
-// Compares each item with all that are kept before it.
+// Each item is compared with all that are kept before it.
 fn distinct_few(alloc: Global, items: Vec<CowValue<'_>>) -> Result<Vec<Value>>
     ensures ok { IfOk result (λ kept. kept.items ≡ distinct items.entry.items) }
     ensures err { OnlyMemory result }
@@ -46,7 +47,7 @@ fn distinct_few(alloc: Global, items: Vec<CowValue<'_>>) -> Result<Vec<Value>>
     Ok(kept)
 }
 
-// Looks each scalar up among the keys of the scalars that are kept before it.
+// Each scalar is looked up among the keys of the scalars that are kept before it.
 fn distinct_many(alloc: Global, items: Vec<CowValue<'_>>) -> Result<Vec<Value>>
     ensures ok { IfOk result (λ kept. kept.items ≡ distinct items.entry.items) }
     ensures err { OnlyMemory result }
@@ -88,7 +89,7 @@ fn has_key(keys: &OrderedMap<Key, ()>, value: &Value) -> bool
     keys.get(value).is_some()
 }
 
-// The key of a scalar. Other items are not copied.
+// The key that a scalar is. An item of another kind is not copied.
 fn key_copied(value: &Value) -> Result<Option<Key>>
     ensures ok { IfOk result (λ key. key ≡ key_of value.now) }
     ensures err { OnlyMemory result }
@@ -99,7 +100,7 @@ fn key_copied(value: &Value) -> Result<Option<Key>>
     }
 }
 
-// Keeps an item unless it equals one that is kept already.
+// The item is compared with all that are kept.
 fn keep(kept: &mut Vec<Value>, item: CowValue<'_>) -> Result<()>
     ensures ok { OnOk result (kept.new.items ≡ with_new kept.old.items item.entry) }
     ensures err { OnlyMemory result }

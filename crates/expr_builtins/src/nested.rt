@@ -6,11 +6,12 @@ ghost use Rattle.expr_arguments.specs.Arrays.{array_items};
 ghost use Rattle.expr_builtins.specs.Nested.{flatten, all_flat_items};
 ghost use Rattle.expr_error.specs.ErrorKind.{OnlyMemory};
 
-use expr_arguments::{Array, Cow, CowValue, each_cow, one_array, values_of_cows};
+use expr_arguments::{Array, each_cow, one_array, values_of_cows};
+use expr_cow::{Cow, CowValue};
 use expr_value::{Items, Result, Value, refusal};
 use std::alloc::Global;
 
-/// `flatten`: an array whose nested arrays are replaced by their items, at every depth.
+/// An array without arrays in it: the items of each stand in its place, at every depth.
 pub(crate) fn flatten(alloc: Global, arguments: &mut [CowValue<'_>]) -> Result<Value>
     ensures { Returns result (λ answer. answer ≡ flatten arguments.old) }
 {
@@ -22,8 +23,7 @@ pub(crate) fn flatten(alloc: Global, arguments: &mut [CowValue<'_>]) -> Result<V
     Ok(Value::Array(Items::from_vec(items)))
 }
 
-/// Values with each array replaced by its items, at every depth. The arrays that wait are kept in a list, so that no
-/// depth takes stack.
+/// Values with each array opened, at every depth. The arrays that wait are held in a list, so that no depth takes stack.
 pub(crate) fn flat_items<'a>(alloc: Global, values: Vec<CowValue<'a>>) -> Result<Vec<CowValue<'a>>>
     ensures ok { IfOk result (λ found. found.items ≡ all_flat_items values.entry.items) }
     ensures err { OnlyMemory result }
@@ -44,7 +44,7 @@ pub(crate) fn flat_items<'a>(alloc: Global, values: Vec<CowValue<'a>>) -> Result
     Ok(found)
 }
 
-// The array, or the value itself if it is none.
+// The array that a value is, or the value where it is none.
 fn array_or_itself(value: CowValue<'_>) -> std::result::Result<Array<'_>, CowValue<'_>>
     ensures array { IfOk result (λ array. value.entry ≡ Value.Array (array_items array)) }
     ensures itself { IfErr result (λ same. same ≡ value.entry) }

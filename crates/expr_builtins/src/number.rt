@@ -1,4 +1,4 @@
-//! Built-ins on numbers.
+//! The calls on numbers.
 ghost use Rattle.std.specs.Prelude.{◌≡◌, Err, IfOk};
 ghost use Rattle.std.specs.Int.{int_max, int_min};
 ghost use Rattle.std.specs.Option.{option_map};
@@ -7,28 +7,25 @@ ghost use Rattle.expr_error.specs.ErrorKind.{evaluation, OnlyMemory};
 ghost use Rattle.expr_value.specs.Values.{integer_of};
 ghost use Rattle.expr_arguments.specs.Arguments.{all_of};
 ghost use Rattle.expr_builtins.specs.Nested.{all_flat_items};
-ghost use Rattle.expr_builtins.specs.Numbers.{NumberCalled, abs, choice_of, greatest, least};
+ghost use Rattle.expr_builtins.specs.Numbers.{Called, abs, choice_of, greatest, least};
 
 use crate::nested::flat_items;
-use expr_arguments::{CowValue, one_integer};
+use expr_arguments::one_integer;
+use expr_cow::CowValue;
 use expr_functions::NumberCall;
 use expr_value::{Result, Value, refusal};
 use std::alloc::Global;
 use std::mem;
 
-/// Calls a built-in on numbers with these arguments. Parts that the result keeps are moved out of owned arguments and
-/// copied from borrowed ones.
-///
-/// # Errors
-///
-/// Returns [`ExprError`](expr_value::Error::ExprError) if the built-in doesn't take this number or these kinds of
-/// arguments, or if it is one on fractions.
+/// What a call on numbers gives on these arguments. What is kept of them is moved out of values of the
+/// call's own and copied of lent ones. Other numbers and kinds of arguments than it takes are refused with
+/// [`expr_value::Error::ExprError`].
 pub fn call_on_numbers(
     alloc: Global,
     call: NumberCall,
     arguments: &mut Vec<CowValue<'_>>,
 ) -> Result<Value>
-    ensures { Returns result (NumberCalled call arguments.old.items) }
+    ensures { Returns result (Called call arguments.old.items) }
 {
     match call {
         NumberCall::Abs => abs(alloc, arguments),
@@ -43,7 +40,7 @@ pub fn call_on_numbers(
     }
 }
 
-/// `abs`: an integer without its sign. The least integer stays as it is.
+/// An integer without its sign. The least integer is its own.
 fn abs(alloc: Global, arguments: &[CowValue<'_>]) -> Result<Value>
     ensures { Returns result (λ answer. answer ≡ abs arguments.now) }
 {
@@ -53,14 +50,14 @@ fn abs(alloc: Global, arguments: &[CowValue<'_>]) -> Result<Value>
     Ok(Value::Integer(a.wrapping_abs()))
 }
 
-/// A built-in on fractions, which the language doesn't have. It always returns an error.
+/// A call on numbers with fractions, which there aren't. It is always refused.
 fn of_fractions(alloc: Global) -> Result<Value>
     ensures { Returns result (λ answer. answer ≡ Err evaluation) }
 {
     Err(refusal(alloc, "there are no numbers with fractions"))
 }
 
-/// `max`: the greatest of integers and of arrays of them, at every depth, or nil if there are none.
+/// The greatest of integers and of arrays of them, at every depth, or nil where there are none.
 fn greatest(alloc: Global, arguments: Vec<CowValue<'_>>) -> Result<Value>
     ensures { Returns result (λ answer. answer ≡ greatest arguments.entry.items) }
 {
@@ -73,7 +70,7 @@ fn greatest(alloc: Global, arguments: Vec<CowValue<'_>>) -> Result<Value>
     Ok(greatest_of(&numbers))
 }
 
-/// `min`: the least of integers and of arrays of them, at every depth, or nil if there are none.
+/// The least of integers and of arrays of them, at every depth, or nil where there are none.
 fn least(alloc: Global, arguments: Vec<CowValue<'_>>) -> Result<Value>
     ensures { Returns result (λ answer. answer ≡ least arguments.entry.items) }
 {
@@ -86,8 +83,7 @@ fn least(alloc: Global, arguments: Vec<CowValue<'_>>) -> Result<Value>
     Ok(least_of(&numbers))
 }
 
-// The integers of these values, with each array replaced by its items at every depth. `None` if anything else is among
-// them.
+// The integers that some values are with each array opened, at every depth, if nothing else is there.
 fn flat_integers(alloc: Global, values: Vec<CowValue<'_>>) -> Result<Option<Vec<i64>>>
     ensures ok { IfOk result (λ found. option_map
         (λ v. v.items) found ≡ all_of integer_of (all_flat_items values.entry.items)) }
@@ -97,7 +93,7 @@ fn flat_integers(alloc: Global, values: Vec<CowValue<'_>>) -> Result<Option<Vec<
     integers(alloc, &opened)
 }
 
-// The integers, if all of these values are integers.
+// The integers that some values are, if each is one.
 fn integers(alloc: Global, values: &[CowValue<'_>]) -> Result<Option<Vec<i64>>>
     ensures ok { IfOk result (λ found. option_map (λ v. v.items) found ≡ all_of integer_of values.now) }
     ensures err { OnlyMemory result }

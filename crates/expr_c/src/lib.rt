@@ -1,4 +1,4 @@
-//! A static library for C: three functions on an engine behind a pointer.
+//! An engine behind a pointer, for C.
 #![tactic(auto)]
 
 ghost use Rattle.std.specs.Prelude.{◌≡◌};
@@ -14,7 +14,7 @@ ghost use Rattle.expr_engine.specs.declared.engine.Engine.{Engine as EngineValue
 use expr_engine::{Call, Engine, serve};
 use std::alloc::Global;
 
-/// The size of an engine in bytes. Its address must be a multiple of 16.
+/// How many bytes an engine takes. They lie at a multiple of 16.
 #[unsafe(no_mangle)]
 pub extern "C" fn expr_c_size() -> usize
     ensures { result ≡ capped (size (layout engine_row)) }
@@ -22,7 +22,7 @@ pub extern "C" fn expr_c_size() -> usize
     size_of::<Engine>()
 }
 
-/// Makes an empty engine in the memory at a pointer. Its handles have this tag. It allocates nothing else.
+/// Makes an engine in the room at a pointer, which keeps nothing, and whose handles have this tag. It takes no other memory.
 #[unsafe(no_mangle)]
 pub unsafe extern "C" fn expr_c_open(alloc: Global, at: *mut u8, tag: u32)
     requires* { sem 𝓛 (room_at engine_row at) }
@@ -37,8 +37,8 @@ fn new_engine(alloc: Global, tag: u32) -> Engine
     Engine::new(alloc, tag)
 }
 
-/// Makes the engine at a pointer handle a call, as `serve` of `expr_engine` does. To close an engine, ask it
-/// to clear. After that it owns no memory, and the caller may free the engine's own.
+/// Has the engine at a pointer do what a call asks for, as `serve` of `expr_engine` promises it. To close an engine, ask it to
+/// clear: then it holds nothing, and its room is the caller's again.
 #[unsafe(no_mangle)]
 pub unsafe extern "C" fn expr_c_call(at: *mut u8, call: &mut Call<'_>)
     ghost before: { EngineValue }

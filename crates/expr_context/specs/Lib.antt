@@ -1,4 +1,1 @@
 pub mod Context
-pub mod Contexts
-pub mod Lookups
-pub mod Told

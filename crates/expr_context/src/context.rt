@@ -16,14 +16,14 @@ use std::iter::Zip;
 use std::marker::Model;
 use std::slice::Iter;
 
-/// A borrowed source of values. Its `get` is called when an expression that uses a name is evaluated.
+/// A lent source of values, which is asked while an expression is evaluated.
 pub trait ContextProvider {
     ghost use Rattle.expr_context.specs.Context.{ContextView as Names};
 
-    /// The value of each name, and the whole map that `$env` returns.
+    /// What its names stand for, and the whole map, which `$env` shows.
     ghost context: { Self → Names };
 
-    /// The value of a name, or `None`.
+    /// The value of a name.
     fn get(&self, key: &str) -> Option<&Value>
         ensures { option_copied result ≡ (context self.now).value_of key.now };
 
@@ -32,7 +32,7 @@ pub trait ContextProvider {
         ensures map { IfOk result (λ c. c ≡ (context self.now).map) }
         ensures refusal { OnlyMemory result };
 
-    /// A copy of the whole map, as `$env` returns it.
+    /// The whole map, as `$env` shows it.
     fn environment(&self, alloc: Global) -> Result<Context>
         ensures map { IfOk result (λ c. c ≡ (context self.now).map) }
         ensures refusal { OnlyMemory result }
@@ -41,7 +41,7 @@ pub trait ContextProvider {
     }
 }
 
-/// Distinct names with values, in the order of insertion. Contracts see the list of the pairs.
+/// Values under distinct names, in the order in which the names first came. Contracts see the list of its pairs.
 #[derive(Drop)]
 pub struct Context {
     pub(crate) pairs: ValueMap,
@@ -72,7 +72,7 @@ impl Context {
         }
     }
 
-    /// Number of names.
+    /// How many names there are.
     pub fn len(&self) -> usize
         ensures { result ≡ length self.now }
     {
@@ -86,7 +86,7 @@ impl Context {
         self.pairs.is_empty()
     }
 
-    /// Iterates over the names and their values, in the order of insertion.
+    /// The names and their values, in the order in which the names first came.
     pub fn iter(&self) -> Zip<Iter<'_, Text>, Iter<'_, Value>>
         ensures names { iter_rest (zip_first result) ≡ keys_of self.now }
         ensures values { iter_rest (zip_second result) ≡ values_of self.now }
@@ -95,8 +95,8 @@ impl Context {
         self.pairs.iter()
     }
 
-    /// Sets the value of a name. A name that is there keeps its position, and a new name goes last. If an allocation
-    /// fails, the context stays the same.
+    /// Puts a value under a name. A name that is there keeps its place, and a new name goes last. Where a growth is
+    /// refused the context stays as it was.
     pub fn insert(&mut self, name: String, value: Value) -> Result<()>
         ensures ok { OnOk result (self.new ≡ put (string_bytes name) value self.old) }
         ensures err { OnErr result (self.new ≡ self.old) }
@@ -105,14 +105,14 @@ impl Context {
         self.pairs.insert(Text::from_string(name), value)
     }
 
-    /// The value of a name, or `None`.
+    /// The value under a name.
     pub fn get(&self, name: &str) -> Option<&Value>
         ensures { option_copied result ≡ find name.now self.now }
     {
         self.pairs.get(name)
     }
 
-    /// A context of these pairs. A repeated name keeps its first position and takes its last value.
+    /// A context of some pairs. A repeated name keeps its first place and takes its last value.
     pub fn from_pairs(alloc: Global, pairs: Vec<(String, Value)>) -> Result<Context>
         ensures ok { IfOk result (λ c. c ≡ put_all [] (map (λ p. (string_bytes p.0, p.1)) pairs.items)) }
         ensures err { OnlyMemory result }
@@ -121,11 +121,7 @@ impl Context {
         Ok(Context { pairs })
     }
 
-    /// A context of the pairs of a map.
-    ///
-    /// # Errors
-    ///
-    /// Returns `ExprError` if the value is no map with names as keys.
+    /// A map as a context. Any other value is refused with [`Error::ExprError`].
     pub fn try_from(alloc: Global, value: Value) -> Result<Context>
         ensures ok { IfOk result (λ c. map_of value ≡ Some c) }
         ensures kind { RefusesWith result (λ k. k ≡ evaluation) }
@@ -168,7 +164,7 @@ impl ContextProvider for Context {
     }
 }
 
-/// A reference to a provider is a provider with the same names.
+/// A lent provider is asked as the provider itself.
 impl<'a> ContextProvider for &'a dyn ContextProvider {
     ghost context = { λ p. (ContextProvider-dyn p.now).context p.now.1 };
 

@@ -1,13 +1,13 @@
--- A short string or an integer is sought among items: their number gives the work.
+-- A short text or an integer that is sought among items: how many they are tells its work.
 use Rattle.std.proofs.Common.{◌≡◌, ℕ, suc, ◌+◌, ◌*◌, ◌/◌, ◌≤◌, min, List, refl, sym, ap, ◌∙◌, subst, arith}
-use Rattle.expr_costs.specs.Measures.{byte_units_of, content_work, entry_count, length_of}
+use Rattle.expr_costs.specs.Measures.{byte_units_of, content_work, entries_of, length_of}
 use Rattle.expr_costs.specs.Operators.{comparison_work, membership_work, operator_room, operator_work}
-use Rattle.expr_functions.specs.declared.operator.Operator.{Operator}
+use Rattle.expr_tree.specs.declared.operator.Operator.{Operator}
 use Rattle.expr_value.specs.declared.value.Value as value
 use Rattle.expr_value.specs.declared.value.Value.{Value}
 
 -- an array has no entries and no bytes
-array_bare : (vs : List Value) → (entry_count (value.Array vs) ≡ 0) × (byte_units_of (value.Array vs) ≡ 0)
+array_bare : (vs : List Value) → (entries_of (value.Array vs) ≡ 0) × (byte_units_of (value.Array vs) ≡ 0)
 unfolding value.out-Value denote.Hole.Carrier.out
 array_bare vs = (refl, refl)
 
@@ -25,7 +25,7 @@ pub among : (op : Operator) (x v : Value) (vs : List Value) (loads count : ℕ) 
     → loads ≡ byte_units_of x → loads ≤ 0 → count ≡ length_of v → (operator_work op x v ≡ 1 + count) × (operator_room op x v ≡ 0)
 among op x v vs loads count work room holds array read none counted =
     let short : byte_units_of x ≡ 0 = none_left loads (byte_units_of x) read none in
-    let bare : (entry_count v ≡ 0) × (byte_units_of v ≡ 0) = subst (λ w. (entry_count w ≡ 0) × (byte_units_of w ≡ 0)) (sym array) (array_bare vs) in
+    let bare : (entries_of v ≡ 0) × (byte_units_of v ≡ 0) = subst (λ w. (entries_of w ≡ 0) × (byte_units_of w ≡ 0)) (sym array) (array_bare vs) in
     let sought : membership_work v x ≡ 1 + length_of v =
-    each (entry_count v) (byte_units_of x) (byte_units_of v) (comparison_work x x) (length_of v) bare.0 short bare.1 (alone (byte_units_of x) (content_work x) short holds) in
+    each (entries_of v) (byte_units_of x) (byte_units_of v) (comparison_work x x) (length_of v) bare.0 short bare.1 (alone (byte_units_of x) (content_work x) short holds) in
     (work ∙ sought ∙ ap (λ n. 1 + n) (sym counted), room)

@@ -1,10 +1,10 @@
--- What is counted of a cost that was computed up to a bound.
+-- What is counted of a cost that is told up to a bound.
 use Rattle.std.proofs.Common.{◌≡◌, ℕ, ◌+◌, ◌<◌, Result, Ok, Err, Some, subst, arith}
-use Rattle.expr_limits.specs.Counting.{Charge}
-use Rattle.expr_limits.specs.MeterView.{Charges, MeterView}
-use Rattle.expr_limits.specs.Rooms.{TakesWork, Overruns, Room, steps_left, unlimited, limited}
-use Rattle.expr_limits.specs.declared.limit.Limit.{Limit}
-use Rattle.expr_limits.specs.declared.limit.Limit.TheVariants.{Steps}
+use Rattle.expr_meter.specs.Counting.{Charge}
+use Rattle.expr_meter.specs.MeterView.{Charges, MeterView}
+use Rattle.expr_meter.specs.Rooms.{TakesWork, Overruns, Room, steps_left, unlimited, limited}
+use Rattle.expr_meter.specs.declared.limit.Limit.{Limit}
+use Rattle.expr_meter.specs.declared.limit.Limit.TheVariants.{Steps}
 
 -- where more is needed than is left, the steps are what runs out
 overruns : (room : Room) (bound n k : ℕ) (r : Result Room Limit) → Some bound ≡ steps_left room → bound < n + k → Overruns room r → TakesWork n k room r

@@ -2,7 +2,7 @@
 use Rattle.std.proofs.Common.{ℕ, suc, ◌+◌, ◌≤◌, ◌<◌, List, [], ◌∷◌, length, map, subst, arith}
 use Rattle.std.specs.List.{fold}
 use Rattle.std.specs.Map.{values_of}
-use Rattle.expr_limits.specs.Sizes.{inner_weight, inner_weight_layer, weight}
+use Rattle.expr_sizes.specs.Sizes.{inner_weight, inner_weight_layer, weight}
 use Rattle.expr_value.specs.declared.value.Value.{Value, roll-Value, ind-Value, map-Value, fold-roll-Value}
 use Rattle.expr_value.specs.declared.value.Value.TheOpen.{Value-F}
 use Rattle.expr_costs.specs.Measures.{entries_inside, entries_inside_layer}

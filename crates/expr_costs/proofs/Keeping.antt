@@ -40,6 +40,6 @@ begins SortBy items (Some w) = sorted items (direction_named (string_of w))
 begins b items None = (refl, λ r. refl)
 begins b items (Some w) = tt
 
--- each task that a built-in starts with keeps what its name says
+-- each task that a built-in begins with keeps what is told by its name
 pub keeps_so : (b : HigherOrderCall) (items : List Value) (more : Option Value) (s : FoldOver) → fold_of b items more ≡ Ok s → RetainsAs (keeps_of b) s.fold
 keeps_so b items more s e = subst (IfStart (keeps_of b)) e (begins b items more)

@@ -1,4 +1,4 @@
--- The argument at a position.
+-- The argument at a place.
 use Rattle.std.proofs.Common.{◌≡◌, ℕ, zero, suc, ◌<◌, ◌≤◌, List, [], ◌∷◌, length, get_or, refl, sym, ap, ◌∙◌, arith}
 use Rattle.expr_value.specs.declared.value.Value as value
 use Rattle.expr_value.specs.declared.value.Value.{Value}

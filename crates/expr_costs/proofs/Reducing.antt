@@ -1,6 +1,6 @@
 -- What `reduce` keeps before it asks.
 use Rattle.std.proofs.Common.{◌≡◌, List, [], ◌∷◌, true, Option, Some, None, MatchOption, Result, Ok, Err, option_map, slice_get, refl, sym, ap, subst, ◌∙◌}
-use Rattle.expr_meaning.specs.HigherOrder.{retained_first}
+use Rattle.expr_meter.specs.HigherOrder.{retained_first}
 use Rattle.expr_predicates.specs.Calls.{FoldOver, array_then, fold_of_call, fold_of_array}
 use Rattle.expr_predicates.specs.Folds.{reducing}
 use Rattle.expr_functions.specs.declared.functions.HigherOrderCall.{HigherOrderCall}

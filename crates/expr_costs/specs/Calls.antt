@@ -1,4 +1,4 @@
--- The costs of calls: the work of each on its arguments, and the room for what it builds.
+-- What calls cost: the work of each on its arguments, and the room that there must be for what it builds.
 use Rattle.std.specs.Prelude.{ℕ, ◌+◌, ◌*◌, ◌/◌, List, pos, ℤ, Option, Some, None, if◌then◌else◌}
 use Rattle.expr_functions.specs.Functions.{builtin_named}
 use Rattle.expr_functions.specs.declared.functions.HigherOrderCall.{HigherOrderCall}
@@ -16,14 +16,14 @@ use Rattle.expr_functions.specs.declared.functions.TextCall.TheVariants as text
 use Rattle.expr_functions.specs.declared.functions.ValueCall.{ValueCall}
 use Rattle.expr_functions.specs.declared.functions.ValueCall.TheVariants as call
 use Rattle.expr_meaning.specs.Host.{Host}
-use Rattle.expr_limits.specs.Sizes.{weights}
+use Rattle.expr_sizes.specs.Sizes.{weights}
 use Rattle.expr_value.specs.Values.{integer_of}
 use Rattle.expr_value.specs.declared.value.Value.{Value}
-use Rattle.expr_costs.specs.Measures.{argument, byte_count, colons_of, count_of, items_in, byte_units_of, all_byte_units, pairwise_work, most_pieces, insertion_work, lookup_work}
+use Rattle.expr_costs.specs.Measures.{argument, bytes_of, colons_of, count_of, items_in, byte_units_of, all_byte_units, pairwise_work, pieces, insertion_work, lookup_work}
 use Rattle.expr_costs.specs.declared.cost_kind.CostKind.{CostKind}
 use Rattle.expr_costs.specs.declared.cost_kind.CostKind.TheVariants.{Finds, Reads, Times, Trims, Cases, Splits, Replaces, Repeats, Joins, Copies, Seeks, Pairs, Compares, Sorts, Groups, Walks, Weighs, Prints, Writes, Parses, Recodes}
 
--- the kind of a built-in with a predicate, without the work of the predicate
+-- the kind of a built-in that asks a predicate, beside what it asks
 abbrev pub kind_of_higher_order : HigherOrderCall → CostKind
 kind_of_higher_order higher_order_call.Count = Walks
 kind_of_higher_order higher_order_call.Sum = Walks
@@ -31,7 +31,7 @@ kind_of_higher_order higher_order_call.GroupBy = Groups
 kind_of_higher_order higher_order_call.SortBy = Sorts
 kind_of_higher_order a = Finds
 
--- a call on arrays and maps copies them, unless this table says something else
+-- a call on arrays and maps copies them, unless it is told otherwise
 abbrev pub kind_on_collections : CollectionCall → CostKind
 kind_on_collections collection.First = Finds
 kind_on_collections collection.Last = Finds
@@ -46,7 +46,7 @@ kind_on_collections collection.Join = Joins
 kind_on_collections collection.FromPairs = Pairs
 kind_on_collections c = Copies
 
--- a call on strings reads them
+-- one on texts reads them
 abbrev pub kind_on_texts : TextCall → CostKind
 kind_on_texts text.Trim = Trims
 kind_on_texts text.Upper = Cases
@@ -57,7 +57,7 @@ kind_on_texts text.Replace = Replaces
 kind_on_texts text.Repeat = Repeats
 kind_on_texts t = Reads
 
--- a call on numbers looks at everything in its arguments
+-- and one on numbers looks at all that its arguments hold
 abbrev pub kind_on_numbers : NumberCall → CostKind
 kind_on_numbers number.Abs = Finds
 kind_on_numbers number.Float = Finds
@@ -82,17 +82,17 @@ kind_on_values (call.Encoding encoding.ToJson) = Writes
 kind_on_values (call.Encoding e) = Recodes
 kind_on_values (call.Time t) = Times
 
--- by the built-in, if there is one
-abbrev pub cost_kind_of : Option Builtin → CostKind
-cost_kind_of (Some (builtin.HigherOrder a)) = kind_of_higher_order a
-cost_kind_of (Some (builtin.OnValues v)) = kind_on_values v
-cost_kind_of None = Finds
+-- by the built-in that is called, if there is one
+abbrev pub kind_of : Option Builtin → CostKind
+kind_of (Some (builtin.HigherOrder a)) = kind_of_higher_order a
+kind_of (Some (builtin.OnValues v)) = kind_on_values v
+kind_of None = Finds
 
 -- the kind of a call, by its name
 abbrev pub cost_kind_named : List ℕ → CostKind
-cost_kind_named key = cost_kind_of (builtin_named key)
+cost_kind_named key = kind_of (builtin_named key)
 
--- an integer that isn't negative, and 0 for any other value
+-- an integer that isn't negative, and 0 for every other value
 abbrev pub natural : Option ℤ → ℕ
 natural (Some (pos n)) = n
 natural n = 0
@@ -100,20 +100,19 @@ natural n = 0
 abbrev pub times_of : List Value → ℕ
 times_of vs = natural (integer_of (argument 1 vs))
 
--- the number of items of the array, or of entries of the map, that is the first argument
+-- how many items the array has that a call begins with, or entries the map
 abbrev pub first_count : List Value → ℕ
 first_count vs = count_of (argument 0 vs)
 
--- Finding the call by its name takes 8 steps, and this comes on top. All keys that go into a map may have one
--- hash; in JSON a colon follows each. Up to 32 of equal items are compared with each other, and beyond them
--- those that can't be keys.
+-- Finding the call by its name is 8 steps, to which comes this. Keys that are put into a map may all have one hash; in JSON a colon stands behind each. Of
+-- equal items up to 32 are compared with each other, and beyond them those that are no keys.
 abbrev pub work_of : CostKind → List Value → ℕ
 work_of Reads vs = 2 * all_byte_units vs
 work_of Times vs = 50 + 4 * all_byte_units vs
 work_of Trims vs = 32 * all_byte_units vs
 work_of Cases vs = 2 * all_byte_units vs
 work_of Splits vs = 2 * all_byte_units vs
-work_of Replaces vs = 2 * all_byte_units vs + most_pieces vs
+work_of Replaces vs = 2 * all_byte_units vs + pieces vs
 work_of Joins vs = first_count vs
 work_of Seeks vs = lookup_work (argument 0 vs) (argument 1 vs)
 work_of Pairs vs = insertion_work (first_count vs)
@@ -127,12 +126,12 @@ work_of Writes vs = 8 * weights vs
 work_of Parses vs = 4 * all_byte_units vs + insertion_work (colons_of (argument 0 vs))
 work_of kind vs = 0
 
--- and there must be this much room
+-- and there must be room for this
 abbrev pub room_of : CostKind → List Value → ℕ
 room_of Cases vs = 2 + 3 * all_byte_units vs
-room_of Splits vs = 4 + (2 * all_byte_units vs + 3 * most_pieces vs)
-room_of Replaces vs = 2 + (2 * all_byte_units vs + most_pieces vs * (1 + byte_units_of (argument 2 vs)))
-room_of Repeats vs = 2 + byte_count (argument 0 vs) * times_of vs / 16
+room_of Splits vs = 4 + (2 * all_byte_units vs + 3 * pieces vs)
+room_of Replaces vs = 2 + (2 * all_byte_units vs + pieces vs * (1 + byte_units_of (argument 2 vs)))
+room_of Repeats vs = 2 + bytes_of (argument 0 vs) * times_of vs / 16
 room_of Joins vs = 2 + (weights vs + first_count vs * (1 + byte_units_of (argument 1 vs)))
 room_of Copies vs = 2 * weights vs
 room_of Pairs vs = weights vs
@@ -140,11 +139,11 @@ room_of Compares vs = weights vs
 room_of Sorts vs = weights vs
 room_of Prints vs = 4 * weights vs
 room_of Writes vs = 8 * weights vs
-room_of Parses vs = 8 + 4 * byte_count (argument 0 vs)
+room_of Parses vs = 8 + 4 * bytes_of (argument 0 vs)
 room_of Recodes vs = 2 + 2 * all_byte_units vs
 room_of kind vs = 0
 
--- a function of the host counts as reading all of its arguments
+-- a function of the host is told to read its arguments whole
 abbrev pub call_work : Host → List ℕ → List Value → ℕ
 call_work host key vs = 8 + (if host.is_added key then weights vs else work_of (cost_kind_named key) vs)
 

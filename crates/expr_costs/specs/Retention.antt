@@ -1,6 +1,6 @@
--- What a built-in keeps of a result, by its name.
+-- What a built-in keeps of a reply, told by its name.
 use Rattle.std.specs.Prelude.{◌≡◌, Bool, true, false, List, [], ◌∷◌, if◌then◌else◌}
-use Rattle.expr_meaning.specs.HigherOrder.{retained_of, replaces}
+use Rattle.expr_meter.specs.HigherOrder.{retained_of, replaces}
 use Rattle.expr_predicates.specs.Folds.{Fold, ItemAnswer, holds}
 use Rattle.expr_value.specs.declared.value.Value.{Value}
 use Rattle.expr_costs.specs.declared.retention.Retention.{Retention}
@@ -17,6 +17,6 @@ abbrev pub is_last : Retention → Bool
 is_last LastAnswer = true
 is_last k = false
 
--- this is what a task keeps of each result
+-- what a task keeps of each reply is this
 abbrev pub RetainsAs : Retention → Fold → Type 0
 RetainsAs k t = (replaces t ≡ is_last k) × ((r : ItemAnswer) → retained_of t r ≡ retained_by k r)

@@ -1,18 +1,18 @@
-//! The sizes of a call's arguments.
+//! How much there is to look at in the arguments of a call.
 ghost use Rattle.std.specs.Prelude.{MatchOption, ◌≡◌, ◌+◌, ◌<◌, ◌^◌, IfSome};
 ghost use Rattle.expr_costs.specs.Calls.{first_count as parts_of_first, times_of as times};
-ghost use Rattle.expr_costs.specs.Measures.{UpTo, argument as told, byte_count as bytes, colons_of as all_colons, items_in as parts, byte_units_of as units, all_byte_units as reads, pairwise_work, most_pieces as cuts, lookup_work as seeks};
-ghost use Rattle.expr_limits.specs.Sizes.{weights as all_weigh};
+ghost use Rattle.expr_costs.specs.Measures.{UpTo, argument as told, bytes_of as bytes, colons_of as all_colons, items_in as parts, byte_units_of as units, all_byte_units as reads, pairwise_work, pieces as cuts, lookup_work as seeks};
+ghost use Rattle.expr_sizes.specs.Sizes.{weights as all_weigh};
 ghost use Rattle.expr_value.specs.declared.value.Value as value;
 
 use crate::measures::{
     byte_units_of, bytes_of, colons_of, count_of, entries_of, lookup_work, pairwise_work_of,
     weight_of,
 };
-use expr_arguments::CowValue;
+use expr_cow::CowValue;
 use expr_value::Value;
 
-/// The argument at a position, if there is one.
+/// The argument at a place, if there are so many.
 #[inline(always)]
 #[tactic(auto, using(crate::proofs::Places::argument_is, crate::proofs::Places::argument_none))]
 fn argument<'v>(arguments: &'v [CowValue<'_>], place: usize) -> Option<&'v Value>
@@ -25,7 +25,7 @@ fn argument<'v>(arguments: &'v [CowValue<'_>], place: usize) -> Option<&'v Value
     Some(arguments[place].get())
 }
 
-/// The number of bytes of the argument at a position.
+/// The bytes of the argument at a place.
 #[inline(always)]
 pub(crate) fn bytes_at(arguments: &[CowValue<'_>], place: usize) -> u64
     ensures bytes { result ≡ bytes (told place arguments.now) }
@@ -37,7 +37,7 @@ pub(crate) fn bytes_at(arguments: &[CowValue<'_>], place: usize) -> u64
     }
 }
 
-/// The number of bytes of the argument at a position, in units of 16.
+/// The same in units of 16 bytes.
 #[inline(always)]
 pub(crate) fn byte_units_at(arguments: &[CowValue<'_>], place: usize) -> u64
     ensures load { result ≡ units (told place arguments.now) }
@@ -46,7 +46,7 @@ pub(crate) fn byte_units_at(arguments: &[CowValue<'_>], place: usize) -> u64
     bytes_at(arguments, place) / 16
 }
 
-/// The number of colons in the argument at a position.
+/// The colons of the argument at a place.
 pub(crate) fn colons_at(arguments: &[CowValue<'_>], place: usize) -> u64
     ensures { result ≡ all_colons (told place arguments.now) }
 {
@@ -56,7 +56,7 @@ pub(crate) fn colons_at(arguments: &[CowValue<'_>], place: usize) -> u64
     }
 }
 
-/// How often to repeat the first argument.
+/// How often the first argument is to be repeated.
 #[inline(always)]
 pub(crate) fn times_of(arguments: &[CowValue<'_>]) -> u64
     ensures times { result ≡ times arguments.now }
@@ -68,7 +68,7 @@ pub(crate) fn times_of(arguments: &[CowValue<'_>]) -> u64
     }
 }
 
-/// The bytes of all strings and bytes among the arguments, in units of 16, up to a bound.
+/// The units of texts and bytes among arguments, up to a bound.
 pub(crate) fn all_byte_units(arguments: &[CowValue<'_>], bound: u64) -> Option<u128>
     ensures all_byte_units { UpTo bound (reads arguments.now) (λ n. n) result }
     ensures small { IfSome result (λ n. n < 2 ^ 64) }
@@ -80,7 +80,7 @@ pub(crate) fn all_byte_units(arguments: &[CowValue<'_>], bound: u64) -> Option<u
     Some((bound - left) as u128)
 }
 
-/// The number of items of the array, or of entries of the map, that is the first argument.
+/// How many items the array has that a call begins with, or entries the map.
 #[inline(always)]
 pub(crate) fn first_count(arguments: &[CowValue<'_>]) -> u64
     ensures count { result ≡ parts_of_first arguments.now }
@@ -91,7 +91,7 @@ pub(crate) fn first_count(arguments: &[CowValue<'_>]) -> u64
     }
 }
 
-/// The weight of all arguments, up to a bound.
+/// How much arguments weigh together, up to a bound.
 pub(crate) fn weights(arguments: &[CowValue<'_>], bound: u64) -> Option<u64>
     ensures weights { UpTo bound (all_weigh arguments.now) (λ n. n) result }
 {
@@ -117,7 +117,7 @@ pub(crate) fn first_pairwise(arguments: &[CowValue<'_>], bound: u64) -> Option<u
     }
 }
 
-/// The greatest number of pieces that the second string cuts the first into.
+/// The most pieces that stand between the matches of the second text in the first.
 #[inline(always)]
 pub(crate) fn pieces(arguments: &[CowValue<'_>]) -> u64
     ensures pieces { result ≡ cuts arguments.now }
@@ -126,7 +126,7 @@ pub(crate) fn pieces(arguments: &[CowValue<'_>]) -> u64
     bytes_at(arguments, 0) / bytes_at(arguments, 1).max(1) + 2
 }
 
-/// The work of looking the second argument up among the keys of the first.
+/// The work of seeking the second argument among the keys of the first.
 #[inline(always)]
 pub(crate) fn lookup_work_of(arguments: &[CowValue<'_>]) -> u64
     ensures work { result ≡ seeks (told 0 arguments.now) (told 1 arguments.now) }

@@ -1,8 +1,8 @@
-//! The costs of calls.
+//! What calls cost.
 ghost use Rattle.std.specs.Prelude.{◌+◌, ◌*◌, ◌∷◌, ◌<◌, ◌^◌, IfSome, length};
 ghost use Rattle.expr_costs.specs.Calls.{call_room, call_work, room_of, work_of};
 ghost use Rattle.expr_costs.specs.Measures.{CostUpTo, all_byte_units as reads, insertion_work as puts};
-ghost use Rattle.expr_limits.specs.Sizes.{name_weights, weights as all_weigh};
+ghost use Rattle.expr_sizes.specs.Sizes.{name_weights, weights as all_weigh};
 
 use crate::arguments::{
     all_byte_units, byte_units_at, bytes_at, colons_at, first_count, first_pairwise,
@@ -11,16 +11,15 @@ use crate::arguments::{
 use crate::cost::{Cost, work_and_room, work_cost};
 use crate::cost_kind::CostKind;
 use crate::measures::{byte_units_of, insertion_work, product, times};
-use expr_arguments::CowValue;
-use expr_limits::take_names;
+use expr_cow::CowValue;
 use expr_meaning::Functions;
+use expr_sizes::take_names;
 use expr_value::{Text, Value};
 
-/// The steps of finding the function of a name.
+/// The steps of finding what a name calls.
 const DISPATCH_STEPS: u128 = 8;
 
-/// The cost of a call by its name and arguments, up to a bound. A function of the host counts as reading all
-/// of its arguments.
+/// What a call of a name on arguments costs, up to a bound: a function of the host is told to read its arguments whole.
 pub fn call_cost<H: Functions>(
     host: &H,
     name: &str,
@@ -38,7 +37,7 @@ pub fn call_cost<H: Functions>(
     Some(work_and_room(DISPATCH_STEPS + cost.work, cost.room))
 }
 
-/// The cost of a method by its value and arguments, up to a bound.
+/// What a method costs on a value and on its arguments, up to a bound.
 pub fn method_cost(value: &Value, arguments: &[CowValue<'_>], bound: u64) -> Option<Cost>
     ensures { CostUpTo bound (50 + 4 * reads (value.now ∷ arguments.now)) 0 result }
 {
@@ -46,14 +45,14 @@ pub fn method_cost(value: &Value, arguments: &[CowValue<'_>], bound: u64) -> Opt
     Some(work_cost(50 + 4 * loads))
 }
 
-/// The cost of an array of these values, up to a bound.
+/// What the array of some values costs, up to a bound.
 pub fn array_cost(values: &[CowValue<'_>], bound: u64) -> Option<Cost>
     ensures { CostUpTo bound 0 (4 + all_weigh values.now) result }
 {
     Some(work_and_room(0, 4 + weights(values, bound)? as u128))
 }
 
-/// The cost of a map of these values under these names, up to a bound.
+/// What the map of some values under names costs, up to a bound.
 pub fn map_cost(names: &[Text], values: &[CowValue<'_>], bound: u64) -> Option<Cost>
     ensures { CostUpTo bound (puts (length names.now))
         (8 + (name_weights names.now + all_weigh values.now)) result }
@@ -64,7 +63,7 @@ pub fn map_cost(names: &[Text], values: &[CowValue<'_>], bound: u64) -> Option<C
     Some(work_and_room(insertion_work(names.len() as u64), room))
 }
 
-/// The cost of a call of this kind, without the work of finding its name.
+/// What a call of a kind costs beside the finding of its name.
 fn cost_of(kind: CostKind, arguments: &[CowValue<'_>], bound: u64) -> Option<Cost>
     ensures cost { CostUpTo bound (work_of kind arguments.now) (room_of kind arguments.now) result }
     ensures small { IfSome result (λ c. c.work < 2 ^ 127) }
@@ -113,7 +112,7 @@ fn cost_of(kind: CostKind, arguments: &[CowValue<'_>], bound: u64) -> Option<Cos
     Some(cost)
 }
 
-/// The cost of splitting a string.
+/// What cutting a text to pieces costs.
 fn split_cost(arguments: &[CowValue<'_>], bound: u64) -> Option<Cost>
     ensures cost { CostUpTo bound (work_of CostKind.Splits arguments.now)
         (room_of CostKind.Splits arguments.now) result }
@@ -123,7 +122,7 @@ fn split_cost(arguments: &[CowValue<'_>], bound: u64) -> Option<Cost>
     Some(work_and_room(2 * loads, 4 + (2 * loads + 3 * (pieces(arguments) as u128))))
 }
 
-/// The cost of replacing one string by another.
+/// What putting one text in the place of another costs.
 fn replacement_cost(arguments: &[CowValue<'_>], bound: u64) -> Option<Cost>
     ensures cost { CostUpTo bound (work_of CostKind.Replaces arguments.now)
         (room_of CostKind.Replaces arguments.now) result }
@@ -135,7 +134,7 @@ fn replacement_cost(arguments: &[CowValue<'_>], bound: u64) -> Option<Cost>
     Some(work_and_room(2 * loads + pieces as u128, 2 + (2 * loads + made)))
 }
 
-/// The cost of joining strings.
+/// What joining texts costs.
 fn join_cost(arguments: &[CowValue<'_>], bound: u64) -> Option<Cost>
     ensures cost { CostUpTo bound (work_of CostKind.Joins arguments.now)
         (room_of CostKind.Joins arguments.now) result }
@@ -147,7 +146,7 @@ fn join_cost(arguments: &[CowValue<'_>], bound: u64) -> Option<Cost>
     Some(work_and_room(count as u128, 2 + (weight + marks)))
 }
 
-/// The cost of comparing the items of an array with each other.
+/// What comparing the items of an array with each other costs.
 fn comparison_cost(arguments: &[CowValue<'_>], bound: u64) -> Option<Cost>
     ensures cost { CostUpTo bound (work_of CostKind.Compares arguments.now)
         (room_of CostKind.Compares arguments.now) result }
@@ -159,7 +158,7 @@ fn comparison_cost(arguments: &[CowValue<'_>], bound: u64) -> Option<Cost>
     Some(work_and_room(32 * weight + (keys + pairs), weight))
 }
 
-/// The cost of parsing a string as JSON.
+/// What reading a text as JSON costs.
 fn parse_cost(arguments: &[CowValue<'_>], bound: u64) -> Option<Cost>
     ensures cost { CostUpTo bound (work_of CostKind.Parses arguments.now)
         (room_of CostKind.Parses arguments.now) result }

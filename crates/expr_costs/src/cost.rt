@@ -1,22 +1,22 @@
-//! What is counted before an instruction or a call.
+//! What is counted before an instruction or a call is done.
 ghost use Rattle.std.specs.Prelude.{◌≡◌, ℕ, Some};
 ghost use Rattle.expr_costs.specs.Measures.{CostUpTo};
-ghost use Rattle.expr_limits.specs.MeterView.{Charges};
-ghost use Rattle.expr_limits.specs.Rooms.{TakesWork, steps_left};
+ghost use Rattle.expr_meter.specs.MeterView.{Charges};
+ghost use Rattle.expr_meter.specs.Rooms.{TakesWork, steps_left};
 
-use expr_limits::Meter;
+use expr_meter::Meter;
 use std::alloc::AllocError;
 
-/// The cost of an instruction or a call.
+/// What an instruction or a call costs.
 #[derive(Clone, Copy, Debug, Drop)]
 pub struct Cost {
-    /// The number of steps.
+    /// The steps that it takes.
     pub work: u128,
-    /// The weight of the values that there must be room for.
+    /// What there must be room for.
     pub room: u128,
 }
 
-/// A cost of this much work, and of no room.
+/// So much work, and room for nothing.
 #[inline(always)]
 pub(crate) fn work_cost(work: u128) -> Cost
     ensures work { result.work ≡ work }
@@ -25,7 +25,7 @@ pub(crate) fn work_cost(work: u128) -> Cost
     Cost { work, room: 0 }
 }
 
-/// A cost of this much work and this much room.
+/// So much work, and room for so much.
 #[inline(always)]
 pub(crate) fn work_and_room(work: u128, room: u128) -> Cost
     ensures work { result.work ≡ work }
@@ -34,12 +34,7 @@ pub(crate) fn work_and_room(work: u128, room: u128) -> Cost
     Cost { work, room }
 }
 
-/// Counts a cost before the instruction or the call. The cost was computed up to a bound, the number of steps
-/// left. None means that it is above the bound.
-///
-/// # Errors
-///
-/// Returns `AllocError` if a limit is passed. The meter then holds the limit.
+/// Counts what is about to be done, by what it costs; that is told up to a bound, which is how many steps are left.
 #[inline(always)]
 #[tactic(auto, using(crate::proofs::Charging::overrun_begins))]
 pub fn charge<M: Meter>(meter: &mut M, cost: Option<Cost>, bound: u64) -> Result<(), AllocError>

@@ -1,4 +1,4 @@
-//! The kinds of work that calls do.
+//! What kind of work a call is.
 ghost use Rattle.std.specs.Prelude.{◌≡◌};
 ghost use Rattle.expr_costs.specs.Calls.{cost_kind_named, kind_of_higher_order, kind_on_collections, kind_on_numbers, kind_on_texts, kind_on_values};
 
@@ -7,50 +7,50 @@ use expr_functions::{
     ValueCall,
 };
 
-/// The kind of work that a call does, besides finding its name.
+/// What kind of work a call is beside the finding of its name.
 #[derive(Clone, Copy, Debug, Drop)]
 pub enum CostKind {
-    /// Nothing that counts.
+    /// None that is worth a count.
     Finds,
-    /// Reads strings.
+    /// It reads texts.
     Reads,
-    /// Reads or makes a time.
+    /// It reads or makes a time.
     Times,
-    /// Removes characters from the ends of a string.
+    /// It takes characters off the ends of a text.
     Trims,
-    /// Changes the case of a string.
+    /// It changes the case of a text.
     Cases,
-    /// Splits a string.
+    /// It cuts a text to pieces.
     Splits,
-    /// Replaces one string by another.
+    /// It puts one text in the place of another.
     Replaces,
-    /// Repeats a string.
+    /// It repeats a text.
     Repeats,
-    /// Joins strings.
+    /// It joins texts.
     Joins,
-    /// Copies items or entries.
+    /// It copies items or entries.
     Copies,
-    /// Looks a key up.
+    /// It seeks a key.
     Seeks,
-    /// Puts pairs into a map.
+    /// It puts pairs into a map.
     Pairs,
-    /// Compares each item with the others.
+    /// It compares each item with the others.
     Compares,
-    /// Sorts items.
+    /// It sorts items.
     Sorts,
-    /// Puts items under keys.
+    /// It puts items under keys.
     Groups,
-    /// Looks at each item.
+    /// It looks at each item.
     Walks,
-    /// Looks at everything in its arguments.
+    /// It looks at all that its arguments hold.
     Weighs,
-    /// Prints a value.
+    /// It prints a value.
     Prints,
-    /// Writes JSON.
+    /// It writes JSON.
     Writes,
-    /// Reads JSON.
+    /// It reads JSON.
     Parses,
-    /// Reads or writes Base64.
+    /// It reads or writes base 64.
     Recodes,
 }
 
@@ -67,7 +67,7 @@ impl CostKind {
     }
 }
 
-/// The kind of a built-in with a predicate, without the work of the predicate.
+/// The kind of a built-in that asks a predicate, beside what it asks.
 fn of_higher_order(call: HigherOrderCall) -> CostKind
     ensures { result ≡ kind_of_higher_order call }
 {
@@ -99,7 +99,7 @@ fn on_values(call: ValueCall) -> CostKind
     }
 }
 
-/// The kind of a call on arrays and maps. It copies them, unless this table says something else.
+/// The kind of a call on arrays and maps: it copies them, unless it is told otherwise.
 fn on_collections(call: CollectionCall) -> CostKind
     ensures { result ≡ kind_on_collections call }
 {
@@ -119,7 +119,7 @@ fn on_collections(call: CollectionCall) -> CostKind
     }
 }
 
-/// The kind of a call on strings. It reads them, unless this table says something else.
+/// The kind of a call on texts: it reads them, unless it is told otherwise.
 fn on_texts(call: TextCall) -> CostKind
     ensures { result ≡ kind_on_texts call }
 {
@@ -133,8 +133,7 @@ fn on_texts(call: TextCall) -> CostKind
     }
 }
 
-/// The kind of a call on numbers. It looks at everything in its arguments, unless this table says something
-/// else.
+/// The kind of a call on numbers: it looks at all that its arguments hold, unless it is told otherwise.
 fn on_numbers(call: NumberCall) -> CostKind
     ensures { result ≡ kind_on_numbers call }
 {

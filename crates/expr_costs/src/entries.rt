@@ -1,10 +1,10 @@
-//! The number of entries in a value and in everything that it contains.
+//! How many entries a value has and all that it holds.
 ghost use Rattle.std.specs.Prelude.{◌≡◌};
 ghost use Rattle.expr_costs.specs.Measures.{IsRemainder, UpTo, entries_inside as inside, entries_within as within};
 
 use expr_value::Value;
 
-/// The number of entries in a value and in everything that it contains, up to a bound.
+/// How many entries a value has and all that it holds, up to a bound.
 #[inline(always)]
 pub fn entries_inside(value: &Value, bound: u64) -> Option<u64>
     ensures entries { UpTo bound (inside value.now) (λ n. n) result }
@@ -13,8 +13,7 @@ pub fn entries_inside(value: &Value, bound: u64) -> Option<u64>
     Some(bound - left)
 }
 
-/// Subtracts these entries from a bound. Returns what is left, or None if they are more. It allocates
-/// nothing.
+/// What is left of a bound once they are taken of it. The walk allocates nothing.
 #[cycle(walk)]
 #[inline(always)]
 fn take_entries(value: &Value, bound: u64) -> Option<u64>
@@ -34,7 +33,7 @@ fn take_entries(value: &Value, bound: u64) -> Option<u64>
     }
 }
 
-/// Subtracts the entries of each of these values from a bound.
+/// The same of each of some values.
 #[cycle(walk)]
 fn take_from_all(values: &[Value], bound: u64) -> Option<u64>
     ensures { IsRemainder bound (within values.now) result }

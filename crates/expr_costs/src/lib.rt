@@ -1,4 +1,4 @@
-//! The costs of instructions and calls: the work on their values, and the room for their results.
+//! What instructions and calls cost: their work on the values that they look at, and the room for what they build.
 #![tactic(auto)]
 
 mod arguments;

@@ -1,13 +1,13 @@
-//! The sizes of values.
+//! How much there is to look at in values.
 ghost use Rattle.std.specs.Prelude.{◌≡◌, ◌+◌, ◌*◌, ◌/◌, ◌<◌, ◌≤◌, ◌^◌, IfSome};
-ghost use Rattle.expr_costs.specs.Measures.{UpTo, byte_count as bytes, colons, colons_of as value_colons, count_of as parts, entry_count as entries, content_work as holds, all_content_work as all_hold, length_of as items, byte_units_of as units, pairwise_work, insertion_work as puts, read_work, lookup_work as seeks};
-ghost use Rattle.expr_limits.specs.Sizes.{byte_units as units_of, weight};
+ghost use Rattle.expr_costs.specs.Measures.{UpTo, bytes_of as bytes, colons, colons_of as value_colons, count_of as parts, entries_of as entries, content_work as holds, all_content_work as all_hold, length_of as items, byte_units_of as units, pairwise_work, insertion_work as puts, read_work, lookup_work as seeks};
+ghost use Rattle.expr_sizes.specs.Sizes.{byte_units as units_of, weight};
 
 use crate::entries::entries_inside;
-use expr_limits::{byte_units, weigh};
+use expr_sizes::{byte_units, weigh};
 use expr_value::Value;
 
-/// The number of bytes of a string or of bytes.
+/// How many bytes a text or bytes have.
 #[inline(always)]
 pub fn bytes_of(value: &Value) -> u64
     ensures bytes { result ≡ bytes value.now }
@@ -20,7 +20,7 @@ pub fn bytes_of(value: &Value) -> u64
     }
 }
 
-/// The number of bytes of a string or of bytes, in units of 16.
+/// The same in units of 16 bytes.
 #[inline(always)]
 pub fn byte_units_of(value: &Value) -> u64
     ensures byte_units { result ≡ units value.now }
@@ -29,7 +29,7 @@ pub fn byte_units_of(value: &Value) -> u64
     bytes_of(value) / 16
 }
 
-/// The number of colons in a string or in bytes.
+/// How many colons a text or bytes have.
 pub fn colons_of(value: &Value) -> u64
     ensures { result ≡ value_colons value.now }
 {
@@ -40,7 +40,7 @@ pub fn colons_of(value: &Value) -> u64
     }
 }
 
-/// The number of colons among these bytes.
+/// How many of some bytes are colons.
 fn colons_in(bytes: &[u8]) -> u64
     ensures { result ≡ colons bytes.now }
 {
@@ -53,7 +53,7 @@ fn colons_in(bytes: &[u8]) -> u64
     colons
 }
 
-/// The number of entries of a map.
+/// How many entries a map has.
 #[inline(always)]
 pub fn entries_of(value: &Value) -> u64
     ensures { result ≡ entries value.now }
@@ -65,7 +65,7 @@ pub fn entries_of(value: &Value) -> u64
     }
 }
 
-/// The number of items of an array.
+/// How many items an array has.
 #[inline(always)]
 pub fn length_of(value: &Value) -> u64
     ensures { result ≡ items value.now }
@@ -76,7 +76,7 @@ pub fn length_of(value: &Value) -> u64
     }
 }
 
-/// The number of items of an array, or of entries of a map.
+/// How many items an array has, or entries a map.
 #[inline(always)]
 pub fn count_of(value: &Value) -> u64
     ensures { result ≡ parts value.now }
@@ -95,7 +95,7 @@ pub fn product(left: u64, right: u64) -> u128
     left as u128 * right as u128
 }
 
-/// The product of two numbers, up to a bound.
+/// The same, up to a bound.
 #[inline(always)]
 pub fn times(left: u64, right: u64, bound: u64) -> Option<u64>
     ensures product { UpTo bound (left * right) (λ n. n) result }
@@ -107,7 +107,7 @@ pub fn times(left: u64, right: u64, bound: u64) -> Option<u64>
     Some(product as u64)
 }
 
-/// The work of putting this many keys into a map.
+/// The work of putting so many keys into a map.
 #[inline(always)]
 pub fn insertion_work(count: u64) -> u128
     ensures work { result ≡ puts count }
@@ -116,7 +116,7 @@ pub fn insertion_work(count: u64) -> u128
     product(count, count) / 64
 }
 
-/// The work of looking up the part of a value at a key.
+/// The work of seeking the part of a value at a key.
 #[inline(always)]
 pub fn lookup_work(value: &Value, key: &Value) -> u64
     ensures work { result ≡ seeks value.now key.now }
@@ -125,7 +125,7 @@ pub fn lookup_work(value: &Value, key: &Value) -> u64
     entries_of(value) / 32 + byte_units_of(key)
 }
 
-/// The weight of a value, up to a bound.
+/// How much a value weighs, up to a bound.
 #[inline(always)]
 #[tactic(auto, using(crate::proofs::Weighed::too_heavy))]
 pub fn weight_of(value: &Value, bound: u64) -> Option<u64>
@@ -138,7 +138,7 @@ pub fn weight_of(value: &Value, bound: u64) -> Option<u64>
     }
 }
 
-/// The work of reading a whole value, with a look-up for each entry of a map in it, up to a bound.
+/// The work of reading a value whole, with a look-up for each entry of a map in it, up to a bound.
 fn read_work_of(value: &Value, bound: u64) -> Option<u128>
     ensures work { UpTo bound (read_work value.now) (λ n. n) result }
     ensures small { IfSome result (λ n. n < 2 ^ 123) }
@@ -148,7 +148,7 @@ fn read_work_of(value: &Value, bound: u64) -> Option<u128>
     Some(weight as u128 + insertion_work(entries))
 }
 
-/// The work of reading the content of a value for a comparison, up to a bound.
+/// The work of reading what a value holds for a comparison, up to a bound.
 pub fn content_work_of(value: &Value, bound: u64) -> Option<u128>
     ensures work { UpTo bound (holds value.now) (λ n. n) result }
     ensures small { IfSome result (λ n. n < 2 ^ 123) }
@@ -160,7 +160,7 @@ pub fn content_work_of(value: &Value, bound: u64) -> Option<u128>
     }
 }
 
-/// The work of reading the content of all these values for a comparison, up to a bound.
+/// The same for each of some values, up to a bound.
 pub fn all_content_work_of(values: &[Value], bound: u64) -> Option<u64>
     ensures work { UpTo bound (all_hold values.now) (λ n. n) result }
 {
@@ -175,7 +175,7 @@ pub fn all_content_work_of(values: &[Value], bound: u64) -> Option<u64>
     Some(bound - left)
 }
 
-/// The work of comparing each of these values with the others, up to a bound.
+/// The work of comparing each of some values with the others, up to a bound.
 pub fn pairwise_work_of(values: &[Value], bound: u64) -> Option<u128>
     ensures work { UpTo bound (pairwise_work values.now) (λ n. n) result }
     ensures small { IfSome result (λ n. n < 2 ^ 65) }
@@ -185,7 +185,7 @@ pub fn pairwise_work_of(values: &[Value], bound: u64) -> Option<u128>
     Some(once as u128 + others as u128)
 }
 
-/// The work of looking up a name of this many bytes, and that key in a value that may be a map.
+/// The work of seeking the value of a name, so many bytes long, beside a value that may be a map with that key.
 #[inline(always)]
 pub fn look_work(bytes: usize, item: &Value) -> u64
     ensures work { result ≡ units_of bytes + entries item.now / 32 }

@@ -1,17 +1,17 @@
-//! The costs of operators.
+//! What operators cost.
 ghost use Rattle.std.specs.Prelude.{◌≡◌, ◌+◌, ◌*◌, ◌<◌, ◌^◌, IfSome, IsTrue};
-ghost use Rattle.expr_costs.specs.Operators.{range_count, comparison_work, membership_work, sum_room, operator_room, operator_work, operand_pattern_weight, match_work};
+ghost use Rattle.expr_costs.specs.Operators.{range_count, comparison_work, membership_work, sum_room, operator_room, operator_work, pattern_weight, match_work};
 ghost use Rattle.expr_costs.specs.Measures.{CostUpTo, UpTo, content_work};
 ghost use Rattle.expr_operators.specs.Positions.{how_many};
 ghost use Rattle.expr_value.specs.declared.value.Value.{out-Value};
 
 use crate::cost::{Cost, work_and_room, work_cost};
 use crate::measures::{byte_units_of, content_work_of, length_of, lookup_work, times};
-use expr_functions::operator::Operator;
-use expr_limits::weigh_pattern;
+use expr_sizes::weigh_pattern;
+use expr_tree::operator::Operator;
 use expr_value::Value;
 
-/// The cost of an operator on two values, up to a bound.
+/// What an operator costs on two values, up to a bound.
 pub fn operator_cost(operator: Operator, left: &Value, right: &Value, bound: u64) -> Option<Cost>
     ensures { CostUpTo bound (operator_work operator left.now right.now)
         (operator_room operator left.now right.now) result }
@@ -35,9 +35,8 @@ pub fn operator_cost(operator: Operator, left: &Value, right: &Value, bound: u64
     }
 }
 
-/// The work of an operator on two strings, the left one of less than 16 bytes, or of seeking such a string or
-/// an integer in an array of less than 32 items. It takes no room. Returns None for other values, and for a
-/// sum or a pattern.
+/// The work of an operator on a text of less than 16 bytes and on another, or of seeking it, or an integer, in an array of less
+/// than 32 items. There is no room to be had for it. Nothing is told of other values, nor of a sum or a pattern.
 #[inline(always)]
 pub fn short_work(operator: Operator, left: &Value, right: &Value) -> Option<u64>
     ensures { IfSome result (λ work. (operator_work operator left.now right.now ≡ work)
@@ -49,7 +48,7 @@ pub fn short_work(operator: Operator, left: &Value, right: &Value) -> Option<u64
     }
 }
 
-/// The work of an operator with a short array on the right, if it is known at once.
+/// The same of an array on the right.
 #[inline(always)]
 fn work_among_items(operator: Operator, left: &Value, right: &Value) -> Option<u64>
     ensures { IfSome result (λ work. (operator_work operator left.now right.now ≡ work)
@@ -77,7 +76,7 @@ fn work_among_items(operator: Operator, left: &Value, right: &Value) -> Option<u
     }
 }
 
-/// The work of an operator on two strings, if it is known at once.
+/// The same of two texts.
 #[inline(always)]
 fn work_on_texts(operator: Operator, left: &Value, right: &Value) -> Option<u64>
     ensures { IfSome result (λ work. (operator_work operator left.now right.now ≡ work)
@@ -96,7 +95,7 @@ fn work_on_texts(operator: Operator, left: &Value, right: &Value) -> Option<u64>
     }
 }
 
-/// Whether a value is a string or an integer. A comparison reads nothing of these but their bytes.
+/// Whether a value is of the kinds that are sought most: no more of it is read for a comparison than its bytes.
 #[inline(always)]
 fn is_text_or_integer(value: &Value) -> bool
     ensures { IsTrue result → content_work value.now ≡ 0 }
@@ -108,7 +107,7 @@ fn is_text_or_integer(value: &Value) -> bool
     }
 }
 
-/// The room for the concatenation of two strings. It is 0 if the left value is not a string.
+/// The room for the text that two are made into: 0 where the left is no text.
 #[inline(always)]
 fn sum_room_of(left: &Value, right: &Value) -> u128
     ensures { result ≡ sum_room left.now right.now }
@@ -141,19 +140,18 @@ fn membership_work_of(value: &Value, sought: &Value, bound: u64) -> Option<u128>
     Some(texts + (one + others))
 }
 
-/// The cost of compiling a pattern and searching a string with it, up to a bound. The pattern is weighed
-/// once.
+/// What it costs to make what searches for a pattern, and to lead it over a text, up to a bound. The pattern is weighed once.
 fn match_cost(text: &Value, pattern: &Value, bound: u64) -> Option<Cost>
-    ensures { CostUpTo bound (match_work text.now pattern.now) (operand_pattern_weight pattern.now) result }
+    ensures { CostUpTo bound (match_work text.now pattern.now) (pattern_weight pattern.now) result }
 {
     let weight = weight_of_pattern(pattern, bound)?;
     let reading = times(byte_units_of(text), 1 + weight / 64, bound)?;
     Some(work_and_room(500 + (weight as u128 + reading as u128), weight as u128))
 }
 
-/// The weight of a value as a pattern, up to a bound. It is 0 if the value is not a string.
+/// How much a value weighs as a pattern, up to a bound: 0 what is no text.
 fn weight_of_pattern(pattern: &Value, bound: u64) -> Option<u64>
-    ensures { UpTo bound (operand_pattern_weight pattern.now) (λ n. n) result }
+    ensures { UpTo bound (pattern_weight pattern.now) (λ n. n) result }
 {
     match pattern {
         Value::String(text) => match weigh_pattern(text.as_str(), bound) {
@@ -164,7 +162,7 @@ fn weight_of_pattern(pattern: &Value, bound: u64) -> Option<u64>
     }
 }
 
-/// The room for a range.
+/// What a range costs.
 pub fn span_room(first: &Value, last: &Value) -> u128
     ensures room { result ≡ 4 + range_count (out-Value first.now) (out-Value last.now) }
 {

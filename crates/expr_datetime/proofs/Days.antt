@@ -36,7 +36,7 @@ next-year d h k = next-late d h ∙ ap (λ b. cond b (over d) (round d)) (le-ltb
 first_date : Date
 first_date = record { year = neg_ℤ (pos 9999); month = 1; day = 1; year_in = search rules; month_in = search rules; day_in = search rules }
 
--- the date that is this many days after the first one, and its number
+-- the date so many days after the first one, and its number
 abbrev IsCounted : ℕ → Type 0
 IsCounted n = (d : Date) × (day_at n ≡ plain_day d) × (epoch_day d +ℤ pos 4371587 ≡ pos n)
 
@@ -99,7 +99,7 @@ counted zero h = counted-zero
 counted (suc n) h = counted-suc n (omega arith) (counted n (omega arith))
 
 -- a number that isn't below zero
-pub above : (z : ℤ) → pos 0 ≤ℤ z → z ≡ pos (unsigned_abs z)
+above : (z : ℤ) → pos 0 ≤ℤ z → z ≡ pos (unsigned_abs z)
 above (pos n) h = refl
 above (negsuc n) h = absurd (omega (arith, signed_arith, h))
 

@@ -1,4 +1,4 @@
--- Digits, one after the other.
+-- Digits, one place after another.
 use Rattle.std.proofs.Common.{◌≡◌, ℕ, zero, suc, ◌-◌, ◌/◌, ◌%◌, ◌^◌, ◌++◌, refl, ap, arith}
 use Rattle.std.specs.Fmt.{decimal}
 use Rattle.expr_datetime.specs.Digits.{digits}

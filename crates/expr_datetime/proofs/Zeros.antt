@@ -13,7 +13,7 @@ pub unless_zero : {A : Type 0} (n : ℕ) (a b : A) → (n ≡ 0 → ⊥) → b �
 unless_zero zero a b h = absurd (h refl)
 unless_zero (suc n) a b h = ap (λ t. cond t a b) (sym (eqb-suc-zero n))
 
--- a write in one branch of an `if` whose other branch writes nothing
+-- a write in one branch of an `if`, where the other writes nothing
 module _ {W : Type 0} (took : W → List ℕ → W → Type 0) (f : Formatter W) (n : ℕ) (a : List ℕ) where
   pub unwritten : n ≡ 0 → IsPlainFormatter f → HasWritten took f (cond (n == 0) [] a) f
   unwritten e plain = has_written_of_eq took f [] _ f (at_zero n [] a e) (record { wrote = writes_in_calls_nil took f.writer; plain = plain })

@@ -1,4 +1,4 @@
--- Local dates, times of day and offsets in print.
+-- The texts of what a clock shows.
 use Rattle.std.specs.Prelude.{ℕ, ℤ, pos, ◌+◌, ◌/◌, ◌%◌, ◌==◌, int_lt, unsigned_abs, List, [], ◌++◌, codes, if◌then◌else◌}
 use Rattle.expr_datetime.specs.Calendar.{Day, Clock, date_shown, time_shown}
 use Rattle.expr_datetime.specs.Digits.{digits, fraction_digits, minus}
@@ -15,38 +15,37 @@ date_text d = year_text d.year ++ codes "-" ++ digits 2 d.month ++ codes "-" ++ 
 unfoldable pub time_text : Clock → List ℕ
 time_text t = digits 2 t.hour ++ codes ":" ++ digits 2 t.minute ++ codes ":" ++ digits 2 t.second
 
--- the nanoseconds of a second in the fewest of 3, 6 and 9 digits, or nothing for 0
+-- the nanoseconds of a second in the fewest of 3, 6 and 9 digits, if there are any
 unfoldable pub fraction_text : ℕ → List ℕ
 fraction_text n =
     if n == 0 then [] else (if n % 1000000 == 0 then codes "." ++ digits 3 (n / 1000000) else (if n % 1000 == 0 then codes "." ++ digits 6 (n / 1000)
     else codes "." ++ digits 9 n))
 
--- the nanoseconds of a second without trailing zeros, or nothing for 0
+-- the same without trailing zeros
 unfoldable pub short_fraction : ℕ → List ℕ
 short_fraction n = if n == 0 then [] else codes "." ++ fraction_digits 9 n
 
--- seconds in minutes, rounded to the nearest. Half a minute is rounded up.
+-- the minutes nearest to some seconds, half a minute counting as a whole one
 abbrev pub whole_minutes : ℤ → ℕ
 whole_minutes seconds = (unsigned_abs seconds + 30) / 60
 
--- the sign before an offset
+-- a sign, which stands before any number
 abbrev pub sign_of : ℤ → List ℕ
 sign_of n = if int_lt n (pos 0) then codes "-" else codes "+"
 
--- an offset in seconds, as hours and minutes, with `between` in between
+-- seconds ahead of UTC as hours and minutes, with a text between
 unfoldable pub offset_text : List ℕ → ℤ → List ℕ
 offset_text between seconds = sign_of seconds ++ digits 2 (whole_minutes seconds / 60) ++ between ++ digits 2 (whole_minutes seconds % 60)
 
--- a local date and time of day with an offset in seconds, as RFC 3339 has it
+-- a date and a time of day, and how many seconds their clock is ahead of UTC
 abbrev pub moment_line : Day → Clock → ℤ → List ℕ
 moment_line date time ahead = date_text date ++ codes "T" ++ time_text time ++ fraction_text time.nanosecond ++ offset_text (codes ":") ahead
 
--- local nanoseconds since the beginning of 1970 and an offset in seconds, as RFC 3339 has it
+-- what a clock shows so many nanoseconds after it showed the beginning of 1970
 unfoldable pub moment_text : ℤ → ℤ → List ℕ
 moment_text nanoseconds ahead = moment_line (date_shown nanoseconds) (time_shown nanoseconds) ahead
 
--- a local date and time of day as `String` prints it: spaces in between, no trailing zeros in the fraction, no colon in
--- the offset
+-- the same as a stamp: spaces between, no trailing zeros in the fraction and no colon in the offset
 abbrev pub stamp_line : Day → Clock → ℤ → List ℕ
 stamp_line date time ahead = date_text date ++ codes " " ++ time_text time ++ short_fraction time.nanosecond ++ codes " " ++ offset_text [] ahead
 

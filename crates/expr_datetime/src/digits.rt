@@ -6,14 +6,14 @@ ghost use Rattle.expr_datetime.specs.Digits.{digits, fraction_digits, minus};
 use std::fmt;
 use std::fmt::{Formatter, Write};
 
-/// Prints `-` for a number below zero, and nothing for any other.
+/// Prints a sign where a number is below zero.
 pub(crate) fn show_minus<W: Write>(number: i64, f: &mut Formatter<W>) -> fmt::Result
     ensures { WritesOnOk W.write_str_gives f.old result (minus number) f.new }
 {
     f.write_str(if number < 0 { "-" } else { "" })
 }
 
-/// Prints the last `count` decimal digits of a number, with leading zeros. `count` is at most 9.
+/// Prints the last digits of a number, so many as are asked for, with zeros in front.
 #[tactic(auto, unfolding(crate::specs::Digits::digits))]
 pub fn show_digits<W: Write>(count: u32, number: u64, f: &mut Formatter<W>) -> fmt::Result
     requires { count ≤ 9 }
@@ -28,7 +28,7 @@ pub fn show_digits<W: Write>(count: u32, number: u64, f: &mut Formatter<W>) -> f
     show_digits(count - 1, number % unit, f)
 }
 
-/// Prints the decimals of `parts` / 10^`places`, without trailing zeros. `places` is at most 9.
+/// Prints the digits of a fraction of parts, of which 10 to the power of `places` make a unit, without trailing zeros.
 pub fn show_fraction_digits<W: Write>(places: u32, parts: u64, f: &mut Formatter<W>) -> fmt::Result
     requires { places ≤ 9 }
     ensures { WritesOnOk W.write_str_gives f.old result (fraction_digits places parts) f.new }
@@ -42,7 +42,7 @@ pub fn show_fraction_digits<W: Write>(places: u32, parts: u64, f: &mut Formatter
     show_fraction_digits(places - 1, parts % unit, f)
 }
 
-/// 10^`places`, where `places` is at most 9.
+/// The power of ten of so many places.
 pub fn power_of_ten(places: u32) -> u64
     requires { places ≤ 9 }
     ensures value { result ≡ 10 ^ places }

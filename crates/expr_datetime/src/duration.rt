@@ -1,4 +1,4 @@
-//! Durations in print.
+//! The texts of lengths of time.
 ghost use Rattle.std.specs.Prelude.{◌≤◌, ◌++◌};
 ghost use Rattle.std.specs.Fmt.{WritesOnOk};
 ghost use Rattle.expr_datetime.specs.Durations.{clock_text, duration_text, in_units, length_text};
@@ -7,8 +7,8 @@ use crate::digits::{power_of_ten, show_fraction_digits, show_minus};
 use std::fmt;
 use std::fmt::{Formatter, Write};
 
-/// Prints a duration, given in nanoseconds, as Go's `time.Duration.String` does: hours, minutes and seconds from one
-/// second on, otherwise the greatest unit of which there is at least one. Examples are `1h30m0s` and `-1.5ms`.
+/// Prints a length of time in hours, minutes and seconds, or below a second in the greatest unit of which there is one:
+/// `1h30m0s`, `-1.5ms`.
 pub fn show_duration<W: Write>(nanoseconds: &i64, f: &mut Formatter<W>) -> fmt::Result
     ensures { WritesOnOk W.write_str_gives f.old result (duration_text nanoseconds.now) f.new }
 {
@@ -45,7 +45,7 @@ fn show_with_unit<W: Write>(
     f.write_str(unit)
 }
 
-// Prints hours, minutes and seconds. `parts` are nanoseconds.
+// Hours, minutes and seconds.
 fn show_clock<W: Write>(parts: u64, f: &mut Formatter<W>) -> fmt::Result
     ensures { WritesOnOk W.write_str_gives f.old result (clock_text parts) f.new }
 {
@@ -62,7 +62,7 @@ fn show_clock<W: Write>(parts: u64, f: &mut Formatter<W>) -> fmt::Result
     f.write_str("s")
 }
 
-// Prints `parts` / 10^`places`, with decimals and no trailing zeros.
+// A number of parts, of which 10 to the power of `places` make a unit.
 fn show_units<W: Write>(places: u32, parts: u64, f: &mut Formatter<W>) -> fmt::Result
     requires { places ≤ 9 }
     ensures { WritesOnOk W.write_str_gives f.old result (in_units places parts) f.new }

@@ -1,12 +1,4 @@
-//! DateTimes, time zones and durations, and how they print.
-//!
-//! - `DateTimeValue` is an instant in a time zone or at a fixed offset from UTC.
-//! - `specs/Times.antt` says what DateTimes and zones are, when they are equal, and how they print.
-//!   `specs/Moments.antt`, `Durations.antt` and `Digits.antt` define the printed forms.
-//! - `specs/Calendar.antt` walks the calendar day by day, so that a reader needs no formula. `proofs/Days.antt` shows
-//!   that the fields of `jiff` are the same.
-//!
-//! A function that returns a `Result` returns `MemoryError` if an allocation fails. `# Errors` lists its other errors.
+//! Moments and zones, and the texts of times: what a clock shows at a moment, and lengths of time.
 #![tactic(auto)]
 
 mod digits;

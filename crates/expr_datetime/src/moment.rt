@@ -1,4 +1,4 @@
-//! DateTimes, each with the time zone or offset whose clock shows it.
+//! Moments, each with the place whose clock shows it.
 ghost use Rattle.std.specs.Prelude.{◌≡◌, ◌↔◌, ◌+ℤ◌, ◌-ℤ◌, Some, IsSome, IfSome, MatchOption, FitsSigned};
 ghost use Rattle.std.specs.Int.{w64};
 ghost use Rattle.std.specs.Option.{option_copied};
@@ -17,16 +17,16 @@ use std::alloc::AllocError;
 use std::fmt;
 use std::fmt::{Formatter, Write};
 
-/// The clock that shows a DateTime.
+/// Whose clock shows a moment.
 #[derive(Drop)]
 pub enum MomentZone {
-    /// A clock that is always ahead of UTC by this offset.
+    /// A clock that is always so far ahead of UTC.
     Fixed(Offset),
-    /// The clocks of a time zone.
+    /// The clocks of a zone.
     Named(TimezoneValue),
 }
 
-/// An instant in a time zone or at a fixed offset from UTC. DateTimes are equal and ordered by their instants alone.
+/// A moment in a zone, or at a fixed offset. Moments are equal and ordered by their instants, wherever they are.
 #[derive(Drop)]
 #[derive_where(PartialEq, Eq, PartialOrd, Ord, Hash)]
 pub struct DateTimeValue {
@@ -36,7 +36,7 @@ pub struct DateTimeValue {
 }
 
 impl DateTimeValue {
-    /// A DateTime at a fixed offset.
+    /// A moment at a fixed offset.
     pub fn fixed(timestamp: Timestamp, offset: Offset) -> DateTimeValue
         ensures instant { instant result ≡ timestamp.nanosecond }
         ensures place { moment_zone result ≡ MomentZone.Fixed offset }
@@ -47,7 +47,7 @@ impl DateTimeValue {
         }
     }
 
-    /// A DateTime in a time zone.
+    /// A moment in a zone.
     pub fn zoned(timestamp: Timestamp, zone: TimezoneValue) -> DateTimeValue
         ensures instant { instant result ≡ timestamp.nanosecond }
         ensures place { moment_zone result ≡ MomentZone.Named zone }
@@ -58,14 +58,14 @@ impl DateTimeValue {
         }
     }
 
-    /// Adds nanoseconds and keeps the zone or offset. `None` if the sum is out of range.
+    /// The moment so many nanoseconds later, in the same place, or none where that is out of range.
     pub fn checked_add_signed(self, nanoseconds: i64) -> Option<DateTimeValue>
         ensures { result ≡ moment_later self nanoseconds }
     {
         self.shift(nanoseconds as i128)
     }
 
-    /// Subtracts nanoseconds and keeps the zone or offset. `None` if the difference is out of range.
+    /// The moment so many nanoseconds earlier, in the same place, or none where that is out of range.
     pub fn checked_sub_signed(self, nanoseconds: i64) -> Option<DateTimeValue>
         ensures { result ≡ moment_earlier self nanoseconds }
     {
@@ -86,7 +86,7 @@ impl DateTimeValue {
         }
     }
 
-    /// Nanoseconds from `other` to `self`, or `None` if they do not fit in 64 bits.
+    /// The nanoseconds from another moment to this one, or none where they do not fit 64 bits.
     pub fn checked_difference(&self, other: &DateTimeValue) -> Option<i64>
         ensures { MatchOption result (¬ (FitsSigned w64 (instant self.now -ℤ instant other.now)))
             (λ n. n ≡ instant self.now -ℤ instant other.now) }
@@ -102,7 +102,7 @@ impl DateTimeValue {
         self.timestamp
     }
 
-    /// The offset of the local clock from UTC at this instant, positive east of Greenwich.
+    /// How far the clock of this place is ahead of UTC at this moment.
     pub fn offset(&self) -> Offset
         ensures { result.seconds ≡ offset_of self.now }
     {
@@ -112,7 +112,7 @@ impl DateTimeValue {
         }
     }
 
-    /// The local date and time of day at this instant.
+    /// What the clock of this place shows at this moment.
     pub fn civil(&self) -> DateTime
         ensures { civil_nanos result ≡ local_nanos self.now }
     {
@@ -122,7 +122,7 @@ impl DateTimeValue {
         }
     }
 
-    /// The time zone, or `None` at a fixed offset.
+    /// The zone, if this moment is in one.
     pub fn timezone(&self) -> Option<&TimezoneValue>
         ensures { option_copied result ≡ zone_of self.now }
     {
@@ -163,8 +163,7 @@ impl fmt::Display for DateTimeValue {
     }
 }
 
-/// Prints a DateTime as its method `String` does: `2024-03-02 10:00:00.5 +0200 +0200`. The last word is the name of the
-/// zone, as [`show_place`] prints it.
+/// Prints a moment as its method `String` does.
 pub fn show_stamp_of<W: Write>(moment: &DateTimeValue, f: &mut Formatter<W>) -> fmt::Result
     ensures { WritesOnOk W.write_str_gives f.old result (moment_string moment.now) f.new }
 {
@@ -173,7 +172,7 @@ pub fn show_stamp_of<W: Write>(moment: &DateTimeValue, f: &mut Formatter<W>) -> 
     show_place(moment, f)
 }
 
-/// Prints the name of a time zone. A fixed offset is `UTC` if it is zero, and otherwise printed as an offset.
+/// Prints the text of a moment's place: the name of a zone, `UTC` for no offset, and else the offset.
 pub fn show_place<W: Write>(moment: &DateTimeValue, f: &mut Formatter<W>) -> fmt::Result
     ensures { WritesOnOk W.write_str_gives f.old result (moment_zone_text (moment_zone moment.now)) f.new }
 {

@@ -1,4 +1,4 @@
-//! Dates and times of day in print.
+//! The texts of dates and times of day.
 ghost use Rattle.std.specs.Fmt.{WritesOnOk};
 ghost use Rattle.jiff.specs.Words.{civil_nanos};
 ghost use Rattle.expr_datetime.specs.Calendar.{plain_clock, plain_day};
@@ -11,7 +11,7 @@ use jiff::tz::Offset;
 use std::fmt;
 use std::fmt::{Formatter, Write};
 
-/// Prints a local date and time and its offset from UTC, in the form of RFC 3339: `2024-03-02T12:00:00.500+02:00`.
+/// Prints what a clock shows, and how far the clock is ahead of UTC: `2024-03-02T12:00:00.500+02:00`.
 pub(crate) fn show_moment<W: Write>(
     shown: DateTime,
     ahead: Offset,
@@ -23,8 +23,8 @@ pub(crate) fn show_moment<W: Write>(
     show_moment_line(shown.date(), shown.time(), ahead, f)
 }
 
-/// Prints a local date and time and its offset in the form of `String`: `2024-03-02 12:00:00.5 +0200`. The fraction has
-/// no trailing zeros.
+/// Prints the same as a stamp, with spaces between, no trailing zeros in the fraction and no colon in the offset:
+/// `2024-03-02 12:00:00.5 +0200`.
 pub(crate) fn show_stamp<W: Write>(
     shown: DateTime,
     ahead: Offset,

@@ -1,4 +1,4 @@
-//! Offsets from UTC in print.
+//! The texts of offsets.
 ghost use Rattle.std.specs.Fmt.{WritesOnOk};
 ghost use Rattle.expr_datetime.specs.Moments.{offset_text, sign_of};
 
@@ -7,8 +7,8 @@ use jiff::tz::Offset;
 use std::fmt;
 use std::fmt::{Formatter, Write};
 
-/// Prints an offset as sign, hours and minutes, with `between` between hours and minutes. It is rounded to the nearest
-/// minute, and half a minute away from zero. The sign is that of the offset before it is rounded.
+/// Prints an offset as hours and minutes, rounded to the nearest minute, with a text between them. Half a minute is
+/// rounded away from zero, and the sign is that of the offset before it is rounded.
 #[tactic(auto, unfolding(crate::specs::Moments::offset_text))]
 pub(crate) fn show_offset<W: Write>(
     ahead: Offset,

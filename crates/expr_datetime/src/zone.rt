@@ -1,4 +1,4 @@
-//! Time zones with names.
+//! Zones by their names.
 ghost use Rattle.std.specs.Prelude.{◌≡◌, false, IfOk, MatchOption, IsTrue};
 ghost use Rattle.expr_error.specs.ErrorKind.{evaluation, OnlyMemory, RefusesWith};
 ghost use Rattle.expr_datetime.specs.Times.{is_table, plain_rules, rules_of, utc, zone_name, zone_rules};
@@ -9,7 +9,7 @@ use jiff_core::Offset;
 use jiff_tz::posix;
 use std::alloc::{AllocError, Global};
 
-/// The rules of a clock that borrow nothing: any [`TimeZone`] but a table of a time zone database.
+/// The rules of a clock, which lend nothing of a database: those of a [`TimeZone`] that isn't a table.
 #[derive(Clone, Copy)]
 pub(crate) enum ZoneRules {
     Utc,
@@ -19,7 +19,7 @@ pub(crate) enum ZoneRules {
 }
 
 impl ZoneRules {
-    /// Keeps some rules, or returns `None` if they are a table.
+    /// What is kept of these rules, or none where they are a table.
     fn from_rules(rules: jiff_tz::TimeZone<'static>) -> Option<ZoneRules>
         ensures { MatchOption result (IsTrue (is_table rules.entry)) (λ k. zone_rules k ≡ rules.entry) }
     {
@@ -32,7 +32,7 @@ impl ZoneRules {
         }
     }
 
-    /// The rules as jiff has them.
+    /// The rules that are kept.
     fn into_rules(self) -> jiff_tz::TimeZone<'static>
         ensures { result ≡ zone_rules self }
     {
@@ -45,8 +45,7 @@ impl ZoneRules {
     }
 }
 
-/// The rules of a clock, with a name. Zones are equal if their names are equal, and ordered by the bytes of their
-/// names.
+/// The rules of a clock, under a name. Zones are equal when their names are, and ordered by the bytes of their names.
 #[derive(Drop)]
 #[derive_where(PartialEq, Eq, PartialOrd, Ord, Hash)]
 pub struct TimezoneValue {
@@ -56,12 +55,7 @@ pub struct TimezoneValue {
 }
 
 impl TimezoneValue {
-    /// A time zone with this name and these rules.
-    ///
-    /// # Errors
-    ///
-    /// Returns `ExprError` if the rules are a table of a time zone database. A fixed offset and a POSIX rule are
-    /// accepted.
+    /// Some rules under a name. Rules that are a table of a database are refused with [`Error::ExprError`].
     pub fn named(alloc: Global, name: &str, rules: TimeZone<'static>) -> Result<TimezoneValue>
         ensures name { IfOk result (λ z. zone_name z ≡ name.now) }
         ensures rules { IfOk result (λ z. rules_of z ≡ plain_rules rules.entry) }
@@ -78,14 +72,14 @@ impl TimezoneValue {
         })
     }
 
-    /// The name of the zone.
+    /// The name of this zone.
     pub fn name(&self) -> &str
         ensures { result.now ≡ zone_name self.now }
     {
         self.name.as_str()
     }
 
-    /// The rules of the zone.
+    /// The rules of this zone.
     pub fn timezone(&self) -> TimeZone<'static>
         ensures { plain_rules result ≡ rules_of self.now }
     {
@@ -104,7 +98,7 @@ impl Clone for TimezoneValue {
     }
 }
 
-/// The time zone UTC.
+/// The zone UTC.
 pub fn utc(alloc: Global) -> Result<TimezoneValue>
     ensures ok { IfOk result (λ z. z ≡ utc) }
     ensures err { OnlyMemory result }

@@ -8,7 +8,7 @@ use Rattle.serde_json.specs.View.{items_of}
 use Rattle.serde_json.specs.Written.{has_float, items_have_float, members_have_float}
 use Rattle.expr_value.specs.declared.value.Value.{Value, ind-Value, map-Value, fold-roll-Value}
 use Rattle.expr_value.specs.declared.value.Value.TheOpen.{Value-F}
-use Rattle.expr_encoding.specs.Writing.{all_some, data_of, layer_data, members_all}
+use Rattle.expr_encoding.specs.Writing.{all_of, data_of, layer_data, members_all}
 
 abbrev IsFree : Option Data → Type 0
 IsFree o = IfSome o (λ d. has_float d ≡ false)
@@ -51,9 +51,9 @@ item_free None os h hs = tt
 item_free (Some d) None h hs = tt
 item_free (Some d) (Some ds) h hs = λ i. h i || hs i
 
-items_free : (es : List Free) → AreFree (all_some (map data_of (map (λ e. e.0) es)))
+items_free : (es : List Free) → AreFree (all_of (map data_of (map (λ e. e.0) es)))
 items_free [] = refl
-items_free (e ∷ es) = item_free (data_of e.0) (all_some (map data_of (map (λ e. e.0) es))) e.1 (items_free es)
+items_free (e ∷ es) = item_free (data_of e.0) (all_of (map data_of (map (λ e. e.0) es))) e.1 (items_free es)
 
 array_free : (o : Option (List Data)) → AreFree o → IsFree (option_map (λ ds. Data.array (items_of ds)) o)
 array_free None h = tt

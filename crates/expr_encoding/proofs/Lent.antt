@@ -1,4 +1,4 @@
--- Members with borrowed names: putting them into a map one after another, and looking one up.
+-- Members whose names are lent: putting them into a map one after another, and looking one up.
 use Rattle.std.proofs.Common.{◌≡◌, ℕ, List, [], ◌∷◌, ◌++◌, Some, cond, false, bytes_eq, is_eq, nat_cmp, Less, refl, sym, ap, ◌∙◌}
 use Rattle.std.specs.Borrow.{Bor}
 use Rattle.std.specs.BTreeMap.{is_at}

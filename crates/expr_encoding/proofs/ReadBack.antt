@@ -17,7 +17,7 @@ use Rattle.expr_value.specs.declared.value.Value.{Value, ind-Value, map-Value, o
 use Rattle.expr_value.specs.declared.value.Value.TheOpen.{Value-F}
 use Rattle.expr_encoding.specs.ReadBack.{ReadsEqual, has_distinct_names, fits, in_json, layer_in_json}
 use Rattle.expr_encoding.specs.Reading.{json_value, value_of, values_of}
-use Rattle.expr_encoding.specs.Writing.{all_some, data_of, layer_data}
+use Rattle.expr_encoding.specs.Writing.{all_of, data_of, layer_data}
 use Rattle.expr_encoding.proofs.Written.{AreRead, Made, Pairs, Read, made, member_read, placed}
 
 abbrev Back : Value → Type 0
@@ -35,7 +35,7 @@ plain es = map (λ e. e.0) es
 
 -- the items of an array
 abbrev Items : List Value → Type 0
-Items vs = (ds : List Data) × (all_some (map data_of vs) ≡ Some ds) × (ws : List Value) × (values_of (items_of ds) ≡ Some ws) × (items_pass (map equals vs) ws ≡ true)
+Items vs = (ds : List Data) × (all_of (map data_of vs) ≡ Some ds) × (ws : List Value) × (values_of (items_of ds) ≡ Some ws) × (items_pass (map equals vs) ws ≡ true)
 
 items_back : (es : List Such) → list_all (λ b. b) (map in_json (plain es)) ≡ true → Items (plain es)
 items_back [] h = ([], refl, [], refl, refl)
@@ -174,7 +174,7 @@ pub read_back : (v : Value) → in_json v ≡ true → Read v
 read_back = ind-Value Back (λ x y is h.
     rolled x (subst LayerRead is (layer_read y (ap (λ l. layer_in_json (map-Value Value Bool in_json l)) is ∙ sym (fold-roll-Value Bool layer_in_json x) ∙ h))))
 
--- JSON that is read as the data of a value holds an equal value
+-- a text that is read as the data of a value holds an equal one
 pub reads_equal : (v : Value) (text : List ℕ) (d : Data) → data_of v ≡ Some d → (depth d ≤ max_depth → read text ≡ Some d) → ReadsEqual text v
 reads_equal v text d has back h =
     let r = read_back v h in

@@ -1,4 +1,4 @@
--- Different strings have different Base64.
+-- The Base64 of a text is that of no other.
 use Rattle.std.proofs.Common.{◌≡◌, ℕ, List, Ok, Err, Result, IsUtf8, refl, sym, ap, ◌∙◌, subst, rules}
 use Rattle.base64.specs.Engines.{standard}
 use Rattle.base64.specs.GeneralPurpose.{decode_of, encode_of}

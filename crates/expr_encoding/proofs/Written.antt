@@ -98,7 +98,7 @@ module _ (k : List ℕ) (p : List ℕ × Value) (ps : Pairs) (d : Data) (done : 
   put_placed false e =
       ap (placed (lookup (bytes_eq k) ps)) (get_member-put_other k p.0 d done (λ same. true≢false (sym ((bytes_eq-Decides k p.0).1 same) ∙ e)))
 
--- the members of pairs that are read
+-- the members that are made of pairs which are read
 abbrev pub Made : Pairs → Members → Type 0
 Made ps done = (ms : Members) × (members_all (map pair_data ps) done ≡ Some ms) × (rs : Pairs) × (pairs_of ms ≡ Some rs)
     × ((k : List ℕ) → get_member k ms ≡ placed (lookup (bytes_eq k) ps) (get_member k done))

@@ -1,4 +1,4 @@
--- What the built-ins for encodings may return for their arguments.
+-- What the calls of encodings may answer on their arguments.
 use Rattle.std.specs.Prelude.{◌≡◌, List, Option, Some, None, Err, option_map}
 use Rattle.expr_arguments.specs.Arguments.{any_value, one_of}
 use Rattle.expr_value.specs.Answers.{Answer}
@@ -17,26 +17,26 @@ abbrev pub of_json_layer : Value-F Value → Answer
 of_json_layer (Value-F.String text) = value_or_refusal (json_value text)
 of_json_layer v = Err evaluation
 
--- the value of a JSON document. Other kinds are an error.
+-- the value that a JSON text holds; other kinds are refused
 abbrev pub of_json : Value → Answer
 of_json v = of_json_layer (out-Value v)
 
--- the JSON of a value, if it has one
+-- the JSON text of a value, where it has one
 abbrev pub in_json_text : Value → Answer
 in_json_text v = value_or_refusal (option_map value.String (json_text v))
 
--- what an encoding may return for a value
+-- what an encoding may answer of a value
 abbrev pub Encodes : EncodingCall → Value → Answer → Type 0
 Encodes is.FromJson v answer = answer ≡ of_json v
 Encodes is.ToJson v answer = answer ≡ in_json_text v
 Encodes is.ToBase64 v answer = answer ≡ in_base64 v
 Encodes is.FromBase64 v answer = FromBase64 v answer
 
--- what it may return for its argument, or an error if there is none
+-- what it may answer of its argument, and a refusal without one
 abbrev pub EncodesArgument : EncodingCall → Option Value → Answer → Type 0
 EncodesArgument e None answer = answer ≡ Err evaluation
 EncodesArgument e (Some v) answer = Encodes e v answer
 
--- each built-in takes one argument
+-- each call takes one argument
 abbrev pub EncodingMayReturn : EncodingCall → List Value → Answer → Type 0
 EncodingMayReturn e arguments = EncodesArgument e (one_of any_value arguments)

@@ -1,4 +1,4 @@
--- The members of an object, owned or borrowed.
+-- The members of an object, wherever they stand.
 use Rattle.std.specs.Prelude.{ℕ, List}
 use Rattle.expr_encoding.specs.Tokens.{lent_pairs}
 use Rattle.expr_encoding.specs.declared.members.MembersSource.{MembersSource}

@@ -1,21 +1,18 @@
-//! Built-ins for encodings.
+//! The calls of encodings.
 ghost use Rattle.expr_value.specs.Answers.{Returns, ReturnsExactly};
 ghost use Rattle.expr_encoding.specs.Calls.{EncodingMayReturn, Encodes, in_json_text, of_json};
 
 use crate::radix64::{from_base64, to_base64};
 use crate::reading::from_json;
 use crate::writing::to_json;
-use expr_arguments::{CowValue, one_value};
+use expr_arguments::one_value;
+use expr_cow::CowValue;
 use expr_functions::EncodingCall;
 use expr_value::{Result, Value, refusal};
 use std::alloc::Global;
 
-/// Calls a built-in that reads or writes an encoding, with one argument.
-///
-/// # Errors
-///
-/// Returns [`ExprError`](expr_value::Error::ExprError) if the built-in doesn't take this number or these kinds of
-/// arguments, or if the value can't be encoded or decoded.
+/// What a call that reads or writes an encoding gives on these arguments, of which it takes one. Other numbers and kinds of
+/// arguments than it takes, and what has no such encoding, are refused with [`expr_value::Error::ExprError`].
 pub fn call_encoding(alloc: Global, call: EncodingCall, arguments: &[CowValue<'_>]) -> Result<Value>
     ensures { Returns result (EncodingMayReturn call arguments.now) }
 {

@@ -1,4 +1,4 @@
-//! JSON numbers that are 64-bit integers.
+//! Numbers of JSON that are integers of 64 bits.
 ghost use Rattle.std.specs.Prelude.{◌≡◌, ◌<◌, ◌==◌, length, slice_index, true, false, Some, IfSome, IsTrue, option_and_then};
 ghost use Rattle.serde_json.specs.Data.{negative, unsigned};
 ghost use Rattle.serde_json.specs.Find.{as_i64};
@@ -6,7 +6,7 @@ ghost use Rattle.serde_json.specs.Read.{number_from, number_of};
 
 use fast_float::Numeral;
 
-/// The integer that a JSON number writes, if it is a signed 64-bit integer. `-0` is none.
+/// The integer that a number of JSON is, if it is one of 64 bits with a sign. `-0` is none.
 #[inline(always)]
 pub(crate) fn integer_of(text: &str) -> Option<i64>
     ensures { IfSome result (λ n. option_and_then as_i64 (number_of text.now) ≡ Some n) }
@@ -27,7 +27,7 @@ fn has_minus(bytes: &[u8]) -> bool
     !bytes.is_empty() && bytes[0] == b'-'
 }
 
-/// The number as a signed one, if it is below 2^63.
+/// The number, where it fits a sign and 63 bits.
 #[inline(always)]
 fn signed_of(n: u64) -> Option<i64>
     ensures { result ≡ as_i64 (unsigned n) }

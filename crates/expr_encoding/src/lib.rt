@@ -1,13 +1,4 @@
-//! JSON and Base64.
-//!
-//! - The meaning is that of the crates `serde_json` and `base64`. `specs/Reading.antt` and `Writing.antt` say which
-//!   value is which JSON data, and `specs/Base64.antt` the same for Base64.
-//! - `tokens` makes values right from the tokens of JSON. If it can't, the JSON is read again by way of `serde_json`'s
-//!   data, which decides: a number that isn't an integer is allowed if a later member of the same name replaces it.
-//! - `JsonReader` keeps its memory from one document to the next. `Members` are the members of an object, with borrowed
-//!   names.
-//!
-//! A function that returns a `Result` returns `MemoryError` if an allocation fails. `# Errors` lists its other errors.
+//! Values and texts in encodings that others read: JSON and Base64.
 #![tactic(auto)]
 
 mod encoding;

@@ -1,4 +1,4 @@
-//! Members of a JSON object, with borrowed names.
+//! Members of an object whose names are lent.
 ghost use Rattle.std.specs.Prelude.{◌≡◌, IfOk};
 ghost use Rattle.std.specs.Option.{option_copied};
 ghost use Rattle.expr_encoding.specs.Tokens.{lent_pairs};
@@ -11,18 +11,18 @@ use expr_value::{Result, Value};
 use std::alloc::Global;
 use std::marker::Model;
 
-/// The members of a JSON object. Contracts see the list of the pairs.
+/// The members of an object. Contracts see the list of their pairs.
 #[derive(Drop)]
 pub struct Members<'t> {
     place: MembersSource<'t>,
 }
 
-/// Where the members are kept.
+/// Where members stand.
 #[derive(Drop)]
 pub(crate) enum MembersSource<'t> {
-    /// Sorted by name. The names are borrowed from the JSON.
+    /// By rising names, which a text lends.
     Text(BorrowedMembers<'t>),
-    /// In a context that owns them.
+    /// In a context of their own.
     Owned(Context),
 }
 
@@ -41,7 +41,7 @@ impl<'t> Model for Members<'t> {
 }
 
 impl<'t> Members<'t> {
-    /// Members with borrowed names.
+    /// Members whose names are lent.
     pub(crate) fn of_text(lent: BorrowedMembers<'t>) -> Members<'t>
         ensures { result ≡ lent_pairs lent.entry.entries }
     {
@@ -59,7 +59,7 @@ impl<'t> Members<'t> {
         }
     }
 
-    /// The value of a name, or `None`.
+    /// The value under a name.
     pub fn get(&self, name: &str) -> Option<&Value>
         ensures { option_copied result ≡ find name.now self.now }
     {
@@ -69,7 +69,7 @@ impl<'t> Members<'t> {
         }
     }
 
-    /// Copies the names and values into a context.
+    /// The members as a context, names and values copied.
     pub fn to_context(&self, alloc: Global) -> Result<Context>
         ensures ok { IfOk result (λ c. c ≡ self.now) }
         ensures err { OnlyMemory result }
@@ -81,7 +81,7 @@ impl<'t> Members<'t> {
     }
 }
 
-/// The value of a name, among borrowed names.
+/// The value under a name, where a text lends the names.
 fn find_lent<'m>(lent: &'m BorrowedMembers<'_>, name: &str) -> Option<&'m Value>
     ensures { option_copied result ≡ find name.now (lent_pairs lent.now.entries) }
 {

@@ -1,4 +1,4 @@
-//! Base64 of strings, in the standard alphabet with padding (RFC 4648, section 4).
+//! Base64 of texts, by the standard alphabet with padding.
 ghost use Rattle.expr_value.specs.Answers.{Returns, ReturnsExactly};
 ghost use Rattle.expr_encoding.specs.Base64.{Decodes, FromBase64, encoded_text, in_base64};
 
@@ -7,11 +7,7 @@ use base64::engine::general_purpose::STANDARD;
 use expr_value::{Error, Result, Text, Value, refusal};
 use std::alloc::Global;
 
-/// Encodes a string in Base64, in the standard alphabet with padding.
-///
-/// # Errors
-///
-/// Returns `ExprError` if the value isn't a string.
+/// A text as Base64, by the standard alphabet with padding. Other kinds are refused.
 pub fn to_base64(alloc: Global, value: &Value) -> Result<Value>
     ensures { ReturnsExactly result (in_base64 value.now) }
 {
@@ -21,11 +17,7 @@ pub fn to_base64(alloc: Global, value: &Value) -> Result<Value>
     }
 }
 
-/// Decodes a string from Base64, in the standard alphabet with padding.
-///
-/// # Errors
-///
-/// Returns `ExprError` if the value isn't a string, or isn't the Base64 of UTF-8.
+/// The text of which a text is the Base64. A text that is the standard encoding of no text, and other kinds, are refused.
 pub fn from_base64(alloc: Global, value: &Value) -> Result<Value>
     ensures { Returns result (FromBase64 value.now) }
 {

@@ -1,7 +1,7 @@
-//! Reading JSON.
+//! JSON texts read as values.
 //!
-//! A value is made of the tokens, if it can be, or else of the data that `serde_json` reads. The recursion follows the
-//! nesting of the JSON, which is limited to 127 levels.
+//! A value is made of a text's tokens, if it can be, and else of the data that `serde_json` reads. The recursion follows
+//! a text's nesting, which the reading bounds: at most 127 levels are read.
 ghost use Rattle.std.specs.Prelude.{◌≡◌, option_map};
 ghost use Rattle.serde_json.specs.View.{view, items_view, members_view};
 ghost use Rattle.expr_value.specs.Answers.{ReturnsExactly};
@@ -17,29 +17,25 @@ use json::Scratch;
 use serde_json::{Map, Value as Json};
 use std::alloc::Global;
 
-/// The message for a JSON number that is no value, because it has a fraction or an exponent or doesn't fit in 64 bits.
+/// The message for a number of JSON that is no value: it has a fraction or an exponent, or more than 64 bits.
 const NOT_WHOLE: &str =
     "a JSON number is not whole, or too large: the language has no fractions, so use cents, or round";
 
-/// Reads one JSON document after another. Its memory is reused for the next one.
+/// What reads JSON texts one after another. Its memory is used again for the next one.
 #[derive(Drop)]
 pub struct JsonReader {
     scratch: Scratch,
 }
 
 impl JsonReader {
-    /// A reader that has allocated nothing yet.
+    /// A reader that holds no memory yet.
     pub fn new(alloc: Global) -> JsonReader {
         JsonReader {
             scratch: Scratch::new(alloc),
         }
     }
 
-    /// Reads a value, as [`from_json`] does.
-    ///
-    /// # Errors
-    ///
-    /// Returns the errors of [`from_json`].
+    /// The value that a JSON text holds, as [`from_json`] reads it.
     pub fn read(&mut self, alloc: Global, text: &str) -> Result<Value>
         ensures { ReturnsExactly result (value_or_refusal (json_value text.now)) }
     {
@@ -49,11 +45,8 @@ impl JsonReader {
         }
     }
 
-    /// Reads an object, and returns its members. `None` if the JSON is another value.
-    ///
-    /// # Errors
-    ///
-    /// Returns the errors of [`from_json`].
+    /// The members of the object that a JSON text holds, or None where its value is no map. What has no value is refused,
+    /// as by [`from_json`].
     pub fn members<'t>(&'t mut self, alloc: Global, text: &'t str) -> Result<Option<Members<'t>>>
         ensures { ReturnsExactly result (value_or_refusal (option_map map_of (json_value text.now))) }
     {
@@ -64,20 +57,16 @@ impl JsonReader {
     }
 }
 
-/// Reads a value from JSON, as `serde_json` does. Objects become maps, sorted by name, and a repeated name has its last
-/// value.
-///
-/// # Errors
-///
-/// Returns `ExprError` if the string isn't JSON, nests deeper than 127 levels, or has a number that is no signed 64-bit
-/// integer. `1.0`, `1e2` and `-0` are none, since `serde_json` reads them as floats.
+/// The value that a JSON text holds, as `serde_json` reads it: objects become maps, by rising names, and a repeated
+/// name has its last value. What is no JSON text, what nests deeper than 127 levels, and what holds a number that is no
+/// integer of 64 bits with a sign is refused; `1.0`, `1e2` and `-0` are none, since `serde_json` reads them as floats.
 pub fn from_json(alloc: Global, text: &str) -> Result<Value>
     ensures { ReturnsExactly result (value_or_refusal (json_value text.now)) }
 {
     JsonReader::new(alloc).read(alloc, text)
 }
 
-/// Reads a value by way of the data of `serde_json`.
+/// The value of the data that `serde_json` reads.
 fn read_data(alloc: Global, text: &str) -> Result<Value>
     ensures { ReturnsExactly result (value_or_refusal (json_value text.now)) }
 {
@@ -93,7 +82,7 @@ fn read_data(alloc: Global, text: &str) -> Result<Value>
     }
 }
 
-/// Reads the members by way of the data of `serde_json`. `None` if the JSON is no object.
+/// The members of the data that `serde_json` reads, or None where its value is no map.
 fn data_members<'t>(alloc: Global, text: &str) -> Result<Option<Members<'t>>>
     ensures { ReturnsExactly result (value_or_refusal (option_map map_of (json_value text.now))) }
 {
@@ -103,7 +92,7 @@ fn data_members<'t>(alloc: Global, text: &str) -> Result<Option<Members<'t>>>
     }
 }
 
-/// The members of a map, in a context that owns them.
+/// The members of a map, in a context of their own.
 fn members_of<'t>(alloc: Global, value: Value) -> Option<Members<'t>>
     ensures { result ≡ map_of value }
 {

@@ -1,7 +1,7 @@
-//! Values made of the tokens of JSON, without the data of `serde_json` in between.
+//! Values made of the tokens of a JSON text, with no data of `serde_json` between.
 //!
-//! No value is made of JSON with a number that is no 64-bit integer, though a later member of the same name may replace
-//! it. [`crate::reading`] leaves such JSON to `serde_json`, and also what isn't JSON.
+//! Nothing is made of a text that has a number which is no integer of 64 bits, though a later member of the same name
+//! may stand in its place: [`crate::reading`] asks `serde_json` about those, and about what isn't JSON.
 ghost use Rattle.std.specs.Prelude.{◌≡◌, ◌<◌, length, Some, IfSome};
 ghost use Rattle.expr_encoding.specs.Reading.{json_value};
 ghost use Rattle.expr_encoding.specs.Tokens.{first_pairs, first_value, first_values, lent_pairs};
@@ -16,10 +16,10 @@ use std::collections::BTreeMap;
 /// How deep arrays and objects may nest.
 const LEVELS: usize = 127;
 
-/// The members of an object by name. The names are borrowed from the JSON.
+/// The members of an object by their names, which the text lends.
 pub(crate) type BorrowedMembers<'a> = BTreeMap<&'a str, Value>;
 
-/// The value, if it can be made of the tokens and no allocation fails.
+/// The value that a text holds, if it can be made of the tokens and no growth is refused.
 pub(crate) fn value_in(alloc: Global, text: &str, scratch: &mut Scratch) -> Option<Value>
     ensures { IfSome result (λ v. json_value text.now ≡ Some v) }
 {
@@ -33,7 +33,7 @@ pub(crate) fn value_in(alloc: Global, text: &str, scratch: &mut Scratch) -> Opti
     Some(value)
 }
 
-/// The members of the object, if they can be made of the tokens and no allocation fails.
+/// The members of the object that a text holds, likewise.
 pub(crate) fn members_in<'a>(
     alloc: Global,
     text: &'a str,
@@ -144,7 +144,7 @@ fn read_members<'a>(
     }
 }
 
-/// A map with copies of the names.
+/// A map of its own, with the names copied.
 fn map_of(alloc: Global, members: BorrowedMembers<'_>) -> Option<ValueMap>
     ensures { IfSome result (λ pairs. pairs ≡ lent_pairs members.entry.entries) }
 {

@@ -1,15 +1,15 @@
-//! Writing JSON.
+//! Values written as JSON texts.
 //!
-//! The recursion follows the nesting of the value, as that of `serde_json`'s writer does.
+//! The recursion follows the value's nesting, as that of `serde_json`'s writer does.
 ghost use Rattle.serde_json.specs.View.{view, members_view};
 ghost use Rattle.std.specs.Prelude.{◌≡◌, None, Some, map, IfOk, IfErr};
 ghost use Rattle.serde_json.specs.Data.{no_members, string};
 ghost use Rattle.expr_value.specs.Answers.{ReturnsExactly};
 ghost use Rattle.expr_error.specs.ErrorKind.{OnlyMemory};
 ghost use Rattle.expr_encoding.specs.Optional.{RefusesIfNone, value_or_refusal};
-ghost use Rattle.expr_layout.specs.Layouts.{stamp_by_layout};
+ghost use Rattle.expr_layout.specs.Layouts.{stamp_text};
 ghost use Rattle.expr_encoding.specs.ReadBack.{ReadsEqual};
-ghost use Rattle.expr_encoding.specs.Writing.{ReadsBack, all_some, data_of, json_text, members_all, pair_data};
+ghost use Rattle.expr_encoding.specs.Writing.{ReadsBack, all_of, data_of, json_text, members_all, pair_data};
 
 use base64::engine::general_purpose::STANDARD;
 use expr_layout::stamp;
@@ -17,14 +17,10 @@ use expr_value::{DateTimeValue, Result, Text, Value, ValueMap, refusal};
 use serde_json::{Map, Value as Json};
 use std::alloc::Global;
 
-/// Writes a value as JSON without spaces, as `serde_json` does. Names are sorted. Bytes become Base64, DateTimes stamps
-/// of RFC 3339 ([`expr_layout::stamp`]), and time zones objects without members. Durations become nanoseconds, months
-/// and weekdays numbers. Nil, booleans, integers, strings, arrays and maps with names are read back as an equal value,
-/// unless they nest deeper than 127 levels.
-///
-/// # Errors
-///
-/// Returns `ExprError` if a map with other keys than names is anywhere in the value.
+/// The JSON text of a value, as `serde_json` writes it without spaces: names rise, bytes are a Base64 text, date-times
+/// their stamps ([`expr_layout::stamp`]), durations, months and days of the week numbers, and zones objects without members.
+/// A map by keys anywhere in the value is refused. What is made of nil, booleans, integers, texts, arrays and
+/// maps by names is read from its text as an equal value, unless it nests deeper than 127 levels.
 pub fn to_json(alloc: Global, value: &Value) -> Result<Text>
     ensures text { ReturnsExactly result (value_or_refusal (json_text value.now)) }
     ensures reads_back { IfOk result (λ s. ReadsBack s value.now) }
@@ -56,9 +52,9 @@ fn data_of(alloc: Global, value: &Value) -> Result<Json>
     }
 }
 
-// The stamp of a DateTime, as JSON data.
+// The stamp of a moment as a text.
 fn stamp_data(alloc: Global, moment: &DateTimeValue) -> Result<Json>
-    ensures ok { IfOk result (λ d. Some (string (stamp_by_layout moment.now)) ≡ Some (view d)) }
+    ensures ok { IfOk result (λ d. Some (string (stamp_text moment.now)) ≡ Some (view d)) }
     ensures err { OnlyMemory result }
 {
     let text = stamp(alloc, moment)?;
@@ -67,8 +63,8 @@ fn stamp_data(alloc: Global, moment: &DateTimeValue) -> Result<Json>
 
 #[cycle(writing)]
 fn items_data(alloc: Global, values: &[Value]) -> Result<Vec<Json>>
-    ensures ok { IfOk result (λ ds. all_some (map data_of values.now) ≡ Some (map view ds.items)) }
-    ensures err { IfErr result (λ e. RefusesIfNone e (all_some (map data_of values.now))) }
+    ensures ok { IfOk result (λ ds. all_of (map data_of values.now) ≡ Some (map view ds.items)) }
+    ensures err { IfErr result (λ e. RefusesIfNone e (all_of (map data_of values.now))) }
 {
     let mut items = Vec::with_capacity(alloc, values.len())?;
     for value in values {

@@ -2,18 +2,18 @@
 use Rattle.std.proofs.Common.{◌≡◌, ◌≢◌, ◌⊎◌, ◌∙◌, ℕ, List, Option, None, Some, MatchOption, Result, Ok, Err, OnErr, OnOk, IfErr, IsErrAnd, IsOk, inl, inr, ap, arith, refl, rules, subst, sym}
 use Rattle.std.proofs.lemmas.Bool.{false≢true}
 use Rattle.expr_engine.specs.Effects.{Does, CallResult}
-use Rattle.expr_meaning.proofs.Stopping.{IsOfRuns, stops_of_runs}
+use Rattle.expr.proofs.Stopping.{IsOfRuns, stops_of_runs}
 use Rattle.expr_costs.specs.Costs.{costs_in}
-use Rattle.expr_lowering.specs.OwnedCodes.{owned_blocks}
+use Rattle.expr.specs.KeptCodes.{kept_blocks}
 use Rattle.expr_engine.specs.Engines.{RunInputs, CompileRefuses, RunMayAnswer, MayEnd}
 use Rattle.expr_engine.specs.Limiting.{LimitsBy, limits_asked}
-use Rattle.expr_context.specs.Contexts.{context_of}
+use Rattle.expr.specs.Contexts.{context_of}
 use Rattle.expr_engine.specs.Runs.{host_with_replies}
-use Rattle.expr_engine.specs.Served.{AnswersNumber, EndsCall, RunServes, Says, status_number}
+use Rattle.expr_engine.specs.Served.{AnswersNumber, EndsCall, RunServes, Says, number_of}
 use Rattle.expr_engine.specs.Turns.{Turns}
-use Rattle.expr_exchange.specs.declared.call.Ask.{Ask}
-use Rattle.expr_exchange.specs.declared.call.Ask.TheVariants as is
-use Rattle.expr_exchange.specs.declared.call.Call.{Call}
+use Rattle.expr_engine.specs.declared.call.Ask.{Ask}
+use Rattle.expr_engine.specs.declared.call.Ask.TheVariants as is
+use Rattle.expr_engine.specs.declared.call.Call.{Call}
 use Rattle.expr_engine.specs.declared.engine.Engine.{Engine}
 use Rattle.expr_engine.specs.declared.waiting_run.WaitingRun.{WaitingRun}
 use Rattle.expr_exchange.specs.Cursor.{part_of}
@@ -24,12 +24,12 @@ use Rattle.expr_exchange.specs.declared.host_error.HostError.TheVariants.{Langua
 use Rattle.expr_exchange.specs.declared.misuse.Misuse.{Misuse as Wrong}
 use Rattle.expr_exchange.specs.declared.host_error.Status.{Status}
 use Rattle.expr_exchange.specs.declared.host_error.Status.TheVariants as ends
-use Rattle.expr_code.specs.Instructions.{Op}
-use Rattle.expr_limits.specs.Counting.{stops}
-use Rattle.expr_limits.specs.Rooms.{limited}
-use Rattle.expr_limits.specs.declared.limit.Limit.{Limit}
-use Rattle.expr_limits.specs.declared.limit.Limit.TheVariants.{Nesting, Patterns, Steps, Depth, Size}
-use Rattle.expr_limits.specs.declared.limits.Limits.{Limits}
+use Rattle.expr_code.specs.Machine.{Op}
+use Rattle.expr_meter.specs.Counting.{stops}
+use Rattle.expr_meter.specs.Rooms.{limited}
+use Rattle.expr_meter.specs.declared.limit.Limit.{Limit}
+use Rattle.expr_meter.specs.declared.limit.Limit.TheVariants.{Height, Patterns, Steps, Depth, Size}
+use Rattle.expr_meter.specs.declared.limits.Limits.{Limits}
 use Rattle.expr_stops.specs.Stops.{CodeComes}
 use Rattle.expr_stops.specs.declared.replies.CallReply.{CallReply}
 use Rattle.expr_meaning.specs.World.{World, world_of}
@@ -49,10 +49,10 @@ stops_at_runs (Some limits) world code limit p = stops_of_runs (costs_in world.h
 stops_at_runs None world code limit p = absurd p
 
 of_runs : (q : RunInputs) (given : List CallReply) (limit : Limit) → MayEnd q given (stops limit) → IsOfRuns limit
-of_runs q given limit p = stops_at_runs q.limits (world_of (host_with_replies q.added given) (context_of q.names)) (owned_blocks q.rule.code) limit p
+of_runs q given limit p = stops_at_runs q.limits (world_of (host_with_replies q.added given) (context_of q.names)) (kept_blocks q.rule.code) limit p
 
 said_at : (q : RunInputs) (given : List CallReply) (value : Value) (limit : Limit) → MayEnd q given (stops limit) → Says q given (ends_at limit) value
-said_at q given value Nesting p = of_runs q given Nesting p
+said_at q given value Height p = of_runs q given Height p
 said_at q given value Patterns p = of_runs q given Patterns p
 said_at q given value Steps p = p
 said_at q given value Depth p = p
@@ -70,18 +70,18 @@ answers_by q given (Err Differs) value number r e = record { status = ends.Diffe
 answers_by q given (Err (Stopped limit)) value number r (inl e) = record { status = ends_at limit; is = e; says = said_at q given value limit r }
 answers_by q given (Err (Stopped limit)) value number r (inr e) = record { status = ends.Memory; is = e; says = tt }
 
--- the ending, if a handle may find nothing
+-- the same where a handle may find nothing
 pub served_by : {A : Type 0} (o : Option RunInputs) (given : List CallReply) (done : Result A HostError) (value : Value) (number : ℕ) → MatchOption o (done ≡ Err Unknown) (λ q. RunServes q given done value) → (done ≡ Err Unknown → number ≡ 6) → EndsCall done number → MatchOption o (number ≡ 6) (λ q. AnswersNumber q given number value)
 served_by None given done value number m unknown e = unknown m
 served_by (Some q) given done value number m unknown e = answers_by q given done value number m e
 
--- the state of the run that waits, if the engine keeps that and its result after
+-- how the run stands that waits, where the engine keeps that and its answer after
 pub turns_on : (ask : Ask) (old : Engine) (call : Call) (done : Result (Unit {0}) HostError) (mid new : Engine) → Turns ask old call done mid.waits (part_of mid.answer) → new.waits ≡ mid.waits → new.answer ≡ mid.answer → Turns ask old call done new.waits (part_of new.answer)
 turns_on ask old call done mid new t w a =
     subst (λ (x : WaitingRun). Turns ask old call done x (part_of new.answer)) (sym w) (subst (λ (x : ValueCursor). Turns ask old call done mid.waits (part_of x)) (sym a) t)
 
--- an error of the language has another status than success
-not_done : (fault : ErrorKind) → status_number (ends_by fault) ≡ 0 → ⊥
+-- a refusal of the language ends otherwise than done
+not_done : (fault : ErrorKind) → number_of (ends_by fault) ≡ 0 → ⊥
 not_done syntax e = omega arith
 not_done literal e = omega arith
 not_done evaluation e = omega arith
@@ -89,8 +89,8 @@ not_done pattern e = omega arith
 not_done memory e = omega arith
 
 -- nor does a stop at a limit
-not_done_at : (limit : Limit) → status_number (ends_at limit) ≡ 0 → ⊥
-not_done_at Nesting e = omega arith
+not_done_at : (limit : Limit) → number_of (ends_at limit) ≡ 0 → ⊥
+not_done_at Height e = omega arith
 not_done_at Patterns e = omega arith
 not_done_at Steps e = omega arith
 not_done_at Depth e = omega arith
@@ -106,19 +106,19 @@ never_done A Differs number e z = omega arith
 never_done A (Stopped limit) number (inl e) z = not_done_at limit (sym e ∙ z)
 never_done A (Stopped limit) number (inr e) z = omega arith
 
--- a call that fails ends by its status, or by that of a lack of memory if the error has a message
+-- a call that is refused ends by its status, or by that of memory where the refusal has a message
 pub ends_call : (refused : HostError) (status : Status) (number : ℕ) → (status ≡ status_of refused) ⊎ (status ≡ ends.Memory) → (refused ≡ Unknown → status ≡ ends.Unknown) → ((why : Wrong) → refused ≡ Misuse why → status ≡ ends.Misuse)
-    → (refused ≡ Asks → status ≡ ends.Asks) → (refused ≡ Differs → status ≡ ends.Differs) → number ≡ status_number status → EndsCall {A = Unit {0}} (Err refused) number
-ends_call (Language error) status number (inl s) u m a d n = inl (n ∙ ap (λ (x : Status). status_number x) s)
-ends_call (Language error) status number (inr s) u m a d n = inr (n ∙ ap (λ (x : Status). status_number x) s)
-ends_call Unknown status number s u m a d n = n ∙ ap (λ (x : Status). status_number x) (u refl)
-ends_call (Misuse why) status number s u m a d n = n ∙ ap (λ (x : Status). status_number x) (m why refl)
-ends_call Asks status number s u m a d n = n ∙ ap (λ (x : Status). status_number x) (a refl)
-ends_call Differs status number s u m a d n = n ∙ ap (λ (x : Status). status_number x) (d refl)
-ends_call (Stopped limit) status number (inl s) u m a d n = inl (n ∙ ap (λ (x : Status). status_number x) s)
-ends_call (Stopped limit) status number (inr s) u m a d n = inr (n ∙ ap (λ (x : Status). status_number x) s)
+    → (refused ≡ Asks → status ≡ ends.Asks) → (refused ≡ Differs → status ≡ ends.Differs) → number ≡ number_of status → EndsCall {A = Unit {0}} (Err refused) number
+ends_call (Language error) status number (inl s) u m a d n = inl (n ∙ ap (λ (x : Status). number_of x) s)
+ends_call (Language error) status number (inr s) u m a d n = inr (n ∙ ap (λ (x : Status). number_of x) s)
+ends_call Unknown status number s u m a d n = n ∙ ap (λ (x : Status). number_of x) (u refl)
+ends_call (Misuse why) status number s u m a d n = n ∙ ap (λ (x : Status). number_of x) (m why refl)
+ends_call Asks status number s u m a d n = n ∙ ap (λ (x : Status). number_of x) (a refl)
+ends_call Differs status number s u m a d n = n ∙ ap (λ (x : Status). number_of x) (d refl)
+ends_call (Stopped limit) status number (inl s) u m a d n = inl (n ∙ ap (λ (x : Status). number_of x) s)
+ends_call (Stopped limit) status number (inr s) u m a d n = inr (n ∙ ap (λ (x : Status). number_of x) s)
 
--- what holds if a call succeeds or fails, by the number of its status
+-- what holds where a call is done, or refused, by the number of its ending
 pub done_by : {A P : Type 0} (done : Result A HostError) (number : ℕ) → OnOk done P → EndsCall done number → number ≡ 0 → P
 done_by (Ok shown) number p e z = p
 done_by {A} (Err refused) number p e z = absurd (never_done A refused number e z)
@@ -131,18 +131,18 @@ refused_by (Err refused) number p e n = p
 pub asked_for : (N : Type 0) (o : Option Ask) (ask : Ask) (P : Ask → Type 0) → o ≡ Some ask → P ask → MatchOption o N P
 asked_for N o ask P is p = subst (λ (x : Option Ask). MatchOption x N P) (sym is) p
 
--- what a call has done it has done when its answer is written
+-- what a call has done it has done as it is answered
 pub does_by : (ask : Ask) (old mid new : Engine) (call : Call) (m n : CallResult) → Does ask old mid call m → new ≡ mid → n ≡ m → Does ask old new call n
 does_by ask old mid new call m n d e r = subst (λ (x : Engine). Does ask old x call n) (sym e) (subst (λ (x : CallResult). Does ask old mid call x) (sym r) d)
 
--- a result that never has this error doesn't have it
+-- a result that is never refused so isn't refused so
 pub never_unknown : {A : Type 0} (r : Result A HostError) → IfErr r (λ e. e ≢ Unknown) → r ≡ Err Unknown → ⊥
 never_unknown {A} r f e = let n : Unknown ≢ Unknown = subst (λ (x : Result A HostError). IfErr x (λ e. e ≢ Unknown)) e f in n refl
 
 pub compile_never_unknown : {A : Type 0} (limits : Option Limits) (text : List ℕ) (r : Result A HostError) → IfErr r (CompileRefuses limits text) → r ≡ Err Unknown → ⊥
 compile_never_unknown {A} limits text r f e = subst (λ (x : Result A HostError). IfErr x (CompileRefuses limits text)) e f
 
--- a result without an error
+-- a result that is none of a refusal
 pub always_ok : {A : Type 0} (P : Type 0) (r : Result A HostError) → IsOk r → OnErr r P
 always_ok P (Ok v) k = tt
 always_ok P (Err e) k = absurd (false≢true k)
@@ -155,9 +155,9 @@ abbrev error_else : {A : Type 0} → HostError → Result A HostError → HostEr
 error_else spare (Ok v) = spare
 error_else spare (Err e) = e
 
-pub misuse_ends : (done : Result (Unit {0}) HostError) (refused : HostError) (status : Status) (number : ℕ) → done ≡ Err refused → ((why : Wrong) → refused ≡ Misuse why → status ≡ ends.Misuse) → number ≡ status_number status
+pub misuse_ends : (done : Result (Unit {0}) HostError) (refused : HostError) (status : Status) (number : ℕ) → done ≡ Err refused → ((why : Wrong) → refused ≡ Misuse why → status ≡ ends.Misuse) → number ≡ number_of status
     → (why : Wrong) → done ≡ Err (Misuse why) → number ≡ 7
-misuse_ends done refused status number is misuse n why so = n ∙ ap (λ (s : Status). status_number s) (misuse why (ap (error_else refused) (sym is ∙ so)))
+misuse_ends done refused status number is misuse n why so = n ∙ ap (λ (s : Status). number_of s) (misuse why (ap (error_else refused) (sym is ∙ so)))
 
 -- how a call leaves the limits, by the number of its ending
 misused_ends : (done : Result (Unit {0}) HostError) (number : ℕ) → EndsCall done number → IsErrAnd done IsMisuse → number ≡ 7

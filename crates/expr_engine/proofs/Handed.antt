@@ -1,8 +1,8 @@
--- Values that are passed as a number or a string.
+-- Values that are handed in by a number or a text.
 use Rattle.std.proofs.Common.{◌≡◌, ◌∙◌, ◌++◌, ◌∷◌, [], Option, None, Some, IsSomeAnd, ap, refl, sym}
 use Rattle.expr_engine.specs.Effects.{HandsIn}
 use Rattle.expr_engine.specs.Reasons.{KindRefuses}
-use Rattle.expr_exchange.specs.declared.call.Call.{Call}
+use Rattle.expr_engine.specs.declared.call.Call.{Call}
 use Rattle.expr_engine.specs.declared.engine.Engine.{Engine}
 use Rattle.expr_exchange.specs.Builder.{values_of}
 use Rattle.expr_exchange.specs.Refusals.{NotMeant}
@@ -12,7 +12,7 @@ use Rattle.expr_exchange.specs.declared.kind.Kind.{Kind}
 use Rattle.expr_exchange.specs.declared.kind.Kind.TheVariants as is
 use Rattle.expr_value.specs.declared.value.Value.{Value}
 
--- a scalar of a kind is passed as one: its kind is none of those that are passed otherwise
+-- what is a scalar of a kind is handed in as one: it is none of the kinds that are handed in otherwise
 pub hands_scalar : (kind : Kind) (old new : Engine) (call : Call) (v : Value) → IsScalar kind call.number call.fraction call.text.now v → new.built ≡ old.built → HandsIn kind old new call v
 hands_scalar is.Nil old new call v s b = (s, b)
 hands_scalar is.Bool old new call v s b = (s, b)
@@ -31,7 +31,7 @@ hands_scalar is.Json old new call v s b = absurd s
 hands_scalar is.Built old new call v s b = absurd s
 hands_scalar is.Looked old new call v s b = absurd s
 
--- and what fails as such a scalar is no value of its kind
+-- and what is refused as such a scalar is no value of its kind
 pub refuses_scalar : (kind : Kind) (engine : Engine) (call : Call) (refused : HostError) → (kind ≡ is.Built → ⊥) → (kind ≡ is.Looked → ⊥) → (kind ≡ is.Json → ⊥) → NotMeant (HasScalar kind call.number call.fraction call.text.now) refused → KindRefuses kind engine call refused
 refuses_scalar is.Nil engine call refused built looked json m = m
 refuses_scalar is.Bool engine call refused built looked json m = m
@@ -50,7 +50,7 @@ refuses_scalar is.Json engine call refused built looked json m = absurd (json re
 refuses_scalar is.Built engine call refused built looked json m = absurd (built refl)
 refuses_scalar is.Looked engine call refused built looked json m = absurd (looked refl)
 
--- what was passed in is the same value if the values being built are the same after
+-- what was handed in was so too where what was built is the same after
 handed_at : (kind : Kind) (old mid new : Engine) (call : Call) (v : Value) → HandsIn kind old mid call v → new.built ≡ mid.built → HandsIn kind old new call v
 handed_at is.Nil old mid new call v h b = (h.0, b ∙ h.1)
 handed_at is.Bool old mid new call v h b = (h.0, b ∙ h.1)

@@ -1,4 +1,4 @@
--- The errors of zones and names.
+-- Why zones and names are refused.
 use Rattle.std.proofs.Common.{◌≡◌, inl, inr, subst, sym}
 use Rattle.expr_engine.specs.Reasons.{RefusesName, RefusesZone}
 use Rattle.expr_exchange.specs.Refusals.{NotMeant}
@@ -6,7 +6,7 @@ use Rattle.expr_exchange.specs.declared.host_error.HostError.{HostError}
 use Rattle.expr_exchange.specs.declared.host_error.HostError.TheVariants.{Language, Unknown, Misuse, Asks, Differs, Stopped}
 use Rattle.expr_exchange.specs.declared.misuse.Misuse.{Misuse as Wrong}
 
--- the error of a zone that isn't misused is one of strings that aren't all UTF-8
+-- a zone that isn't misused is refused as one whose texts aren't all texts
 pub zone_refused : (AreTexts : Type 0) (e : HostError) → RefusesZone (Unit {0}) e → RefusesZone AreTexts e
 zone_refused AreTexts (Language error) r = r
 zone_refused AreTexts Unknown r = r
@@ -15,15 +15,15 @@ zone_refused AreTexts Asks r = r
 zone_refused AreTexts Differs r = r
 zone_refused AreTexts (Stopped limit) r = r
 
--- the error of a zone whose handle finds no environment
+-- a zone is refused where an environment isn't found
 pub zone_unknown : (AreTexts : Type 0) (e : HostError) → e ≡ Unknown → RefusesZone AreTexts e
 zone_unknown AreTexts e is = subst (λ (x : HostError). RefusesZone AreTexts x) (sym is) tt
 
--- what isn't UTF-8 is misused
+-- what is no text is misused
 pub zone_misused : (AreTexts : Type 0) (e : HostError) (why : Wrong) → e ≡ Misuse why → (AreTexts → ⊥) → RefusesZone AreTexts e
 zone_misused AreTexts e why is never = subst (λ (x : HostError). RefusesZone AreTexts x) (sym is) never
 
--- the error of a name that is no name is the error of a string that is no name
+-- a name that is refused as no name is refused as no text that is one
 not_meant : (Means More : Type 0) → (More → Means) → (e : HostError) → NotMeant Means e → NotMeant More e
 not_meant Means More f (Language error) n = n
 not_meant Means More f Unknown n = n

@@ -3,7 +3,7 @@ use Rattle.std.proofs.Common.{◌≡◌, ◌≢◌, ◌⊎◌, ◌∙◌, ◌∷
 use Rattle.std.proofs.lemmas.Bool.{false≢true}
 use Rattle.std.specs.Option.{option_and_then, option_map}
 use Rattle.expr_engine.specs.Engines.{RunInputs, RunMayAnswer, MayEnd, additions_at, names_at, run_inputs}
-use Rattle.expr_context.specs.Contexts.{NamedValues}
+use Rattle.expr.specs.Contexts.{NamedValues}
 use Rattle.expr_engine.specs.Runs.{named_by}
 use Rattle.expr_engine.specs.Served.{RunServes}
 use Rattle.expr_engine.specs.Turns.{GoesOnWith, IsAnswer, IsNewRun, IsSameRun, PassesOn, RunGoesOn, WaitsIfAsks, finds_nothing}
@@ -16,9 +16,9 @@ use Rattle.expr_exchange.specs.declared.host_error.HostError.{HostError}
 use Rattle.expr_exchange.specs.declared.host_error.HostError.TheVariants.{Language, Unknown, Misuse, Asks, Differs, Stopped}
 use Rattle.expr_exchange.specs.declared.misuse.Misuse.{Misuse as Wrong}
 use Rattle.expr_exchange.specs.declared.misuse.Misuse.TheVariants as wrong
-use Rattle.expr_exchange.specs.HandleMap.{thing_at}
-use Rattle.expr_exchange.specs.declared.handles.Handle.{Handle}
-use Rattle.expr_limits.specs.Counting.{stops}
+use Rattle.expr_handles.specs.HandleMap.{thing_at}
+use Rattle.expr_handles.specs.declared.Handle.{Handle}
+use Rattle.expr_meter.specs.Counting.{stops}
 use Rattle.expr_stops.specs.Stops.{IsOther, IsReplied, waiting_call_of, replies_of}
 use Rattle.expr_stops.specs.declared.replies.CallReply.{CallReply}
 use Rattle.expr_stops.specs.declared.replies.Reply.{Reply}
@@ -38,7 +38,7 @@ found_so engine program environment context rule added names r a n =
     ∙ ap (λ (o : Option (Option Additions)). option_and_then (λ (added : Option Additions). option_map (λ (names : NamedValues). inputs_in engine rule added names) (names_at engine context)) o) a
     ∙ ap (λ (o : Option NamedValues). option_map (λ (names : NamedValues). inputs_in engine rule added names) o) n
 
--- a run that differs came to another call than the recorded one
+-- a run that differs came to another call than the one that was replied to
 pub differs_so : {stop : Stop} (engine : Engine) (program environment context : Handle) (rule : Rule) (added : Option Additions) (names : NamedValues) (given : List CallReply) (waits : Option Stop) (r : Result Value HostError)
     → Some rule ≡ thing_at engine.rules program → additions_at engine environment ≡ Some added → names_at engine context ≡ Some names → r ≡ Err Differs → waits ≡ None → IsOther (named_by added) given stop
     → MatchOption (run_inputs engine program environment context) (r ≡ Err Unknown) (λ q. WaitsIfAsks q given r waits)
@@ -66,7 +66,7 @@ went None given (Ok v) done value m k = let no : ⊥ = cc m in absurd no
 went None given (Err e) done value m k = let same : e ≡ Unknown = cc m in k ∙ ap Err same
 went (Some q) given answer done value m k = runs_kept q given answer done value m k
 
--- the state of a run is its state when its result is kept
+-- how a run stands is how it stands where its answer is kept
 stands_kept : (q : RunInputs) (given : List CallReply) (answer : Result Value HostError) (done : Result (Unit {0}) HostError) (value : Value) (waits : Option Stop)
     → WaitsIfAsks q given answer waits → PassesOn answer done value → WaitsIfAsks q given done waits
 stands_kept q given (Ok v) done value waits s k = subst (λ (d : Result (Unit {0}) HostError). WaitsIfAsks q given d waits) (sym k.0) s
@@ -77,7 +77,7 @@ stands_kept q given (Err Asks) done value waits s k = subst (λ (d : Result (Uni
 stands_kept q given (Err Differs) done value waits s k = subst (λ (d : Result (Unit {0}) HostError). WaitsIfAsks q given d waits) (sym k) s
 stands_kept q given (Err (Stopped limit)) done value waits s k = subst (λ (d : Result (Unit {0}) HostError). WaitsIfAsks q given d waits) (sym k) s
 
--- the state of a run that was taken out of an engine
+-- the same of a run that was taken out of an engine
 pub went_as : (o : Option RunInputs) (was is : Stops) (answer : Result Value HostError) (done : Result (Unit {0}) HostError) (value : Value)
     → is ≡ was → MatchOption o (answer ≡ Err Unknown) (λ q. ReturnsToHost answer (RunMayAnswer q (replies_of is)) (λ limit. MayEnd q (replies_of is) (stops limit))) → PassesOn answer done value
     → MatchOption o (done ≡ Err Unknown) (λ q. RunServes q (replies_of was) done value)
@@ -99,7 +99,7 @@ stood_as o was is now after answer done value same kept m k none =
     (subst (λ (s : Stops). MatchOption o (done ≡ Err Unknown) (λ q. WaitsIfAsks q (replies_of s) done (waiting_call_of now))) same
     (stood o (replies_of is) answer done value (waiting_call_of now) (m (subst (λ (s : Stops). waiting_call_of s ≡ None) (sym same) none)) k))
 
--- a run with the error of a handle that finds nothing has such a handle, and any other has none
+-- a run that is refused as where a handle finds nothing has such a handle, and one that isn't has none
 pub nothing_found : (o : Option RunInputs) (given : List CallReply) (answer : Result Value HostError)
     → MatchOption o (answer ≡ Err Unknown) (λ q. ReturnsToHost answer (RunMayAnswer q given) (λ limit. MayEnd q given (stops limit))) → finds_nothing answer ≡ true → o ≡ None
 nothing_found None given answer m e = refl
@@ -159,7 +159,7 @@ replied_by Is None old mid new r done value some replied is run given runs stand
 replied_by Is (Some q) old mid new r done value some replied is run given runs stands =
     by_ending Is q old new done value (goes_on Is q old mid new r done value replied is run given runs stands)
 
--- an error is passed on
+-- a refusal is passed on
 pub passed_on : (Is : Reply → Type 0) (o : Option RunInputs) (old new : WaitingRun) (r : Result (Unit {0}) HostError) (e : HostError) (value : Value) → IsErrAnd r (λ x. x ≡ e) → RunGoesOn Is o old new (Err e) value → RunGoesOn Is o old new r value
 passed_on Is o old new (Ok v) e value is p = absurd is
 passed_on Is o old new (Err x) e value is p = subst (λ (y : HostError). RunGoesOn Is o old new (Err y) value) (sym is) p
@@ -198,7 +198,7 @@ replies_so Is Js f o old new (Err (Stopped limit)) value r = weaker Is Js f o ol
 pub built_last : (values front : List Value) (v : Value) → values ≡ front ++ v ∷ [] → (r : Reply) → r ≡ reply.Value v → IsAnswer values r
 built_last values front v stood r is = subst (λ (x : Reply). IsAnswer values x) (sym is) (record { front = front; stood = stood })
 
--- the ending of a run that has a result
+-- what the run has come to that ended with an answer
 pub ended_so : (Is : Reply → Type 0) (o : Option RunInputs) (old new : WaitingRun) (value : Value) → RunGoesOn Is o old new (Ok tt) value → IsSomeAnd o (λ q. RunMayAnswer q (replies_of new.stops) (Ok value))
 ended_so Is None old new value g = absurd g
 ended_so Is (Some q) old new value g = g.runs
@@ -242,7 +242,7 @@ run_meant (Some q) given (Err Asks) value m = λ why is. cc is
 run_meant (Some q) given (Err Differs) value m = λ why is. cc is
 run_meant (Some q) given (Err (Stopped limit)) value m = λ why is. cc is
 
--- a run that found all three doesn't have this error
+-- a run that found all three isn't refused so
 pub found_ends : (o : Option RunInputs) (given : List CallReply) (r : Result (Unit {0}) HostError) (value : Value) → IsSome o → MatchOption o (r ≡ Err Unknown) (λ q. RunServes q given r value) → IfErr r (λ e. e ≢ Unknown)
 found_ends None given r value some m = absurd (false≢true some)
 found_ends (Some q) given (Ok v) value some m = tt

@@ -4,21 +4,21 @@ use Rattle.std.proofs.lemmas.Bool.{false≢true}
 use Rattle.std.proofs.lemmas.Grind.{common_steps}
 use Rattle.std.specs.Option.{unwrap_or}
 use Rattle.expr_engine.specs.Effects.{Changes}
-use Rattle.expr_engine.specs.Engines.{KeepsThings, KeepsRest, Kept, Leaves, NumbersRise, SameAdditions, SameKept, RestOfEngine}
-use Rattle.expr_engine.specs.Runs.{named_at, zone_added}
+use Rattle.expr_engine.specs.Engines.{KeepsThings, KeepsRest, Kept, Leaves, NumbersRise, SameAdditions, SameKept, Standing}
+use Rattle.expr_engine.specs.Runs.{named_at, zone_at}
 use Rattle.expr_engine.specs.declared.additions.Additions.{Additions}
 use Rattle.expr_engine.specs.declared.engine.Engine.{Engine}
 use Rattle.expr_engine.specs.declared.waiting_run.WaitingRun.{WaitingRun}
-use Rattle.expr_exchange.specs.Cursor.{SameLook, way_of, whole_value}
+use Rattle.expr_exchange.specs.Cursor.{SameLook, way_of, whole_of}
 use Rattle.expr_exchange.specs.declared.cursor.ValueCursor.{ValueCursor}
-use Rattle.expr_exchange.specs.HandleMap.{Rises, SameNext, SameThings, thing_at, is_same, next_number, tag_of}
-use Rattle.expr_exchange.specs.declared.handles.Handle.{Handle}
-use Rattle.expr_exchange.specs.declared.handles.HandleMap.{HandleMap}
-use Rattle.expr_limits.specs.declared.limits.Limits.{Limits}
+use Rattle.expr_handles.specs.HandleMap.{Rises, SameNext, SameThings, thing_at, is_same, next_number, tag_of}
+use Rattle.expr_handles.specs.declared.Handle.{Handle}
+use Rattle.expr_handles.specs.declared.HandleMap.{HandleMap}
+use Rattle.expr_meter.specs.declared.limits.Limits.{Limits}
 
 pub additions_by_things : {old new : HandleMap Additions} → SameThings old new → SameAdditions old new
 additions_by_things s = record {
-  zones = λ h name. ap (option_map (λ a. zone_added a name)) (s h);
+  zones = λ h name. ap (option_map (λ a. zone_at a name)) (s h);
   moments = λ h. ap (option_map (λ a. a.moment)) (s h);
   names = λ h name. ap (option_map (λ a. named_at a name)) (s h);
 }
@@ -64,12 +64,12 @@ exchanged_twice : {T : Type 0} (o m n : Option T) (spare is : T) → m ≡ optio
 exchanged_twice None m n spare is a b = b ∙ ap (option_map (λ _. is)) a
 exchanged_twice (Some x) m n spare is a b = b ∙ ap (option_map (λ _. is)) a
 
--- what holds of a thing that replaced another with the same facts
+-- what is told of a thing that was put in place of another of which the same is told
 same_told : {T B : Type 0} (f : T → B) (o n : Option T) (spare was is : T) → n ≡ option_map (λ _. is) o → was ≡ unwrap_or o spare → f is ≡ f was → option_map f n ≡ option_map f o
 same_told f None n spare was is e w z = ap (option_map f) e
 same_told f (Some x) n spare was is e w z = ap (option_map f) e ∙ ap Some (z ∙ ap f w)
 
--- a thing was exchanged, changed so that its facts stay, and exchanged back
+-- a thing was exchanged, changed so that the same is told of it, and exchanged back
 told_at : {T B : Type 0} (f : T → B) (old mid new : HandleMap T) (h : Handle) (spare was is : T) → ((k : Handle) → thing_at mid k ≡ (if is_same h k then option_map (λ _. spare) (thing_at old k) else thing_at old k))
     → ((k : Handle) → thing_at new k ≡ (if is_same h k then option_map (λ _. is) (thing_at mid k) else thing_at mid k)) → was ≡ unwrap_or (thing_at old h) spare → f is ≡ f was
     → (k : Handle) (b : Bool) → is_same h k ≡ b → option_map f (thing_at new k) ≡ option_map f (thing_at old k)
@@ -77,33 +77,33 @@ told_at f old mid new h spare was is m n w z k true e =
     same_told f (thing_at old k) (thing_at new k) spare was is (exchanged_twice (thing_at old k) (thing_at mid k) (thing_at new k) spare is (rw e at (m k)) (rw e at (n k))) (w ∙ ap (λ o. unwrap_or o spare) (sym (one_finds old h k e))) z
 told_at f old mid new h spare was is m n w z k false e = ap (option_map f) (rw e at (n k) ∙ rw e at (m k))
 
--- an environment was exchanged, changed and exchanged back, with the same zones, current time and names
+-- an environment was exchanged, changed and exchanged back, with the zones, the moment and the names that it had
 pub additions_by_exchange : (old mid new : HandleMap Additions) (h : Handle) (spare was is : Additions) → ((k : Handle) → thing_at mid k ≡ (if is_same h k then option_map (λ _. spare) (thing_at old k) else thing_at old k))
     → ((k : Handle) → thing_at new k ≡ (if is_same h k then option_map (λ _. is) (thing_at mid k) else thing_at mid k)) → was ≡ unwrap_or (thing_at old h) spare
-    → ((name : List ℕ) → zone_added is name ≡ zone_added was name) → is.moment ≡ was.moment → ((name : List ℕ) → named_at is name ≡ named_at was name) → SameAdditions old new
+    → ((name : List ℕ) → zone_at is name ≡ zone_at was name) → is.moment ≡ was.moment → ((name : List ℕ) → named_at is name ≡ named_at was name) → SameAdditions old new
 additions_by_exchange old mid new h spare was is m n w zones moment names = record {
-  zones = λ k name. told_at (λ a. zone_added a name) old mid new h spare was is m n w (zones name) k (is_same h k) refl;
+  zones = λ k name. told_at (λ a. zone_at a name) old mid new h spare was is m n w (zones name) k (is_same h k) refl;
   moments = λ k. told_at (λ a. a.moment) old mid new h spare was is m n w moment k (is_same h k) refl;
   names = λ k name. told_at (λ a. named_at a name) old mid new h spare was is m n w (names name) k (is_same h k) refl;
 }
 
--- what holds, holds if a result is an error
+-- what holds, holds where a result is a refusal
 pub on_err : {A E P : Type 0} (r : Result A E) → P → OnErr r P
 on_err (Ok v) p = tt
 on_err (Err e) p = p
 
--- the rest of an engine, part by part
-abbrev pub answer_in : RestOfEngine → ValueCursor
+-- how an engine stands, part by part
+abbrev pub answer_in : Standing → ValueCursor
 answer_in s = s.answer
 
-abbrev pub waits_in : RestOfEngine → WaitingRun
+abbrev pub waits_in : Standing → WaitingRun
 waits_in s = s.waits
 
-abbrev pub limits_in : RestOfEngine → Option Limits
+abbrev pub limits_in : Standing → Option Limits
 limits_in s = s.limits
 
 pub leaves : {old new : Engine} → SameKept old new → new.answer ≡ old.answer → Leaves old new
-leaves k a = record { kept = k; look = record { whole = ap whole_value a; way = ap way_of a } }
+leaves k a = record { kept = k; look = record { whole = ap whole_of a; way = ap way_of a } }
 
 -- what comes next doesn't fall where it is the same
 no_less : (a b : ℕ) → b ≡ a → a ≤ b
@@ -172,12 +172,12 @@ leaves_after old mid new l k a = record {
     rules = λ h. ap (λ (x : Kept). thing_at x.rules h) k ∙ l.kept.rules h;
     contexts = λ h. ap (λ (x : Kept). thing_at x.contexts h) k ∙ l.kept.contexts h;
     environments = record {
-      zones = λ h name. ap (λ (x : Kept). option_map (λ a. zone_added a name) (thing_at x.environments h)) k ∙ l.kept.environments.zones h name;
+      zones = λ h name. ap (λ (x : Kept). option_map (λ a. zone_at a name) (thing_at x.environments h)) k ∙ l.kept.environments.zones h name;
       moments = λ h. ap (λ (x : Kept). option_map (λ a. a.moment) (thing_at x.environments h)) k ∙ l.kept.environments.moments h;
       names = λ h name. ap (λ (x : Kept). option_map (λ a. named_at a name) (thing_at x.environments h)) k ∙ l.kept.environments.names h name;
     };
   };
-  look = record { whole = ap whole_value a ∙ l.look.whole; way = ap way_of a ∙ l.look.way };
+  look = record { whole = ap whole_of a ∙ l.look.whole; way = ap way_of a ∙ l.look.way };
 }
 
 as_far : (a b c : ℕ) → a ≤ b → c ≡ b → a ≤ c
@@ -205,7 +205,7 @@ numbers_by_contexts r c e = numbers_same (same_next _ _ r) c (same_next _ _ e)
 pub numbers_by_environments : {old new : Engine} → new.rules ≡ old.rules → new.contexts ≡ old.contexts → SameNext old.environments new.environments → NumbersRise old new
 numbers_by_environments r c e = numbers_same (same_next _ _ r) (same_next _ _ c) e
 
--- what a failed call leaves: everything, or that where one of the three finds the same things
+-- what a call leaves that is refused: all of it, or where one of the three finds the same things
 pub left_same : {A E : Type 0} (old new : Engine) (r : Result A E) → KeepsThings old new → KeepsRest old new → OnErr r (Leaves old new)
 left_same old new (Ok v) k s = tt
 left_same old new (Err x) k s = leaves (same_kept old new k) (ap answer_in s)

@@ -1,32 +1,32 @@
--- The effects of calls that succeed.
+-- What calls have done that are done.
 use Rattle.std.specs.Prelude.{◌≡◌, ◌+◌, ◌+ℤ◌, ◌≤ℤ◌, ◌⊎◌, ℕ, ℤ, pos, List, [], ◌∷◌, ◌++◌, None, Some, Ok, IsSome, IsSomeAnd, length, codes, map, String, string_bytes}
 use Rattle.std.specs.List.{Contains, join_by}
 use Rattle.std.specs.Option.{unwrap_or}
 use Rattle.std.specs.declared.alloc.Global.{Global}
-use Rattle.expr_context.specs.Contexts.{NamedValues}
-use Rattle.expr_lowering.specs.OwnedCodes.{owned_blocks}
+use Rattle.expr.specs.Contexts.{NamedValues}
+use Rattle.expr.specs.KeptCodes.{kept_blocks}
 use Rattle.expr_encoding.specs.Optional.{value_or_refusal}
 use Rattle.expr_encoding.specs.Reading.{json_value}
 use Rattle.expr_encoding.specs.Writing.{json_text}
 use Rattle.expr_engine.specs.Engines.{KeepsThings, KeepsRest, RunMayAnswer, run_inputs, waiting_inputs}
 use Rattle.expr_engine.specs.Adding.{AddsNothing, BecomesByRule, BecomesFixed, BecomesNow, GainsName}
 use Rattle.expr_engine.specs.Limiting.{IsProgramBy, limits_asked}
-use Rattle.expr_exchange.specs.declared.call.Ask.{Ask}
-use Rattle.expr_exchange.specs.declared.call.Ask.TheVariants as is
-use Rattle.expr_exchange.specs.declared.call.Call.{Call}
+use Rattle.expr_engine.specs.declared.call.Ask.{Ask}
+use Rattle.expr_engine.specs.declared.call.Ask.TheVariants as is
+use Rattle.expr_engine.specs.declared.call.Call.{Call}
 use Rattle.expr_engine.specs.declared.additions.Additions.{Additions}
 use Rattle.expr_engine.specs.declared.engine.Engine.{Engine}
 use Rattle.expr_engine.specs.declared.rule.Rule.{Rule}
 use Rattle.expr_exchange.specs.Builder.{BecomesMap, TakesPlace, values_of}
-use Rattle.expr_exchange.specs.Kinds.{fraction_of, kind_numbered, kind_for_host, number_of}
-use Rattle.expr_exchange.specs.Cursor.{LooksDown, LooksUp, at_number, pair_key_at, part_of, way_of}
+use Rattle.expr_exchange.specs.Kinds.{fraction_of, kind_numbered, kind_of, number_of}
+use Rattle.expr_exchange.specs.Cursor.{LooksDown, LooksUp, at_number, key_at, part_of, way_of}
 use Rattle.expr_exchange.specs.Scalars.{IsScalar, instant_by}
 use Rattle.expr_exchange.specs.declared.kind.Kind.{Kind}
 use Rattle.expr_exchange.specs.declared.kind.Kind.TheVariants as kinds
-use Rattle.expr_exchange.specs.HandleMap.{KeepsOthers, thing_at, next_number, tag_of}
-use Rattle.expr_exchange.specs.declared.handles.Handle.{Handle}
-use Rattle.expr_exchange.specs.declared.handles.HandleMap.{HandleMap}
-use Rattle.expr_lowering.specs.HostNeeds.{AreFunctionsOf, AreMissing, with_nil}
+use Rattle.expr_handles.specs.HandleMap.{KeepsOthers, thing_at, next_number, tag_of}
+use Rattle.expr_handles.specs.declared.Handle.{Handle}
+use Rattle.expr_handles.specs.declared.HandleMap.{HandleMap}
+use Rattle.expr_needs.specs.Needs.{AreFunctionsOf, AreMissing, with_nil}
 use Rattle.expr_stops.specs.Stops.{waiting_call_of, replies_of}
 use Rattle.expr_stops.specs.declared.replay.Stop.{Stop}
 use Rattle.expr_tree.specs.Names.{AreNamesOf, block_operands, env}
@@ -37,7 +37,7 @@ use Rattle.expr_value.specs.Values.{map_of, string_of, text_of}
 use Rattle.expr_value.specs.declared.value.Value.{Value}
 use Rattle.expr_value.specs.declared.value.Value as values
 
--- what a call returns besides its status and its string
+-- what a call answers beside its status and its text
 pub record CallResult : Type 0 where
   pub program : Handle
   pub context : Handle
@@ -56,8 +56,7 @@ call_result call = record {
   fraction = call.fraction;
 }
 
--- A thing of this sort is kept under a new handle with the engine's tag, and every other handle finds what it
--- found.
+-- A thing that is so is kept under a handle with the engine's tag that no thing ever had, and every other handle finds what it found.
 pub record Adds {T : Type 0} (Is : T → Type 0) (old new : HandleMap T) (handle : Handle) : Type 0 where
   pub number : handle.number ≡ next_number old
   pub tag : handle.tag ≡ tag_of old
@@ -67,13 +66,13 @@ pub record Adds {T : Type 0} (Is : T → Type 0) (old new : HandleMap T) (handle
   pub kept : IsSomeAnd (thing_at new handle) Is
   pub others : KeepsOthers handle old new
 
--- The thing of a handle is dropped, and every other handle finds what it found.
+-- What a handle found is let go of, and every other handle finds what it found.
 pub record LetsGo {T : Type 0} (old new : HandleMap T) (handle : Handle) : Type 0 where
   pub stood : IsSome (thing_at old handle)
   pub gone : thing_at new handle ≡ None
   pub others : KeepsOthers handle old new
 
--- The thing of a handle is another now, and every other handle finds what it found.
+-- What a handle finds is another thing than it was, and every other handle finds what it found.
 pub record Changes {T : Type 0} (Becomes : T → T → Type 0) (old new : HandleMap T) (handle : Handle) : Type 0 where
   pub was : T
   pub stood : thing_at old handle ≡ Some was
@@ -88,14 +87,14 @@ pub record Compiles (old new : Engine) (call : Call) (reply : CallResult) : Type
   pub rest : KeepsRest old new
   pub built : new.built ≡ old.built
 
--- These are names of this sort, each on a line, and their count.
+-- These are names that are so, each on a line, and how many they are.
 pub record AreSaid (Are : List (List ℕ) → Type 0) (text : List ℕ) (count : ℕ) : Type 0 where
   pub names : List (String Global)
   pub are : Are (map string_bytes names)
   pub lines : text ≡ join_by string_bytes (codes "\n") names
   pub many : count ≡ length names
 
--- The message has the program's names, each on a line, and the number counts them.
+-- The program's names are said, each on a line, and counted.
 pub record SaysNames (old new : Engine) (call : Call) (reply : CallResult) : Type 0 where
   pub keeps : KeepsThings old new
   pub rest : KeepsRest old new
@@ -105,21 +104,21 @@ pub record SaysNames (old new : Engine) (call : Call) (reply : CallResult) : Typ
   pub number : pos count ≤ℤ pos 9223372036854775807 → reply.number ≡ pos count
   pub built : new.built ≡ old.built
 
--- The message has the functions that the program's code calls, each on a line, and the number counts them.
+-- The functions that the program's code calls are said, each on a line, and counted.
 pub record SaysFunctions (old new : Engine) (call : Call) (reply : CallResult) : Type 0 where
   pub keeps : KeepsThings old new
   pub rest : KeepsRest old new
   pub count : ℕ
   pub said : IsSomeAnd (thing_at old.rules call.program)
-      (λ rule. AreSaid (λ names. AreFunctionsOf names (owned_blocks rule.code)) (string_bytes new.said) count)
+      (λ rule. AreSaid (λ names. AreFunctionsOf names (kept_blocks rule.code)) (string_bytes new.said) count)
   pub number : pos count ≤ℤ pos 9223372036854775807 → reply.number ≡ pos count
   pub built : new.built ≡ old.built
 
--- The number is 1 if something holds, else 0.
+-- The number is 1 where something is so, else 0.
 abbrev pub TellsWhether : Type 0 → ℤ → Type 0
 TellsWhether Is number = ((number ≡ pos 1) × Is) ⊎ ((number ≡ pos 0) × ¬ Is)
 
--- The number is 1 if the program uses `$env` as an operand, else 0.
+-- The number tells whether `$env` stands as an operand in the program.
 pub record TellsEnv (old new : Engine) (call : Call) (reply : CallResult) : Type 0 where
   pub keeps : KeepsThings old new
   pub rest : KeepsRest old new
@@ -127,16 +126,15 @@ pub record TellsEnv (old new : Engine) (call : Call) (reply : CallResult) : Type
       (λ rule. TellsWhether (Contains (block_operands (program_term rule.program)) env) reply.number)
   pub built : new.built ≡ old.built
 
--- A context has nil under each name that it lacked and that the program's code looks up only outside of
--- predicates. Everything else is as before.
+-- A context has nil under each name that the program's code looks up outside of predicates alone and that it didn't have, and else what it had.
 pub record FillsContext (rules : HandleMap Rule) (program : Handle) (old new : HandleMap NamedValues) (context : Handle) (count : ℕ) : Type 0 where
   pub names : List (List ℕ)
   pub missing : IsSomeAnd (thing_at rules program) (λ rule. IsSomeAnd (thing_at old context)
-      (λ had. AreMissing (owned_blocks rule.code) had names))
+      (λ had. AreMissing (kept_blocks rule.code) had names))
   pub changes : Changes (λ was is. is ≡ with_nil names was) old new context
   pub many : count ≡ length names
 
-pub record FillsMissing (old new : Engine) (call : Call) (reply : CallResult) : Type 0 where
+pub record Fills (old new : Engine) (call : Call) (reply : CallResult) : Type 0 where
   pub count : ℕ
   pub contexts : FillsContext old.rules call.program old.contexts new.contexts call.context count
   pub number : pos count ≤ℤ pos 9223372036854775807 → reply.number ≡ pos count
@@ -145,13 +143,13 @@ pub record FillsMissing (old new : Engine) (call : Call) (reply : CallResult) : 
   pub rest : KeepsRest old new
   pub built : new.built ≡ old.built
 
--- The call has the kind, the number and the fraction of the value.
+-- Of the value its kind, its number and its fraction are told.
 pub record Tells (v : Value) (reply : CallResult) : Type 0 where
-  pub kind : kind_numbered reply.kind ≡ Some (kind_for_host v)
+  pub kind : kind_numbered reply.kind ≡ Some (kind_of v)
   pub number : number_of v ≤ℤ pos 9223372036854775807 → reply.number ≡ number_of v
   pub fraction : pos reply.fraction ≡ fraction_of v
 
--- The program's result is kept, and the cursor is on the whole of it.
+-- The program's answer is kept, and looked at as a whole.
 pub record RunsOnce (old new : Engine) (call : Call) (reply : CallResult) : Type 0 where
   pub keeps : KeepsThings old new
   pub answer : IsSomeAnd (run_inputs old call.program call.environment call.context)
@@ -160,12 +158,12 @@ pub record RunsOnce (old new : Engine) (call : Call) (reply : CallResult) : Type
   pub told : Tells (part_of new.answer) reply
   pub built : new.built ≡ old.built
 
--- The last value was removed.
+-- The last value was taken.
 pub record TakesLast (old new : List Value) : Type 0 where
   pub last : Value
   pub stood : old ≡ new ++ last ∷ []
 
--- The run that waited has ended. Its result is kept, and the cursor is on the whole of it.
+-- The run that waited came to its end. Its answer is kept, and looked at as a whole.
 pub record EndsRun (Built : List Value → List Value → Type 0) (old new : Engine) (reply : CallResult) : Type 0 where
   pub keeps : KeepsThings old new
   pub built : Built (values_of old.built) (values_of new.built)
@@ -174,7 +172,7 @@ pub record EndsRun (Built : List Value → List Value → Type 0) (old new : Eng
   pub way : way_of new.answer ≡ []
   pub told : Tells (part_of new.answer) reply
 
--- The cursor is on copies of the waiting call's arguments, and the message is the name of its function.
+-- Copies of the arguments of the call that waits are looked at, and the name of its function is said.
 pub record LooksAtCall (old new : Engine) (reply : CallResult) : Type 0 where
   pub keeps : KeepsThings old new
   pub stop : Stop
@@ -201,14 +199,14 @@ pub record AddsBuiltContext (old new : Engine) (reply : CallResult) : Type 0 whe
   pub environments : new.environments ≡ old.environments
   pub rest : KeepsRest old new
 
--- The value is the one that a call passes in; the rest of the values being built stays.
+-- The value is the one that a call hands in, of which what was built has the rest.
 abbrev pub HandsIn : Kind → Engine → Engine → Call → Value → Type 0
 HandsIn kinds.Built old new call v = values_of old.built ≡ values_of new.built ++ v ∷ []
 HandsIn kinds.Looked old new call v = (v ≡ part_of old.answer) × (new.built ≡ old.built)
 HandsIn kinds.Json old new call v = (value_or_refusal (json_value call.text.now) ≡ Ok v) × (new.built ≡ old.built)
 HandsIn kind old new call v = IsScalar kind call.number call.fraction call.text.now v × (new.built ≡ old.built)
 
--- A name of a context has the value that is passed in.
+-- A name's value in a context is the one that is handed in.
 pub record Sets (old new : Engine) (call : Call) : Type 0 where
   pub value : Value
   pub handed : IsSomeAnd (kind_numbered call.kind) (λ kind. HandsIn kind old new call value)
@@ -218,7 +216,7 @@ pub record Sets (old new : Engine) (call : Call) : Type 0 where
   pub environments : new.environments ≡ old.environments
   pub rest : KeepsRest old new
 
--- The value that is passed in is added to the values being built.
+-- The value that is handed in stands behind what was built.
 pub record PushesValue (old new : Engine) (call : Call) : Type 0 where
   pub value : Value
   pub left : Engine
@@ -232,19 +230,19 @@ pub record MakesArray (old new : Engine) (call : Call) : Type 0 where
   pub keeps : KeepsThings old new
   pub rest : KeepsRest old new
 
--- The map of the last pairs replaces them.
+-- The map of the last pairs takes their place.
 pub record MakesMap (old new : Engine) (call : Call) : Type 0 where
   pub built : BecomesMap (call.number +ℤ call.number) (values_of old.built) (values_of new.built)
   pub keeps : KeepsThings old new
   pub rest : KeepsRest old new
 
--- All values being built are dropped.
+-- What was built is let go of, all of it.
 pub record Unbuilds (old new : Engine) : Type 0 where
   pub built : values_of new.built ≡ []
   pub keeps : KeepsThings old new
   pub rest : KeepsRest old new
 
--- The call has the summary of the value under the cursor, which moved down or up.
+-- Of the value that is looked at is told, after a look down or up.
 pub record Looks (old new : Engine) (reply : CallResult) : Type 0 where
   pub keeps : KeepsThings old new
   pub rest : KeepsRest old new
@@ -263,7 +261,7 @@ pub record LooksOut (old new : Engine) (reply : CallResult) : Type 0 where
   pub told : Tells (part_of new.answer) reply
   pub built : new.built ≡ old.built
 
--- a key as a string: the string itself, or what the key prints
+-- The text of a key is the string, or what the key prints as.
 abbrev pub key_said : Value → List ℕ
 key_said key = unwrap_or (string_of key) (text_of key)
 
@@ -271,12 +269,12 @@ pub record SaysKey (old new : Engine) (call : Call) (reply : CallResult) : Type 
   pub keeps : KeepsThings old new
   pub rest : KeepsRest old new
   pub key : Value
-  pub is : at_number call.number (pair_key_at (part_of old.answer)) ≡ Some key
+  pub is : at_number call.number (key_at (part_of old.answer)) ≡ Some key
   pub told : Tells key reply
   pub text : string_bytes new.said ≡ key_said key
   pub built : new.built ≡ old.built
 
--- The message is a string made from the value under the cursor.
+-- A text is said of the value that is looked at.
 pub record SaysText (Is : Value → List ℕ → Type 0) (old new : Engine) : Type 0 where
   pub keeps : KeepsThings old new
   pub rest : KeepsRest old new
@@ -290,7 +288,7 @@ pub record AddsEnvironment (old new : Engine) (reply : CallResult) : Type 0 wher
   pub rest : KeepsRest old new
   pub built : new.built ≡ old.built
 
--- An environment changed like this, and every other is as before.
+-- An environment is such now, and every other is what it was.
 pub record ChangesEnvironment (Becomes : Additions → Additions → Type 0) (old new : Engine) (call : Call) : Type 0 where
   pub environments : Changes Becomes old.environments new.environments call.environment
   pub rules : new.rules ≡ old.rules
@@ -339,8 +337,7 @@ pub record ForgetsAll (old new : Engine) : Type 0 where
   pub answer : part_of new.answer ≡ values.Nil
   pub limits : new.limits ≡ old.limits
 
--- One limit is the given number. The others are as before, or those for untrusted expressions if there were
--- none.
+-- One limit is the number that is given, and the others are what they were, or those for strangers where there were none.
 pub record SetsLimit (old new : Engine) (call : Call) : Type 0 where
   pub limits : IsSomeAnd (limits_asked old.limits call.kind call.number)
       (λ limits. new.limits ≡ Some limits)
@@ -355,7 +352,7 @@ pub record LetsGoOfLimits (old new : Engine) : Type 0 where
   pub answer : new.answer ≡ old.answer
   pub built : new.built ≡ old.built
 
--- the effect of a call that succeeds
+-- what a call has done that is done
 abbrev pub Does : Ask → Engine → Engine → Call → CallResult → Type 0
 Does is.Compile old new call reply = Compiles old new call reply
 Does is.Names old new call reply = SaysNames old new call reply
@@ -391,28 +388,28 @@ Does is.Limit old new call reply = SetsLimit old new call
 Does is.Unlimited old new call reply = LetsGoOfLimits old new
 Does is.UsesEnv old new call reply = TellsEnv old new call reply
 Does is.Functions old new call reply = SaysFunctions old new call reply
-Does is.FillMissing old new call reply = FillsMissing old new call reply
+Does is.FillMissing old new call reply = Fills old new call reply
 
 -- A call waits, and a handle of its run finds nothing.
 abbrev pub IsStale : Engine → Type 0
 IsStale engine = IsSome (waiting_call_of engine.waits.stops) × (waiting_inputs engine ≡ None)
 
--- A handle of the call finds nothing.
-abbrev pub HandleFindsNothing : Ask → Engine → Call → Type 0
-HandleFindsNothing is.Names engine call = thing_at engine.rules call.program ≡ None
-HandleFindsNothing is.Run engine call = run_inputs engine call.program call.environment call.context ≡ None
-HandleFindsNothing is.Set engine call = thing_at engine.contexts call.context ≡ None
-HandleFindsNothing is.FixedZone engine call = thing_at engine.environments call.environment ≡ None
-HandleFindsNothing is.ZoneRule engine call = thing_at engine.environments call.environment ≡ None
-HandleFindsNothing is.Now engine call = thing_at engine.environments call.environment ≡ None
-HandleFindsNothing is.DropProgram engine call = thing_at engine.rules call.program ≡ None
-HandleFindsNothing is.DropContext engine call = thing_at engine.contexts call.context ≡ None
-HandleFindsNothing is.DropEnvironment engine call = thing_at engine.environments call.environment ≡ None
-HandleFindsNothing is.Name engine call = thing_at engine.environments call.environment ≡ None
-HandleFindsNothing is.UsesEnv engine call = thing_at engine.rules call.program ≡ None
-HandleFindsNothing is.Functions engine call = thing_at engine.rules call.program ≡ None
-HandleFindsNothing is.FillMissing engine call =
+-- A call's handle finds nothing.
+abbrev pub IsMissing : Ask → Engine → Call → Type 0
+IsMissing is.Names engine call = thing_at engine.rules call.program ≡ None
+IsMissing is.Run engine call = run_inputs engine call.program call.environment call.context ≡ None
+IsMissing is.Set engine call = thing_at engine.contexts call.context ≡ None
+IsMissing is.FixedZone engine call = thing_at engine.environments call.environment ≡ None
+IsMissing is.ZoneRule engine call = thing_at engine.environments call.environment ≡ None
+IsMissing is.Now engine call = thing_at engine.environments call.environment ≡ None
+IsMissing is.DropProgram engine call = thing_at engine.rules call.program ≡ None
+IsMissing is.DropContext engine call = thing_at engine.contexts call.context ≡ None
+IsMissing is.DropEnvironment engine call = thing_at engine.environments call.environment ≡ None
+IsMissing is.Name engine call = thing_at engine.environments call.environment ≡ None
+IsMissing is.UsesEnv engine call = thing_at engine.rules call.program ≡ None
+IsMissing is.Functions engine call = thing_at engine.rules call.program ≡ None
+IsMissing is.FillMissing engine call =
     (thing_at engine.rules call.program ≡ None) ⊎ (thing_at engine.contexts call.context ≡ None)
-HandleFindsNothing is.Answer engine call = IsStale engine
-HandleFindsNothing is.Refuse engine call = IsStale engine
-HandleFindsNothing ask engine call = ⊥
+IsMissing is.Answer engine call = IsStale engine
+IsMissing is.Refuse engine call = IsStale engine
+IsMissing ask engine call = ⊥

@@ -1,11 +1,11 @@
 -- What an engine keeps under handles, and what a run finds there.
 use Rattle.std.specs.Prelude.{◌≡◌, ◌≢◌, ℕ, ◌==◌, List, [], Option, None, Some, Err, IsUtf8, if◌then◌else◌, option_map}
 use Rattle.std.specs.Option.{option_and_then}
-use Rattle.expr_syntax.specs.Refused.{IsRefused}
-use Rattle.expr_lowering.specs.OwnedCodes.{owned_blocks}
+use Rattle.expr.specs.Texts.{IsRefused}
+use Rattle.expr.specs.KeptCodes.{kept_blocks}
 use Rattle.expr_engine.specs.Limiting.{Passes}
-use Rattle.expr_context.specs.Contexts.{NamedValues, context_of}
-use Rattle.expr_engine.specs.Runs.{MeaningAllows, host_with_replies, named_at, zone_added}
+use Rattle.expr.specs.Contexts.{NamedValues, context_of}
+use Rattle.expr_engine.specs.Runs.{MeaningAllows, host_with_replies, named_at, zone_at}
 use Rattle.expr_engine.specs.declared.additions.Additions.{Additions}
 use Rattle.expr_engine.specs.declared.engine.Engine.{Engine}
 use Rattle.expr_engine.specs.declared.rule.Rule.{Rule}
@@ -14,12 +14,12 @@ use Rattle.expr_exchange.specs.Cursor.{SameLook}
 use Rattle.expr_exchange.specs.declared.cursor.ValueCursor.{ValueCursor}
 use Rattle.expr_exchange.specs.declared.host_error.HostError.{HostError}
 use Rattle.expr_exchange.specs.declared.host_error.HostError.TheVariants.{Language, Unknown, Misuse, Asks, Differs, Stopped}
-use Rattle.expr_exchange.specs.HandleMap.{Rises, SameThings, thing_at}
-use Rattle.expr_exchange.specs.declared.handles.Handle.{Handle}
-use Rattle.expr_exchange.specs.declared.handles.HandleMap.{HandleMap}
-use Rattle.expr_limits.specs.Counting.{Ending, ending_of}
-use Rattle.expr_limits.specs.Rooms.{Room}
-use Rattle.expr_limits.specs.declared.limits.Limits.{Limits}
+use Rattle.expr_handles.specs.HandleMap.{Rises, SameThings, thing_at}
+use Rattle.expr_handles.specs.declared.Handle.{Handle}
+use Rattle.expr_handles.specs.declared.HandleMap.{HandleMap}
+use Rattle.expr_meter.specs.Counting.{Ending, ending_of}
+use Rattle.expr_meter.specs.Rooms.{Room}
+use Rattle.expr_meter.specs.declared.limits.Limits.{Limits}
 use Rattle.expr_stops.specs.Stops.{CodeComes}
 use Rattle.expr_stops.specs.declared.replies.CallReply.{CallReply}
 use Rattle.expr_tree.specs.TermOf.{program_term}
@@ -28,15 +28,15 @@ use Rattle.expr_value.specs.Answers.{Answer}
 use Rattle.expr_error.specs.ErrorKind.{error_kind, memory}
 use Rattle.expr_meaning.specs.World.{world_of}
 
--- the number that means no context or no environment
+-- the number that stands for no context and no environment
 abbrev pub no_number : ℕ
 no_number = 18446744073709551615
 
--- the names of a context, or none for no context; nothing if the handle finds nothing
+-- the names of a context, none where there is no context; nothing for a handle that finds nothing
 abbrev pub names_at : Engine → Handle → Option NamedValues
 names_at engine context = if context.number == no_number then Some [] else thing_at engine.contexts context
 
--- the additions of an environment, or none for no environment
+-- what an environment adds, nothing where there is no environment
 abbrev pub additions_at : Engine → Handle → Option (Option Additions)
 additions_at engine environment =
     if environment.number == no_number then Some None else option_map Some (thing_at engine.environments environment)
@@ -54,12 +54,12 @@ run_inputs engine program environment context =
     (λ names. record { rule = rule; added = added; names = names; limits = engine.limits })
     (names_at engine context)) (additions_at engine environment)) (thing_at engine.rules program)
 
--- the endings of the program's code in that environment and that context, with the host's replies, within the
--- limits if there are any
+-- how a run of the program's code may end in that environment and that context, where calls of the host's functions answer what it replied, within the limits, if there
+-- are any
 abbrev pub MayEnd : RunInputs → List CallReply → Ending Room → Type 0
-MayEnd q given end = CodeComes q.limits (world_of (host_with_replies q.added given) (context_of q.names)) (owned_blocks q.rule.code) end
+MayEnd q given end = CodeComes q.limits (world_of (host_with_replies q.added given) (context_of q.names)) (kept_blocks q.rule.code) end
 
--- A result of such a run, which the program's meaning allows too.
+-- An answer of such a run: the program's meaning allows it too.
 pub record RunMayAnswer (q : RunInputs) (given : List CallReply) (answer : Answer) : Type 0 where
   pub allowed : MeaningAllows (world_of (host_with_replies q.added given) (context_of q.names))
       (program_term q.rule.program) answer
@@ -70,7 +70,7 @@ pub record RunMayAnswer (q : RunInputs) (given : List CallReply) (answer : Answe
 abbrev pub waiting_inputs : Engine → Option RunInputs
 waiting_inputs engine = run_inputs engine engine.waits.program engine.waits.environment engine.waits.context
 
--- The error of an expression: its own, or a limit that it passes, or a lack of memory.
+-- A text is refused that deserves it, or that passes a limit, or memory is.
 abbrev pub RefusesText : Option Limits → List ℕ → HostError → Type 0
 RefusesText limits text (Language error) = error_kind error ≢ memory → IsRefused text (Err (error_kind error))
 RefusesText limits text Unknown = ⊥
@@ -79,7 +79,7 @@ RefusesText limits text Asks = ⊥
 RefusesText limits text Differs = ⊥
 RefusesText limits text (Stopped limit) = Passes limits text limit
 
--- A syntax error is at the first fault of the expression.
+-- A fault of syntax is at the text's first fault.
 abbrev pub IsPlacedRefusal : List ℕ → HostError → Type 0
 IsPlacedRefusal text (Language error) = IsPlaced {A = Unit {0}} text (Err error)
 IsPlacedRefusal text Unknown = Unit {0}
@@ -88,7 +88,7 @@ IsPlacedRefusal text Asks = Unit {0}
 IsPlacedRefusal text Differs = Unit {0}
 IsPlacedRefusal text (Stopped limit) = Unit {0}
 
--- The error of a string that is passed in: that of an expression, or a misuse if it isn't UTF-8.
+-- The same of a text that is handed in, and misused only where it is no text.
 abbrev pub CompileRefuses : Option Limits → List ℕ → HostError → Type 0
 CompileRefuses limits text (Language error) = RefusesText limits text (Language error) × IsPlacedRefusal text (Language error) × IsUtf8 text
 CompileRefuses limits text Unknown = ⊥
@@ -110,23 +110,23 @@ kept_of engine = record { rules = engine.rules; contexts = engine.contexts; envi
 abbrev pub KeepsThings : Engine → Engine → Type 0
 KeepsThings old new = kept_of new ≡ kept_of old
 
--- the rest of an engine, besides that and the values being built and the message
-pub record RestOfEngine : Type 0 where
+-- how an engine stands beside that and beside what is built and said
+pub record Standing : Type 0 where
   pub answer : ValueCursor
   pub waits : WaitingRun
   pub limits : Option Limits
 
-abbrev pub rest_of_engine : Engine → RestOfEngine
-rest_of_engine engine = record { answer = engine.answer; waits = engine.waits; limits = engine.limits }
+abbrev pub standing_of : Engine → Standing
+standing_of engine = record { answer = engine.answer; waits = engine.waits; limits = engine.limits }
 
--- The cursor, the run that waits and the limits are the same.
+-- What is looked at, the run that waits and the limits are the same.
 abbrev pub KeepsRest : Engine → Engine → Type 0
-KeepsRest old new = rest_of_engine new ≡ rest_of_engine old
+KeepsRest old new = standing_of new ≡ standing_of old
 
--- Every handle finds an environment with the same zones, current time and names.
+-- Every handle finds an environment with the zones, the moment and the names that it found.
 pub record SameAdditions (old new : HandleMap Additions) : Type 0 where
-  pub zones : (h : Handle) (name : List ℕ) → option_map (λ a. zone_added a name) (thing_at new h)
-      ≡ option_map (λ a. zone_added a name) (thing_at old h)
+  pub zones : (h : Handle) (name : List ℕ) → option_map (λ a. zone_at a name) (thing_at new h)
+      ≡ option_map (λ a. zone_at a name) (thing_at old h)
   pub moments : (h : Handle) → option_map (λ a. a.moment) (thing_at new h)
       ≡ option_map (λ a. a.moment) (thing_at old h)
   pub names : (h : Handle) (name : List ℕ) → option_map (λ a. named_at a name) (thing_at new h)
@@ -138,13 +138,13 @@ pub record SameKept (old new : Engine) : Type 0 where
   pub contexts : SameThings old.contexts new.contexts
   pub environments : SameAdditions old.environments new.environments
 
--- The tags are the same, and the numbers of the next things don't fall, so that no handle is given twice.
+-- The tags are the same, and the numbers of things to come don't fall, so that no handle is given twice.
 pub record NumbersRise (old new : Engine) : Type 0 where
   pub rules : Rises old.rules new.rules
   pub contexts : Rises old.contexts new.contexts
   pub environments : Rises old.environments new.environments
 
--- What an error leaves: everything that handles find, and the cursor.
+-- What a refusal leaves: all that handles find, and what is looked at.
 pub record Leaves (old new : Engine) : Type 0 where
   pub kept : SameKept old new
   pub look : SameLook old.answer new.answer

@@ -1,4 +1,5 @@
 pub mod Adding
+pub mod Asks
 pub mod Effects
 pub mod Engines
 pub mod Faults

@@ -1,29 +1,28 @@
--- The contracts of an engine and of a call, in one word each.
+-- What is promised of an engine and of a call, in one word each.
 use Rattle.std.specs.Prelude.{◌≡◌, ◌≢◌, ℕ, [], None, Some, MatchOption, Result, Ok, Err, IfErr, IsErrAnd, OnErr, OnOk, string_bytes}
-use Rattle.expr_exchange.specs.Asks.{ask_of, shows_of}
-use Rattle.expr_engine.specs.Effects.{Does, HandleFindsNothing, call_result}
+use Rattle.expr_engine.specs.Asks.{ask_of, shows_of}
+use Rattle.expr_engine.specs.Effects.{Does, IsMissing, call_result}
 use Rattle.expr_engine.specs.Engines.{CompileRefuses, Leaves, NumbersRise, run_inputs}
-use Rattle.expr_engine.specs.Faults.{StatusSaysOfText, text_place}
-use Rattle.expr_engine.specs.Limiting.{LimitsBy, untrusted}
+use Rattle.expr_engine.specs.Faults.{StatusSaysOfText, place_of}
+use Rattle.expr_engine.specs.Limiting.{LimitsBy, for_strangers}
 use Rattle.expr_engine.specs.Reasons.{EndsWithReason, MayRefuse}
 use Rattle.expr_engine.specs.Served.{AnswersNumber, RunServes, ShowsText, text_shown}
 use Rattle.expr_engine.specs.Turns.{Turns, TurnsBy}
-use Rattle.expr_exchange.specs.declared.call.Ask.{Ask}
-use Rattle.expr_exchange.specs.declared.call.Ask.TheVariants as is
-use Rattle.expr_exchange.specs.declared.call.Call.{Call}
+use Rattle.expr_engine.specs.declared.call.Ask.{Ask}
+use Rattle.expr_engine.specs.declared.call.Ask.TheVariants as is
+use Rattle.expr_engine.specs.declared.call.Call.{Call}
 use Rattle.expr_engine.specs.declared.engine.Engine.{Engine}
 use Rattle.expr_exchange.specs.Builder.{values_of}
 use Rattle.expr_exchange.specs.Cursor.{part_of}
 use Rattle.expr_exchange.specs.Refusals.{IsMisuse}
 use Rattle.expr_exchange.specs.declared.host_error.HostError.{HostError}
 use Rattle.expr_exchange.specs.declared.host_error.HostError.TheVariants.{Unknown}
-use Rattle.expr_exchange.specs.HandleMap.{tag_of, thing_at}
-use Rattle.expr_exchange.specs.declared.handles.Handle.{Handle}
+use Rattle.expr_handles.specs.HandleMap.{tag_of, thing_at}
+use Rattle.expr_handles.specs.declared.Handle.{Handle}
 use Rattle.expr_stops.specs.Stops.{waiting_call_of}
 use Rattle.expr_value.specs.declared.value.Value.{Value, Nil}
 
--- Nothing is kept or built, there is no result, the limits are those for untrusted expressions, and each
--- handle will have this tag.
+-- Nothing is kept, built or answered, the limits are those for strangers, and each handle to come has this tag.
 pub record IsNew (tag : ℕ) (engine : Engine) : Type 0 where
   pub rules : (handle : Handle) → thing_at engine.rules handle ≡ None
   pub contexts : (handle : Handle) → thing_at engine.contexts handle ≡ None
@@ -31,10 +30,10 @@ pub record IsNew (tag : ℕ) (engine : Engine) : Type 0 where
   pub built : values_of engine.built ≡ []
   pub part : part_of engine.answer ≡ Nil
   pub waits : waiting_call_of engine.waits.stops ≡ None
-  pub limits : engine.limits ≡ Some untrusted
+  pub limits : engine.limits ≡ Some for_strangers
   pub tags : (tag_of engine.rules ≡ tag) × (tag_of engine.contexts ≡ tag) × (tag_of engine.environments ≡ tag)
 
--- The result of a call: a run has one that it may have, and an expression an error of its own.
+-- What a call gives: a run what it may, and a text's refusal what the text deserves.
 abbrev pub Gives : Ask → Engine → Call → Call → Result (Unit {0}) HostError → Value → Type 0
 Gives is.Compile old call answered done value = IfErr done (CompileRefuses old.limits call.text.now) × (answered.text.now ≡ call.text.now)
 Gives is.Run old call answered done value =
@@ -42,7 +41,7 @@ Gives is.Run old call answered done value =
     (λ q. RunServes q [] done value)
 Gives ask old call answered done value = Unit {0}
 
--- The contract of a call before its status is written.
+-- What is promised of a call before it is answered how it ended.
 pub record Acts (ask : Ask) (old new : Engine) (call answered : Call) (done : Result (Unit {0}) HostError) : Type 0 where
   pub does : OnOk done (Does ask old new call (call_result answered))
   pub gives : Gives ask old call answered done (part_of new.answer)
@@ -50,45 +49,41 @@ pub record Acts (ask : Ask) (old new : Engine) (call answered : Call) (done : Re
   pub limits : LimitsBy ask old.limits call (done ≡ Ok tt) (IsErrAnd done IsMisuse) new.limits
   pub refused : OnErr done (Leaves old new)
   pub why : IfErr done (MayRefuse ask old call)
-  pub unknown : HandleFindsNothing ask old call → done ≡ Err Unknown
-  pub known : done ≡ Err Unknown → HandleFindsNothing ask old call
+  pub unknown : IsMissing ask old call → done ≡ Err Unknown
+  pub known : done ≡ Err Unknown → IsMissing ask old call
   pub numbers : NumbersRise old new
   pub room : answered.room.now ≡ call.room.now
 
--- The contract of `serve`, for the engine and the call before and after.
+-- What `serve` promises of the engine before and after, and of the call as it was asked and as it was answered.
 pub record IsServed (old new : Engine) (call answered : Call) : Type 0 where
-  -- A call that succeeds changes what its handles find, and nothing else.
+  -- What is done, is done to what the call's handles find, and to nothing else.
   pub done : answered.status ≡ 0
       → MatchOption (ask_of call.ask) ⊥ (λ ask. Does ask old new call (call_result answered))
-  -- An expression that fails, or stops at a limit, does so by itself; if it has no tree, the call has the
-  -- position of its first fault.
+  -- A text is refused, or stops at a limit, since it deserves that; where it has no tree, the place of its first fault is answered.
   pub text : ask_of call.ask ≡ Some is.Compile
-      → StatusSaysOfText old.limits call.text.now answered.status (text_place answered)
-  -- A run returns what the program's meaning allows in the environment and the context of the handles, or one
-  -- of them finds nothing.
+      → StatusSaysOfText old.limits call.text.now answered.status (place_of answered)
+  -- A run answers what the program's meaning allows in the environment and the context of the handles, or one of them finds nothing.
   pub run : ask_of call.ask ≡ Some is.Run
       → MatchOption (run_inputs old call.program call.environment call.context) (answered.status ≡ 6)
       (λ q. AnswersNumber q [] answered.status (part_of new.answer))
-  -- The run that waits for the host's reply was started by this call, or continues with its reply, or is the
-  -- same.
+  -- The run that waits for the host's reply: one that was begun, or that goes on with the reply, or the same.
   pub turns : MatchOption (ask_of call.ask) (new.waits ≡ old.waits)
       (λ ask. TurnsBy ask old call answered.status new.waits (part_of new.answer))
-  -- The limits are those before, unless the call sets one or removes all.
+  -- The limits are those before, but where a call sets one or lets go of all.
   pub limits : MatchOption (ask_of call.ask) (new.limits ≡ old.limits)
       (λ ask. LimitsBy ask old.limits call (answered.status ≡ 0) (answered.status ≡ 7) new.limits)
   pub refused : answered.status ≢ 0 → Leaves old new
-  -- A call fails for a reason that it may have. An unknown number is MISUSE.
+  -- A call is refused for a reason that it may have. A number that asks for nothing is MISUSE.
   pub why : MatchOption (ask_of call.ask) (answered.status ≡ 7)
       (λ ask. EndsWithReason ask old call answered.status)
   pub built : answered.status ≢ 0 → values_of new.built ≡ []
-  -- A handle that is old, was never given, or has another engine's tag is UNKNOWN, and nothing else is.
+  -- A handle that is out of date, was never given, or has another engine's tag, is UNKNOWN, and nothing else is.
   pub unknown : MatchOption (ask_of call.ask) (answered.status ≡ 7)
-      (λ ask. HandleFindsNothing ask old call → answered.status ≡ 6)
-  pub known : answered.status ≡ 6 → MatchOption (ask_of call.ask) ⊥ (λ ask. HandleFindsNothing ask old call)
+      (λ ask. IsMissing ask old call → answered.status ≡ 6)
+  pub known : answered.status ≡ 6 → MatchOption (ask_of call.ask) ⊥ (λ ask. IsMissing ask old call)
   -- No handle is given twice, and each has the engine's tag.
   pub numbers : NumbersRise old new
-  -- The buffer of the host has as much as it holds of the string that the call returns, or of the message of
-  -- its error.
+  -- The text that a call shows, or the message of its refusal, is in the host's room as far as that goes.
   pub shown : answered.status ≡ 0
       → MatchOption (ask_of call.ask) ⊥
       (λ ask. ShowsText (text_shown (shows_of ask) new) call.room.now answered)

@@ -1,4 +1,4 @@
--- Why calls fail.
+-- Why calls are refused.
 use Rattle.std.specs.Prelude.{◌≡◌, ◌≢◌, ◌⊎◌, ◌+ℤ◌, ℕ, pos, List, [], None, MatchOption, Result, Err, IfErr, IsUtf8}
 use Rattle.jiff.specs.Instant.{IsTimestampParts}
 use Rattle.expr_encoding.specs.Optional.{value_or_refusal}
@@ -7,13 +7,13 @@ use Rattle.expr_encoding.specs.Writing.{json_text}
 use Rattle.expr_engine.specs.Adding.{IsName}
 use Rattle.expr_engine.specs.Engines.{CompileRefuses}
 use Rattle.expr_engine.specs.Served.{EndsCall}
-use Rattle.expr_exchange.specs.declared.call.Ask.{Ask}
-use Rattle.expr_exchange.specs.declared.call.Ask.TheVariants as is
-use Rattle.expr_exchange.specs.declared.call.Call.{Call}
+use Rattle.expr_engine.specs.declared.call.Ask.{Ask}
+use Rattle.expr_engine.specs.declared.call.Ask.TheVariants as is
+use Rattle.expr_engine.specs.declared.call.Call.{Call}
 use Rattle.expr_engine.specs.declared.engine.Engine.{Engine}
 use Rattle.expr_error.specs.ErrorKind.{error_kind, evaluation, memory}
 use Rattle.expr_exchange.specs.Builder.{HasLast, NoContext, values_of}
-use Rattle.expr_exchange.specs.Cursor.{at_number, item_at, pair_key_at, part_of, way_of}
+use Rattle.expr_exchange.specs.Cursor.{at_number, item_at, key_at, part_of, way_of}
 use Rattle.expr_exchange.specs.Kinds.{kind_numbered}
 use Rattle.expr_exchange.specs.Refusals.{AnswerRefuses, IsForMemory, IsMisuse, NotMeant, NotThere, status_of}
 use Rattle.expr_exchange.specs.Scalars.{HasScalar}
@@ -26,7 +26,7 @@ use Rattle.expr_exchange.specs.declared.kind.Kind.{Kind}
 use Rattle.expr_exchange.specs.declared.kind.Kind.TheVariants as kinds
 use Rattle.expr_stops.specs.Stops.{waiting_call_of}
 
--- A handle finds nothing, or memory is lacking.
+-- A handle finds nothing, or it is for want of memory.
 abbrev pub IsUnknownOrForMemory : HostError → Type 0
 IsUnknownOrForMemory (Language error) = error_kind error ≡ memory
 IsUnknownOrForMemory Unknown = Unit {0}
@@ -35,7 +35,7 @@ IsUnknownOrForMemory Asks = ⊥
 IsUnknownOrForMemory Differs = ⊥
 IsUnknownOrForMemory (Stopped limit) = ⊥
 
--- A string of JSON has no value, or isn't UTF-8, or memory is lacking.
+-- A JSON text has no value, or is no text, or it is for want of memory.
 abbrev pub JsonRefuses : List ℕ → HostError → Type 0
 JsonRefuses text (Language error) = error_kind error ≢ memory → value_or_refusal (json_value text) ≡ Err (error_kind error)
 JsonRefuses text Unknown = ⊥
@@ -44,20 +44,19 @@ JsonRefuses text Asks = ⊥
 JsonRefuses text Differs = ⊥
 JsonRefuses text (Stopped limit) = ⊥
 
--- No value of this kind is passed in.
+-- No value of this kind is handed in.
 abbrev pub KindRefuses : Kind → Engine → Call → HostError → Type 0
 KindRefuses kinds.Built engine call refused = (refused ≡ Misuse wrong.NothingBuilt) × (values_of engine.built ≡ [])
 KindRefuses kinds.Looked engine call refused = IsForMemory refused
 KindRefuses kinds.Json engine call refused = JsonRefuses call.text.now refused
 KindRefuses kind engine call refused = NotMeant (HasScalar kind call.number call.fraction call.text.now) refused
 
--- No value is passed in.
+-- No value is handed in.
 abbrev pub HandsNothingIn : Engine → Call → HostError → Type 0
 HandsNothingIn engine call refused =
     MatchOption (kind_numbered call.kind) (refused ≡ Misuse wrong.UnknownKind) (λ kind. KindRefuses kind engine call refused)
 
--- A zone fails: it has an evaluation error, the handle finds no environment, these aren't all UTF-8, or
--- memory is lacking.
+-- A zone is refused: the language refuses to evaluate it, an environment isn't found, or these aren't all texts; or memory is.
 abbrev pub RefusesZone : Type 0 → HostError → Type 0
 RefusesZone AreTexts (Language error) = error_kind error ≢ memory → error_kind error ≡ evaluation
 RefusesZone AreTexts Unknown = Unit {0}
@@ -66,11 +65,11 @@ RefusesZone AreTexts Asks = ⊥
 RefusesZone AreTexts Differs = ⊥
 RefusesZone AreTexts (Stopped limit) = ⊥
 
--- The name of a function fails: the handle finds no environment, it is no name, or memory is lacking.
+-- The name of a function is refused: an environment isn't found, or the name is none; or memory is.
 abbrev pub RefusesName : Type 0 → HostError → Type 0
 RefusesName IsMeant refused = (refused ≡ Unknown) ⊎ NotMeant IsMeant refused
 
--- How a call may fail. The result of a run that starts or continues says more.
+-- What is asked may be refused so. Of a run that is begun or goes on its answer says more.
 abbrev pub MayRefuse : Ask → Engine → Call → HostError → Type 0
 MayRefuse is.Compile engine call refused = CompileRefuses engine.limits call.text.now refused
 MayRefuse is.Names engine call refused = IsUnknownOrForMemory refused
@@ -87,7 +86,7 @@ MayRefuse is.Unbuild engine call refused = ⊥
 MayRefuse is.Look engine call refused = ⊥
 MayRefuse is.Down engine call refused = NotThere (at_number call.number (item_at (part_of engine.answer))) refused
 MayRefuse is.Up engine call refused = (refused ≡ Misuse wrong.AtWhole) × (way_of engine.answer ≡ [])
-MayRefuse is.Key engine call refused = NotThere (at_number call.number (pair_key_at (part_of engine.answer))) refused
+MayRefuse is.Key engine call refused = NotThere (at_number call.number (key_at (part_of engine.answer))) refused
 MayRefuse is.Shown engine call refused = IsForMemory refused
 MayRefuse is.Text engine call refused = IsForMemory refused
 MayRefuse is.Json engine call refused = AnswerRefuses (value_or_refusal (json_text (part_of engine.answer))) refused
@@ -112,7 +111,7 @@ MayRefuse is.UsesEnv engine call refused = refused ≡ Unknown
 MayRefuse is.Functions engine call refused = IsUnknownOrForMemory refused
 MayRefuse is.FillMissing engine call refused = IsUnknownOrForMemory refused
 
--- A call with this number succeeded, or failed as it may.
+-- A call that ended by this number was done, or refused so that it may be.
 pub record EndsWithReason (ask : Ask) (old : Engine) (call : Call) (number : ℕ) : Type 0 where
   pub done : Result (Unit {0}) HostError
   pub ends : EndsCall done number

@@ -1,9 +1,9 @@
--- The answer to a call.
+-- What a call answers.
 use Rattle.std.specs.Prelude.{◌≡◌, ◌≢◌, ◌⊎◌, ◌++◌, ℕ, List, [], Result, Ok, Err, drop, length, min, string_bytes, take}
 use Rattle.expr_engine.specs.Engines.{RunInputs, RunMayAnswer, MayEnd}
-use Rattle.expr_exchange.specs.declared.call.Call.{Call}
-use Rattle.expr_exchange.specs.declared.call.Shows.{Shows}
-use Rattle.expr_exchange.specs.declared.call.Shows.TheVariants as shows
+use Rattle.expr_engine.specs.declared.call.Call.{Call}
+use Rattle.expr_engine.specs.declared.call.Shows.{Shows}
+use Rattle.expr_engine.specs.declared.call.Shows.TheVariants as shows
 use Rattle.expr_engine.specs.declared.engine.Engine.{Engine}
 use Rattle.expr_exchange.specs.Kinds.{bytes_in}
 use Rattle.expr_exchange.specs.Limits.{text_of_limit}
@@ -14,32 +14,31 @@ use Rattle.expr_exchange.specs.declared.host_error.HostError.{HostError}
 use Rattle.expr_exchange.specs.declared.host_error.HostError.TheVariants.{Language, Unknown, Misuse, Asks, Differs, Stopped}
 use Rattle.expr_exchange.specs.declared.host_error.Status.{Status}
 use Rattle.expr_exchange.specs.declared.host_error.Status.TheVariants as ends
-use Rattle.expr_limits.specs.Counting.{stops}
-use Rattle.expr_limits.specs.declared.limit.Limit.TheVariants as limits
+use Rattle.expr_meter.specs.Counting.{stops}
+use Rattle.expr_meter.specs.declared.limit.Limit.TheVariants as limits
 use Rattle.expr_stops.specs.declared.replies.CallReply.{CallReply}
 use Rattle.expr_error.specs.ErrorKind.{error_kind, syntax, literal, evaluation, pattern, memory}
 use Rattle.expr_value.specs.declared.value.Value.{Value}
 
--- the number of a status
-abbrev pub status_number : Status → ℕ
-status_number ends.Done = 0
-status_number ends.Syntax = 1
-status_number ends.Literal = 2
-status_number ends.Evaluation = 3
-status_number ends.Pattern = 4
-status_number ends.Memory = 5
-status_number ends.Unknown = 6
-status_number ends.Misuse = 7
-status_number ends.Asks = 8
-status_number ends.Differs = 9
-status_number ends.Nesting = 10
-status_number ends.Patterns = 11
-status_number ends.Steps = 12
-status_number ends.Depth = 13
-status_number ends.Size = 14
+-- the number of an ending
+abbrev pub number_of : Status → ℕ
+number_of ends.Done = 0
+number_of ends.Syntax = 1
+number_of ends.Literal = 2
+number_of ends.Evaluation = 3
+number_of ends.Pattern = 4
+number_of ends.Memory = 5
+number_of ends.Unknown = 6
+number_of ends.Misuse = 7
+number_of ends.Asks = 8
+number_of ends.Differs = 9
+number_of ends.Height = 10
+number_of ends.Patterns = 11
+number_of ends.Steps = 12
+number_of ends.Depth = 13
+number_of ends.Size = 14
 
--- A run that found all three, with these replies, has the value under the cursor, or an error, or it stops
--- for a reply, or at a limit at which it may stop.
+-- A run that found all three, with these replies, gives the value that is then looked at, or a refusal, or it stops for a reply, or at a limit at which one may stop.
 abbrev pub RunServes : {A : Type 0} → RunInputs → List CallReply → Result A HostError → Value → Type 0
 RunServes q given (Ok shown) value = RunMayAnswer q given (Ok value)
 RunServes q given (Err (Language error)) value = error_kind error ≢ memory → RunMayAnswer q given (Err (error_kind error))
@@ -49,9 +48,8 @@ RunServes q given (Err Asks) value = Unit {0}
 RunServes q given (Err Differs) value = Unit {0}
 RunServes q given (Err (Stopped limit)) value = MayEnd q given (stops limit)
 
--- What the status of such a run says. Its value or its kind of error is one that the meaning allows and that
--- a run within the limits has. Or the limit is one at which a run may stop. The limits of expressions don't
--- occur.
+-- What the ending of such a run says: its value, or its kind of refusal, is one that the meaning allows and to which a run comes within the limits, or the limit is one
+-- at which a run may stop. The limits of texts are none.
 abbrev pub Says : RunInputs → List CallReply → Status → Value → Type 0
 Says q given ends.Done value = RunMayAnswer q given (Ok value)
 Says q given ends.Syntax value = RunMayAnswer q given (Err syntax)
@@ -63,45 +61,44 @@ Says q given ends.Unknown value = ⊥
 Says q given ends.Misuse value = ⊥
 Says q given ends.Asks value = Unit {0}
 Says q given ends.Differs value = Unit {0}
-Says q given ends.Nesting value = ⊥
+Says q given ends.Height value = ⊥
 Says q given ends.Patterns value = ⊥
 Says q given ends.Steps value = MayEnd q given (stops limits.Steps)
 Says q given ends.Depth value = MayEnd q given (stops limits.Depth)
 Says q given ends.Size value = MayEnd q given (stops limits.Size)
 
--- what the number of a status says about a run
+-- the same of the number of an ending
 pub record AnswersNumber (q : RunInputs) (given : List CallReply) (number : ℕ) (value : Value) : Type 0 where
   pub status : Status
-  pub is : number ≡ status_number status
+  pub is : number ≡ number_of status
   pub says : Says q given status value
 
--- A call with this ending has this number, or memory was lacking for its message, if it has one.
+-- A call that ended so has this number, or memory was refused for its message, if it has one.
 abbrev pub EndsCall : {A : Type 0} → Result A HostError → ℕ → Type 0
 EndsCall (Ok shown) number = number ≡ 0
-EndsCall (Err (Language error)) number = (number ≡ status_number (status_of (Language error))) ⊎ (number ≡ 5)
+EndsCall (Err (Language error)) number = (number ≡ number_of (status_of (Language error))) ⊎ (number ≡ 5)
 EndsCall (Err Unknown) number = number ≡ 6
 EndsCall (Err (Misuse why)) number = number ≡ 7
 EndsCall (Err Asks) number = number ≡ 8
 EndsCall (Err Differs) number = number ≡ 9
-EndsCall (Err (Stopped limit)) number = (number ≡ status_number (status_of (Stopped limit))) ⊎ (number ≡ 5)
+EndsCall (Err (Stopped limit)) number = (number ≡ number_of (status_of (Stopped limit))) ⊎ (number ≡ 5)
 
--- the string that an engine returns
+-- the text that an engine shows
 abbrev pub text_shown : Shows → Engine → List ℕ
 text_shown shows.Nothing engine = []
 text_shown shows.Said engine = string_bytes engine.said
 text_shown shows.Value engine = bytes_in (part_of engine.answer)
 
--- a buffer after a string was copied into it: as much of the string as it holds, and its old content after
--- that
+-- a room after a text was written into it: as much of the text as it holds, and what it had behind that
 abbrev pub text_in_room : List ℕ → List ℕ → List ℕ
 text_in_room text room = take (min (length text) (length room)) text ++ drop (min (length text) (length room)) room
 
--- A call has the length of a string, and the string in its buffer.
+-- A call answers how long a text is, and has it in its room.
 pub record ShowsText (text room : List ℕ) (answered : Call) : Type 0 where
   pub count : answered.length ≡ length text
   pub written : answered.room.now ≡ text_in_room text room
 
--- A limit that was passed has its message, and so has a mistake of the host, unless memory is lacking for it.
+-- A limit that was passed is said in words, and so is what a host did wrong, unless memory is refused for that.
 abbrev pub SaysWhy : HostError → List ℕ → Type 0
 SaysWhy (Stopped limit) text = text ≡ text_of_limit limit
 SaysWhy (Misuse why) text = (text ≡ text_of_misuse why) ⊎ (text ≡ [])

@@ -1,19 +1,20 @@
-//! Calls about environments.
+//! Asks about environments.
 ghost use Rattle.std.specs.Prelude.{◌≡◌, ◌≢◌, ◌⊎◌, Err, IfErr, IsUtf8, None, OnErr, OnOk, pos};
 ghost use Rattle.expr_engine.specs.Adding.{IsName};
 ghost use Rattle.expr_engine.specs.Effects.{AddsEnvironment, AddsFixedZone, AddsName, AddsZoneByRule, SetsNow, call_result};
 ghost use Rattle.expr_engine.specs.Engines.{KeepsRest, NumbersRise, SameAdditions};
 ghost use Rattle.expr_engine.specs.Reasons.{RefusesName, RefusesZone};
 ghost use Rattle.expr_exchange.specs.Refusals.{IsForMemory, NotMeant};
-ghost use Rattle.expr_exchange.specs.HandleMap.{SameNext, thing_at};
+ghost use Rattle.expr_handles.specs.HandleMap.{SameNext, thing_at};
 ghost use Rattle.jiff.specs.Instant.{IsTimestampParts};
 
 use crate::additions::Additions;
+use crate::call::Call;
 use crate::engine::Engine;
 use crate::running::utf8;
-use expr_exchange::{Call, HostError, moment_of};
+use expr_exchange::{HostError, moment_of};
 
-/// Makes an environment that adds nothing.
+/// Keeps an environment that adds nothing.
 #[tactic(auto, using(crate::proofs::Unchanged::additions_by_things))]
 pub fn add_environment(engine: &mut Engine, call: &mut Call<'_>) -> Result<(), HostError>
     ensures done { OnOk result (AddsEnvironment engine.old engine.new (call_result call.new)) }
@@ -22,7 +23,7 @@ pub fn add_environment(engine: &mut Engine, call: &mut Call<'_>) -> Result<(), H
     ensures numbers { NumbersRise engine.old engine.new }
     ensures rules { engine.new.rules ≡ engine.old.rules }
     ensures contexts { engine.new.contexts ≡ engine.old.contexts }
-    ensures rest { KeepsRest engine.old engine.new }
+    ensures standing { KeepsRest engine.old engine.new }
     ensures room { call.new.room.now ≡ call.old.room.now }
     ensures why { IfErr result IsForMemory }
 {
@@ -41,7 +42,7 @@ pub fn zone_by_seconds(engine: &mut Engine, call: &Call<'_>) -> Result<(), HostE
     ensures next { SameNext engine.old.environments engine.new.environments }
     ensures rules { engine.new.rules ≡ engine.old.rules }
     ensures contexts { engine.new.contexts ≡ engine.old.contexts }
-    ensures rest { KeepsRest engine.old engine.new }
+    ensures standing { KeepsRest engine.old engine.new }
     ensures why { IfErr result (RefusesZone (IsUtf8 call.now.name.now)) }
 {
     engine.knows_environment(call.environment)?;
@@ -49,7 +50,7 @@ pub fn zone_by_seconds(engine: &mut Engine, call: &Call<'_>) -> Result<(), HostE
     engine.add_zone(call.environment, name, call.number, None)
 }
 
-/// Adds a zone to an environment, by a rule in POSIX form.
+/// Adds a zone to an environment, by a rule in POSIX's form.
 pub fn zone_by_rule(engine: &mut Engine, call: &Call<'_>) -> Result<(), HostError>
     ensures done { OnOk result (AddsZoneByRule engine.old engine.new call.now) }
     ensures unknown { thing_at engine.old.environments call.now.environment ≡ None
@@ -60,7 +61,7 @@ pub fn zone_by_rule(engine: &mut Engine, call: &Call<'_>) -> Result<(), HostErro
     ensures next { SameNext engine.old.environments engine.new.environments }
     ensures rules { engine.new.rules ≡ engine.old.rules }
     ensures contexts { engine.new.contexts ≡ engine.old.contexts }
-    ensures rest { KeepsRest engine.old engine.new }
+    ensures standing { KeepsRest engine.old engine.new }
     ensures why { IfErr result (RefusesZone (IsUtf8 call.now.name.now × IsUtf8 call.now.text.now)) }
 {
     engine.knows_environment(call.environment)?;
@@ -69,7 +70,7 @@ pub fn zone_by_rule(engine: &mut Engine, call: &Call<'_>) -> Result<(), HostErro
     engine.add_zone(call.environment, name, 0, Some(rule))
 }
 
-/// Sets the current time of an environment.
+/// Sets the moment that an environment takes for now.
 pub fn set_now(engine: &mut Engine, call: &Call<'_>) -> Result<(), HostError>
     ensures done { OnOk result (SetsNow engine.old engine.new call.now) }
     ensures unknown { thing_at engine.old.environments call.now.environment ≡ None
@@ -80,7 +81,7 @@ pub fn set_now(engine: &mut Engine, call: &Call<'_>) -> Result<(), HostError>
     ensures next { SameNext engine.old.environments engine.new.environments }
     ensures rules { engine.new.rules ≡ engine.old.rules }
     ensures contexts { engine.new.contexts ≡ engine.old.contexts }
-    ensures rest { KeepsRest engine.old engine.new }
+    ensures standing { KeepsRest engine.old engine.new }
     ensures why { IfErr result (λ e. (e ≡ HostError.Unknown)
         ⊎ NotMeant (IsTimestampParts call.now.number (pos call.now.fraction)) e) }
 {
@@ -89,7 +90,7 @@ pub fn set_now(engine: &mut Engine, call: &Call<'_>) -> Result<(), HostError>
     engine.set_now(call.environment, now)
 }
 
-/// Adds a name to the functions of an environment that the host runs itself.
+/// Adds a name to the functions of an environment that the host answers itself.
 pub fn add_name(engine: &mut Engine, call: &Call<'_>) -> Result<(), HostError>
     ensures done { OnOk result (AddsName engine.old engine.new call.now) }
     ensures unknown { thing_at engine.old.environments call.now.environment ≡ None
@@ -100,7 +101,7 @@ pub fn add_name(engine: &mut Engine, call: &Call<'_>) -> Result<(), HostError>
     ensures next { SameNext engine.old.environments engine.new.environments }
     ensures rules { engine.new.rules ≡ engine.old.rules }
     ensures contexts { engine.new.contexts ≡ engine.old.contexts }
-    ensures rest { KeepsRest engine.old engine.new }
+    ensures standing { KeepsRest engine.old engine.new }
     ensures why { IfErr result (RefusesName (IsUtf8 call.now.name.now × IsName call.now.name.now)) }
 {
     engine.knows_environment(call.environment)?;

@@ -1,22 +1,23 @@
-//! What a host adds to the language: zones, the current time, and the names of functions that it runs itself.
+//! What a host adds to the language: zones, the moment that is now, and the names of functions that it answers itself.
 ghost use Rattle.std.specs.Prelude.{◌≡◌, ◌↔◌, ℕ, List, IfErr, IfOk, OnErr, OnOk, IfSome, IsNone, IsTrue};
-ghost use Rattle.expr_engine.specs.Adding.{AddsNothing, BecomesByRule, BecomesFixed, BecomesNow, GainsName, GainsZone, IsName, is_this_word, is_word_alone};
-ghost use Rattle.expr_engine.specs.Runs.{named_at, names_in, zone_added};
+ghost use Rattle.expr_engine.specs.Adding.{AddsNothing, BecomesByRule, BecomesFixed, BecomesNow, GainsName, GainsZone, IsName, is_this_word, is_word};
+ghost use Rattle.expr_engine.specs.Runs.{named_at, names_in, zone_at};
 ghost use Rattle.expr_datetime.specs.Times.{plain_rules};
 ghost use Rattle.expr_error.specs.ErrorKind.{OnlyMemory, RefusesWith, evaluation};
 ghost use Rattle.expr_exchange.specs.Refusals.{NotMeant};
 
+use expr::{DateTimeValue, Error, Result, TimezoneValue, Value};
 use expr_exchange::{HostError, Misuse};
 use expr_meaning::{ExprCall, Functions};
 use expr_stops::StopNames;
-use expr_tokens::{Token, read};
-use expr_value::{DateTimeValue, Error, Result, TimezoneValue, Value, refusal};
+use expr_token::{Token, read};
+use expr_value::refusal;
 use indexmap::IndexMap;
 use jiff::Timestamp;
 use jiff::tz::{Offset, TimeZone};
 use std::alloc::Global;
 
-/// The zones that a host has added, its current time, and the names of the functions that it runs itself.
+/// The zones and the moment that a host has added, and the names of functions that it answers itself.
 #[derive(Drop)]
 pub struct Additions {
     alloc: Global,
@@ -26,7 +27,7 @@ pub struct Additions {
 }
 
 impl Additions {
-    /// Creates empty additions. It allocates no memory.
+    /// Nothing added. It takes no memory.
     pub fn new(alloc: Global) -> Additions
         ensures { AddsNothing result }
     {
@@ -38,16 +39,15 @@ impl Additions {
         }
     }
 
-    /// Adds a zone whose clock is this many seconds ahead of UTC. It replaces an earlier zone of this name.
+    /// Adds a zone whose clock is so many seconds ahead of UTC, in place of an earlier one of this name.
     ///
     /// # Errors
     ///
-    /// Returns `ExprError` if the name is `UTC`, which always exists, or if `seconds` is out of the range of
-    /// a clock. Returns `MemoryError` if an allocation fails.
+    /// `ExprError` for `UTC`, which is always known, and for more than a day, or `MemoryError`.
     pub fn add_fixed(&mut self, name: &str, seconds: i64) -> Result<()>
         ensures added { OnOk result (BecomesFixed name.now seconds self.old self.new) }
         ensures refusal { RefusesWith result (λ k. k ≡ evaluation) }
-        ensures err { OnErr result ((key : List ℕ) → zone_added self.new key ≡ zone_added self.old key) }
+        ensures err { OnErr result ((key : List ℕ) → zone_at self.new key ≡ zone_at self.old key) }
         ensures moment { self.new.moment ≡ self.old.moment }
         ensures names { names_in self.new ≡ names_in self.old }
     {
@@ -57,16 +57,15 @@ impl Additions {
         }
     }
 
-    /// Adds a zone by a rule in POSIX form. It replaces an earlier zone of this name.
+    /// Adds a zone by a rule in POSIX's form, in place of an earlier one of this name.
     ///
     /// # Errors
     ///
-    /// Returns `ExprError` if the name is `UTC` or the rule is not valid, and `MemoryError` if an allocation
-    /// fails.
+    /// `ExprError` for `UTC` and for what is no rule, or `MemoryError`.
     pub fn add_rule(&mut self, name: &str, rule: &str) -> Result<()>
         ensures added { OnOk result (BecomesByRule name.now rule.now self.old self.new) }
         ensures refusal { RefusesWith result (λ k. k ≡ evaluation) }
-        ensures err { OnErr result ((key : List ℕ) → zone_added self.new key ≡ zone_added self.old key) }
+        ensures err { OnErr result ((key : List ℕ) → zone_at self.new key ≡ zone_at self.old key) }
         ensures moment { self.new.moment ≡ self.old.moment }
         ensures names { names_in self.new ≡ names_in self.old }
     {
@@ -80,13 +79,13 @@ impl Additions {
     ///
     /// # Errors
     ///
-    /// Returns the errors of [`Additions::add_rule`] and [`Additions::add_fixed`].
+    /// What [`Additions::add_rule`] and [`Additions::add_fixed`] refuse.
     pub fn add_zone(&mut self, name: &str, seconds: i64, rule: Option<&str>) -> Result<()>
         ensures fixed { OnOk result (IsNone rule.entry → BecomesFixed name.now seconds self.old self.new) }
         ensures by_rule { OnOk result (IfSome rule.entry
             (λ rule. BecomesByRule name.now rule.now self.old self.new)) }
         ensures refusal { RefusesWith result (λ k. k ≡ evaluation) }
-        ensures err { OnErr result ((key : List ℕ) → zone_added self.new key ≡ zone_added self.old key) }
+        ensures err { OnErr result ((key : List ℕ) → zone_at self.new key ≡ zone_at self.old key) }
         ensures moment { self.new.moment ≡ self.old.moment }
         ensures names { names_in self.new ≡ names_in self.old }
     {
@@ -99,7 +98,7 @@ impl Additions {
     fn add(&mut self, name: &str, rules: TimeZone<'static>) -> Result<()>
         ensures added { OnOk result (GainsZone name.now (plain_rules rules.entry) self.old self.new) }
         ensures refusal { RefusesWith result (λ k. k ≡ evaluation) }
-        ensures err { OnErr result ((key : List ℕ) → zone_added self.new key ≡ zone_added self.old key) }
+        ensures err { OnErr result ((key : List ℕ) → zone_at self.new key ≡ zone_at self.old key) }
         ensures moment { self.new.moment ≡ self.old.moment }
         ensures names { names_in self.new ≡ names_in self.old }
     {
@@ -113,17 +112,17 @@ impl Additions {
         Ok(())
     }
 
-    /// Adds a name to the functions that the host runs itself.
+    /// Adds a name to the functions that the host answers itself.
     ///
     /// # Errors
     ///
-    /// Returns `Misuse` if it is not a name of the language, and `MemoryError` if an allocation fails.
+    /// `Misuse` for what isn't a name of the language, or `MemoryError`.
     pub fn add_name(&mut self, name: &str) -> std::result::Result<(), HostError>
         ensures added { OnOk result (GainsName name.now self.old self.new) }
         ensures name { OnOk result (IsName name.now) }
         ensures refusal { IfErr result (NotMeant (IsName name.now)) }
         ensures err { OnErr result ((key : List ℕ) → named_at self.new key ≡ named_at self.old key) }
-        ensures zones { (key : List ℕ) → zone_added self.new key ≡ zone_added self.old key }
+        ensures zones { (key : List ℕ) → zone_at self.new key ≡ zone_at self.old key }
         ensures moment { self.new.moment ≡ self.old.moment }
     {
         if !is_name(self.alloc, name)? {
@@ -132,14 +131,14 @@ impl Additions {
         Ok(self.names.add(self.alloc, name)?)
     }
 
-    /// The names of the functions that the host runs itself.
+    /// The names of the functions that the host answers itself.
     pub fn names(&self) -> &StopNames
         ensures { result.now ≡ names_in self.now }
     {
         &self.names
     }
 
-    /// Sets the current time, as a DateTime in UTC.
+    /// Sets the moment that is taken for now, on a clock in UTC.
     pub fn set_now(&mut self, now: Timestamp)
         ensures { BecomesNow now.nanosecond self.old self.new }
     {
@@ -147,7 +146,7 @@ impl Additions {
     }
 }
 
-/// The additions of an environment, or none.
+/// What an environment adds, or nothing where there is none.
 #[derive(Clone, Copy)]
 pub struct LentHost<'a> {
     pub added: Option<&'a Additions>,
@@ -182,7 +181,7 @@ impl<'a> Functions for LentHost<'a> {
     }
 }
 
-/// Whether a string is a name of the language: it reads as a single word that isn't reserved.
+/// Whether a text is a name of the language: it reads as one word that isn't reserved, and as nothing else.
 fn is_name(alloc: Global, text: &str) -> Result<bool>
     ensures ok { IfOk result (λ b. IsTrue b ↔ IsName text.now) }
     ensures err { OnlyMemory result }
@@ -194,10 +193,10 @@ fn is_name(alloc: Global, text: &str) -> Result<bool>
     Ok(is_word(&reading.tokens, text))
 }
 
-/// Whether the tokens are this word alone.
+/// Whether tokens are a word alone, which is this text.
 #[tactic(auto, using(crate::proofs::Named::no_word, crate::proofs::Named::no_token, crate::proofs::Named::one_token))]
 fn is_word(tokens: &[Token], text: &str) -> bool
-    ensures { result ≡ is_word_alone tokens.now text.now }
+    ensures { result ≡ is_word tokens.now text.now }
 {
     if tokens.len() != 1 {
         return false;
@@ -208,7 +207,7 @@ fn is_word(tokens: &[Token], text: &str) -> bool
     }
 }
 
-/// Whether a token is this word, and not a reserved one.
+/// Whether a token is a word that isn't reserved, which is this text.
 fn is_this_word(token: &Token, text: &str) -> bool
     ensures { result ≡ is_this_word token.now text.now }
 {
@@ -218,7 +217,7 @@ fn is_this_word(token: &Token, text: &str) -> bool
     }
 }
 
-/// The offset of a clock that is this many seconds ahead of UTC, if it is in range.
+/// The offset of a clock that is so many seconds ahead of UTC.
 fn offset_ahead(seconds: i64) -> Option<Offset>
     ensures { IfSome result (λ offset. offset.seconds ≡ seconds) }
 {

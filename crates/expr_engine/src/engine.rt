@@ -1,5 +1,5 @@
-//! An engine: programs, contexts and environments under handles, the values being built, the last result, the
-//! last message, and the run that waits for a host's reply.
+//! An engine: programs, contexts and environments under handles, what is built, the last answer, what was said last, and the
+//! run that waits for a host's reply.
 ghost use Rattle.std.specs.Prelude.{◌≡◌, ◌≢◌, [], string_bytes, IfOk, IfErr, OnOk, OnErr, IfSome, IsSome, IsOk, IsNone, MatchOption, Err, None, Some, ◌⊎◌};
 ghost use Rattle.std.specs.List.{Contains};
 ghost use Rattle.std.specs.Option.{option_copied};
@@ -10,19 +10,19 @@ ghost use Rattle.expr_engine.specs.Faults.{IsNotedAt, fault_byte, refused_byte};
 ghost use Rattle.expr_engine.specs.Limiting.{IsProgramBy};
 ghost use Rattle.expr_engine.specs.Promised.{IsNew};
 ghost use Rattle.expr_engine.specs.Reasons.{IsUnknownOrForMemory, RefusesName, RefusesZone};
-ghost use Rattle.expr_engine.specs.Runs.{names_or_none};
+ghost use Rattle.expr_engine.specs.Runs.{pairs_of};
 ghost use Rattle.expr_engine.specs.Served.{RunServes, SaysWhy};
 ghost use Rattle.expr_engine.specs.Turns.{IsNewRun, IsRefusal, IsSameRun, PassesOn, RunGoesOn, WaitsIfAsks, finds_nothing, is_unknown};
 ghost use Rattle.expr_exchange.specs.Cursor.{part_of, way_of};
 ghost use Rattle.expr_exchange.specs.Misuses.{text_of_misuse};
 ghost use Rattle.expr_exchange.specs.Refusals.{ReturnsToHost};
-ghost use Rattle.expr_exchange.specs.HandleMap.{SameNext, SameThings, thing_at};
-ghost use Rattle.expr_limits.specs.Counting.{stops as stops_at};
+ghost use Rattle.expr_handles.specs.HandleMap.{SameNext, SameThings, thing_at};
+ghost use Rattle.expr_meter.specs.Counting.{stops as stops_at};
 ghost use Rattle.expr_stops.specs.Stops.{waiting_call_of, replies_of};
 ghost use Rattle.expr_stops.specs.declared.replies.Reply.TheVariants as reply;
-ghost use Rattle.expr_lowering.specs.OwnedCodes.{owned_blocks};
+ghost use Rattle.expr.specs.KeptCodes.{kept_blocks};
 ghost use Rattle.expr_exchange.specs.declared.misuse.Misuse.{Misuse as Wrong};
-ghost use Rattle.expr_lowering.specs.HostNeeds.{AreFunctionsOf};
+ghost use Rattle.expr_needs.specs.Needs.{AreFunctionsOf};
 ghost use Rattle.expr_tree.specs.Names.{AreNamesOf, block_operands, env};
 ghost use Rattle.expr_tree.specs.TermOf.{program_term};
 ghost use Rattle.expr_value.specs.Names.{put};
@@ -31,18 +31,16 @@ use crate::additions::{Additions, LentHost};
 use crate::lent::LentNames;
 use crate::rule::Rule;
 use crate::waiting_run::WaitingRun;
-use expr_context::Context;
+use expr::{Context, Error, Limits, Outcome, Value, line_column_of};
 use expr_encoding::JsonReader;
-use expr_exchange::{Handle, HandleMap, HostError, Misuse, ValueBuilder, ValueCursor, limit_text};
-use expr_limits::{Limits, Outcome};
-use expr_lowering::with_nil;
-use expr_stops::{RunStatus, Stops};
-use expr_syntax::line_column_of;
-use expr_value::{Error, Value};
+use expr_exchange::{HostError, Misuse, ValueBuilder, ValueCursor, limit_text};
+use expr_handles::{Handle, HandleMap};
+use expr_needs::with_nil;
+use expr_stops::{Stops, Turn};
 use jiff::Timestamp;
 use std::alloc::Global;
 
-/// An engine. It keeps programs, contexts and environments, and runs the programs.
+/// An engine.
 #[derive(Drop)]
 pub struct Engine {
     pub alloc: Global,
@@ -53,16 +51,16 @@ pub struct Engine {
     pub answer: ValueCursor,
     pub said: String,
     pub waits: WaitingRun,
-    /// Reads the JSON that calls pass in. Its memory is used again for the next text.
+    /// What reads JSON that is handed in. Its memory is used again for the next text.
     pub reader: JsonReader,
-    /// The limits of compiling and running. Without limits these may take all there is.
+    /// What texts and runs may take. Without limits they may take all that there is.
     pub limits: Option<Limits>,
 }
 
-/// A number that no handle has. It means no context, or no environment.
+/// The number that no handle has: there is no context, or no environment.
 pub const NO_NUMBER: u64 = u64::MAX;
 
-/// A position in an expression: its byte from 0, and its line and column from 1.
+/// A place in a text, as a person finds it: its line and its character, from 1.
 #[derive(Clone, Copy)]
 pub struct TextPlace {
     pub byte: usize,
@@ -71,8 +69,8 @@ pub struct TextPlace {
 }
 
 impl Engine {
-    /// Creates an empty engine with the limits for untrusted expressions. Its handles have this tag, which
-    /// tells engines apart. It allocates no memory.
+    /// An engine that keeps nothing, with the limits for strangers. Each of its handles has this tag, by which engines are told
+    /// apart. It takes no memory.
     pub fn new(alloc: Global, tag: u32) -> Engine
         ensures { IsNew tag result }
     {
@@ -86,16 +84,11 @@ impl Engine {
             said: String::new(alloc),
             waits: WaitingRun::new(alloc),
             reader: JsonReader::new(alloc),
-            limits: Some(Limits::untrusted()),
+            limits: Some(Limits::for_strangers()),
         }
     }
 
-    /// Compiles an expression within the limits, and keeps the program.
-    ///
-    /// # Errors
-    ///
-    /// Returns the errors of `compile`, `Stopped` if a limit is passed, and `MemoryError` if an allocation
-    /// fails.
+    /// Keeps the program of a text, if it is within the limits.
     pub fn compile(&mut self, text: &str) -> Result<Handle, HostError>
         ensures kept { IfOk result (Adds (λ rule. IsProgramBy self.old.limits text.now
             (program_term rule.program)) self.old.rules self.new.rules) }
@@ -106,7 +99,7 @@ impl Engine {
         ensures contexts { self.new.contexts ≡ self.old.contexts }
         ensures environments { self.new.environments ≡ self.old.environments }
         ensures built { self.new.built ≡ self.old.built }
-        ensures rest { KeepsRest self.old self.new }
+        ensures standing { KeepsRest self.old self.new }
     {
         match Rule::compile(self.alloc, text, self.limits)? {
             Outcome::Answered(rule) => Ok(self.rules.put(rule)?),
@@ -114,11 +107,7 @@ impl Engine {
         }
     }
 
-    /// The names that a program uses, each on a line, and their count.
-    ///
-    /// # Errors
-    ///
-    /// Returns `Unknown` if the handle finds nothing, and `MemoryError` if an allocation fails.
+    /// The names that a program asks for, each on a line, and how many they are.
     pub fn names(&self, program: Handle) -> Result<(String, usize), HostError>
         ensures said { MatchOption (thing_at self.now.rules program) (result ≡ Err HostError.Unknown)
             (λ rule. IfOk result (λ p. AreSaid (λ names. AreNamesOf names (program_term rule.program))
@@ -133,14 +122,10 @@ impl Engine {
         }
     }
 
-    /// The functions that a program calls, each on a line, and their count.
-    ///
-    /// # Errors
-    ///
-    /// Returns `Unknown` if the handle finds nothing, and `MemoryError` if an allocation fails.
+    /// The functions that a program calls, each on a line, and how many they are.
     pub fn functions(&self, program: Handle) -> Result<(String, usize), HostError>
         ensures said { MatchOption (thing_at self.now.rules program) (result ≡ Err HostError.Unknown)
-            (λ rule. IfOk result (λ p. AreSaid (λ names. AreFunctionsOf names (owned_blocks rule.code))
+            (λ rule. IfOk result (λ p. AreSaid (λ names. AreFunctionsOf names (kept_blocks rule.code))
             (string_bytes p.0) p.1)) }
         ensures unknown { thing_at self.now.rules program ≡ None → result ≡ Err HostError.Unknown }
         ensures known { result ≡ Err HostError.Unknown → thing_at self.now.rules program ≡ None }
@@ -152,11 +137,7 @@ impl Engine {
         }
     }
 
-    /// Whether a program uses `$env` as an operand: 1 or 0.
-    ///
-    /// # Errors
-    ///
-    /// Returns `Unknown` if the handle finds nothing.
+    /// Whether `$env` stands as an operand in a program: 1 or 0.
     pub fn uses_env(&self, program: Handle) -> Result<i64, HostError>
         ensures told { MatchOption (thing_at self.now.rules program) (result ≡ Err HostError.Unknown)
             (λ rule. IfOk result (λ n. TellsWhether
@@ -171,11 +152,11 @@ impl Engine {
         }
     }
 
-    /// The names of a context, or none for no context.
+    /// The names of a context, or none where there is no context.
     #[inline(always)]
     fn names_of(&self, context: Handle) -> Result<LentNames<'_>, HostError>
         ensures found { IfOk result (λ lent. names_at self.now context
-            ≡ Some (names_or_none (option_copied lent.names))) }
+            ≡ Some (pairs_of (option_copied lent.names))) }
         ensures unknown { IfErr result (λ e. (e ≡ HostError.Unknown) × (names_at self.now context ≡ None)) }
     {
         if context.number == NO_NUMBER {
@@ -187,7 +168,7 @@ impl Engine {
         }
     }
 
-    /// The additions of an environment, or none for no environment.
+    /// What an environment adds, or nothing where there is no environment.
     #[inline(always)]
     fn host_of(&self, environment: Handle) -> Result<LentHost<'_>, HostError>
         ensures found { IfOk result (λ lent. additions_at self.now environment
@@ -204,8 +185,8 @@ impl Engine {
         }
     }
 
-    /// Runs a program within the limits, with the replies that its run has. It ends at the program's end, or
-    /// at the next call of a function that the host runs itself.
+    /// Runs a program within the limits, with the replies that a run has, up to its end or to its next call that the host
+    /// answers itself.
     #[inline(always)]
     fn turn(
         &self,
@@ -230,19 +211,14 @@ impl Engine {
         let host = self.host_of(environment)?;
         let names = self.names_of(context)?;
         match rule.turn(self.alloc, host, names, stops, self.limits) {
-            RunStatus::Ended(answer) => Ok(answer?),
-            RunStatus::Asks => Err(HostError::Asks),
-            RunStatus::Differs(_) => Err(HostError::Differs),
-            RunStatus::Stopped(limit) => Err(HostError::Stopped(limit)),
+            Turn::Ended(answer) => Ok(answer?),
+            Turn::Asks => Err(HostError::Asks),
+            Turn::Differs(_) => Err(HostError::Differs),
+            Turn::Stopped(limit) => Err(HostError::Stopped(limit)),
         }
     }
 
-    /// Starts a run of a program in an environment and a context, and keeps its result.
-    ///
-    /// # Errors
-    ///
-    /// Returns `Unknown` if a handle finds nothing, the errors of the run, `Stopped` if a limit is passed,
-    /// and `Asks` if the run needs the host's reply.
+    /// Begins a run of a program in an environment and a context, and keeps what it answers.
     pub fn run(
         &mut self,
         program: Handle,
@@ -277,7 +253,7 @@ impl Engine {
         self.keep(answer)
     }
 
-    /// Starts a run without an environment. It comes to no function that the host runs itself.
+    /// Begins a run where there is no environment, so that it comes to no call that the host answers itself.
     #[inline(always)]
     fn run_alone(
         &mut self,
@@ -305,7 +281,7 @@ impl Engine {
         self.keep(answer)
     }
 
-    /// Runs a program in a context within the limits, without an environment.
+    /// What a program answers in a context within the limits, where there is no environment.
     #[inline(always)]
     fn answer_alone(&self, program: Handle, context: Handle) -> Result<Value, HostError>
         ensures ended { (alone : Handle) → alone.number ≡ no_number
@@ -326,7 +302,7 @@ impl Engine {
         }
     }
 
-    /// Checks the handles of a run. It is an error if one of them finds nothing.
+    /// Refuses handles of which one finds nothing.
     #[inline(always)]
     fn knows_run(
         &self,
@@ -346,7 +322,7 @@ impl Engine {
         Ok(())
     }
 
-    /// Keeps the result of a run.
+    /// Keeps what a run answers.
     #[inline(always)]
     fn keep(&mut self, answer: Result<Value, HostError>) -> Result<(), HostError>
         ensures passed { PassesOn answer result (part_of self.new.answer) }
@@ -361,11 +337,7 @@ impl Engine {
         Ok(())
     }
 
-    /// Checks that a call waits, and that the handles of its run find something.
-    ///
-    /// # Errors
-    ///
-    /// Returns `Misuse` if no call waits, and `Unknown` if a handle of its run finds nothing.
+    /// Refuses where no call waits, or where a handle of its run finds nothing.
     pub fn knows_waiting(&self) -> Result<(), HostError>
         ensures waits { OnOk result (IsSome (waiting_call_of self.now.waits.stops)) }
         ensures found { OnOk result (IsSome (waiting_inputs self.now)) }
@@ -383,13 +355,7 @@ impl Engine {
         self.knows_run(waits.program, waits.environment, waits.context)
     }
 
-    /// Replies with a value to the waiting call, and continues its run.
-    ///
-    /// # Errors
-    ///
-    /// Returns `Misuse` if no call waits, and `Unknown` if a handle of its run finds nothing. Returns the
-    /// errors of the run, `Stopped` if a limit is passed, `Asks` if it needs another reply, and `Differs` if
-    /// it comes to another call than before.
+    /// Answers the call that waits with a value, and goes on with its run.
     pub fn reply(&mut self, value: Value) -> Result<(), HostError>
         ensures replied { IsSome (waiting_call_of self.old.waits.stops) → IsSome (waiting_inputs self.old)
             → RunGoesOn (λ r. r ≡ reply.Value value) (waiting_inputs self.old)
@@ -409,13 +375,7 @@ impl Engine {
         self.go_on()
     }
 
-    /// Replies with an error of this message to the waiting call, and continues its run.
-    ///
-    /// # Errors
-    ///
-    /// Returns `Misuse` if no call waits, and `Unknown` if a handle of its run finds nothing. Returns the
-    /// errors of the run, `Stopped` if a limit is passed, `Asks` if it needs another reply, and `Differs` if
-    /// it comes to another call than before.
+    /// Refuses the call that waits with a text, and goes on with its run.
     pub fn refuse(&mut self, text: &str) -> Result<(), HostError>
         ensures replied { IsSome (waiting_call_of self.old.waits.stops) → IsSome (waiting_inputs self.old)
             → RunGoesOn (IsRefusal text.now) (waiting_inputs self.old) self.old.waits self.new.waits result
@@ -434,7 +394,7 @@ impl Engine {
         self.go_on()
     }
 
-    /// Continues the run that has a reply, and keeps its result.
+    /// Goes on with the run that has a reply, and keeps what it answers.
     #[inline(always)]
     fn go_on(&mut self) -> Result<(), HostError>
         ensures ended { MatchOption (waiting_inputs self.old) (result ≡ Err HostError.Unknown)
@@ -458,11 +418,7 @@ impl Engine {
         self.keep(answer)
     }
 
-    /// Checks that a handle finds a context.
-    ///
-    /// # Errors
-    ///
-    /// Returns `Unknown` if it finds none.
+    /// Refuses a handle that finds no context.
     pub fn knows_context(&self, context: Handle) -> Result<(), HostError>
         ensures found { MatchOption (thing_at self.now.contexts context) (result ≡ Err HostError.Unknown)
             (λ _. IsOk result) }
@@ -474,11 +430,7 @@ impl Engine {
         }
     }
 
-    /// Checks that a handle finds an environment.
-    ///
-    /// # Errors
-    ///
-    /// Returns `Unknown` if it finds none.
+    /// Refuses a handle that finds no environment.
     pub fn knows_environment(&self, environment: Handle) -> Result<(), HostError>
         ensures found { MatchOption (thing_at self.now.environments environment)
             (result ≡ Err HostError.Unknown) (λ _. IsOk result) }
@@ -490,11 +442,7 @@ impl Engine {
         }
     }
 
-    /// Sets a name in a context.
-    ///
-    /// # Errors
-    ///
-    /// Returns `Unknown` if the handle finds nothing, and `MemoryError` if an allocation fails.
+    /// Puts a value under a name in a context.
     pub fn set(&mut self, context: Handle, name: &str, value: Value) -> Result<(), HostError>
         ensures set { OnOk result (Changes (λ was is. is ≡ put name.now value was) self.old.contexts
             self.new.contexts context) }
@@ -505,7 +453,7 @@ impl Engine {
         ensures rules { self.new.rules ≡ self.old.rules }
         ensures environments { self.new.environments ≡ self.old.environments }
         ensures built { self.new.built ≡ self.old.built }
-        ensures rest { KeepsRest self.old self.new }
+        ensures standing { KeepsRest self.old self.new }
         ensures why { IfErr result IsUnknownOrForMemory }
     {
         self.knows_context(context)?;
@@ -519,13 +467,8 @@ impl Engine {
         Ok(done?)
     }
 
-    /// Sets nil in a context for each missing name that a program looks up only outside of predicates.
-    /// Returns how many there are. If the context has them all, it stays untouched; otherwise its copy is
-    /// filled and replaces it.
-    ///
-    /// # Errors
-    ///
-    /// Returns `Unknown` if a handle finds nothing, and `MemoryError` if an allocation fails.
+    /// Puts nil in a context under each name that a program looks up outside of predicates alone and that the context doesn't
+    /// have. Answers how many these are. A context that has them all isn't touched, and another is copied first.
     pub fn fill_missing(&mut self, program: Handle, context: Handle) -> Result<usize, HostError>
         ensures filled { IfOk result (λ count. FillsContext self.old.rules program self.old.contexts
             self.new.contexts context count) }
@@ -538,7 +481,7 @@ impl Engine {
         ensures rules { self.new.rules ≡ self.old.rules }
         ensures environments { self.new.environments ≡ self.old.environments }
         ensures built { self.new.built ≡ self.old.built }
-        ensures rest { KeepsRest self.old self.new }
+        ensures standing { KeepsRest self.old self.new }
         ensures why { IfErr result IsUnknownOrForMemory }
     {
         let Some(rule) = self.rules.get(program) else {
@@ -558,10 +501,6 @@ impl Engine {
     }
 
     /// Adds a zone to an environment, by the seconds that its clock is ahead of UTC or by a rule.
-    ///
-    /// # Errors
-    ///
-    /// Returns `Unknown` if the handle finds nothing, and the errors of [`Additions::add_zone`].
     pub fn add_zone(
         &mut self,
         environment: Handle,
@@ -580,7 +519,7 @@ impl Engine {
         ensures rules { self.new.rules ≡ self.old.rules }
         ensures contexts { self.new.contexts ≡ self.old.contexts }
         ensures built { self.new.built ≡ self.old.built }
-        ensures rest { KeepsRest self.old self.new }
+        ensures standing { KeepsRest self.old self.new }
         ensures why { IfErr result (RefusesZone (Unit {0})) }
     {
         let mut host = Additions::new(self.alloc);
@@ -592,11 +531,7 @@ impl Engine {
         Ok(done?)
     }
 
-    /// Adds a name to the functions of an environment that the host runs itself.
-    ///
-    /// # Errors
-    ///
-    /// Returns `Unknown` if the handle finds nothing, and the errors of [`Additions::add_name`].
+    /// Adds a name to the functions of an environment that the host answers itself.
     pub fn add_name(&mut self, environment: Handle, name: &str) -> Result<(), HostError>
         ensures added { OnOk result (Changes (GainsName name.now) self.old.environments
             self.new.environments environment) }
@@ -607,7 +542,7 @@ impl Engine {
         ensures rules { self.new.rules ≡ self.old.rules }
         ensures contexts { self.new.contexts ≡ self.old.contexts }
         ensures built { self.new.built ≡ self.old.built }
-        ensures rest { KeepsRest self.old self.new }
+        ensures standing { KeepsRest self.old self.new }
         ensures why { IfErr result (RefusesName (IsName name.now)) }
     {
         let mut host = Additions::new(self.alloc);
@@ -619,11 +554,7 @@ impl Engine {
         Ok(done?)
     }
 
-    /// Sets the current time of an environment.
-    ///
-    /// # Errors
-    ///
-    /// Returns `Unknown` if the handle finds nothing.
+    /// Sets the moment that an environment takes for now.
     pub fn set_now(&mut self, environment: Handle, now: Timestamp) -> Result<(), HostError>
         ensures set { OnOk result (Changes (BecomesNow now.nanosecond) self.old.environments
             self.new.environments environment) }
@@ -634,7 +565,7 @@ impl Engine {
         ensures rules { self.new.rules ≡ self.old.rules }
         ensures contexts { self.new.contexts ≡ self.old.contexts }
         ensures built { self.new.built ≡ self.old.built }
-        ensures rest { KeepsRest self.old self.new }
+        ensures standing { KeepsRest self.old self.new }
         ensures why { IfErr result (λ e. e ≡ HostError.Unknown) }
     {
         let mut host = Additions::new(self.alloc);
@@ -646,8 +577,8 @@ impl Engine {
         Ok(())
     }
 
-    /// Drops everything that the engine keeps, except the limits. No old handle finds anything after that,
-    /// and none is given again.
+    /// Lets go of all that is kept, and of its memory. Handles that were given find nothing, and are not given again. The
+    /// limits stay: they are no thing that is kept.
     pub fn clear(&mut self)
         ensures done { ForgetsAll self.old self.new }
         ensures numbers { NumbersRise self.old self.new }
@@ -664,16 +595,11 @@ impl Engine {
         self.reader = JsonReader::new(alloc);
     }
 
-    /// Sets the message for an error. Returns the position of a syntax error.
-    ///
-    /// # Errors
-    ///
-    /// Returns `ExprError` if the position is not a character boundary, and `MemoryError` if an allocation
-    /// fails.
+    /// Notes what is said of a refusal, and where a text is refused.
     pub fn note(&mut self, refused: &HostError, text: &[u8]) -> Result<Option<TextPlace>, Error>
         ensures kept { KeepsThings self.old self.new }
         ensures built { self.new.built ≡ self.old.built }
-        ensures rest { KeepsRest self.old self.new }
+        ensures standing { KeepsRest self.old self.new }
         ensures noted { IfOk result (IsNotedAt (refused_byte refused.now) text.now) }
         ensures unknown { refused.now ≡ HostError.Unknown → IsOk result }
         ensures misuse { (why : Wrong) → refused.now ≡ HostError.Misuse why → IsOk result }
@@ -696,11 +622,11 @@ impl Engine {
         }
     }
 
-    /// Sets the message for an error of the language. Returns the position of a syntax error.
+    /// Notes what is said of a refusal of the language, and where a text is refused.
     fn note_error(&mut self, error: &Error, text: &[u8]) -> Result<Option<TextPlace>, Error>
         ensures kept { KeepsThings self.old self.new }
         ensures built { self.new.built ≡ self.old.built }
-        ensures rest { KeepsRest self.old self.new }
+        ensures standing { KeepsRest self.old self.new }
         ensures noted { IfOk result (IsNotedAt (fault_byte error.now) text.now) }
     {
         match fault_of(error) {
@@ -712,11 +638,11 @@ impl Engine {
         }
     }
 
-    /// Returns the position of a syntax error. The message is its line with a caret under the position.
+    /// Notes where a text is refused, and says the line with a caret under that place.
     fn note_fault(&mut self, byte: usize, text: &[u8]) -> Result<Option<TextPlace>, Error>
         ensures kept { KeepsThings self.old self.new }
         ensures built { self.new.built ≡ self.old.built }
-        ensures rest { KeepsRest self.old self.new }
+        ensures standing { KeepsRest self.old self.new }
         ensures noted { IfOk result (IsNotedAt (Some byte) text.now) }
     {
         let Ok(text) = std::str::from_utf8(text) else {
@@ -752,7 +678,7 @@ fn is_unknown(refused: &HostError) -> bool
     }
 }
 
-/// The message for a mistake of the host. It is empty if its allocation fails.
+/// What a host did wrong as a sentence, or nothing where memory for it is refused.
 fn sentence_of(alloc: Global, misuse: Misuse) -> String
     ensures { (string_bytes result ≡ text_of_misuse misuse) ⊎ (string_bytes result ≡ []) }
 {
@@ -762,7 +688,7 @@ fn sentence_of(alloc: Global, misuse: Misuse) -> String
     }
 }
 
-/// The byte of a syntax error.
+/// The byte at which a text is refused.
 fn fault_of(error: &Error) -> Option<usize>
     ensures { result ≡ fault_byte error.now }
 {

@@ -1,9 +1,8 @@
-//! The names for a run: those of a context, or none.
-use expr_context::{Context, ContextProvider};
-use expr_value::{Result, Value};
+//! The names that a run asks for: those of a context, or none.
+use expr::{Context, ContextProvider, Result, Value};
 use std::alloc::Global;
 
-/// The names of a context, or none.
+/// The names of a context, or none where there is no context.
 #[derive(Clone, Copy, Drop)]
 pub struct LentNames<'a> {
     pub names: Option<&'a Context>,
@@ -11,10 +10,10 @@ pub struct LentNames<'a> {
 
 impl<'a> ContextProvider for LentNames<'a> {
     ghost use Rattle.std.specs.Option.{option_copied};
-    ghost use Rattle.expr_context.specs.Contexts.{context_of};
-    ghost use Rattle.expr_engine.specs.Runs.{names_or_none};
+    ghost use Rattle.expr.specs.Contexts.{context_of};
+    ghost use Rattle.expr_engine.specs.Runs.{pairs_of};
 
-    ghost context = { λ lent. context_of (names_or_none (option_copied lent.names)) };
+    ghost context = { λ lent. context_of (pairs_of (option_copied lent.names)) };
 
     fn get(&self, key: &str) -> Option<&Value> {
         match self.names {

@@ -1,14 +1,15 @@
-//! Calls that drop what the engine keeps.
+//! Asks to let go of what is kept.
 ghost use Rattle.std.specs.Prelude.{◌≡◌, None, Err, IfErr, IsOk, OnErr, OnOk, Ok, if◌then◌else◌};
 ghost use Rattle.expr_engine.specs.Effects.{DropsContext, DropsEnvironment, DropsProgram, ForgetsAll};
 ghost use Rattle.expr_engine.specs.Engines.{KeepsRest, NumbersRise, SameAdditions};
-ghost use Rattle.expr_exchange.specs.HandleMap.{SameNext, SameThings, thing_at};
+ghost use Rattle.expr_handles.specs.HandleMap.{SameNext, SameThings, thing_at};
 ghost use Rattle.expr_stops.specs.Stops.{waiting_call_of};
 
+use crate::call::Call;
 use crate::engine::Engine;
-use expr_exchange::{Call, HostError};
+use expr_exchange::HostError;
 
-/// Drops a program.
+/// Lets go of a program.
 pub fn drop_program(engine: &mut Engine, call: &Call<'_>) -> Result<(), HostError>
     ensures done { OnOk result (DropsProgram engine.old engine.new call.now) }
     ensures unknown { thing_at engine.old.rules call.now.program ≡ None → result ≡ Err HostError.Unknown }
@@ -17,14 +18,14 @@ pub fn drop_program(engine: &mut Engine, call: &Call<'_>) -> Result<(), HostErro
     ensures err { OnErr result (SameThings engine.old.rules engine.new.rules) }
     ensures contexts { engine.new.contexts ≡ engine.old.contexts }
     ensures environments { engine.new.environments ≡ engine.old.environments }
-    ensures rest { KeepsRest engine.old engine.new }
+    ensures standing { KeepsRest engine.old engine.new }
     ensures why { IfErr result (λ e. e ≡ HostError.Unknown) }
 {
     let is_known = engine.rules.remove(call.program);
     check_known(is_known)
 }
 
-/// Drops a context.
+/// Lets go of a context.
 pub fn drop_context(engine: &mut Engine, call: &Call<'_>) -> Result<(), HostError>
     ensures done { OnOk result (DropsContext engine.old engine.new call.now) }
     ensures unknown { thing_at engine.old.contexts call.now.context ≡ None → result ≡ Err HostError.Unknown }
@@ -34,14 +35,14 @@ pub fn drop_context(engine: &mut Engine, call: &Call<'_>) -> Result<(), HostErro
     ensures err { OnErr result (SameThings engine.old.contexts engine.new.contexts) }
     ensures rules { engine.new.rules ≡ engine.old.rules }
     ensures environments { engine.new.environments ≡ engine.old.environments }
-    ensures rest { KeepsRest engine.old engine.new }
+    ensures standing { KeepsRest engine.old engine.new }
     ensures why { IfErr result (λ e. e ≡ HostError.Unknown) }
 {
     let is_known = engine.contexts.remove(call.context);
     check_known(is_known)
 }
 
-/// Drops an environment.
+/// Lets go of an environment.
 #[tactic(auto, using(crate::proofs::Unchanged::additions_by_things))]
 pub fn drop_environment(engine: &mut Engine, call: &Call<'_>) -> Result<(), HostError>
     ensures done { OnOk result (DropsEnvironment engine.old engine.new call.now) }
@@ -53,14 +54,14 @@ pub fn drop_environment(engine: &mut Engine, call: &Call<'_>) -> Result<(), Host
     ensures err { OnErr result (SameAdditions engine.old.environments engine.new.environments) }
     ensures rules { engine.new.rules ≡ engine.old.rules }
     ensures contexts { engine.new.contexts ≡ engine.old.contexts }
-    ensures rest { KeepsRest engine.old engine.new }
+    ensures standing { KeepsRest engine.old engine.new }
     ensures why { IfErr result (λ e. e ≡ HostError.Unknown) }
 {
     let is_known = engine.environments.remove(call.environment);
     check_known(is_known)
 }
 
-/// Returns an error if a handle found nothing.
+/// Refuses a handle that finds nothing.
 fn check_known(is_known: bool) -> Result<(), HostError>
     ensures { result ≡ (if is_known then Ok tt else Err HostError.Unknown) }
 {
@@ -71,7 +72,7 @@ fn check_known(is_known: bool) -> Result<(), HostError>
     }
 }
 
-/// Drops everything that the engine keeps, except the limits.
+/// Lets go of all that is kept. The limits stay.
 pub fn clear(engine: &mut Engine) -> Result<(), HostError>
     ensures done { OnOk result (ForgetsAll engine.old engine.new) }
     ensures numbers { NumbersRise engine.old engine.new }

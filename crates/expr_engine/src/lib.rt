@@ -1,10 +1,11 @@
-//! An engine for hosts that are not written in Rattle: programs, contexts and environments under handles, and
-//! one function that handles every call.
+//! An engine for hosts that are not written in Rattle: programs, contexts and environments under handles, and one call that
+//! does what it is asked to.
 #![tactic(auto)]
 
 mod adding;
 mod additions;
 mod building;
+mod call;
 mod engine;
 mod filling;
 mod lent;
@@ -18,9 +19,11 @@ mod serving;
 mod waiting_run;
 
 pub use additions::{Additions, LentHost};
+pub use call::{Ask, Call};
 pub use engine::Engine;
-pub use expr_exchange::{Call, Handle, HostError, Kind, Misuse, Status};
-pub use expr_limits::{Limit, Limits};
+pub use expr::{Limit, Limits};
+pub use expr_exchange::{HostError, Kind, Misuse, Status};
+pub use expr_handles::Handle;
 pub use lent::LentNames;
 pub use rule::Rule;
 pub use serving::serve;

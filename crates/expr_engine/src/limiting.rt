@@ -1,15 +1,16 @@
-//! Calls about limits.
+//! Asks about limits.
 ghost use Rattle.std.specs.Prelude.{◌≡◌, ◌≢◌, IfErr, IsErrAnd, MatchOption, None, Ok, OnOk, Some};
 ghost use Rattle.expr_engine.specs.Effects.{LetsGoOfLimits, SetsLimit};
 ghost use Rattle.expr_engine.specs.Engines.{KeepsThings};
 ghost use Rattle.expr_engine.specs.Limiting.{limits_asked, with_limit};
 ghost use Rattle.expr_exchange.specs.Refusals.{IsMisuse};
 
+use crate::call::Call;
 use crate::engine::Engine;
-use expr_exchange::{Call, HostError, Misuse, limit_numbered};
-use expr_limits::{Limit, Limits};
+use expr::{Limit, Limits};
+use expr_exchange::{HostError, Misuse, limit_numbered};
 
-/// Sets the limit of a number. If there were no limits, the others become those for untrusted expressions.
+/// Sets the limit of a number, and the others to those for strangers where there are none.
 pub fn set_limit(engine: &mut Engine, call: &Call<'_>) -> Result<(), HostError>
     ensures done { OnOk result (SetsLimit engine.old engine.new call.now) }
     ensures set { MatchOption (limits_asked engine.old.limits call.now.kind call.now.number)
@@ -27,18 +28,18 @@ pub fn set_limit(engine: &mut Engine, call: &Call<'_>) -> Result<(), HostError>
     let Ok(number) = u64::try_from(call.number) else {
         return Err(HostError::Misuse(Misuse::NegativeLimit));
     };
-    let limits = engine.limits.unwrap_or(Limits::untrusted());
+    let limits = engine.limits.unwrap_or(Limits::for_strangers());
     engine.limits = Some(with_limit(limits, limit, number));
     Ok(())
 }
 
-/// These limits, one of them with another number.
+/// Limits of which one is another number.
 fn with_limit(limits: Limits, limit: Limit, number: u64) -> Limits
     ensures { result ≡ with_limit limit number limits }
 {
     match limit {
-        Limit::Nesting => Limits {
-            nesting: number as usize,
+        Limit::Height => Limits {
+            height: number as usize,
             ..limits
         },
         Limit::Patterns => Limits {
@@ -60,7 +61,7 @@ fn with_limit(limits: Limits, limit: Limit, number: u64) -> Limits
     }
 }
 
-/// Removes all limits.
+/// Lets go of all limits.
 pub fn let_go_of_limits(engine: &mut Engine) -> Result<(), HostError>
     ensures done { OnOk result (LetsGoOfLimits engine.old engine.new) }
     ensures ok { result ≡ Ok tt }

@@ -1,22 +1,23 @@
-//! Calls about the result of a run.
+//! Asks about the answer.
 ghost use Rattle.std.specs.Prelude.{◌≡◌, ◌≢◌, [], IfErr, IfOk, Ok, OnErr, OnOk, string_bytes};
 ghost use Rattle.expr_encoding.specs.Optional.{value_or_refusal};
 ghost use Rattle.expr_encoding.specs.Writing.{json_text};
 ghost use Rattle.expr_engine.specs.Effects.{Looks, LooksIn, LooksOut, SaysKey, SaysText, Tells, key_said, call_result};
 ghost use Rattle.expr_engine.specs.Engines.{KeepsThings, KeepsRest};
 ghost use Rattle.expr_error.specs.ErrorKind.{OnlyMemory};
-ghost use Rattle.expr_exchange.specs.Cursor.{SameLook, at_number, item_at, pair_key_at, part_of, way_of};
+ghost use Rattle.expr_exchange.specs.Cursor.{SameLook, at_number, item_at, key_at, part_of, way_of};
 ghost use Rattle.expr_exchange.specs.Refusals.{AnswerRefuses, IsForMemory, NotThere};
 ghost use Rattle.expr_value.specs.Strings.{string_text};
 ghost use Rattle.expr_value.specs.Values.{text_of};
 
+use crate::call::Call;
 use crate::engine::Engine;
+use expr::Value;
 use expr_encoding::to_json;
-use expr_exchange::{Call, HostError, Misuse, key_of, summary_of};
-use expr_value::Value;
+use expr_exchange::{HostError, Misuse, key_of, summary_of};
 use std::alloc::Global;
 
-/// Writes the summary of a value into a call.
+/// Tells of a value.
 #[inline(always)]
 pub fn describe(value: &Value, call: &mut Call<'_>)
     ensures told { Tells value.now (call_result call.new) }
@@ -28,12 +29,12 @@ pub fn describe(value: &Value, call: &mut Call<'_>)
     call.fraction = told.fraction;
 }
 
-/// Returns the value under the cursor again.
+/// Looks at the same value again.
 pub fn look(engine: &mut Engine, call: &mut Call<'_>) -> Result<(), HostError>
     ensures done { OnOk result (Looks engine.old engine.new (call_result call.new)) }
     ensures found { IfErr result (λ e. e ≢ HostError.Unknown) }
     ensures kept { KeepsThings engine.old engine.new }
-    ensures rest { KeepsRest engine.old engine.new }
+    ensures standing { KeepsRest engine.old engine.new }
     ensures room { call.new.room.now ≡ call.old.room.now }
     ensures why { IfErr result (λ _. ⊥) }
 {
@@ -41,7 +42,7 @@ pub fn look(engine: &mut Engine, call: &mut Call<'_>) -> Result<(), HostError>
     Ok(())
 }
 
-/// Moves the cursor to an item of its value.
+/// Looks at an item of the value.
 pub fn look_down(engine: &mut Engine, call: &mut Call<'_>) -> Result<(), HostError>
     ensures done { OnOk result (LooksIn engine.old engine.new call.old (call_result call.new)) }
     ensures look { OnErr result (SameLook engine.old.answer engine.new.answer) }
@@ -58,7 +59,7 @@ pub fn look_down(engine: &mut Engine, call: &mut Call<'_>) -> Result<(), HostErr
     Ok(())
 }
 
-/// Moves the cursor back to the array or map of its item.
+/// Looks at what the value is an item of.
 pub fn look_up(engine: &mut Engine, call: &mut Call<'_>) -> Result<(), HostError>
     ensures done { OnOk result (LooksOut engine.old engine.new (call_result call.new)) }
     ensures look { OnErr result (SameLook engine.old.answer engine.new.answer) }
@@ -75,15 +76,15 @@ pub fn look_up(engine: &mut Engine, call: &mut Call<'_>) -> Result<(), HostError
     Ok(())
 }
 
-/// Returns a key of the map under the cursor. The message is the key as a string.
+/// Tells of a key of the map that is looked at, and says its text.
 pub fn show_key(engine: &mut Engine, call: &mut Call<'_>) -> Result<(), HostError>
     ensures done { OnOk result (SaysKey engine.old engine.new call.old (call_result call.new)) }
     ensures found { IfErr result (λ e. e ≢ HostError.Unknown) }
     ensures kept { KeepsThings engine.old engine.new }
-    ensures rest { KeepsRest engine.old engine.new }
+    ensures standing { KeepsRest engine.old engine.new }
     ensures room { call.new.room.now ≡ call.old.room.now }
     ensures why { IfErr result
-        (NotThere (at_number call.old.number (pair_key_at (part_of engine.old.answer)))) }
+        (NotThere (at_number call.old.number (key_at (part_of engine.old.answer)))) }
 {
     let key = key_of(engine.alloc, engine.answer.part(), call.number)?;
     describe(&key, call);
@@ -91,8 +92,8 @@ pub fn show_key(engine: &mut Engine, call: &mut Call<'_>) -> Result<(), HostErro
     Ok(())
 }
 
-/// A key as a string: the string itself, or what the key prints.
-fn key_text(alloc: Global, key: &Value) -> expr_value::Result<String>
+/// The text of a key: the string, or what the key prints as.
+fn key_text(alloc: Global, key: &Value) -> expr::Result<String>
     ensures ok { IfOk result (λ text. string_bytes text ≡ key_said key.now) }
     ensures err { OnlyMemory result }
 {
@@ -102,37 +103,37 @@ fn key_text(alloc: Global, key: &Value) -> expr_value::Result<String>
     }
 }
 
-/// Makes the message from the value under the cursor, as it prints.
+/// Says what the value prints as.
 pub fn say_shown(engine: &mut Engine) -> Result<(), HostError>
     ensures done { OnOk result (SaysText (λ v text. text ≡ text_of v) engine.old engine.new) }
     ensures found { IfErr result (λ e. e ≢ HostError.Unknown) }
     ensures kept { KeepsThings engine.old engine.new }
-    ensures rest { KeepsRest engine.old engine.new }
+    ensures standing { KeepsRest engine.old engine.new }
     ensures why { IfErr result IsForMemory }
 {
     engine.said = engine.answer.part().to_string(engine.alloc)?;
     Ok(())
 }
 
-/// Makes the message from the value under the cursor, as the built-in `string` converts it.
+/// Says what the built-in `string` gives of the value.
 pub fn say_text(engine: &mut Engine) -> Result<(), HostError>
     ensures done { OnOk result (SaysText (λ v text. text ≡ string_text v) engine.old engine.new) }
     ensures found { IfErr result (λ e. e ≢ HostError.Unknown) }
     ensures kept { KeepsThings engine.old engine.new }
-    ensures rest { KeepsRest engine.old engine.new }
+    ensures standing { KeepsRest engine.old engine.new }
     ensures why { IfErr result IsForMemory }
 {
     engine.said = engine.answer.part().string_text(engine.alloc)?;
     Ok(())
 }
 
-/// Makes the message from the value under the cursor, as JSON.
+/// Says the value as JSON.
 pub fn say_json(engine: &mut Engine) -> Result<(), HostError>
     ensures done { OnOk result
         (SaysText (λ v text. value_or_refusal (json_text v) ≡ Ok text) engine.old engine.new) }
     ensures found { IfErr result (λ e. e ≢ HostError.Unknown) }
     ensures kept { KeepsThings engine.old engine.new }
-    ensures rest { KeepsRest engine.old engine.new }
+    ensures standing { KeepsRest engine.old engine.new }
     ensures why { IfErr result
         (AnswerRefuses (value_or_refusal (json_text (part_of engine.old.answer)))) }
 {

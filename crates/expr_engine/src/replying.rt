@@ -1,4 +1,4 @@
-//! Calls about the function call that waits for a host's reply.
+//! Asks about the call that waits for a host's reply.
 ghost use Rattle.std.specs.Prelude.{◌≡◌, ◌≢◌, ◌⊎◌, [], IfErr, IsUtf8, None, OnErr, OnOk};
 ghost use Rattle.expr_engine.specs.Effects.{EndsRun, IsStale, LooksAtCall, TakesLast, call_result};
 ghost use Rattle.expr_engine.specs.Engines.{KeepsThings, waiting_inputs};
@@ -9,13 +9,14 @@ ghost use Rattle.expr_exchange.specs.Refusals.{NotThere};
 ghost use Rattle.expr_exchange.specs.declared.misuse.Misuse.{Misuse as Wrong};
 ghost use Rattle.expr_stops.specs.Stops.{waiting_call_of};
 
+use crate::call::Call;
 use crate::engine::Engine;
 use crate::looking::describe;
 use crate::running::utf8;
-use expr_exchange::{Call, HostError, Misuse};
-use expr_value::Value;
+use expr::Value;
+use expr_exchange::{HostError, Misuse};
 
-/// Replies to the waiting call with the value that was built last, and continues its run.
+/// Answers the call that waits with the value that was built last, and goes on with its run.
 pub fn answer_call(engine: &mut Engine, call: &mut Call<'_>) -> Result<(), HostError>
     ensures done { OnOk result (EndsRun TakesLast engine.old engine.new (call_result call.new)) }
     ensures why { IfErr result (λ e. (why : Wrong) → e ≡ HostError.Misuse why
@@ -37,7 +38,7 @@ pub fn answer_call(engine: &mut Engine, call: &mut Call<'_>) -> Result<(), HostE
     Ok(())
 }
 
-/// Replies to the waiting call with an error, and continues its run.
+/// Refuses the call that waits with a text, and goes on with its run.
 pub fn refuse_call(engine: &mut Engine, call: &mut Call<'_>) -> Result<(), HostError>
     ensures done { OnOk result
         (EndsRun (λ was is. is ≡ was) engine.old engine.new (call_result call.new)) }
@@ -59,7 +60,7 @@ pub fn refuse_call(engine: &mut Engine, call: &mut Call<'_>) -> Result<(), HostE
     Ok(())
 }
 
-/// Moves the cursor to copies of the waiting call's arguments. The message is the name of its function.
+/// Looks at copies of the arguments of the call that waits, and says the name of its function.
 pub fn look_at_waiting_call(engine: &mut Engine, call: &mut Call<'_>) -> Result<(), HostError>
     ensures done { OnOk result (LooksAtCall engine.old engine.new (call_result call.new)) }
     ensures found { IfErr result (λ e. e ≢ HostError.Unknown) }

@@ -1,6 +1,6 @@
-//! A program and its code.
+//! A program that is kept, and its code.
 ghost use Rattle.expr_code.specs.Codes.{IsCode};
-ghost use Rattle.expr_lowering.specs.OwnedCodes.{owned_blocks};
+ghost use Rattle.expr.specs.KeptCodes.{kept_blocks};
 ghost use Rattle.expr_engine.specs.Limiting.{IsCompiledBy};
 ghost use Rattle.expr_syntax.specs.Texts.{IsPlaced};
 ghost use Rattle.expr_tree.specs.TermOf.{program_term};
@@ -8,47 +8,45 @@ ghost use Rattle.expr_meaning.specs.World.{world_of};
 
 use crate::additions::LentHost;
 use crate::lent::LentNames;
-use expr_context::Context;
-use expr_limits::{Limits, Outcome};
-use expr_lowering::{Code, OwnedCode, functions_of, missing_names};
+use expr::{
+    Code, Context, KeptCode, Limits, Outcome, Program, Result, Value, compile, compile_limited,
+};
 use expr_meaning::Functions;
-use expr_stops::{RunStatus, Stops, execute_in};
-use expr_syntax::{compile, compile_limited};
-use expr_tree::node::Program;
-use expr_value::{Result, Value};
+use expr_needs::{functions_of, missing_names};
+use expr_stops::{Stops, Turn, execute_in};
 use std::alloc::Global;
 
-/// A program and its code.
+/// A program that is kept, and its code.
 #[derive(Drop)]
 pub struct Rule {
     pub program: Program,
-    pub code: OwnedCode,
-    pub ghost lowered: { ∥ IsCode (program_term program) (owned_blocks code) ∥₁ },
+    pub code: KeptCode,
+    pub ghost lowered: { ∥ IsCode (program_term program) (kept_blocks code) ∥₁ },
 }
 
 impl Rule {
     ghost use Rattle.std.specs.Prelude.{◌≡◌, IfOk, None, map, string_bytes};
     ghost use Rattle.std.specs.List.{Contains};
-    ghost use Rattle.expr_lowering.specs.HostNeeds.{AreFunctionsOf, AreMissing};
+    ghost use Rattle.expr_needs.specs.Needs.{AreFunctionsOf, AreMissing};
     ghost use Rattle.expr_tree.specs.Names.{AreNamesOf, block_operands, env};
     ghost use Rattle.std.specs.Option.{option_copied};
-    ghost use Rattle.expr_limited.specs.Given.{MayGive as GivesWithin};
+    ghost use Rattle.expr.specs.Limited.{MayGive as GivesWithin};
     ghost use Rattle.expr_engine.specs.Limiting.{IsCompiledBy};
     ghost use Rattle.expr_engine.specs.Effects.{AreSaid, TellsWhether};
     ghost use Rattle.expr_error.specs.ErrorKind.{OnlyMemory};
-    ghost use Rattle.expr_context.specs.Contexts.{context_of};
-    ghost use Rattle.expr_engine.specs.Runs.{MeaningAllows, host_with_replies, named_by, names_or_none};
-    ghost use Rattle.expr_limits.specs.Outcomes.{ReturnsOutcome};
+    ghost use Rattle.expr.specs.Contexts.{context_of};
+    ghost use Rattle.expr_engine.specs.Runs.{MeaningAllows, host_with_replies, named_by, pairs_of};
+    ghost use Rattle.expr_limited.specs.Outcomes.{ReturnsOutcome};
     ghost use Rattle.expr_stops.specs.Stops.{CodeComes, EndsTurn, IfEnded, StopsWell, waiting_call_of, replies_of};
     ghost use Rattle.expr_syntax.specs.Texts.{IsPlaced};
     ghost use Rattle.expr_tree.specs.TermOf.{program_term};
     ghost use Rattle.expr_value.specs.Answers.{Returns};
 
-    /// Compiles an expression, within limits or without.
+    /// The program of a text within limits, or where there are none.
     ///
     /// # Errors
     ///
-    /// Returns the errors of `compile`. Passing a limit is not an error: it returns [`Outcome::Stopped`].
+    /// What `compile` refuses. That a limit is passed is no error, but [`Outcome::Stopped`].
     pub fn compile(alloc: Global, text: &str, limits: Option<Limits>) -> Result<Outcome<Rule>>
         ensures answer { IsCompiledBy limits text.now (λ rule. program_term rule.program) result }
         ensures place { IsPlaced text.now result }
@@ -62,11 +60,7 @@ impl Rule {
         }
     }
 
-    /// The names that the program uses, each on a line, and their count.
-    ///
-    /// # Errors
-    ///
-    /// Returns `MemoryError` if an allocation fails.
+    /// The names that the program asks for, each on a line, and how many they are.
     pub fn names(&self, alloc: Global) -> Result<(String, usize)>
         ensures ok { IfOk result (λ p. AreSaid (λ names. AreNamesOf names (program_term self.now.program))
             (string_bytes p.0) p.1) }
@@ -76,13 +70,9 @@ impl Rule {
         Ok((names.join(alloc, "\n")?, names.len()))
     }
 
-    /// The functions that the program's code calls, each on a line, and their count.
-    ///
-    /// # Errors
-    ///
-    /// Returns `MemoryError` if an allocation fails.
+    /// The functions that the program's code calls, each on a line, and how many they are.
     pub fn functions(&self, alloc: Global) -> Result<(String, usize)>
-        ensures ok { IfOk result (λ p. AreSaid (λ names. AreFunctionsOf names (owned_blocks self.now.code))
+        ensures ok { IfOk result (λ p. AreSaid (λ names. AreFunctionsOf names (kept_blocks self.now.code))
             (string_bytes p.0) p.1) }
         ensures err { OnlyMemory result }
     {
@@ -90,33 +80,28 @@ impl Rule {
         Ok((functions.join(alloc, "\n")?, functions.len()))
     }
 
-    /// Whether the program uses `$env` as an operand: 1 or 0.
+    /// Whether `$env` stands as an operand in the program: 1 or 0.
     pub fn uses_env(&self) -> i64
         ensures { TellsWhether (Contains (block_operands (program_term self.now.program)) env) result }
     {
         i64::from(self.program.uses_env())
     }
 
-    /// The names that the program's code looks up only outside of predicates, and that a context doesn't
-    /// have.
-    ///
-    /// # Errors
-    ///
-    /// Returns `MemoryError` if an allocation fails.
+    /// The names that the program's code looks up outside of predicates alone, and that a context doesn't have.
     pub fn missing_names(&self, alloc: Global, context: &Context) -> Result<Vec<String>>
-        ensures ok { IfOk result (λ ns. AreMissing (owned_blocks self.now.code) context.now
+        ensures ok { IfOk result (λ ns. AreMissing (kept_blocks self.now.code) context.now
             (map string_bytes ns.items)) }
         ensures err { OnlyMemory result }
     {
         missing_names(alloc, &self.code, context)
     }
 
-    /// Runs the program, within limits or without.
+    /// What the program answers within limits, or where there are none.
     ///
     /// # Errors
     ///
-    /// Returns the first error in the order of evaluation: `ExprError`, `RegexError`, or `MemoryError` if an
-    /// allocation fails. Passing a limit is not an error: it returns [`Outcome::Stopped`].
+    /// The first refusal in the order of evaluation: `ExprError`, `RegexError`, or `MemoryError` where a growth is refused.
+    /// That a limit is passed is no error, but [`Outcome::Stopped`].
     #[inline(always)]
     pub fn run<H: Functions>(
         &self,
@@ -126,15 +111,15 @@ impl Rule {
         limits: Option<Limits>,
     ) -> Result<Outcome<Value>>
         ensures answer { GivesWithin result (MeaningAllows (world_of (H.host host.now)
-            (context_of (names_or_none (option_copied names.entry.names)))) (program_term self.now.program)) }
+            (context_of (pairs_of (option_copied names.entry.names)))) (program_term self.now.program)) }
         ensures ends { ReturnsOutcome result (CodeComes limits (world_of (H.host host.now)
-            (context_of (names_or_none (option_copied names.entry.names)))) (owned_blocks self.now.code)) }
+            (context_of (pairs_of (option_copied names.entry.names)))) (kept_blocks self.now.code)) }
     {
         execute_in(alloc, host, &self.code, names, limits)
     }
 
-    /// Runs the program within limits, with the replies that its run has. It ends at the program's end, or at
-    /// the next call of a function that the host runs itself.
+    /// Runs the program within limits, with the replies that a run has, up to its end or to its next call that the host
+    /// answers itself.
     #[inline(always)]
     pub fn turn(
         &self,
@@ -143,17 +128,15 @@ impl Rule {
         names: LentNames<'_>,
         stops: &mut Stops,
         limits: Option<Limits>,
-    ) -> RunStatus
-        // It ends, or stops at a limit, as a counted run of the program's code does within the limits, if
-        // there are any.
+    ) -> Turn
+        // It ends or stops at a limit as a run of the program's code does that counts within the limits, if there are any.
         ensures ends { EndsTurn result (CodeComes limits
             (world_of (host_with_replies (option_copied host.entry.added) (replies_of stops.old))
-            (context_of (names_or_none (option_copied names.entry.names)))) (owned_blocks self.now.code)) }
-        // The result is one that the program's meaning allows.
+            (context_of (pairs_of (option_copied names.entry.names)))) (kept_blocks self.now.code)) }
+        // An answer is one that the program's meaning allows.
         ensures ended { IfEnded result (λ r. Returns r (MeaningAllows
             (world_of (host_with_replies (option_copied host.entry.added) (replies_of stops.old))
-            (context_of (names_or_none (option_copied names.entry.names))))
-            (program_term self.now.program))) }
+            (context_of (pairs_of (option_copied names.entry.names)))) (program_term self.now.program))) }
         ensures stops { waiting_call_of stops.old ≡ None
             → StopsWell (named_by (option_copied host.entry.added))
             (replies_of stops.old) result (waiting_call_of stops.new) }
@@ -161,12 +144,12 @@ impl Rule {
     {
         match host.added {
             Some(added) => stops.execute(&host, added.names(), &self.code, names, limits),
-            None => RunStatus::of(self.run(alloc, &host, names, limits)),
+            None => Turn::of(self.run(alloc, &host, names, limits)),
         }
     }
 }
 
-/// Compiles an expression, within limits or without.
+/// The program of a text within limits, or where there are none.
 fn program_of(alloc: Global, text: &str, limits: Option<Limits>) -> Result<Outcome<Program>>
     ensures answer { IsCompiledBy limits text.now program_term result }
     ensures place { IsPlaced text.now result }

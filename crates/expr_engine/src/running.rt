@@ -1,4 +1,4 @@
-//! Calls about programs.
+//! Asks about programs.
 ghost use Rattle.std.specs.Prelude.{◌≡◌, [], Err, None, IfErr, IfOk, IsUtf8, MatchOption, OnErr, OnOk};
 ghost use Rattle.expr_engine.specs.Effects.{Compiles, RunsOnce, SaysFunctions, SaysNames, TellsEnv, call_result};
 ghost use Rattle.expr_engine.specs.Engines.{CompileRefuses, KeepsThings, KeepsRest, NumbersRise, run_inputs};
@@ -6,13 +6,14 @@ ghost use Rattle.expr_engine.specs.Served.{RunServes};
 ghost use Rattle.expr_engine.specs.Turns.{IsNewRun};
 ghost use Rattle.expr_exchange.specs.Cursor.{part_of};
 ghost use Rattle.expr_engine.specs.Reasons.{IsUnknownOrForMemory};
-ghost use Rattle.expr_exchange.specs.HandleMap.{SameThings, thing_at};
+ghost use Rattle.expr_handles.specs.HandleMap.{SameThings, thing_at};
 
+use crate::call::Call;
 use crate::engine::Engine;
 use crate::looking::describe;
-use expr_exchange::{Call, HostError, Misuse};
+use expr_exchange::{HostError, Misuse};
 
-/// Compiles an expression within the limits, and keeps the program.
+/// Keeps the program of a text, if it is within the limits.
 pub fn compile(engine: &mut Engine, call: &mut Call<'_>) -> Result<(), HostError>
     ensures done { OnOk result (Compiles engine.old engine.new call.old (call_result call.new)) }
     ensures refused { IfErr result (CompileRefuses engine.old.limits call.old.text.now) }
@@ -21,7 +22,7 @@ pub fn compile(engine: &mut Engine, call: &mut Call<'_>) -> Result<(), HostError
     ensures numbers { NumbersRise engine.old engine.new }
     ensures contexts { engine.new.contexts ≡ engine.old.contexts }
     ensures environments { engine.new.environments ≡ engine.old.environments }
-    ensures rest { KeepsRest engine.old engine.new }
+    ensures standing { KeepsRest engine.old engine.new }
     ensures room { call.new.room.now ≡ call.old.room.now }
 {
     let text = utf8(call.text)?;
@@ -29,13 +30,13 @@ pub fn compile(engine: &mut Engine, call: &mut Call<'_>) -> Result<(), HostError
     Ok(())
 }
 
-/// Makes the message from the names that a program uses.
+/// Says the names that a program asks for.
 pub fn names(engine: &mut Engine, call: &mut Call<'_>) -> Result<(), HostError>
     ensures done { OnOk result (SaysNames engine.old engine.new call.old (call_result call.new)) }
     ensures unknown { thing_at engine.old.rules call.old.program ≡ None → result ≡ Err HostError.Unknown }
     ensures known { result ≡ Err HostError.Unknown → thing_at engine.old.rules call.old.program ≡ None }
     ensures kept { KeepsThings engine.old engine.new }
-    ensures rest { KeepsRest engine.old engine.new }
+    ensures standing { KeepsRest engine.old engine.new }
     ensures room { call.new.room.now ≡ call.old.room.now }
     ensures why { IfErr result IsUnknownOrForMemory }
 {
@@ -45,13 +46,13 @@ pub fn names(engine: &mut Engine, call: &mut Call<'_>) -> Result<(), HostError>
     Ok(())
 }
 
-/// Makes the message from the functions that a program calls.
+/// Says the functions that a program calls.
 pub fn functions(engine: &mut Engine, call: &mut Call<'_>) -> Result<(), HostError>
     ensures done { OnOk result (SaysFunctions engine.old engine.new call.old (call_result call.new)) }
     ensures unknown { thing_at engine.old.rules call.old.program ≡ None → result ≡ Err HostError.Unknown }
     ensures known { result ≡ Err HostError.Unknown → thing_at engine.old.rules call.old.program ≡ None }
     ensures kept { KeepsThings engine.old engine.new }
-    ensures rest { KeepsRest engine.old engine.new }
+    ensures standing { KeepsRest engine.old engine.new }
     ensures room { call.new.room.now ≡ call.old.room.now }
     ensures why { IfErr result IsUnknownOrForMemory }
 {
@@ -61,13 +62,13 @@ pub fn functions(engine: &mut Engine, call: &mut Call<'_>) -> Result<(), HostErr
     Ok(())
 }
 
-/// Returns whether a program uses `$env`.
+/// Tells whether `$env` stands in a program.
 pub fn uses_env(engine: &mut Engine, call: &mut Call<'_>) -> Result<(), HostError>
     ensures done { OnOk result (TellsEnv engine.old engine.new call.old (call_result call.new)) }
     ensures unknown { thing_at engine.old.rules call.old.program ≡ None → result ≡ Err HostError.Unknown }
     ensures known { result ≡ Err HostError.Unknown → thing_at engine.old.rules call.old.program ≡ None }
     ensures kept { KeepsThings engine.old engine.new }
-    ensures rest { KeepsRest engine.old engine.new }
+    ensures standing { KeepsRest engine.old engine.new }
     ensures room { call.new.room.now ≡ call.old.room.now }
     ensures why { IfErr result (λ e. e ≡ HostError.Unknown) }
 {
@@ -75,7 +76,7 @@ pub fn uses_env(engine: &mut Engine, call: &mut Call<'_>) -> Result<(), HostErro
     Ok(())
 }
 
-/// Runs a program in an environment and a context, within the limits, and keeps the result.
+/// Keeps what a program answers in an environment and a context, within the limits.
 pub fn run(engine: &mut Engine, call: &mut Call<'_>) -> Result<(), HostError>
     ensures done { OnOk result (RunsOnce engine.old engine.new call.old (call_result call.new)) }
     ensures unknown { run_inputs engine.old call.old.program call.old.environment call.old.context ≡ None
@@ -97,11 +98,7 @@ pub fn run(engine: &mut Engine, call: &mut Call<'_>) -> Result<(), HostError>
     Ok(())
 }
 
-/// Bytes as a string.
-///
-/// # Errors
-///
-/// Returns `Misuse` if they are not UTF-8.
+/// Bytes as a text.
 pub fn utf8(bytes: &[u8]) -> Result<&str, HostError>
     ensures ok { IfOk result (λ text. text.now ≡ bytes.now) }
     ensures utf8 { OnOk result (IsUtf8 bytes.now) }

@@ -1,16 +1,17 @@
-//! The one function for all calls to an engine.
+//! The one call: an engine does what it is asked to.
 ghost use Rattle.std.specs.Prelude.{◌≡◌, ◌⊎◌, [], Err, IfErr, IfSome, OnErr, OnOk, string_bytes};
 ghost use Rattle.expr_engine.specs.Effects.{call_result};
 ghost use Rattle.expr_engine.specs.Engines.{KeepsThings, KeepsRest};
-ghost use Rattle.expr_engine.specs.Faults.{IsAt, text_place, refused_byte};
+ghost use Rattle.expr_engine.specs.Faults.{IsAt, place_of, refused_byte};
 ghost use Rattle.expr_engine.specs.Promised.{Acts, IsServed};
-ghost use Rattle.expr_engine.specs.Served.{EndsCall, ShowsText, status_number, text_in_room, text_shown};
+ghost use Rattle.expr_engine.specs.Served.{EndsCall, ShowsText, number_of, text_in_room, text_shown};
 ghost use Rattle.expr_exchange.specs.Builder.{values_of};
 ghost use Rattle.expr_exchange.specs.Refusals.{status_of};
 ghost use Rattle.expr_exchange.specs.declared.misuse.Misuse.{Misuse as Wrong};
 
 use crate::adding::{add_environment, add_name, set_now, zone_by_rule, zone_by_seconds};
 use crate::building::{make_array, make_map, push, unbuild};
+use crate::call::{Ask, Call, Shows};
 use crate::engine::{Engine, TextPlace};
 use crate::filling::{built_context, fill_missing, new_context, set};
 use crate::letting::{clear, drop_context, drop_environment, drop_program};
@@ -18,10 +19,10 @@ use crate::limiting::{let_go_of_limits, set_limit};
 use crate::looking::{look, look_down, look_up, say_json, say_shown, say_text, show_key};
 use crate::replying::{answer_call, look_at_waiting_call, refuse_call};
 use crate::running::{compile, functions, names, run, uses_env};
-use expr_exchange::{Ask, Call, HostError, Misuse, Shows, Status, bytes_of};
+use expr_exchange::{HostError, Misuse, Status, bytes_of};
 
-/// Handles a call. It returns whatever the call contains. On an error everything that the engine keeps and
-/// the cursor stay as they were, except that the values being built are dropped.
+/// Does what a call asks for. Whatever stands in the call, it returns. What is refused leaves all that is kept and what is
+/// looked at as it was, and lets go of what was built.
 pub fn serve(engine: &mut Engine, call: &mut Call<'_>)
     ensures { IsServed engine.old engine.new call.old call.new }
 {
@@ -82,17 +83,17 @@ fn act(engine: &mut Engine, call: &mut Call<'_>, ask: Ask) -> Result<(), HostErr
     }
 }
 
-/// Writes how a call ended into the call, and the string that it returns.
+/// Says how a call ended, and shows its text.
 #[inline(always)]
 fn finish(engine: &mut Engine, call: &mut Call<'_>, shows: Shows, done: Result<(), HostError>)
     ensures same { OnOk done (engine.new ≡ engine.old) }
     ensures kept { KeepsThings engine.old engine.new }
-    ensures rest { KeepsRest engine.old engine.new }
+    ensures standing { KeepsRest engine.old engine.new }
     ensures built { OnErr done (values_of engine.new.built ≡ []) }
     ensures reply { call_result call.new ≡ call_result call.old }
     ensures ended { EndsCall done call.new.status }
     ensures placed { IfErr done (λ refused. IsAt (refused_byte refused) call.old.text.now
-        (text_place call.new) ⊎ (call.new.status ≡ 5)) }
+        (place_of call.new) ⊎ (call.new.status ≡ 5)) }
     ensures unknown { done ≡ Err HostError.Unknown → call.new.status ≡ 6 }
     ensures known { call.new.status ≡ 6 → done ≡ Err HostError.Unknown }
     ensures misuse { (why : Wrong) → done ≡ Err (HostError.Misuse why) → call.new.status ≡ 7 }
@@ -108,12 +109,12 @@ fn finish(engine: &mut Engine, call: &mut Call<'_>, shows: Shows, done: Result<(
     }
 }
 
-/// Writes the status into a call, and as much of its string as the buffer holds.
+/// Writes down how a call ended, and the text that is shown, as far as the room goes.
 #[inline(always)]
 fn answer(engine: &Engine, call: &mut Call<'_>, status: Status, shows: Shows)
     ensures reply { call_result call.new ≡ call_result call.old }
-    ensures place { text_place call.new ≡ text_place call.old }
-    ensures status { call.new.status ≡ status_number status }
+    ensures place { place_of call.new ≡ place_of call.old }
+    ensures status { call.new.status ≡ number_of status }
     ensures shown { ShowsText (text_shown shows engine.now) call.old.room.now call.new }
 {
     call.status = number(status);
@@ -122,7 +123,7 @@ fn answer(engine: &Engine, call: &mut Call<'_>, status: Status, shows: Shows)
     copy_into(text, call.room);
 }
 
-/// The string that a call returns.
+/// The text that is shown.
 #[inline(always)]
 fn shown_bytes(engine: &Engine, shows: Shows) -> &[u8]
     ensures { result.now ≡ text_shown shows engine.now }
@@ -134,9 +135,9 @@ fn shown_bytes(engine: &Engine, shows: Shows) -> &[u8]
     }
 }
 
-/// The number of a status.
+/// The number of an ending.
 fn number(status: Status) -> u32
-    ensures { result ≡ status_number status }
+    ensures { result ≡ number_of status }
 {
     match status {
         Status::Done => 0,
@@ -149,7 +150,7 @@ fn number(status: Status) -> u32
         Status::Misuse => 7,
         Status::Asks => 8,
         Status::Differs => 9,
-        Status::Nesting => 10,
+        Status::Height => 10,
         Status::Patterns => 11,
         Status::Steps => 12,
         Status::Depth => 13,
@@ -157,15 +158,15 @@ fn number(status: Status) -> u32
     }
 }
 
-/// Drops the values being built, sets the message, and returns the status of the call.
+/// Lets go of what was built, notes what is said, and answers how the call ended.
 fn refuse(engine: &mut Engine, refused: &HostError, call: &mut Call<'_>) -> Status
     ensures kept { KeepsThings engine.old engine.new }
-    ensures rest { KeepsRest engine.old engine.new }
+    ensures standing { KeepsRest engine.old engine.new }
     ensures built { values_of engine.new.built ≡ [] }
     ensures reply { call_result call.new ≡ call_result call.old }
     ensures room { call.new.room.now ≡ call.old.room.now }
     ensures status { (result ≡ status_of refused.now) ⊎ (result ≡ Status.Memory) }
-    ensures placed { IsAt (refused_byte refused.now) call.old.text.now (text_place call.new)
+    ensures placed { IsAt (refused_byte refused.now) call.old.text.now (place_of call.new)
         ⊎ (result ≡ Status.Memory) }
     ensures unknown { refused.now ≡ HostError.Unknown → result ≡ Status.Unknown }
     ensures misuse { (why : Wrong) → refused.now ≡ HostError.Misuse why → result ≡ Status.Misuse }
@@ -182,11 +183,11 @@ fn refuse(engine: &mut Engine, refused: &HostError, call: &mut Call<'_>) -> Stat
     }
 }
 
-/// Writes the position of a syntax error into a call, if it is known.
+/// Writes down where a text is refused, if it is known.
 fn mark(call: &mut Call<'_>, noted: Option<TextPlace>)
     ensures reply { call_result call.new ≡ call_result call.old }
     ensures room { call.new.room.now ≡ call.old.room.now }
-    ensures place { IfSome noted (λ place. text_place call.new ≡ place) }
+    ensures place { IfSome noted (λ place. place_of call.new ≡ place) }
 {
     match noted {
         Some(place) => {
@@ -198,7 +199,7 @@ fn mark(call: &mut Call<'_>, noted: Option<TextPlace>)
     }
 }
 
-/// Copies as many bytes as the buffer holds.
+/// Writes bytes into room as far as it goes.
 fn copy_into(from: &[u8], room: &mut [u8])
     ensures { room.new ≡ text_in_room from.now room.old }
 {

@@ -2,12 +2,12 @@
 ghost use Rattle.std.specs.Prelude.{◌≡◌, [], None};
 ghost use Rattle.expr_stops.specs.Stops.{replies_of, waiting_call_of};
 
-use expr_exchange::Handle;
+use expr_handles::Handle;
 use expr_stops::Stops;
 use std::alloc::Global;
 
-/// A run of a program: its handles, the replies that it has, and the call that waits for one, if there is
-/// one.
+/// A run of a program: the handles that it was asked under, the replies that it has, and the call that waits for one, if
+/// one does.
 #[derive(Drop)]
 pub struct WaitingRun {
     pub program: Handle,
@@ -17,7 +17,7 @@ pub struct WaitingRun {
 }
 
 impl WaitingRun {
-    /// No run. It allocates no memory.
+    /// No run. It takes no memory.
     pub fn new(alloc: Global) -> WaitingRun
         ensures { waiting_call_of result.stops ≡ None }
     {
@@ -34,7 +34,7 @@ impl WaitingRun {
         }
     }
 
-    /// Starts a run with these handles and no replies.
+    /// Begins a run under these handles, which has no replies yet.
     #[inline(always)]
     pub fn begin(&mut self, program: Handle, environment: Handle, context: Handle)
         ensures program { self.new.program ≡ program }

@@ -1,11 +1,11 @@
--- A string between quotes, in which the bytes between two escapes are written at once.
+-- A text as it stands between quotes, of which whole runs are written at once.
 use Rattle.std.proofs.Common.{◌≡◌, ℕ, ◌+◌, ◌-◌, ◌<◌, ◌≤◌, List, [], ◌∷◌, ◌++◌, length, take, drop, get_or, flat_map, sym, ap, ◌∙◌, arith, append_assoc}
 use Rattle.std.proofs.lemmas.List.{append-nil, length-drop, get_or-drop, take_more}
 use Rattle.std.proofs.lemmas.Grind.{flat_map-append}
 use Rattle.expr_error.specs.Quoted.{escaped_byte}
 use Rattle.std.proofs.lemmas.Option.{get_or_from_slice_get, slice_get-get_or}
 
--- the bytes from start up to i are printed as they are
+-- the bytes from start up to i stand for themselves
 abbrev pub IsRun : List ℕ → ℕ → ℕ → Type 0
 IsRun text start i = flat_map escaped_byte (take i text) ≡ flat_map escaped_byte (take start text) ++ take (i - start) (drop start text)
 
@@ -14,7 +14,7 @@ one_more text i b within at =
     ap (flat_map escaped_byte) (take_more text i b within ∙ ap (λ c. take i text ++ c ∷ []) (sym at))
     ∙ flat_map-append escaped_byte (take i text) (b ∷ []) ∙ ap (λ l. flat_map escaped_byte (take i text) ++ l) (append-nil (escaped_byte b))
 
--- a run continues over a byte that is printed as it is
+-- a run goes on over a byte that stands for itself
 pub run_on : (text : List ℕ) (start i b : ℕ) → i < length text → start ≤ i → b ≡ get_or text i b → escaped_byte b ≡ b ∷ [] → IsRun text start i → IsRun text start (i + 1)
 run_on text start i b within from at plain run =
     let rest = drop start text in

@@ -1,19 +1,18 @@
--- The kinds of errors. The message of an error and the offset of a syntax error are for people, and no clause is about
--- them.
+-- The kinds of refusal. The text of a message and the place in a text are for people, and no clause speaks of them.
 use Rattle.std.specs.Prelude.{◌≡◌, ◌≢◌, IfErr, Result}
 use Rattle.expr_error.specs.declared.error.Error.{Error}
 use Rattle.expr_error.specs.declared.error.Error.TheVariants.{PestError, ParseError, ExprError, RegexError, MemoryError}
 
 pub data ErrorKind : Type 0 where
-  -- the source has no tree
+  -- the text has no tree
   syntax : ErrorKind
-  -- the source has a tree, and an integer literal is too large
+  -- the text has a tree, and an integer literal is too large
   literal : ErrorKind
-  -- evaluation fails
+  -- evaluation refuses
   evaluation : ErrorKind
-  -- a regular expression does not build, for any reason but memory
+  -- a pattern does not build, for another cause than memory
   pattern : ErrorKind
-  -- an allocation failed
+  -- a growth was refused
   memory : ErrorKind
 
 abbrev pub error_kind : Error → ErrorKind
@@ -23,18 +22,18 @@ error_kind (ExprError message) = evaluation
 error_kind (RegexError error) = pattern
 error_kind MemoryError = memory
 
--- A call fails only if it is out of memory.
+-- A call is refused for want of memory alone.
 abbrev pub OnlyMemory : {A : Type 0} → Result A Error → Type 0
 OnlyMemory result = IfErr result (λ e. e ≡ MemoryError)
 
--- A call fails with a kind for which this holds, or because it is out of memory.
+-- A call is refused with a kind of which this holds, or for want of memory.
 abbrev pub RefusesWith : {A : Type 0} → Result A Error → (ErrorKind → Type 0) → Type 0
 RefusesWith result said = IfErr result (λ e. error_kind e ≢ memory → said (error_kind e))
 
--- A call never fails because a regular expression does not build.
+-- A call is never refused for a pattern that does not build.
 abbrev pub RefusesNoPattern : {A : Type 0} → Result A Error → Type 0
 RefusesNoPattern result = IfErr result (λ e. error_kind e ≢ pattern)
 
--- an error is of this kind, or it is out of memory
+-- an error is of this kind, or it says that memory was wanting
 abbrev pub IsOfKind : Error → ErrorKind → Type 0
 IsOfKind e kind = error_kind e ≢ memory → error_kind e ≡ kind

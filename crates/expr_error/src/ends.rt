@@ -1,15 +1,15 @@
-//! Prefix and suffix tests on strings, by bytes.
+//! Whether a text begins or ends with another.
 ghost use Rattle.std.specs.Prelude.{◌≡◌, nat_eq};
 ghost use Rattle.std.specs.List.{starts_with, ends_with};
 
-/// Whether a string begins with another.
+/// Whether a text begins with another.
 pub fn has_front(text: &str, front: &str) -> bool
     ensures { result ≡ starts_with nat_eq text.now front.now }
 {
     text.starts_with(front)
 }
 
-/// Whether a string ends with another.
+/// Whether a text ends with another.
 pub fn has_back(text: &str, back: &str) -> bool
     ensures { result ≡ ends_with nat_eq text.now back.now }
 {

@@ -1,4 +1,4 @@
-//! The errors of the library.
+//! The refusals of the library.
 ghost use Rattle.expr_error.specs.declared.error.Error.TheVariants.{MemoryError, ExprError};
 ghost use Rattle.expr_error.specs.ErrorKind.{evaluation, IsOfKind};
 ghost use Rattle.std.specs.Prelude.{◌≡◌};
@@ -6,26 +6,25 @@ ghost use Rattle.std.specs.Prelude.{◌≡◌};
 use std::alloc::{AllocError, AllocFailed, Global};
 use std::fmt;
 
-/// Why a call failed. Contracts speak of the kind of an error. Its message is for people.
+/// Why a call was refused. Contracts speak of its kind; its text is for people.
 #[derive(Debug, Drop)]
 pub enum Error {
-    /// A syntax error, with the byte offset of the first fault in the source.
+    /// The text has no tree; the number is a place in the text, in bytes.
     PestError(usize),
-    /// The syntax is right, but an integer literal is 2^63 or more, or the syntax tree is higher than a given bound.
-    /// Has a message.
+    /// The text has a tree, and an integer literal of it does not fit 64 bits.
     ParseError(String),
-    /// An error of evaluation, or of a call with values that it does not take. Has a message.
+    /// Evaluation refuses.
     ExprError(String),
-    /// A regular expression that does not build, for any reason but memory.
+    /// A pattern does not build, for another cause than memory.
     RegexError(regex::Error),
-    /// An allocation failed. Any function that returns a [`Result`] can return this error.
+    /// A growth was refused.
     MemoryError,
 }
 
-/// The result of a call of the library.
+/// What a call of the library answers.
 pub type Result<T> = std::result::Result<T, Error>;
 
-/// An `ExprError` with this message, or `MemoryError` if there is no memory for the message.
+/// A refusal to evaluate, with this text, or for want of memory where there is none for the text.
 pub fn refusal(alloc: Global, text: &str) -> Error
     ensures { IsOfKind result evaluation }
 {

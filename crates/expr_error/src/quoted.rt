@@ -1,4 +1,4 @@
-//! Strings between quotes, with escapes.
+//! A text as it stands between quotes.
 ghost use Rattle.std.specs.Prelude.{◌≡◌, ◌<◌, ◌∷◌, [], IfSome, MatchOption};
 ghost use Rattle.std.specs.List.{flat_map};
 ghost use Rattle.std.specs.Fmt.{WritesOnOk};
@@ -7,8 +7,7 @@ ghost use Rattle.expr_error.specs.Quoted.{escaped_byte, quoted_text};
 use std::fmt;
 use std::fmt::{Formatter, Write};
 
-/// Prints a string between double quotes. `\`, `"`, line feed, carriage return and tab are escaped, as `\\`, `\"`,
-/// `\n`, `\r` and `\t`.
+/// Prints a text between quotes.
 pub fn show_quoted<W: Write>(text: &str, f: &mut Formatter<W>) -> fmt::Result
     ensures { WritesOnOk W.write_str_gives f.old result (quoted_text text.now) f.new }
 {
@@ -17,7 +16,7 @@ pub fn show_quoted<W: Write>(text: &str, f: &mut Formatter<W>) -> fmt::Result
     f.write_str("\"")
 }
 
-/// Prints a string with its escapes. The bytes between two escapes are written at once.
+/// A text as it stands between quotes, in whole runs between what is escaped.
 fn show_escaped<W: Write>(text: &str, f: &mut Formatter<W>) -> fmt::Result
     ensures { WritesOnOk W.write_str_gives f.old result (flat_map escaped_byte text.now) f.new }
 {
@@ -36,7 +35,7 @@ fn show_escaped<W: Write>(text: &str, f: &mut Formatter<W>) -> fmt::Result
     f.write_str(&text[start..])
 }
 
-/// The escape of a byte, or `None` for a byte that is printed as it is.
+/// What stands for a byte that is escaped.
 fn escape_of(byte: u8) -> Option<&'static str>
     ensures cases { MatchOption result (escaped_byte byte ≡ byte ∷ [])
         (λ escape. escape.now ≡ escaped_byte byte) }

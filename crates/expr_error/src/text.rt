@@ -16,7 +16,7 @@ use std::fmt::{Formatter, Write};
 use std::hash::{Hash, Hasher};
 use std::marker::Model;
 
-/// A `String` that contracts see as its bytes, so that two with the same bytes are equal. Ordered by bytes.
+/// A `String` that contracts see as its bytes, so that two with the same bytes are equal. Texts are ordered by bytes.
 #[derive(Drop)]
 pub struct Text {
     inner: String,
@@ -31,7 +31,7 @@ impl Model for Text {
 }
 
 impl Text {
-    /// Copies a string.
+    /// A copy of a text.
     pub fn copy(alloc: Global, text: &str) -> Result<Text, AllocError>
         ensures { IfOk result (λ t. t ≡ text.now) }
     {
@@ -40,14 +40,14 @@ impl Text {
         })
     }
 
-    /// Wraps a `String`, without a copy.
+    /// The text of a string.
     pub fn from_string(inner: String) -> Text
         ensures { result ≡ string_bytes inner }
     {
         Text { inner }
     }
 
-    /// Returns the `String`, without a copy.
+    /// The string of this text.
     pub fn into_string(self) -> String
         ensures { string_bytes result ≡ self }
     {
@@ -55,21 +55,21 @@ impl Text {
         inner
     }
 
-    /// Length in bytes.
+    /// How many bytes there are.
     pub fn len(&self) -> usize
         ensures { result ≡ length self.now }
     {
         self.inner.len()
     }
 
-    /// Whether the length is 0.
+    /// Whether there are no bytes.
     pub fn is_empty(&self) -> bool
         ensures { IsTrue result ↔ (self.now ≡ []) }
     {
         self.inner.is_empty()
     }
 
-    /// Borrows the string.
+    /// This text, lent.
     pub fn as_str(&self) -> &str
         ensures { result.now ≡ self.now }
     {
@@ -87,7 +87,7 @@ impl Clone for Text {
     }
 }
 
-/// The string itself, without quotes.
+/// The text itself, without quotes.
 impl fmt::Display for Text {
     ghost output = { λ t. Some t };
 
@@ -151,7 +151,7 @@ impl Equivalent<Text> for &str {
 
     ghost respects_eq = { λ q x y. nat_list_eq_equiv.congr q.now x y };
 
-    // Lengths are compared first, which saves most comparisons of bytes among few names.
+    // Lengths first, which saves most of the comparisons among few names.
     fn equivalent(&self, key: &Text) -> bool {
         self.len() == key.len() && *self == key.as_str()
     }

@@ -1,12 +1,12 @@
--- The errors of an expression, and the position of a syntax error, where it is read and its program runs.
+-- What a text is refused with, and the place of a syntax fault, where it is read and its program is run.
 use Rattle.std.proofs.Common.{◌≡◌, ◌≢◌, ℕ, List, Result, Ok, Err, inl, inr, refl, sym, ◌∙◌, subst, ap}
 use Rattle.std.specs.Result.{IsErrAnd}
 use Rattle.std.specs.Str.{IsCharBoundary}
 use Rattle.expr_syntax.specs.Texts.{HasNoTree, IsCompiled, IsPlaced, IsProgramOf}
-use Rattle.expr_syntax.proofs.Passed.{boundary_kept, place_kept}
+pub use Rattle.expr_syntax.proofs.Passed.{boundary_kept, place_kept, same_place}
 use Rattle.expr_tree.specs.Term.{Block}
 use Rattle.expr_tree.specs.declared.node.Program.{Program}
-use Rattle.expr_context.specs.Context.{ContextView}
+use Rattle.expr_steps.specs.Context.{ContextView}
 use Rattle.expr_value.specs.Answers.{Returns}
 use Rattle.expr_error.specs.ErrorKind.{evaluation, error_kind, memory, pattern, syntax}
 use Rattle.expr_error.specs.declared.error.Error.{Error}
@@ -17,10 +17,9 @@ use Rattle.expr_meaning.specs.Allows.{AllowsBlock}
 use Rattle.expr_meaning.specs.Host.{Host, no_host}
 use Rattle.expr_meaning.specs.World.{World, world_of}
 use Rattle.expr_meaning.specs.Refusals.{NeverRefusesWith}
-use Rattle.expr_syntax.specs.Refused.{IsRefused}
-use Rattle.expr_eval.specs.Texts.{IsOwnFault}
+use Rattle.expr_eval.specs.Texts.{IsOwnFault, IsRefused}
 
--- an error of `compile` is one of the expression, except a lack of memory
+-- a refusal of `compile` is one that the text deserves, but for want of memory
 pub refused_by_compile : (text : List ℕ) (e : Error) → IsCompiled text (Err e) → error_kind e ≢ memory → IsRefused text (Err (error_kind e))
 refused_by_compile text (PestError place) h m = h
 refused_by_compile text (ParseError message) h m = h
@@ -28,11 +27,11 @@ refused_by_compile text (ExprError message) h m = absurd h
 refused_by_compile text (RegexError error) h m = absurd h
 refused_by_compile text MemoryError h m = absurd (m refl)
 
--- an expression with a program has a tree
+-- a text with a program has a tree
 pub has_tree : {A : Type 0} (text : List ℕ) (b : Block) → IsProgramOf text b → HasNoTree text → A
 has_tree text b p none = absurd (none p.tree p.is_tree)
 
--- If no function of the host returns a syntax error, no program does.
+-- Where no function of the host answers a syntax fault, no program comes to one.
 module _ (host : Host) (never : NeverRefusesWith host syntax) (ctx : ContextView) (b : Block) where
   no_syntax : (place : ℕ) → ¬ (Returns {A = Value} (Err (PestError place)) (AllowsBlock (world_of host ctx) b))
   no_syntax place p =
@@ -52,12 +51,11 @@ module _ (host : Host) (never : NeverRefusesWith host syntax) (ctx : ContextView
   pub boundary_never : (text : List ℕ) (r : Result Value Error) → Returns r (AllowsBlock (world_of host ctx) b) → (place : ℕ) → r ≡ Err (PestError place) → IsCharBoundary text place
   boundary_never text r p place e = absurd (no_syntax place (subst (λ s. Returns s (AllowsBlock (world_of host ctx) b)) e p))
 
--- a host that adds nothing returns none
+-- a host that adds nothing answers none
 pub nothing_refuses : NeverRefusesWith no_host syntax
 nothing_refuses key vs added p = p
 
--- the program of an expression that has it runs, so that a syntax error of the expression is none of the
--- program
+-- a program is run whose text has it, so that a syntax fault of the text's own is none of the program's
 module _ (text : List ℕ) (world : World) (b : Block) (of : IsProgramOf text b) (r : Result Value Error) (gives : Returns r (AllowsBlock world b)) where
   pub place_of_run : IsOwnFault text world.host → IsPlaced text r
   place_of_run (inl none) = has_tree text b of none
@@ -67,7 +65,7 @@ module _ (text : List ℕ) (world : World) (b : Block) (of : IsProgramOf text b)
   boundary_of_run (inl none) place e = has_tree text b of none
   boundary_of_run (inr never) place e = boundary_never world.host never world.context b text r gives place e
 
--- a lack of memory has no position
+-- a refusal for want of memory has no place
 module _ (A : Type 0) (text : List ℕ) where
   memory_placed : (e : Error) → error_kind e ≡ memory → IsPlaced {A = A} text (Err e)
   memory_placed (PestError place) m = let no : syntax ≢ memory = λ e. cc in absurd (no m)
@@ -88,7 +86,7 @@ module _ (A : Type 0) (text : List ℕ) where
   pub memory_boundary : (e : Error) → error_kind e ≡ memory → (r : Result A Error) → IsErrAnd r (λ x. x ≡ e) → (place : ℕ) → r ≡ Err (PestError place) → IsCharBoundary text place
   memory_boundary e m r passed = boundary_kept A A text e (memory_bounded e m) r passed
 
--- an error instead of a program
+-- a refusal in place of a program
 abbrev refused_with : Error → Result Program Error
 refused_with e = Err e
 

@@ -1,4 +1,4 @@
--- The program of what a readable value prints allows only that value, in every context and host.
+-- The program of a readable value's text allows that value alone, in every context and whatever a host has added.
 use Rattle.std.proofs.Common.{◌≡◌, ℕ, ℤ, pos, negsuc, suc, ◌^◌, nat_lt, bytes_eq, Bool, true, false, not, ◌&&◌, ◌||◌, cond, List, [], ◌∷◌, ◌++◌, map, Option, Some, None, Result, Ok, refl, sym, ap, ◌∙◌, subst, rules, arith, ⊎_elim, append_assoc, append-nil}
 use Rattle.std.specs.Cmp.Lexicographic.{nat_list_eq_equiv}
 use Rattle.std.specs.Int.{int_wrapping_neg}
@@ -8,14 +8,14 @@ use Rattle.std.specs.Option.{is_none, option_map}
 use Rattle.std.proofs.lemmas.Bool.{and_parts, cases_Bool, cond-true, cond-false, false≢true, ltb-true, not-true}
 use Rattle.std.proofs.lemmas.Int.{wrapping_neg_is, int_wrap_fits}
 use mir.Syntax.{w64}
-use Rattle.expr_tokens.proofs.Such.{Such, values_of, pairs_of, bare, with_each, by_layers, readable_at}
-use Rattle.expr_tokens.specs.Printed.{is_above_least, are_distinct, readable_layer, is_readable}
-use Rattle.expr_tokens.specs.Tokens.{is_word}
+use Rattle.expr_printed.proofs.Such.{Such, values_of, pairs_of, bare, with_each, by_layers, readable_at}
+use Rattle.expr_printed.specs.Printed.{is_above_least, are_distinct, readable_layer, is_readable}
+use Rattle.expr_token.specs.Tokens.{is_word}
 use Rattle.expr_tree.specs.Term as terms
 use Rattle.expr_tree.specs.Term.{Term, name, literal, list, mapping, range, call, unary, operation, postfix, choice}
 use Rattle.expr_tree.specs.TermOf.{terms_of}
-use Rattle.expr_functions.specs.declared.operator.UnaryOperator.TheVariants as operator
-use Rattle.expr_parts.specs.Maps.{map_term, value_of, has_expression, literal_pairs}
+use Rattle.expr_tree.specs.declared.operator.UnaryOperator.TheVariants as operator
+use Rattle.expr_parts.specs.Maps.{map_term, value_of, has_expression, literals}
 use Rattle.expr_syntax.specs.Printed.{integer_term, term_layer, printed_term}
 use Rattle.expr_value.specs.Answers.{Then, ThenIfOk}
 use Rattle.expr_error.specs.ErrorKind.{ErrorKind}
@@ -27,7 +27,7 @@ use Rattle.expr_operators.specs.Operators.{unary_answer}
 use Rattle.expr_meaning.specs.Allows.{Allows, AllowsAll, AllowsPairs}
 use Rattle.expr_meaning.specs.World.{World}
 
--- a step that returns only this value
+-- a step that answers this value alone
 abbrev pub Only : {A : Type 0} → (Result A ErrorKind → Type 0) → A → Type 0
 Only {A} step v = ((x : Result A ErrorKind) → step x → x ≡ Ok v) × step (Ok v)
 
@@ -109,16 +109,16 @@ module _ (world : World) where
   literal_allowed (postfix p t) v e = let d : ⊥ = cc in absurd d
   literal_allowed (choice c first second) v e = let d : ⊥ = cc in absurd d
 
-  literals_allowed : (ps : terms.LineTerms) → has_expression ps ≡ false → AllowsPairs world (terms.term_pairs ps) (Ok (literal_pairs ps))
+  literals_allowed : (ps : terms.LineTerms) → has_expression ps ≡ false → AllowsPairs world (terms.pairs_of ps) (Ok (literals ps))
   literals_allowed [] h = refl
   literals_allowed (p ∷ ps) h = choose (literals_allowed ps) (value_of p.1) refl
     where
-      choose : (has_expression ps ≡ false → AllowsPairs world (terms.term_pairs ps) (Ok (literal_pairs ps))) → (o : Option Value) → value_of p.1 ≡ o
-          → AllowsPairs world (terms.term_pairs (p ∷ ps)) (Ok (literal_pairs (p ∷ ps)))
+      choose : (has_expression ps ≡ false → AllowsPairs world (terms.pairs_of ps) (Ok (literals ps))) → (o : Option Value) → value_of p.1 ≡ o
+          → AllowsPairs world (terms.pairs_of (p ∷ ps)) (Ok (literals (p ∷ ps)))
       choose others None e = absurd (false≢true (sym h ∙ ap (λ o. is_none o || has_expression ps) e))
       choose others (Some v) e =
-          let all : literal_pairs (p ∷ ps) ≡ (p.0, v) ∷ literal_pairs ps = ap (λ o. cons_option (option_map (λ w. (p.0, w)) o) (literal_pairs ps)) e in
-          (Ok v, literal_allowed p.1 v e, (Ok (literal_pairs ps), others (ap (λ o. is_none o || has_expression ps) (sym e) ∙ h), ap Ok all))
+          let all : literals (p ∷ ps) ≡ (p.0, v) ∷ literals ps = ap (λ o. cons_option (option_map (λ w. (p.0, w)) o) (literals ps)) e in
+          (Ok v, literal_allowed p.1 v e, (Ok (literals ps), others (ap (λ o. is_none o || has_expression ps) (sym e) ∙ h), ap Ok all))
 
   abbrev IsMeant : Value → Type 0
   IsMeant v = is_readable v ≡ true → Only (Allows world (printed_term v)) v
@@ -150,11 +150,11 @@ module _ (world : World) where
   abbrev written : List (List ℕ × Such IsMeant) → terms.LineTerms
   written ps = with_each printed_term (pairs_of ps)
 
-  pairs_only : (ps : List (List ℕ × Such IsMeant)) → ReadablePairs ps → Only (AllowsPairs world (terms.term_pairs (written ps))) (pairs_of ps)
+  pairs_only : (ps : List (List ℕ × Such IsMeant)) → ReadablePairs ps → Only (AllowsPairs world (terms.pairs_of (written ps))) (pairs_of ps)
   pairs_only [] h = only_is []
   pairs_only ((key, e) ∷ ps) h =
       let parts = and_parts _ _ h in
-      let rest = AllowsPairs world (terms.term_pairs (written ps)) in
+      let rest = AllowsPairs world (terms.pairs_of (written ps)) in
       let all : List Named = (key, e.0) ∷ pairs_of ps in
       then_only (Allows world (printed_term e.0)) (λ v. Then rest (λ ms a. a ≡ Ok ((key, v) ∷ ms))) e.0 all (e.1 (and_parts _ _ parts.0).1)
       (then_only rest (λ ms a. a ≡ Ok ((key, e.0) ∷ ms)) (pairs_of ps) all (pairs_only ps parts.1) (only_is all))
@@ -173,14 +173,14 @@ module _ (world : World) where
       of_pairs : has_expression (written ps) ≡ true → Only (Allows world (map_term (written ps))) (value.Map (pairs_of ps))
       of_pairs e =
           subst (λ t. Only (Allows world t) (value.Map (pairs_of ps))) (sym (cond-true _ _ _ e))
-          (then_only (AllowsPairs world (terms.term_pairs (written ps))) (λ ms a. a ≡ Ok (value.Map (put_all [] ms))) (pairs_of ps) (value.Map (pairs_of ps))
+          (then_only (AllowsPairs world (terms.pairs_of (written ps))) (λ ms a. a ≡ Ok (value.Map (put_all [] ms))) (pairs_of ps) (value.Map (pairs_of ps))
           (pairs_only ps h) (λ x is. is ∙ ap Ok back, sym (ap Ok back)))
 
       of_literals : has_expression (written ps) ≡ false → Only (Allows world (map_term (written ps))) (value.Map (pairs_of ps))
       of_literals e =
-          let same : Ok (literal_pairs (written ps)) ≡ Ok (pairs_of ps) = (pairs_only ps h).0 (Ok (literal_pairs (written ps))) (literals_allowed (written ps) e) in
-          let all : literal_pairs (written ps) ≡ pairs_of ps = cc in
-          let here : Ok (value.Map (put_all [] (literal_pairs (written ps)))) ≡ Ok (value.Map (pairs_of ps)) = ap (λ ms. Ok (value.Map (put_all [] ms))) all ∙ ap Ok back in
+          let same : Ok (literals (written ps)) ≡ Ok (pairs_of ps) = (pairs_only ps h).0 (Ok (literals (written ps))) (literals_allowed (written ps) e) in
+          let all : literals (written ps) ≡ pairs_of ps = cc in
+          let here : Ok (value.Map (put_all [] (literals (written ps)))) ≡ Ok (value.Map (pairs_of ps)) = ap (λ ms. Ok (value.Map (put_all [] ms))) all ∙ ap Ok back in
           subst (λ t. Only (Allows world t) (value.Map (pairs_of ps))) (sym (cond-false _ _ _ e)) (λ x is. is ∙ here, sym here)
 
   -- one layer

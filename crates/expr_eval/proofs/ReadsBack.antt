@@ -1,11 +1,11 @@
--- If an expression is what a readable value prints, its only result is that value.
+-- Where a text is the printed text of a readable value, its one answer is that value.
 use Rattle.std.proofs.Common.{◌≡◌, ℕ, IsTrue, List, Result, Ok, Err, refl, sym, ◌∙◌, subst}
 use Rattle.std.specs.Result.{IsErrAnd}
-use Rattle.expr_tokens.specs.Printed.{is_readable}
+use Rattle.expr_printed.specs.Printed.{is_readable}
 use Rattle.expr_tree.specs.Term.{answers}
 use Rattle.expr_tree.specs.TermOf.{program_term}
 use Rattle.expr_tree.specs.declared.node.Program.{Program}
-use Rattle.expr_tokens.specs.Grammar.{TreeProgram, LiteralsFit}
+use Rattle.expr_grammar.specs.Grammar.{TreeProgram, LiteralsFit}
 use Rattle.expr_syntax.proofs.Printed.{printed_program}
 use Rattle.expr_syntax.specs.Printed.{printed_term}
 use Rattle.expr_syntax.specs.Texts.{IsTreeOf, IsProgramOf, IsAnswerFor}
@@ -19,12 +19,12 @@ use Rattle.expr_meaning.specs.Allows.{Allows, AllowsBlock}
 use Rattle.expr_meaning.specs.World.{World}
 use Rattle.expr_eval.proofs.Meant.{printed_only}
 
--- the result of a program of that expression is the value
+-- what a program of that text gives is the value
 only_value : (world : World) (v : Value) → IsTrue (is_readable v) → (r : Result Value Error) → Returns r (Allows world (printed_term v)) → ReturnsExactly r (Ok v)
 only_value world v h (Ok w) p = sym ((printed_only world v h).0 (Ok w) p)
 only_value world v h (Err e) p = λ m. sym ((printed_only world v h).0 (Err (error_kind e)) (p m))
 
--- an error of `compile` for an expression with a tree whose literals fit is a lack of memory
+-- a refusal by `compile` of a text with a tree whose literals fit is one for memory
 only_memory : (t : TreeProgram) → LiteralsFit t → (e : Error) → IsAnswerFor t (Err e) → (v : Value) → ReturnsExactly (Err e) (Ok v)
 only_memory t fit (PestError place) h v = absurd h
 only_memory t fit (ParseError message) h v = absurd (h fit)

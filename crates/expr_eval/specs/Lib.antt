@@ -1,27 +1,2 @@
-pub mod AllocFree
-pub mod Arguments
-pub mod Handed
-pub mod Here
-pub mod NodePromises
 pub mod Promises
-pub mod Scope
-pub mod Several
-pub mod Sides
 pub mod Texts
-pub use Rattle.expr_context.specs.Lookups as Context
-pub use Rattle.expr_error.specs.ErrorKind
-pub use Rattle.expr_functions.specs.Strictness
-pub use Rattle.expr_meaning.specs.Allows
-pub use Rattle.expr_meaning.specs.Calls
-pub use Rattle.expr_meaning.specs.Dispatch
-pub use Rattle.expr_meaning.specs.Host
-pub use Rattle.expr_meaning.specs.Independence
-pub use Rattle.expr_meaning.specs.Methods
-pub use Rattle.expr_meaning.specs.World
-pub use Rattle.expr_operators.specs.Operators
-pub use Rattle.expr_operators.specs.Positions
-pub use Rattle.expr_tree.specs.Names
-pub use Rattle.expr_tree.specs.Term
-pub use Rattle.expr_tree.specs.TermOf
-pub use Rattle.expr_value.specs.Answers
-pub use Rattle.expr_value.specs.Values

@@ -1,12 +1,6 @@
-//! `eval`: evaluates an expression, or a single node, operator or call.
+//! From a text to its answer.
 #![tactic(auto)]
 
-mod alone;
-mod evaluation;
-mod nodes;
-mod scope;
 mod text;
 
-pub use alone::{eval_expr, eval_func, eval_operator, eval_postfix_operator, eval_unary_operator};
-pub use evaluation::Evaluation;
 pub use text::{eval, evaluate_text};

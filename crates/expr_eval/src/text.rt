@@ -1,4 +1,4 @@
-//! From an expression to its value.
+//! From a text to its answer.
 ghost use Rattle.expr_eval.specs.Promises.{AnswersText};
 ghost use Rattle.expr_eval.specs.Texts.{IsOwnFault};
 ghost use Rattle.expr_machine.specs.Here.{here};
@@ -12,14 +12,14 @@ use expr_syntax::compile;
 use expr_value::{Result, Value};
 use std::alloc::Global;
 
-/// Evaluates an expression in a context, with no additions of a host, and returns its value.
+/// What a text answers in a context, where the host adds nothing.
 ///
 /// # Errors
 ///
-/// Returns the errors of [`compile`] and of [`run`](expr_machine::run).
+/// What [`compile`] refuses, and what [`run`](expr_machine::run) does.
 pub fn eval(alloc: Global, code: &str, ctx: &dyn ContextProvider) -> Result<Value>
     ensures text { AnswersText (world_of no_host (context ctx.now)) code.now result }
-    // No function of the host returns a syntax error.
+    // No function of the host answers a syntax fault.
     ensures own { IsOwnFault code.now no_host }
 {
     let machine = Machine {
@@ -30,11 +30,11 @@ pub fn eval(alloc: Global, code: &str, ctx: &dyn ContextProvider) -> Result<Valu
     evaluate_text(&machine, code)
 }
 
-/// Compiles an expression and runs it on a machine. Each `eval` calls this.
+/// What a text answers where a machine stands: the one body of each `eval`.
 ///
 /// # Errors
 ///
-/// Returns the errors of [`compile`] and those of the program's run.
+/// What [`compile`] refuses, and what the program's run does.
 pub fn evaluate_text<H: Functions, P: ContextProvider>(
     machine: &Machine<'_, H, P>,
     code: &str,

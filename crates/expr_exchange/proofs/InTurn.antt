@@ -29,7 +29,7 @@ one_more : (ps : List (Value × Value)) (key value : Value) → in_turn (ps ++ (
 one_more [] key value = refl
 one_more (p ∷ ps) key value = ap (λ rest. p.0 ∷ p.1 ∷ rest) (one_more ps key value)
 
--- a value after its key ends a pair
+-- a value behind its key ends a pair
 pub in_turn_more : (ps more : List (Value × Value)) (key value : Value) (was is : Option Value) (turned : List Value) → turned ≡ in_turn ps ++ pending was → was ≡ Some key → is ≡ None → more ≡ ps ++ (key, value) ∷ []
     → turned ++ value ∷ [] ≡ in_turn more ++ pending is
 in_turn_more ps more key value was is turned so had has ends =
@@ -43,12 +43,12 @@ none_before : (name : Option (List ℕ)) (value : Value) → before name value N
 none_before None value = refl
 none_before (Some n) value = refl
 
--- the bytes of a string value
+-- a text is a string
 is_string : (s : List ℕ) → string_of (values.String s) ≡ Some s
 unfolding values.out-Value denote.Hole.Carrier.out
 is_string s = refl
 
--- names are the strings of their pairs
+-- names are the texts of their pairs
 pub text_pairs-by_name : (names : List (String Global × Value)) → text_pairs (map pair_by_name names) ≡ Some (map (λ p. (string_bytes p.0, p.1)) names)
 text_pairs-by_name [] = refl
 text_pairs-by_name (p ∷ ps) =
@@ -59,7 +59,7 @@ more_none None value rest more so none = refl
 more_none (Some n) value None more so none = ap (before (Some n) value) (so refl)
 more_none (Some n) value (Some r) more so none = let no : ⊥ = cc none in absurd no
 
--- a key that is no string stays one
+-- a key that is no text stays one
 pub no_texts-more : (ps more : List (Value × Value)) → text_pairs ps ≡ None → text_pairs (ps ++ more) ≡ None
 no_texts-more [] more none = let no : ⊥ = cc none in absurd no
 no_texts-more (p ∷ ps) more none = more_none (string_of p.0) p.1 (text_pairs ps) (text_pairs (ps ++ more)) (no_texts-more ps more) none

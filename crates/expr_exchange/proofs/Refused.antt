@@ -1,4 +1,4 @@
--- Errors by their kinds.
+-- Refusals by their kinds.
 use Rattle.std.proofs.Common.{◌≡◌, ◌≢◌, IfErr, IsErrAnd, Result, Ok, Err, refl, subst, sym}
 use Rattle.expr_error.specs.ErrorKind.{ErrorKind, error_kind, syntax, literal, evaluation, pattern, memory}
 use Rattle.expr_error.specs.declared.error.Error.{Error}
@@ -13,11 +13,11 @@ kind_else evaluation m n = absurd (n refl)
 kind_else pattern m n = cc (m (λ e. cc e))
 kind_else memory m n = refl
 
--- an error of the language for a value, or a lack of memory, which isn't the first, is a lack of memory
+-- what is refused as the language refuses a value, or for want of memory, and not as the first, is for want of memory
 pub memory_else : (e : Error) → (error_kind e ≢ memory → error_kind e ≡ evaluation) → ends_by (error_kind e) ≢ ends.Evaluation → error_kind e ≡ memory
 memory_else e = kind_else (error_kind e)
 
--- what holds of an error holds where it is passed on
+-- what holds of a refusal holds where it is passed on
 pub passed_so : {A : Type 0} (r : Result A HostError) (e : HostError) (P : HostError → Type 0) → IsErrAnd r (λ x. x ≡ e) → P e → IfErr r P
 passed_so (Ok v) e P is p = absurd is
 passed_so (Err x) e P is p = subst P (sym is) p

@@ -1,4 +1,4 @@
--- The values being built, as a list.
+-- What is built, as a list, of which the last value comes last.
 use Rattle.std.specs.Prelude.{◌≡◌, ◌≢◌, ◌≤ℤ◌, ℕ, ℤ, pos, Some, List, [], ◌∷◌, ◌++◌, IsSome, length}
 use Rattle.expr_exchange.specs.Maps.{map_in_turn}
 use Rattle.expr_exchange.specs.declared.builder.ValueBuilder.{ValueBuilder}
@@ -11,7 +11,7 @@ use Rattle.expr_value.specs.declared.value.Value.{Value}
 abbrev pub values_of : ValueBuilder → List Value
 values_of built = built.values.items
 
--- There are this many last values.
+-- There are so many last values.
 abbrev pub HasLast : ℤ → List Value → Type 0
 HasLast count values = (pos 0 ≤ℤ count) × (count ≤ℤ pos (length values))
 
@@ -22,7 +22,7 @@ pub record EndsInMap (values : List Value) : Type 0 where
   pub stood : values ≡ front ++ last ∷ []
   pub is : IsSome (map_of last)
 
--- No context is made: there is no last value, or it is not a map by names, or memory is lacking.
+-- No context is made: there is no last value, or it is no map by names, or for want of memory.
 abbrev pub NoContext : List Value → HostError → Type 0
 NoContext values (Language error) = error_kind error ≢ memory → (error_kind error ≡ evaluation) × (EndsInMap values → ⊥)
 NoContext values Unknown = ⊥
@@ -31,7 +31,7 @@ NoContext values Asks = ⊥
 NoContext values Differs = ⊥
 NoContext values (Stopped limit) = ⊥
 
--- Another value replaced this many last values.
+-- So many last values made way for another.
 pub record TakesPlace (count : ℤ) (old : List Value) (made : List Value → Value) (new : List Value) : Type 0 where
   pub front : List Value
   pub last : List Value
@@ -39,13 +39,13 @@ pub record TakesPlace (count : ℤ) (old : List Value) (made : List Value → Va
   pub many : pos (length last) ≡ count
   pub stands : new ≡ front ++ made last ∷ []
 
--- A map replaced this many last values, which were keys and values in turn.
+-- So many last values, keys and values in turn, made way for their map.
 pub record BecomesMap (count : ℤ) (old new : List Value) : Type 0 where
   pub made : Value
   pub place : TakesPlace count old (λ _. made) new
   pub is : map_in_turn place.last ≡ Some made
 
--- The last value, a map of these names, was removed.
+-- The last value was taken, a map of these names.
 pub record TakesNames (old new : List Value) (names : List (List ℕ × Value)) : Type 0 where
   pub last : Value
   pub stood : old ≡ new ++ last ∷ []

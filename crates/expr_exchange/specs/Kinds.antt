@@ -1,4 +1,4 @@
--- Kinds of values, by their numbers, and the summary of a value.
+-- Kinds of values, by their numbers, and what is told of a value.
 use Rattle.std.specs.Prelude.{ℕ, ℤ, pos, List, [], ◌∷◌, Option, length, slice_get, if◌then◌else◌}
 use Rattle.std.specs.Int.{int_div_euclid, int_rem_euclid}
 use Rattle.expr_exchange.specs.declared.kind.Kind.{Kind}
@@ -48,11 +48,10 @@ kind_layer v = elim v [
   | Value-F.KeyedMap pairs ↦ is.KeyedMap
 ]
 
-abbrev pub kind_for_host : Value → Kind
-kind_for_host v = kind_layer (out-Value v)
+abbrev pub kind_of : Value → Kind
+kind_of v = kind_layer (out-Value v)
 
--- the number of a value: 0 or 1 for a boolean, the second since 1970 for a DateTime, and the length for
--- strings, bytes, arrays and maps
+-- a value's number: of a truth 0 or 1, of a moment its second since 1970 began, of texts, bytes, arrays and maps how long they are
 abbrev pub number_layer : Value-F Value → ℤ
 number_layer v = elim v [
   | Value-F.Bool b ↦ if b then pos 1 else pos 0
@@ -72,14 +71,14 @@ number_layer v = elim v [
 abbrev pub number_of : Value → ℤ
 number_of v = number_layer (out-Value v)
 
--- the nanoseconds of a DateTime after its second, and 0 for any other value
+-- the nanoseconds of a moment past its second, 0 of any other value
 abbrev pub fraction_layer : Value-F Value → ℤ
 fraction_layer v = elim v [ Value-F.DateTime t ↦ int_rem_euclid (instant t) (pos 1000000000) | _ ↦ pos 0 ]
 
 abbrev pub fraction_of : Value → ℤ
 fraction_of v = fraction_layer (out-Value v)
 
--- the bytes of a string, of bytes, or of a zone's name, and none for any other value
+-- the bytes of a text, of bytes, or of a zone's name, and none of any other value
 abbrev pub bytes_layer : Value-F Value → List ℕ
 bytes_layer v = elim v [
   | Value-F.String text ↦ text

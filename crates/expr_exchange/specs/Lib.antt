@@ -1,7 +1,5 @@
-pub mod Asks
 pub mod Builder
 pub mod Cursor
-pub mod HandleMap
 pub mod Kinds
 pub mod Limits
 pub mod Maps

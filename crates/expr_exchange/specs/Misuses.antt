@@ -1,4 +1,4 @@
--- The messages for a host's mistakes.
+-- What a host did wrong, in words.
 use Rattle.std.specs.Prelude.{ℕ, List, codes}
 use Rattle.expr_exchange.specs.declared.misuse.Misuse.{Misuse}
 use Rattle.expr_exchange.specs.declared.misuse.Misuse.TheVariants as misuse

@@ -1,14 +1,14 @@
--- How calls end, and what they return.
+-- How calls end, and what they give.
 use Rattle.std.specs.Prelude.{◌≡◌, ◌≢◌, Option, None, Result, Ok, Err}
 use Rattle.expr_exchange.specs.declared.host_error.HostError.{HostError}
 use Rattle.expr_exchange.specs.declared.host_error.HostError.TheVariants.{Language, Unknown, Misuse, Asks, Differs, Stopped}
 use Rattle.expr_exchange.specs.declared.host_error.Status.{Status}
 use Rattle.expr_exchange.specs.declared.host_error.Status.TheVariants as ends
-use Rattle.expr_limits.specs.declared.limit.Limit.{Limit}
-use Rattle.expr_limits.specs.declared.limit.Limit.TheVariants as limits
+use Rattle.expr_meter.specs.declared.limit.Limit.{Limit}
+use Rattle.expr_meter.specs.declared.limit.Limit.TheVariants as limits
 use Rattle.expr_error.specs.ErrorKind.{ErrorKind, error_kind, syntax, literal, evaluation, pattern, memory}
 
--- the status of a call with this kind of error
+-- how a call ends by the kind of a refusal
 abbrev pub ends_by : ErrorKind → Status
 ends_by syntax = ends.Syntax
 ends_by literal = ends.Literal
@@ -16,9 +16,9 @@ ends_by evaluation = ends.Evaluation
 ends_by pattern = ends.Pattern
 ends_by memory = ends.Memory
 
--- the status of a call that passes this limit
+-- how a call ends by the limit that is passed
 abbrev pub ends_at : Limit → Status
-ends_at limits.Nesting = ends.Nesting
+ends_at limits.Height = ends.Height
 ends_at limits.Patterns = ends.Patterns
 ends_at limits.Steps = ends.Steps
 ends_at limits.Depth = ends.Depth
@@ -32,8 +32,7 @@ status_of Asks = ends.Asks
 status_of Differs = ends.Differs
 status_of (Stopped limit) = ends_at limit
 
--- The language returns one of these results or lacks memory, or the run stops for a reply or at such a limit.
--- There is no other error.
+-- The language gives one of these answers, or refuses for want of memory, or the run stops for a reply or at such a limit; nothing else is refused.
 abbrev pub ReturnsToHost : {A : Type 0} → Result A HostError → (Result A ErrorKind → Type 0) → (Limit → Type 0) → Type 0
 ReturnsToHost (Ok v) allowed passed = allowed (Ok v)
 ReturnsToHost (Err (Language error)) allowed passed = error_kind error ≢ memory → allowed (Err (error_kind error))
@@ -43,7 +42,7 @@ ReturnsToHost (Err Asks) allowed passed = Unit {0}
 ReturnsToHost (Err Differs) allowed passed = Unit {0}
 ReturnsToHost (Err (Stopped limit)) allowed passed = passed limit
 
--- A call makes no sense.
+-- A call asks for what can't be.
 abbrev pub IsMisuse : HostError → Type 0
 IsMisuse (Language error) = ⊥
 IsMisuse Unknown = ⊥
@@ -52,7 +51,7 @@ IsMisuse Asks = ⊥
 IsMisuse Differs = ⊥
 IsMisuse (Stopped limit) = ⊥
 
--- A lack of memory.
+-- A refusal for want of memory.
 abbrev pub IsForMemory : HostError → Type 0
 IsForMemory (Language error) = error_kind error ≡ memory
 IsForMemory Unknown = ⊥
@@ -61,7 +60,7 @@ IsForMemory Asks = ⊥
 IsForMemory Differs = ⊥
 IsForMemory (Stopped limit) = ⊥
 
--- An error of the language that this result allows, or a lack of memory.
+-- A refusal of the language, of such an answer, or for want of memory.
 abbrev pub AnswerRefuses : {A : Type 0} → Result A ErrorKind → HostError → Type 0
 AnswerRefuses answer (Language error) = error_kind error ≢ memory → answer ≡ Err (error_kind error)
 AnswerRefuses answer Unknown = ⊥
@@ -70,7 +69,7 @@ AnswerRefuses answer Asks = ⊥
 AnswerRefuses answer Differs = ⊥
 AnswerRefuses answer (Stopped limit) = ⊥
 
--- An error for what isn't there, or a lack of memory.
+-- A refusal of what isn't there, or for want of memory.
 abbrev pub NotThere : {A : Type 0} → Option A → HostError → Type 0
 NotThere sought (Language error) = error_kind error ≡ memory
 NotThere sought Unknown = ⊥
@@ -79,7 +78,7 @@ NotThere sought Asks = ⊥
 NotThere sought Differs = ⊥
 NotThere sought (Stopped limit) = ⊥
 
--- An error for what has no meaning, or a lack of memory.
+-- A refusal of what stands for nothing, or for want of memory.
 abbrev pub NotMeant : Type 0 → HostError → Type 0
 NotMeant Means (Language error) = error_kind error ≡ memory
 NotMeant Means Unknown = ⊥

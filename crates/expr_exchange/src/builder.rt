@@ -1,4 +1,4 @@
-//! Values that a host builds from their parts.
+//! Values that a host builds, one behind the other.
 ghost use Rattle.std.specs.Prelude.{◌≡◌, ◌≢◌, ◌+ℤ◌, ◌++◌, ◌∷◌, [], IfErr, IfOk, IsOk, OnErr, OnOk, length, pos};
 ghost use Rattle.expr_exchange.specs.Builder.{BecomesMap, EndsInMap, HasLast, NoContext, TakesNames, TakesPlace, values_of};
 ghost use Rattle.expr_exchange.specs.declared.host_error.Status.TheVariants.{Evaluation};
@@ -11,7 +11,7 @@ use expr_context::Context;
 use expr_value::Value;
 use std::alloc::Global;
 
-/// The list of values that a host is building. An array replaces its items in it, a map its pairs.
+/// Values that are built: an array takes the place of its items, a map of its pairs.
 #[derive(Drop)]
 pub struct ValueBuilder {
     alloc: Global,
@@ -19,7 +19,7 @@ pub struct ValueBuilder {
 }
 
 impl ValueBuilder {
-    /// Creates an empty list. It allocates no memory.
+    /// Nothing built. It takes no memory.
     pub fn new(alloc: Global) -> ValueBuilder
         ensures { values_of result ≡ [] }
     {
@@ -29,11 +29,7 @@ impl ValueBuilder {
         }
     }
 
-    /// Adds a value to the end.
-    ///
-    /// # Errors
-    ///
-    /// Returns `MemoryError` if an allocation fails.
+    /// Puts a value behind the others.
     pub fn push(&mut self, value: Value) -> Result<(), HostError>
         ensures ok { OnOk result (values_of self.new ≡ values_of self.old ++ value ∷ []) }
         ensures err { OnErr result (values_of self.new ≡ values_of self.old) }
@@ -44,11 +40,7 @@ impl ValueBuilder {
         Ok(())
     }
 
-    /// Removes and returns the last value.
-    ///
-    /// # Errors
-    ///
-    /// Returns `Misuse` if the list is empty.
+    /// Takes the last value.
     pub fn pop(&mut self) -> Result<Value, HostError>
         ensures ok { IfOk result (λ value. values_of self.old ≡ values_of self.new ++ value ∷ []) }
         ensures err { IfErr result (λ e. (e ≡ HostError.Misuse Misuse.NothingBuilt)
@@ -60,14 +52,14 @@ impl ValueBuilder {
         }
     }
 
-    /// Drops all values.
+    /// Lets go of all values.
     pub fn clear(&mut self)
         ensures { values_of self.new ≡ [] }
     {
         self.values.clear();
     }
 
-    /// Removes and returns the last `count` values.
+    /// Takes the last values, as many as that.
     fn take_last(&mut self, count: i64) -> Result<Vec<Value>, HostError>
         ensures ok { IfOk result (λ last. values_of self.old ≡ values_of self.new ++ last.items) }
         ensures count { IfOk result (λ last. pos (length last.items) ≡ count) }
@@ -83,12 +75,7 @@ impl ValueBuilder {
         Ok(self.values.split_off(place)?)
     }
 
-    /// Replaces the last `count` values by an array of them.
-    ///
-    /// # Errors
-    ///
-    /// Returns `Misuse` if `count` is below 0 or there are fewer values, and `MemoryError` if an allocation
-    /// fails.
+    /// Makes an array of the last values.
     pub fn array(&mut self, count: i64) -> Result<(), HostError>
         ensures ok { OnOk result (TakesPlace count (values_of self.old) Value.Array (values_of self.new)) }
         ensures refused { IfErr result (NotMeant (HasLast count (values_of self.old))) }
@@ -98,14 +85,8 @@ impl ValueBuilder {
         self.push(Value::from(items))
     }
 
-    /// Replaces the last `count` pairs, each a key and its value, by a map of them. If all keys are strings,
-    /// it is a map by names, otherwise a map by scalars. A repeated key keeps its first position and takes
-    /// its last value.
-    ///
-    /// # Errors
-    ///
-    /// Returns `Misuse` if `count` is below 0 or there are fewer values, `ExprError` if a key is not a
-    /// scalar, and `MemoryError` if an allocation fails.
+    /// Makes a map of the last pairs: one by names where all keys are texts, else one by scalars. A repeated key keeps its
+    /// first place and takes its last value. A key that is no scalar is refused as the language refuses it.
     #[tactic(auto, using(crate::proofs::Refused::memory_else))]
     pub fn map(&mut self, count: i64) -> Result<(), HostError>
         ensures ok { OnOk result (BecomesMap (count +ℤ count) (values_of self.old) (values_of self.new)) }
@@ -121,12 +102,7 @@ impl ValueBuilder {
         self.push(map)
     }
 
-    /// Removes the last value, which must be a map by names, and returns the context of its entries.
-    ///
-    /// # Errors
-    ///
-    /// Returns `Misuse` if the list is empty, `ExprError` if the value is not a map by names, and
-    /// `MemoryError` if an allocation fails.
+    /// The context of the last value, a map by names.
     pub fn context(&mut self) -> Result<Context, HostError>
         ensures ok { IfOk result (TakesNames (values_of self.old) (values_of self.new)) }
         ensures given { EndsInMap (values_of self.old) → IsOk result }

@@ -1,12 +1,13 @@
-//! A value, and a cursor on one of its parts.
+//! A value that is kept, and the part of it that a host looks at.
 ghost use Rattle.std.specs.Prelude.{◌≡◌, ◌≤ℤ◌, [], pos, length, IfErr, IfOk, OnErr, OnOk, Some, string_bytes};
 ghost use Rattle.std.specs.Int.{int_div_euclid, int_rem_euclid};
 ghost use Rattle.std.specs.Option.{option_copied};
-ghost use Rattle.expr_exchange.specs.Kinds.{bytes_in, fraction_of, kind_for_host, number_of};
-ghost use Rattle.expr_exchange.specs.Cursor.{LooksDown, LooksUp, SameLook, at_number, item_at, pair_key_at, part_of, way_of};
+ghost use Rattle.expr_exchange.specs.Kinds.{bytes_in, fraction_of, kind_of, number_of};
+ghost use Rattle.expr_exchange.specs.Cursor.{LooksDown, LooksUp, SameLook, at_number, item_at, key_at, part_of, way_of};
 ghost use Rattle.expr_exchange.specs.Refusals.{NotThere};
 ghost use Rattle.expr_value.specs.Strings.{string_text};
 ghost use Rattle.expr_datetime.specs.Times.{instant};
+ghost use Rattle.expr_value.specs.Values.{text_of};
 
 use crate::host_error::HostError;
 use crate::kind::Kind;
@@ -14,7 +15,7 @@ use crate::misuse::Misuse;
 use expr_value::{DateTimeValue, Value};
 use std::alloc::Global;
 
-/// A value, and the path from the whole to the part under the cursor: the positions of the items.
+/// A value that is kept, and the way to the part of it that is looked at: the places of items, from the whole inwards.
 #[derive(Drop)]
 pub struct ValueCursor {
     alloc: Global,
@@ -22,7 +23,7 @@ pub struct ValueCursor {
     way: Vec<usize>,
 }
 
-/// A summary of a value: its kind, its number, and the nanoseconds of a DateTime after its second.
+/// What is told of a value: its kind, its number, and of a moment the nanoseconds past its second.
 #[derive(Clone, Copy)]
 pub struct ValueSummary {
     pub kind: Kind,
@@ -31,7 +32,7 @@ pub struct ValueSummary {
 }
 
 impl ValueCursor {
-    /// Creates a cursor on nil. It allocates no memory.
+    /// Nil. It takes no memory.
     pub fn new(alloc: Global) -> ValueCursor
         ensures part { part_of result ≡ Value.Nil }
         ensures way { way_of result ≡ [] }
@@ -43,7 +44,7 @@ impl ValueCursor {
         }
     }
 
-    /// Replaces the value, and moves the cursor to the whole of it.
+    /// Keeps a value in place of the last, and looks at the whole.
     pub fn keep(&mut self, value: Value)
         ensures part { part_of self.new ≡ value }
         ensures way { way_of self.new ≡ [] }
@@ -52,7 +53,7 @@ impl ValueCursor {
         self.way.clear();
     }
 
-    /// The part under the cursor.
+    /// The part that is looked at.
     #[inline(always)]
     pub fn part(&self) -> &Value
         ensures { result.now ≡ part_of self.now }
@@ -66,12 +67,7 @@ impl ValueCursor {
         part
     }
 
-    /// Moves the cursor to an item of its part, by the item's position from 0.
-    ///
-    /// # Errors
-    ///
-    /// Returns `Misuse` if there is no such item, and `MemoryError` if an allocation fails. The cursor then
-    /// stays.
+    /// Looks at an item of the part.
     pub fn go_down(&mut self, number: i64) -> Result<(), HostError>
         ensures ok { OnOk result (LooksDown number self.old self.new) }
         ensures err { OnErr result (SameLook self.old self.new) }
@@ -87,11 +83,7 @@ impl ValueCursor {
         Ok(())
     }
 
-    /// Moves the cursor back to the array or map of its item.
-    ///
-    /// # Errors
-    ///
-    /// Returns `Misuse` if the cursor is on the whole value.
+    /// Looks at what the part is an item of.
     pub fn go_up(&mut self) -> Result<(), HostError>
         ensures ok { OnOk result (LooksUp self.old self.new) }
         ensures err { OnErr result (SameLook self.old self.new) }
@@ -103,11 +95,14 @@ impl ValueCursor {
         }
     }
 
-    /// The part as the built-in `string` converts it.
-    ///
-    /// # Errors
-    ///
-    /// Returns `MemoryError` if an allocation fails.
+    /// What the part prints as.
+    pub fn display_text(&self) -> Result<String, HostError>
+        ensures { IfOk result (λ text. string_bytes text ≡ text_of (part_of self.now)) }
+    {
+        Ok(self.part().to_string(self.alloc)?)
+    }
+
+    /// What the built-in `string` gives of the part.
     pub fn text(&self) -> Result<String, HostError>
         ensures { IfOk result (λ text. string_bytes text ≡ string_text (part_of self.now)) }
     {
@@ -115,7 +110,7 @@ impl ValueCursor {
     }
 }
 
-/// The item at a position of an array, or the value at a position of a map.
+/// The item of a place: of an array, or the value of the pair there of a map.
 fn item_of(value: &Value, place: usize) -> Option<&Value>
     ensures { option_copied result ≡ item_at value.now place }
 {
@@ -133,7 +128,7 @@ fn item_of(value: &Value, place: usize) -> Option<&Value>
     }
 }
 
-/// The bytes of a string, of bytes, or of a zone's name. Of any other value there are none.
+/// The bytes of a text or of bytes; none of any other value.
 pub fn bytes_of(value: &Value) -> &[u8]
     ensures { result.now ≡ bytes_in value.now }
 {
@@ -145,10 +140,10 @@ pub fn bytes_of(value: &Value) -> &[u8]
     }
 }
 
-/// The summary of a value.
+/// What is told of a value.
 #[inline(always)]
 pub fn summary_of(value: &Value) -> ValueSummary
-    ensures kind { result.kind ≡ kind_for_host value.now }
+    ensures kind { result.kind ≡ kind_of value.now }
     ensures number { number_of value.now ≤ℤ pos 9_223_372_036_854_775_807
         → result.number ≡ number_of value.now }
     ensures fraction { pos result.fraction ≡ fraction_of value.now }
@@ -170,7 +165,7 @@ pub fn summary_of(value: &Value) -> ValueSummary
     }
 }
 
-/// The summary of a value that is not a DateTime.
+/// What is told of a value that is no moment.
 fn of_kind(kind: Kind, number: i64) -> ValueSummary
     ensures kind { result.kind ≡ kind }
     ensures number { result.number ≡ number }
@@ -183,7 +178,7 @@ fn of_kind(kind: Kind, number: i64) -> ValueSummary
     }
 }
 
-/// The summary of a DateTime: its second since 1970, and the nanoseconds after that.
+/// What is told of a moment: its second since 1970 began, and the nanoseconds past it.
 fn of_moment(moment: &DateTimeValue) -> ValueSummary
     ensures kind { result.kind ≡ Kind.DateTime }
     ensures number { result.number ≡ int_div_euclid (instant moment.now) (pos 1_000_000_000) }
@@ -203,14 +198,10 @@ fn count(length: usize) -> i64
     i64::try_from(length).unwrap_or(0)
 }
 
-/// The key at a position of a map, from 0, as a value.
-///
-/// # Errors
-///
-/// Returns `Misuse` if there is no such key, and `MemoryError` if an allocation fails.
+/// The key of a place in a map, as a value.
 pub fn key_of(alloc: Global, value: &Value, number: i64) -> Result<Value, HostError>
-    ensures ok { IfOk result (λ key. at_number number (pair_key_at value.now) ≡ Some key) }
-    ensures refused { IfErr result (NotThere (at_number number (pair_key_at value.now))) }
+    ensures ok { IfOk result (λ key. at_number number (key_at value.now) ≡ Some key) }
+    ensures refused { IfErr result (NotThere (at_number number (key_at value.now))) }
 {
     let Ok(place) = usize::try_from(number) else {
         return Err(HostError::Misuse(Misuse::NoPart));

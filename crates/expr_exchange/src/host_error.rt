@@ -1,15 +1,15 @@
-//! The errors that a host sees.
+//! Why a host gets no answer.
 ghost use Rattle.std.specs.Prelude.{◌≡◌};
 ghost use Rattle.expr_exchange.specs.Refusals.{status_of};
 ghost use Rattle.expr_exchange.specs.declared.host_error.HostError.TheVariants.{Language};
 ghost use Rattle.expr_error.specs.declared.error.Error.TheVariants.{MemoryError};
 
 use crate::misuse::Misuse;
-use expr_limits::Limit;
+use expr_meter::Limit;
 use expr_value::Error;
 use std::alloc::{AllocError, AllocFailed};
 
-/// How a call ended. A host knows these by their numbers, from 0 in the order of this list.
+/// How a call ended. A host knows the endings by their numbers, from 0 in the order in which they stand here.
 #[derive(Clone, Copy, Debug, PartialEq, Eq)]
 pub enum Status {
     Done,
@@ -18,45 +18,45 @@ pub enum Status {
     Evaluation,
     Pattern,
     Memory,
-    /// A handle finds nothing: its thing was dropped, or the engine never gave it.
+    /// A handle finds nothing: it is out of date, or was never given.
     Unknown,
-    /// A call makes no sense: an unknown number, bytes that are not UTF-8, an item that doesn't exist.
+    /// A call asks for what can't be: an unknown number, bytes that are not UTF-8, an item that isn't there.
     Misuse,
     /// A run waits for the host's reply to a call of one of its functions.
     Asks,
-    /// A run came to another call than the recorded one.
+    /// A run came to another call than the one that was replied to.
     Differs,
-    /// The tree of an expression is higher than the limit.
-    Nesting,
-    /// The literal patterns of an expression weigh more than the limit.
+    /// A text's tree is higher than the limit.
+    Height,
+    /// A text's literal patterns weigh more than the limit.
     Patterns,
     /// A run takes more steps than the limit.
     Steps,
     /// A run makes a value that is deeper than the limit.
     Depth,
-    /// The values that a run holds weigh more than the limit.
+    /// A run holds more at once than the limit.
     Size,
 }
 
-/// Why a host gets no result.
+/// Why a host gets no answer.
 #[derive(Drop)]
 pub enum HostError {
-    /// An error of the language.
+    /// The language refuses.
     Language(Error),
     /// A handle finds nothing.
     Unknown,
-    /// A call makes no sense.
+    /// A call asks for what can't be.
     Misuse(Misuse),
     /// A run waits for the host's reply.
     Asks,
-    /// A run came to another call than the recorded one.
+    /// A run came to another call than the one that was replied to.
     Differs,
-    /// A compilation or a run would have passed this limit.
+    /// A text or a run would have passed this limit.
     Stopped(Limit),
 }
 
 impl HostError {
-    /// The status of a call with this error.
+    /// How a call ends that is refused.
     pub fn status(&self) -> Status
         ensures { result ≡ status_of self.now }
     {
@@ -70,7 +70,7 @@ impl HostError {
             HostError::Misuse(_) => Status::Misuse,
             HostError::Asks => Status::Asks,
             HostError::Differs => Status::Differs,
-            HostError::Stopped(Limit::Nesting) => Status::Nesting,
+            HostError::Stopped(Limit::Height) => Status::Height,
             HostError::Stopped(Limit::Patterns) => Status::Patterns,
             HostError::Stopped(Limit::Steps) => Status::Steps,
             HostError::Stopped(Limit::Depth) => Status::Depth,

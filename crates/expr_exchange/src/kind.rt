@@ -1,8 +1,8 @@
-//! The kinds of values, and their numbers.
+//! Kinds of values, by their numbers.
 ghost use Rattle.std.specs.Prelude.{◌≡◌, Some};
 ghost use Rattle.expr_exchange.specs.Kinds.{kind_numbered};
 
-/// The kind of a value. A host knows these by their numbers, from 0 in the order of this list.
+/// What kind of value. A host knows the kinds by their numbers, from 0 in the order in which they stand here.
 #[derive(Clone, Copy, Debug, PartialEq, Eq)]
 pub enum Kind {
     Nil,
@@ -17,18 +17,18 @@ pub enum Kind {
     Weekday,
     Array,
     Map,
-    /// A map whose keys may be any scalars.
+    /// A map whose keys are any scalars.
     KeyedMap,
-    /// Passed in only: the value of a JSON string.
+    /// Handed in alone: the value of a JSON text.
     Json,
-    /// Passed in only: the value that was built last.
+    /// Handed in alone: the value that was built last.
     Built,
-    /// Passed in only: a copy of the value under the cursor.
+    /// Handed in alone: a copy of the value that is looked at.
     Looked,
 }
 
 impl Kind {
-    /// The kind of this number.
+    /// The kind of a number.
     pub fn from_number(number: u32) -> Option<Kind>
         ensures { result ≡ kind_numbered number }
     {

@@ -1,10 +1,8 @@
-//! What crosses between a host and the language: values, handles, errors, and the struct of a call.
+//! Values that go from a host to the language and back: how they are handed in, built of parts, and looked at.
 #![tactic(auto)]
 
 mod builder;
-mod call;
 mod cursor;
-mod handles;
 mod host_error;
 mod kind;
 mod limit;
@@ -13,9 +11,7 @@ mod misuse;
 mod scalar;
 
 pub use builder::ValueBuilder;
-pub use call::{Ask, Call, Shows};
 pub use cursor::{ValueCursor, ValueSummary, bytes_of, key_of, summary_of};
-pub use handles::{Handle, HandleMap};
 pub use host_error::{HostError, Status};
 pub use kind::Kind;
 pub use limit::{limit_numbered, limit_text};

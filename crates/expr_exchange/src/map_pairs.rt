@@ -1,4 +1,4 @@
-//! The map of the keys and values that a host builds.
+//! The map of keys and values that a host builds, one behind the other.
 ghost use Rattle.std.specs.Prelude.{◌≡◌, ◌++◌, ◌∷◌, [], IfErr, IfOk, None, OnErr, Some, map};
 ghost use Rattle.expr_error.specs.ErrorKind.{OnlyMemory, RefusesWith, evaluation};
 ghost use Rattle.expr_exchange.specs.Maps.{AreSplit, map_in_turn, map_of_pairs, pair_by_name, pairs_of};
@@ -7,7 +7,7 @@ ghost use Rattle.expr_value.specs.Values.{string_of};
 use expr_value::{KeyedMap, Result, Text, Value};
 use std::alloc::Global;
 
-/// The pairs of a map: by names as long as all keys are strings.
+/// The pairs of a map: by names as long as all keys are texts.
 #[derive(Drop)]
 enum MapPairs {
     Named(Vec<(String, Value)>),
@@ -15,7 +15,7 @@ enum MapPairs {
 }
 
 impl MapPairs {
-    /// These pairs with one more at the end.
+    /// These pairs, and one more behind them.
     fn and(self, alloc: Global, key: Value, value: Value) -> Result<MapPairs>
         requires { AreSplit self }
         ensures ok { IfOk result (λ more. pairs_of more ≡ pairs_of self ++ (key, value) ∷ []) }
@@ -32,7 +32,7 @@ impl MapPairs {
         }
     }
 
-    /// The map of these pairs. A repeated key keeps its first position and takes its last value.
+    /// The map of these pairs. A repeated key keeps its first place and takes its last value.
     fn into_map(self, alloc: Global) -> Result<Value>
         requires { AreSplit self }
         ensures ok { IfOk result (λ made. map_of_pairs (pairs_of self) ≡ Some made) }
@@ -46,7 +46,7 @@ impl MapPairs {
     }
 }
 
-/// Pairs by names with one more at the end. Its key may be any value.
+/// Pairs by names, and one more behind them, whose key may be no text.
 fn add_to_named(
     alloc: Global,
     names: Vec<(String, Value)>,
@@ -71,7 +71,7 @@ fn add_to_named(
     }
 }
 
-/// The string that a key is. If the key is not a string, returns the key as the error.
+/// The text that a key is, or the key where it is none.
 fn into_text(key: Value) -> std::result::Result<Text, Value>
     ensures text { IfOk result (λ text. key ≡ Value.String text) }
     ensures other { IfErr result (λ other. other ≡ key) }
@@ -83,7 +83,7 @@ fn into_text(key: Value) -> std::result::Result<Text, Value>
     }
 }
 
-/// These pairs, with values for keys.
+/// The same pairs with values for keys.
 fn keyed_of(alloc: Global, names: Vec<(String, Value)>) -> Result<Vec<(Value, Value)>>
     ensures ok { IfOk result (λ keyed. keyed.items ≡ map pair_by_name names.items) }
     ensures err { OnlyMemory result }
@@ -95,12 +95,12 @@ fn keyed_of(alloc: Global, names: Vec<(String, Value)>) -> Result<Vec<(Value, Va
     Ok(keyed)
 }
 
-/// The map of these keys and values, which alternate. If all keys are strings, it is a map by names,
-/// otherwise a map by scalars. A repeated key keeps its first position and takes its last value.
+/// The map of keys and values that stand one behind the other: one by names where all keys are texts, else one by scalars. A
+/// repeated key keeps its first place and takes its last value.
 ///
 /// # Errors
 ///
-/// Returns `ExprError` if a key is not a scalar, and `MemoryError` if an allocation fails.
+/// `ExprError` for a key that is no scalar, or `MemoryError`.
 pub fn map_of(alloc: Global, values: Vec<Value>) -> Result<Value>
     ensures ok { IfOk result (λ made. map_in_turn values.items ≡ Some made) }
     ensures kind { RefusesWith result (λ k. k ≡ evaluation) }

@@ -1,21 +1,21 @@
-//! The mistakes of a host, and a message for each.
+//! What a host did wrong, in words.
 ghost use Rattle.std.specs.Prelude.{◌≡◌};
 ghost use Rattle.expr_exchange.specs.Misuses.{text_of_misuse};
 
-/// A mistake of a host, in a call that makes no sense.
+/// What a host did wrong, where a call asks for what can't be.
 #[derive(Clone, Copy, Debug, PartialEq, Eq)]
 pub enum Misuse {
-    /// No question has the number of the call.
+    /// The number of the call asks for nothing.
     UnknownAsk,
-    /// No kind of value has this number.
+    /// The number of a kind stands for no kind of value.
     UnknownKind,
-    /// No limit has this number.
+    /// The number of a limit stands for no limit.
     UnknownLimit,
     /// A limit is set to a number below 0.
     NegativeLimit,
-    /// A name or a string is not UTF-8.
+    /// A name or a text isn't UTF-8.
     NotUtf8,
-    /// The name of a function is not a word of the language.
+    /// The name of a function isn't a word of the language.
     NoWord,
     /// The call takes the value that was built last, and there is none.
     NothingBuilt,
@@ -23,22 +23,22 @@ pub enum Misuse {
     TooFewBuilt,
     /// The value has no item or key of this number.
     NoPart,
-    /// The cursor is on the whole value, so there is nothing around it.
+    /// The whole value is looked at, so that it is no item of another.
     AtWhole,
     /// No call of a host's function waits for a reply.
     NoCallWaits,
-    /// No DateTime has these seconds and nanoseconds.
+    /// The seconds and nanoseconds stand for no moment.
     NoMoment,
-    /// No month has this number.
+    /// The number stands for no month.
     NoMonth,
-    /// No day of the week has this number.
+    /// The number stands for no day of the week.
     NoWeekday,
-    /// A value of this kind can't be passed as a number or a string.
+    /// A value of this kind isn't handed in by a number or a text.
     NoScalar,
 }
 
 impl Misuse {
-    /// The message for a person.
+    /// The same as a sentence for a person.
     pub fn text(self) -> &'static str
         ensures { result.now ≡ text_of_misuse self }
     {

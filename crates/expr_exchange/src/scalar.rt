@@ -1,4 +1,4 @@
-//! Values that a host passes as a number or a string.
+//! Values that a host hands in by a number or a text.
 ghost use Rattle.std.specs.Prelude.{◌≡◌, pos, IfErr, IfOk, IsUtf8};
 ghost use Rattle.expr_exchange.specs.Refusals.{NotMeant};
 ghost use Rattle.expr_exchange.specs.Scalars.{HasScalar, IsScalar, instant_by};
@@ -12,13 +12,13 @@ use jiff::Timestamp;
 use jiff::tz::Offset;
 use std::alloc::Global;
 
-/// The value of a kind that a host passes as a number or a string. A DateTime is in UTC; `number` is its
-/// second since 1970, and `fraction` the nanoseconds after that.
+/// The value of a kind that is handed in by a number or a text; a moment, on a clock in UTC, by its second and the
+/// nanoseconds past it.
 ///
 /// # Errors
 ///
-/// Returns `Misuse` if the kind isn't passed that way, if the number is out of range, and if the string isn't
-/// UTF-8. Returns `MemoryError` if an allocation fails.
+/// `Misuse` for kinds that are handed in otherwise, for numbers that stand for nothing, and for a text that isn't UTF-8; or
+/// `MemoryError`.
 pub fn scalar_of(
     alloc: Global,
     kind: Kind,
@@ -66,11 +66,7 @@ fn text_value(alloc: Global, text: &[u8]) -> Result<Value, HostError>
     }
 }
 
-/// The instant of a second since 1970 and the nanoseconds after that.
-///
-/// # Errors
-///
-/// Returns `Misuse` if they are out of range.
+/// The moment of a second since 1970 began, and nanoseconds past it.
 pub fn moment_of(second: i64, fraction: u32) -> Result<Timestamp, HostError>
     ensures ok { IfOk result (λ t. t.nanosecond ≡ instant_by second fraction) }
     ensures refused { IfErr result (NotMeant (IsTimestampParts second (pos fraction))) }

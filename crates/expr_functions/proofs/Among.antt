@@ -10,7 +10,7 @@ use Rattle.expr_functions.specs.Functions.{beside_in_table, found_in}
 use Rattle.expr_functions.specs.declared.functions.Builtin.{Builtin}
 use Rattle.expr_functions.specs.declared.functions.TheConstants.{OF_THREE, OF_FOUR, OF_FIVE, OF_SIX, OF_SEVEN, OF_MORE}
 
--- the value of a key is in the line of the key
+-- what stands beside a key stands in its line
 one_line : {K X : Type 0} (line : K × X) (b : Bool) (found : Option (K × X)) (there : Option X) → option_map (λ (e : K × X). e.1) found ≡ there
     → option_map (λ (e : K × X). e.1) (cond b (Some line) found) ≡ cond b (Some line.1) there
 one_line line true found there same = refl

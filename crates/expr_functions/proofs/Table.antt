@@ -10,12 +10,12 @@ use Rattle.expr_functions.specs.Names.{built_in_names}
 use Rattle.expr_functions.specs.declared.functions.Builtin.{Builtin}
 use Rattle.expr_functions.specs.declared.functions.TheConstants.{OF_THREE, OF_FOUR, OF_FIVE, OF_SIX, OF_SEVEN, OF_MORE}
 
--- if two functions make the same list of the same items, they agree at each item
+-- two lists of what is made of the same items are the same at each
 at_each : {X Y : Type 0} (f g : X → Y) (xs : List X) → map f xs ≡ map g xs → All (λ x. f x ≡ g x) xs
 at_each f g [] e = All-nil (λ x. f x ≡ g x)
 at_each f g (x ∷ xs) e = All-cons (λ x. f x ≡ g x) x xs (ap (λ ys. slice_index_or ys 0 (f x)) e) (at_each f g xs (ap (drop 1) e))
 
--- if each line of a list has its result, a name that is found there has the result that is found
+-- where each line of a list has its answer, a name that is found there has the answer that is found
 module _ (answer : List ℕ → Option Builtin) (name : List ℕ) where
   abbrev Has : Builtin → Type 0
   Has b = answer name ≡ Some b
@@ -32,7 +32,7 @@ module _ (answer : List ℕ → Option Builtin) (name : List ℕ) where
   either None p a b = b
   either (Some x) p a b = a
 
--- two options, each of which is the other if it is some, are the same
+-- two answers, each of which is the other where it is one, are the same
 same : (o p : Option Builtin) → IfSome o (λ b. p ≡ Some b) → IfSome p (λ b. o ≡ Some b) → o ≡ p
 same None None a b = refl
 same None (Some x) a b = b

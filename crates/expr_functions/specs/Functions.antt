@@ -1,4 +1,4 @@
--- The built-in of a name, from the list of all names.
+-- The built-in of a name, by the names of all.
 use Rattle.std.specs.Prelude.{◌≡◌, ℕ, List, Option, None, Some, bytes_eq, map}
 use Rattle.std.specs.Map.{lookup}
 use Rattle.std.specs.Option.{option_or}
@@ -8,7 +8,7 @@ use Rattle.expr_functions.specs.declared.functions.Builtin.TheVariants.{HigherOr
 use Rattle.expr_functions.specs.declared.functions.HigherOrderCall.{HigherOrderCall}
 use Rattle.expr_functions.specs.Names.{built_in_names}
 
--- looks a name up in a list
+-- what stands beside a name in a list
 abbrev pub found_in : {K : Type 0} → (K → List ℕ) → List (K × Builtin) → List ℕ → Option Builtin
 found_in word lines name = lookup (λ key. bytes_eq name (word key)) lines
 
@@ -16,7 +16,7 @@ found_in word lines name = lookup (λ key. bytes_eq name (word key)) lines
 unfoldable pub builtin_named : List ℕ → Option Builtin
 builtin_named name = found_in (λ word. word) built_in_names name
 
--- a built-in that calls a predicate
+-- the one that asks a predicate
 abbrev pub higher_order_of : Option Builtin → Option HigherOrderCall
 higher_order_of (Some (HigherOrder b)) = Some b
 higher_order_of o = None
@@ -24,7 +24,7 @@ higher_order_of o = None
 abbrev pub higher_order_named : List ℕ → Option HigherOrderCall
 higher_order_named name = higher_order_of (builtin_named name)
 
--- looks a name up in the tables of the code, which has one for each length of names
+-- what stands beside a name in the program's table, which is in parts by the length of the names
 abbrev pub beside_in_table : List ℕ → Option Builtin
 beside_in_table name =
     option_or (found_in (λ word. word.now) OF_THREE name) (
@@ -35,6 +35,6 @@ beside_in_table name =
     found_in (λ word. word.now) OF_MORE name
     )))))
 
--- the tables of the code have each of these lines
+-- that the built-in of each line stands beside its name in the program's table
 abbrev pub AreBesideInTable : List (List ℕ × Builtin) → Type 0
 AreBesideInTable lines = map (λ line. beside_in_table line.0) lines ≡ map (λ line. Some line.1) lines

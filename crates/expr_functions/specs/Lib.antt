@@ -1,4 +1,2 @@
 pub mod Functions
 pub mod Names
-pub mod OperatorTexts
-pub mod Strictness

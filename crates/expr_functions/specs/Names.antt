@@ -1,4 +1,4 @@
--- The names of the built-ins, family by family, each with its built-in.
+-- The names of the built-ins, family by family, each with the call that it names.
 use Rattle.std.specs.Prelude.{ℕ, List, [], ◌∷◌, ◌++◌, map, codes}
 use Rattle.expr_functions.specs.declared.functions.Builtin.{Builtin}
 use Rattle.expr_functions.specs.declared.functions.Builtin.TheVariants as builtin
@@ -20,7 +20,7 @@ use Rattle.expr_functions.specs.declared.functions.EncodingCall.TheVariants as e
 use Rattle.expr_functions.specs.declared.functions.TimeCall.{TimeCall}
 use Rattle.expr_functions.specs.declared.functions.TimeCall.TheVariants as time
 
--- those that call a predicate. Only in a call of one of these names, an argument with a free `#` is promoted.
+-- those that ask a predicate; an argument that mentions a hash is promoted in a call of one of these names, and in no other
 abbrev pub higher_order_names : List (List ℕ × HigherOrderCall)
 higher_order_names =
     (codes "all", asks.All)
@@ -40,7 +40,7 @@ higher_order_names =
     ∷ (codes "sortBy", asks.SortBy)
     ∷ []
 
--- those on strings
+-- those on texts
 abbrev pub text_names : List (List ℕ × TextCall)
 text_names =
     (codes "trim", text.Trim)
@@ -77,11 +77,11 @@ collection_names =
     ∷ (codes "get", collection.Get)
     ∷ []
 
--- those that convert values
+-- those of conversion
 abbrev pub conversion_names : List (List ℕ × ConversionCall)
 conversion_names = (codes "type", conversion.Type) ∷ (codes "int", conversion.Int) ∷ (codes "string", conversion.String) ∷ []
 
--- those on numbers, including those on fractions
+-- those on numbers, those of fractions among them
 abbrev pub number_names : List (List ℕ × NumberCall)
 number_names =
     (codes "max", number.Max)
@@ -117,7 +117,7 @@ encoding_names =
     ∷ (codes "toJSON", encoding.ToJson)
     ∷ []
 
--- those that return a duration, a DateTime or a time zone
+-- those that answer a length of time, a moment or a zone
 abbrev pub time_names : List (List ℕ × TimeCall)
 time_names = (codes "duration", time.Duration) ∷ (codes "now", time.Now) ∷ (codes "timezone", time.Timezone) ∷ (codes "date", time.Date) ∷ []
 

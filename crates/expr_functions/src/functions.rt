@@ -1,4 +1,4 @@
-//! The built-ins by name: an enum for each family, and one table of all names by their length.
+//! The built-ins by name: an enum for each family, and one table of all, by the length of their names.
 ghost use Rattle.std.specs.Prelude.{◌≡◌, bytes_eq, option_map};
 ghost use Rattle.std.specs.List.{find};
 ghost use Rattle.expr_functions.specs.Functions.{beside_in_table, builtin_named, found_in, higher_order_named};
@@ -10,16 +10,16 @@ use ValueCall::{Bit, Collection, Conversion, Encoding, Number, Sort, Text, Time}
 /// A built-in.
 #[derive(Clone, Copy, Debug, PartialEq, Eq)]
 pub enum Builtin {
-    /// A built-in that calls a predicate for the items of an array.
+    /// One that asks a predicate about the items of an array.
     HigherOrder(HigherOrderCall),
-    /// A built-in on values alone.
+    /// One on values alone.
     OnValues(ValueCall),
 }
 
 /// A built-in on values alone, by its family.
 #[derive(Clone, Copy, Debug, PartialEq, Eq)]
 pub enum ValueCall {
-    /// `sort`, which never calls its predicate.
+    /// `sort`, which takes a predicate for nothing.
     Sort,
     Collection(CollectionCall),
     Text(TextCall),
@@ -30,7 +30,7 @@ pub enum ValueCall {
     Time(TimeCall),
 }
 
-/// A built-in that calls a predicate for the items of an array. Each variant has the language's own name.
+/// A built-in that asks a predicate about the items of an array, under the language's own name for it.
 #[derive(Clone, Copy, Debug, PartialEq, Eq)]
 pub enum HigherOrderCall {
     All,
@@ -51,7 +51,7 @@ pub enum HigherOrderCall {
     SortBy,
 }
 
-/// A built-in on arrays and maps. Each variant has the language's own name.
+/// A call on arrays and maps, under the language's own name for it.
 #[derive(Clone, Copy, Debug, PartialEq, Eq)]
 pub enum CollectionCall {
     Len,
@@ -70,7 +70,7 @@ pub enum CollectionCall {
     FromPairs,
 }
 
-/// A built-in on strings. Each variant has the language's own name.
+/// A call on texts, under the language's own name for it.
 #[derive(Clone, Copy, Debug, PartialEq, Eq)]
 pub enum TextCall {
     HasPrefix,
@@ -88,7 +88,7 @@ pub enum TextCall {
     LastIndexOf,
 }
 
-/// A built-in that converts values. Each variant has the language's own name.
+/// A call of conversion, under the language's own name for it.
 #[derive(Clone, Copy, Debug, PartialEq, Eq)]
 pub enum ConversionCall {
     Int,
@@ -96,7 +96,7 @@ pub enum ConversionCall {
     Type,
 }
 
-/// A built-in on numbers. Each variant has the language's own name.
+/// A call on numbers, under the language's own name for it.
 #[derive(Clone, Copy, Debug, PartialEq, Eq)]
 pub enum NumberCall {
     Abs,
@@ -110,7 +110,7 @@ pub enum NumberCall {
     Round,
 }
 
-/// A built-in on bits. Each variant has the language's own name.
+/// A call on bits, under the language's own name for it.
 #[derive(Clone, Copy, Debug, PartialEq, Eq)]
 pub enum BitCall {
     Bitand,
@@ -123,7 +123,7 @@ pub enum BitCall {
     Bitushr,
 }
 
-/// A built-in that reads or writes an encoding. Each variant has the language's own name.
+/// A call that reads or writes an encoding, under the language's own name for it.
 #[derive(Clone, Copy, Debug, PartialEq, Eq)]
 pub enum EncodingCall {
     FromJson,
@@ -132,7 +132,7 @@ pub enum EncodingCall {
     FromBase64,
 }
 
-/// A built-in that returns a duration, a DateTime or a time zone. Each variant has the language's own name.
+/// A call that answers a length of time, a moment or a zone, under the language's own name for it.
 #[derive(Clone, Copy, Debug, PartialEq, Eq)]
 pub enum TimeCall {
     Date,
@@ -141,7 +141,7 @@ pub enum TimeCall {
     Timezone,
 }
 
-/// The built-ins with names of three bytes, the most used first.
+/// The built-ins whose names have three bytes, those that are called most first.
 pub const OF_THREE: [(&str, Builtin); 12] = [
     ("map", HigherOrder(HigherOrderCall::Map)),
     ("len", OnValues(Collection(CollectionCall::Len))),
@@ -157,7 +157,7 @@ pub const OF_THREE: [(&str, Builtin); 12] = [
     ("now", OnValues(Time(TimeCall::Now))),
 ];
 
-/// The built-ins with names of four bytes.
+/// The built-ins whose names have four bytes.
 pub const OF_FOUR: [(&str, Builtin); 13] = [
     ("none", HigherOrder(HigherOrderCall::NoneOf)),
     ("find", HigherOrder(HigherOrderCall::Find)),
@@ -174,7 +174,7 @@ pub const OF_FOUR: [(&str, Builtin); 13] = [
     ("ceil", OnValues(Number(NumberCall::Ceil))),
 ];
 
-/// The built-ins with names of five bytes.
+/// The built-ins whose names have five bytes.
 pub const OF_FIVE: [(&str, Builtin); 9] = [
     ("count", HigherOrder(HigherOrderCall::Count)),
     ("first", OnValues(Collection(CollectionCall::First))),
@@ -187,7 +187,7 @@ pub const OF_FIVE: [(&str, Builtin); 9] = [
     ("bitor", OnValues(Bit(BitCall::Bitor))),
 ];
 
-/// The built-ins with names of six bytes.
+/// The built-ins whose names have six bytes.
 pub const OF_SIX: [(&str, Builtin); 14] = [
     ("filter", HigherOrder(HigherOrderCall::Filter)),
     ("reduce", HigherOrder(HigherOrderCall::Reduce)),
@@ -205,7 +205,7 @@ pub const OF_SIX: [(&str, Builtin); 14] = [
     ("bitshr", OnValues(Bit(BitCall::Bitshr))),
 ];
 
-/// The built-ins with names of seven bytes.
+/// The built-ins whose names have seven bytes.
 pub const OF_SEVEN: [(&str, Builtin); 8] = [
     ("groupBy", HigherOrder(HigherOrderCall::GroupBy)),
     ("reverse", OnValues(Collection(CollectionCall::Reverse))),
@@ -217,7 +217,7 @@ pub const OF_SEVEN: [(&str, Builtin); 8] = [
     ("bitushr", OnValues(Bit(BitCall::Bitushr))),
 ];
 
-/// The built-ins with names of eight bytes or more.
+/// The built-ins whose names have eight bytes or more.
 pub const OF_MORE: [(&str, Builtin); 15] = [
     ("findIndex", HigherOrder(HigherOrderCall::FindIndex)),
     ("findLast", HigherOrder(HigherOrderCall::FindLast)),
@@ -237,7 +237,7 @@ pub const OF_MORE: [(&str, Builtin); 15] = [
 ];
 
 impl Builtin {
-    /// The built-in with this name, or `None`.
+    /// The built-in of a name, by the definition's list of names.
     pub fn from_name(name: &str) -> Option<Builtin>
         ensures { result ≡ builtin_named name.now }
     {
@@ -247,7 +247,7 @@ impl Builtin {
 }
 
 impl HigherOrderCall {
-    /// The built-in with this name that calls a predicate, or `None`.
+    /// The built-in of a name that asks a predicate.
     pub fn from_name(name: &str) -> Option<HigherOrderCall>
         ensures { result ≡ higher_order_named name.now }
     {
@@ -258,7 +258,7 @@ impl HigherOrderCall {
     }
 }
 
-// Looks a name up in the part of the table that has names of its length.
+// What stands beside a name in the table, found among the names that are as long.
 #[inline(always)]
 fn in_table(name: &str) -> Option<Builtin>
     ensures { result ≡ beside_in_table name.now }
@@ -309,7 +309,7 @@ fn of_more(name: &str) -> Option<Builtin>
     builtin_in(&OF_MORE, name)
 }
 
-// Looks a name up in a part of the table.
+// The built-in beside a name in a part of the table.
 #[inline(always)]
 fn builtin_in(lines: &[(&str, Builtin)], name: &str) -> Option<Builtin>
     ensures { result ≡ found_in (λ word. word.now) lines.now name.now }
@@ -342,7 +342,7 @@ fn is(text: &str, word: &str) -> bool
     are_same(text.as_bytes(), word.as_bytes())
 }
 
-// Whether two strings are equal, byte by byte. For short strings this is faster than `==`.
+// Whether two texts are the same, byte by byte, which for short ones takes less than `==`.
 #[inline(always)]
 fn are_same(text: &[u8], word: &[u8]) -> bool
     ensures { result ≡ bytes_eq text.now word.now }

@@ -1,4 +1,4 @@
-//! The law that the table of names in the code agrees with the list of names in `specs/Names.antt`.
+//! That the table of the program is the definition's list of names.
 ghost use Rattle.std.specs.Prelude.{◌≡◌, Some};
 ghost use Rattle.std.specs.List.{All};
 ghost use Rattle.expr_functions.specs.Functions.{AreBesideInTable, builtin_named};
@@ -6,7 +6,7 @@ ghost use Rattle.expr_functions.specs.Names.{built_in_names};
 
 use crate::functions::{OF_FIVE, OF_FOUR, OF_MORE, OF_SEVEN, OF_SIX, OF_THREE};
 
-/// Each line of the table is in the list of the definition, and each line of the list is in the table.
+/// Each line of the program's table stands in the definition, and each line of the definition in the table.
 #[inline(always)]
 #[tactic(auto, unfolding(crate::specs::Functions::builtin_named))]
 pub fn each_name_finds_its_call()

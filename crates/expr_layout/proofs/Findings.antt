@@ -1,4 +1,4 @@
--- How strings are read by tokens.
+-- How texts are read by tokens.
 use Rattle.std.proofs.Common.{◌≡◌, ◌≢◌, ℕ, zero, suc, ◌+◌, ◌-◌, ◌*◌, ◌/◌, ◌<◌, ◌≤◌, ◌==◌, cond, Bool, true, false, refl, sym, ap, ◌∙◌, arith, List, [], ◌∷◌, ◌++◌, length, get_or, drop, Some, None}
 use Rattle.std.specs.Prelude.{Option, MatchOption}
 use Rattle.std.specs.Option.{option_and_then, option_map}
@@ -9,11 +9,11 @@ use Rattle.expr_layout.specs.declared.found.Finding.{Finding}
 use Rattle.expr_layout.specs.declared.found.KnownFields.{KnownFields}
 use Rattle.expr_layout.specs.declared.found.NameTable.{NameTable}
 use Rattle.expr_layout.specs.declared.token.LayoutToken.{LayoutToken}
-use Rattle.expr_layout.specs.KnownFields.{FindingAndRest, NumberAndRest, after_any_case, digit_at, found_at, is_digit, name_at, name_in_table, with_finding, number_or, parts_at, read_all}
+use Rattle.expr_layout.specs.KnownFields.{FindingAndRest, NumberAndRest, after_any_case, digit_at, found_at, is_digit, name_at, name_of, with_finding, number_or, parts_at, read_all}
 use Rattle.expr_layout.specs.Layouts.{after_name}
 use Rattle.expr_layout.proofs.Tokens.{after_append, after_none}
 
--- the rest after a name, or nothing if the name isn't there
+-- what stands behind a name, and nothing where it doesn't stand there
 pub stripped : (o : Option (Bor (List ℕ))) (name text : List ℕ) → MatchOption o ((rest : List ℕ) → text ≢ name ++ rest) (λ x. text ≡ name ++ x.now) → option_map (λ (r : Bor (List ℕ)). r.now) o ≡ after_name name text
 stripped None name text h = sym (after_none name text h)
 stripped (Some x) name text h = sym (ap (after_name name) h ∙ after_append name x.now)
@@ -77,7 +77,7 @@ parts_end unit sum [] e = refl
 parts_end unit sum (c ∷ cs) e = ap (λ b. cond b (parts_at (unit / 10) (sum + (c - 48) * unit) cs) (sum, c ∷ cs)) (of_none (is_digit c) (c - 48, cs) e)
 
 -- one more name of a list of names, and its end
-pub name_more : (left : ℕ) (these : NameTable) (n : ℕ) (text : List ℕ) (behind : Option (List ℕ)) → 0 < left → after_any_case (name_in_table these n) text ≡ behind → name_at left these n text ≡ number_or n behind (name_at (left - 1) these (n + 1) text)
+pub name_more : (left : ℕ) (these : NameTable) (n : ℕ) (text : List ℕ) (behind : Option (List ℕ)) → 0 < left → after_any_case (name_of these n) text ≡ behind → name_at left these n text ≡ number_or n behind (name_at (left - 1) these (n + 1) text)
 unfolding Rattle.expr_layout.specs.KnownFields.name_at
 name_more zero these n text behind h e = absurd (omega arith)
 name_more (suc left) these n text behind h e =

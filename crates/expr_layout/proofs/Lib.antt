@@ -1,4 +1,3 @@
 pub mod Findings
 pub mod OneLayout
-pub mod Prefixes
 pub mod Tokens

@@ -1,4 +1,4 @@
--- The rest after the names of tokens.
+-- What stands behind the names of tokens.
 use Rattle.std.proofs.Common.{◌≡◌, ◌≢◌, inl, inr, ℕ, zero, suc, ◌+◌, ◌-◌, ◌<◌, ◌≤◌, ◌==◌, ◌&&◌, ◌||◌, nat_lt, cond, Bool, true, false, refl, sym, ap, ◌∙◌, arith, rules, eq-eqb, List, [], ◌∷◌, ◌++◌, length, Some, None}
 use Rattle.std.proofs.Math.Path.{subst}
 use Rattle.std.specs.Char.{encode_utf8}
@@ -12,7 +12,7 @@ use Rattle.std.proofs.lemmas.List.{length-append}
 use Rattle.std.proofs.lemmas.Str.{len_utf8_bounds, length-encode}
 use Rattle.expr_layout.specs.declared.token.LayoutToken.{LayoutToken}
 use Rattle.expr_layout.specs.declared.token.LayoutToken.TheVariants as layout_token
-use Rattle.expr_layout.specs.Layouts.{Heads, HeadsBy, after_name, either, ends_run, first_of, first_or, fraction_at, named_token, numbers, offsets, run_at, run_behind, run_token, short_words, layout_token_at, whole_run, words}
+use Rattle.expr_layout.specs.Layouts.{Heads, HeadsBy, after_name, either, ends_run, first_of, first_or, fraction_at, named_token, numbers, offsets, run_at, run_behind, run_token, short_words, token_at, whole_run, words}
 
 pub after_append : (name rest : List ℕ) → after_name name (name ++ rest) ≡ Some rest
 unfolding Rattle.expr_layout.specs.Layouts.after_name
@@ -37,7 +37,7 @@ after_some (c ∷ cs) (d ∷ ds) rest e = elim (eqb_tells c d) [
   | inr other ↦ let none : None ≡ Some rest = sym (ap (λ b. cond b (after_name cs ds) None) other.0) ∙ e in absurd (cc)
 ]
 
--- if a name was found, and if it wasn't
+-- where a name was found, and where it wasn't
 pub name_found : (name text rest : List ℕ) → StripsPrefix (FindsTextPrefix name) text rest → after_name name text ≡ Some rest
 name_found name text rest (n, (_, split, _), left, _) = ap (after_name name) (split ∙ ap (λ t. name ++ t) (sym left)) ∙ after_append name rest
 
@@ -106,24 +106,24 @@ leaves_fraction [] = tt
 leaves_fraction (c ∷ cs) =
     elim ((c == 46) || (c == 44)) as (λ b. Leaves (c ∷ cs) (cond b (run_behind c cs) None)) [ true ↦ leaves_behind c cs | false ↦ tt ]
 
-pub leaves_token : (second : Bool) (text : List ℕ) → Leaves text (layout_token_at second text)
+pub leaves_token : (second : Bool) (text : List ℕ) → Leaves text (token_at second text)
 leaves_token true text = leaves_either text (fraction_at text) (named_token text) (leaves_fraction text) (leaves_named text)
 leaves_token false text = leaves_named text
 
--- a token that was found, if none was found before it
-pub heads_found : (second : Bool) (text : List ℕ) (t : LayoutToken) (rest : List ℕ) → layout_token_at second text ≡ Some (t, rest) → Heads second text t rest × (length rest < length text)
+-- a token that was found, where none was found before it
+pub heads_found : (second : Bool) (text : List ℕ) (t : LayoutToken) (rest : List ℕ) → token_at second text ≡ Some (t, rest) → Heads second text t rest × (length rest < length text)
 heads_found second text t rest e = (
   subst (λ (o : Option (LayoutToken × List ℕ)). HeadsBy o text t rest) (sym e) (refl, refl),
   subst (λ (o : Option (LayoutToken × List ℕ)). Leaves text o) e (leaves_token second text),
 )
 
-heads_character : (second : Bool) (text : List ℕ) (t : LayoutToken) (rest : List ℕ) (c : ℕ) → layout_token_at second text ≡ None → t ≡ layout_token.Literal c → text ≡ encode_utf8 c ++ rest → Heads second text t rest × (length rest < length text)
+heads_character : (second : Bool) (text : List ℕ) (t : LayoutToken) (rest : List ℕ) (c : ℕ) → token_at second text ≡ None → t ≡ layout_token.Literal c → text ≡ encode_utf8 c ++ rest → Heads second text t rest × (length rest < length text)
 heads_character second text t rest c e is whole = (
   subst (λ (o : Option (LayoutToken × List ℕ)). HeadsBy o text t rest) (sym e) (c, is, whole),
   omega (arith, ap length whole, length-append (encode_utf8 c) rest, length-encode c, (len_utf8_bounds c).0),
 )
 
-pub heads_characters : (second : Bool) (text : List ℕ) (r : Option (LayoutToken × Bor (List ℕ))) → None ≡ layout_token_at second text
+pub heads_characters : (second : Bool) (text : List ℕ) (r : Option (LayoutToken × Bor (List ℕ))) → None ≡ token_at second text
     → MatchOption r (text ≡ []) (λ found. (c : ℕ) × (found.0 ≡ layout_token.Literal c) × (text ≡ encode_utf8 c ++ found.1.now))
     → MatchOption r (text ≡ []) (λ found. Heads second text found.0 found.1.now × (length found.1.now < length text))
 heads_characters second text None e h = h

@@ -1,4 +1,4 @@
--- What the tokens of a layout read from a string.
+-- What the tokens of a layout read of a text.
 use denote.Ref.{Bor}
 use Rattle.std.specs.Prelude.{ℕ, ℤ, pos, neg_ℤ, zero, suc, ◌+◌, ◌-◌, ◌*◌, ◌/◌, ◌==◌, ◌&&◌, ◌||◌, nat_lt, Bool, not, List, [], ◌∷◌, take, Option, None, Some, codes, if◌then◌else◌}
 use Rattle.std.specs.Char.{encode_utf8, to_ascii_lowercase}
@@ -20,7 +20,7 @@ use Rattle.expr_layout.specs.declared.token.Spelling.TheVariants as spelling
 use Rattle.expr_layout.specs.declared.token.LayoutToken.{LayoutToken}
 use Rattle.expr_layout.specs.declared.token.LayoutToken.TheVariants as layout_token
 
--- a number that was read, and the rest
+-- a number that was read, and what stands behind it
 abbrev pub NumberAndRest : Type 0
 NumberAndRest = Option (ℕ × List ℕ)
 
@@ -36,17 +36,17 @@ abbrev pub digit_at : List ℕ → NumberAndRest
 digit_at [] = None
 digit_at (c ∷ cs) = if is_digit c then Some (c - 48, cs) else None
 
--- a number with one more digit, and with one more digit if there is one
-abbrev pub with_next_digit : ℕ → NumberAndRest → NumberAndRest
-with_next_digit n None = None
-with_next_digit n (Some digit) = Some (n * 10 + digit.0, digit.1)
+-- a number with one more digit, and with one more if it stands there
+abbrev pub with_digit : ℕ → NumberAndRest → NumberAndRest
+with_digit n None = None
+with_digit n (Some digit) = Some (n * 10 + digit.0, digit.1)
 
 abbrev pub or_same : ℕ × List ℕ → NumberAndRest → ℕ × List ℕ
 or_same taken None = taken
 or_same taken (Some more) = more
 
 abbrev pub one_more : ℕ × List ℕ → NumberAndRest
-one_more taken = with_next_digit taken.0 (digit_at taken.1)
+one_more taken = with_digit taken.0 (digit_at taken.1)
 
 abbrev pub if_more : ℕ × List ℕ → ℕ × List ℕ
 if_more taken = or_same taken (one_more taken)
@@ -65,7 +65,7 @@ up_to_two text = option_map if_more (digit_at text)
 abbrev pub up_to_three : List ℕ → NumberAndRest
 up_to_three text = option_map if_more (up_to_two text)
 
--- a string without a space at its front, if that is to be skipped
+-- a text without the space at its head, where one is to be passed over
 abbrev pub after_space : List ℕ → List ℕ
 after_space [] = []
 after_space (c ∷ cs) = if c == 32 then cs else c ∷ cs
@@ -74,7 +74,7 @@ abbrev pub after_pad : Pad → List ℕ → List ℕ
 after_pad pad.Space text = after_space text
 after_pad p text = text
 
--- the number of a field
+-- a number of a field
 abbrev pub found_number : Field → ℕ → Finding
 found_number field.Month n = finding.Month n
 found_number field.Day n = finding.Day n
@@ -83,18 +83,18 @@ found_number field.HalfHour n = finding.HalfHour n
 found_number field.Minute n = finding.Minute n
 found_number field.Second n = finding.Second n
 
--- the year of two digits
+-- the year of its last two digits
 abbrev pub full_year : ℕ → ℕ
 full_year n = if nat_lt n 70 then 2000 + n else 1900 + n
 
--- the names of months and weekdays
-abbrev pub name_in_table : NameTable → ℕ → List ℕ
-name_in_table name_table.LongMonths n = month_name n
-name_in_table name_table.Months n = take 3 (month_name n)
-name_in_table name_table.LongWeekdays n = weekday_name n
-name_in_table name_table.Weekdays n = take 3 (weekday_name n)
+-- the names of months and of days of the week
+abbrev pub name_of : NameTable → ℕ → List ℕ
+name_of name_table.LongMonths n = month_name n
+name_of name_table.Months n = take 3 (month_name n)
+name_of name_table.LongWeekdays n = weekday_name n
+name_of name_table.Weekdays n = take 3 (weekday_name n)
 
--- the rest after a name, in upper or lower case ASCII
+-- a text after a name, whichever case its ASCII letters have
 abbrev pub after_any_case : List ℕ → List ℕ → Option (List ℕ)
 after_any_case [] text = Some text
 after_any_case (c ∷ cs) [] = None
@@ -104,26 +104,26 @@ abbrev pub number_or : ℕ → Option (List ℕ) → NumberAndRest → NumberAnd
 number_or n None others = others
 number_or n (Some rest) others = Some (n, rest)
 
--- the first name at the front, among several names from a number on
+-- the first of so many names, from a number on, that stands at the head of a text
 unfoldable pub name_at : ℕ → NameTable → ℕ → List ℕ → NumberAndRest
 name_at zero these n text = None
-name_at (suc left) these n text = number_or n (after_any_case (name_in_table these n) text) (name_at left these (n + 1) text)
+name_at (suc left) these n text = number_or n (after_any_case (name_of these n) text) (name_at left these (n + 1) text)
 
 -- two digits below a limit
 abbrev pub number_below : ℕ → NumberAndRest → NumberAndRest
 number_below limit None = None
 number_below limit (Some taken) = if nat_lt taken.0 limit then Some taken else None
 
--- hours in seconds, and smaller units after a separator
-abbrev pub with_units : ℕ → ℕ → NumberAndRest → NumberAndRest
-with_units sum unit None = None
-with_units sum unit (Some taken) = Some (sum + taken.0 * unit, taken.1)
+-- hours in seconds, and further units behind a separator
+abbrev pub in_units : ℕ → ℕ → NumberAndRest → NumberAndRest
+in_units sum unit None = None
+in_units sum unit (Some taken) = Some (sum + taken.0 * unit, taken.1)
 
 abbrev pub hours_at : List ℕ → NumberAndRest
-hours_at text = with_units 0 3600 (number_below 24 (two_digits text))
+hours_at text = in_units 0 3600 (number_below 24 (two_digits text))
 
 abbrev pub with_next_unit : List ℕ → ℕ → ℕ × List ℕ → NumberAndRest
-with_next_unit separator unit taken = option_and_then (λ rest. with_units taken.0 unit (number_below 60 (two_digits rest))) (after_name separator taken.1)
+with_next_unit separator unit taken = option_and_then (λ rest. in_units taken.0 unit (number_below 60 (two_digits rest))) (after_name separator taken.1)
 
 -- the seconds of an offset without its sign
 abbrev pub spelled_at : Spelling → List ℕ → NumberAndRest
@@ -133,7 +133,7 @@ spelled_at spelling.ColonMinutes text = option_and_then (with_next_unit (codes "
 spelled_at spelling.Seconds text = option_and_then (with_next_unit [] 1) (option_and_then (with_next_unit [] 60) (hours_at text))
 spelled_at spelling.ColonSeconds text = option_and_then (with_next_unit (codes ":") 1) (option_and_then (with_next_unit (codes ":") 60) (hours_at text))
 
--- what a token finds, and the rest
+-- what a token finds, and what stands behind it
 abbrev pub FindingAndRest : Type 0
 FindingAndRest = Option (Finding × List ℕ)
 
@@ -156,16 +156,16 @@ abbrev pub nothing_behind : Option (List ℕ) → FindingAndRest
 nothing_behind None = None
 nothing_behind (Some rest) = Some (finding.Nothing, rest)
 
--- offset zero after `Z`
+-- no offset behind `Z`
 abbrev pub zulu_at : List ℕ → FindingAndRest
 zulu_at text = option_map (λ rest. (finding.Offset (pos 0), rest)) (after_name (codes "Z") text)
 
--- digits, each worth a tenth of the one before it
+-- digits of which each counts a tenth of the one before it
 unfoldable pub parts_at : ℕ → ℕ → List ℕ → ℕ × List ℕ
 parts_at unit sum [] = (sum, [])
 parts_at unit sum (c ∷ cs) = if is_digit c then parts_at (unit / 10) (sum + (c - 48) * unit) cs else (sum, c ∷ cs)
 
--- the fraction of a second, of which nine digits count; nothing if there is no separator with a digit after it
+-- the fraction of a second, of which nine digits count; nothing where no separator stands with a digit behind it
 abbrev pub if_digit : NumberAndRest → Finding × List ℕ → Finding × List ℕ → FindingAndRest
 if_digit None one other = Some other
 if_digit (Some taken) one other = Some one
@@ -177,20 +177,20 @@ parts_behind text (Some rest) = let parts = parts_at 100000000 0 rest in if_digi
 abbrev pub fraction_found : ℕ → List ℕ → FindingAndRest
 fraction_found separator text = parts_behind text (after_name (encode_utf8 separator) text)
 
--- the half of the day
+-- the half of a day
 abbrev pub half_at : List ℕ → FindingAndRest
 half_at text = found_as finding.Half (number_or 0 (after_any_case (codes "am") text) (number_or 1 (after_any_case (codes "pm") text) None))
 
--- a space, `T` or `t`
+-- a space, or one of `T` and `t`
 abbrev pub mark_at : List ℕ → FindingAndRest
 mark_at [] = None
 mark_at (c ∷ cs) = if (c == 84) || (c == 116) || (c == 32) then Some (finding.Nothing, cs) else None
 
--- here `z` means `Z`
+-- `z` stands for `Z` here
 abbrev pub small_zulu_at : List ℕ → FindingAndRest
 small_zulu_at text = option_map (λ rest. (finding.Offset (pos 0), rest)) (after_name (codes "z") text)
 
--- what a token reads at the front
+-- what a token reads at the head of a text
 unfoldable pub found_at : LayoutToken → List ℕ → FindingAndRest
 found_at layout_token.LongMonth text = found_as finding.Month (either (name_at 12 name_table.LongMonths 1 text) (name_at 12 name_table.Months 1 text))
 found_at layout_token.Month text = found_as finding.Month (name_at 12 name_table.Months 1 text)
@@ -212,7 +212,7 @@ found_at (layout_token.TwoDigits f) text = found_as (found_number f) (two_digits
 found_at layout_token.Mark text = mark_at text
 found_at layout_token.StampOffset text = either (small_zulu_at text) (either (zulu_at text) (offset_at spelling.ColonMinutes text))
 
--- the value of a field, if what was known and what was found agree
+-- what is known of a field, and what was found of it, which must agree
 abbrev pub agreement : Option ℕ → ℕ → Option (Option ℕ)
 agreement None n = Some (Some n)
 agreement (Some m) n = if m == n then Some (Some m) else None
@@ -236,7 +236,7 @@ with_finding (finding.Second n) f = option_map (λ known. record f { second = kn
 with_finding (finding.Nanosecond n) f = option_map (λ known. record f { nanosecond = known }) (agreement f.nanosecond n)
 with_finding (finding.Offset n) f = option_map (λ known. record f { offset = known }) (offset_agreement f.offset n)
 
--- what tokens find, each at the front of what the ones before it leave. Nothing may be left in the end.
+-- what tokens find, each at the head of what the ones before it leave; nothing is left in the end
 abbrev pub read_all : List LayoutToken → KnownFields → List ℕ → Option KnownFields
 read_all [] f [] = Some f
 read_all [] f (c ∷ cs) = None

@@ -1,24 +1,21 @@
-//! Printing DateTimes by layouts.
+//! Moments printed by layouts.
 ghost use Rattle.std.specs.Prelude.{◌≡◌, Some, IfOk, string_bytes};
 ghost use Rattle.expr_value.specs.Answers.{Returns};
-ghost use Rattle.expr_layout.specs.Layouts.{Formats, FormatsBy, printed_text, stamp_by_layout};
+ghost use Rattle.expr_layout.specs.Layouts.{Formats, FormatsBy, printed_text, stamp_text};
 ghost use Rattle.expr_arguments.specs.Arguments.{one_text};
 ghost use Rattle.expr_error.specs.ErrorKind.{OnlyMemory};
 
 use crate::layout::tokens_of;
 use crate::print::show;
 use crate::token::{Field, LayoutToken, Pad, Spelling};
-use expr_arguments::{CowValue, one_text};
+use expr_arguments::one_text;
+use expr_cow::CowValue;
 use expr_value::{DateTimeValue, Result, Text, Value, refusal};
 use std::alloc::Global;
 use std::fmt;
 use std::fmt::{Formatter, Write};
 
-/// The method `Format`: prints a DateTime by a layout of Go's package `time`.
-///
-/// # Errors
-///
-/// Returns `ExprError` if there isn't one argument, or it isn't a string.
+/// The method `Format` of a moment.
 pub fn format(alloc: Global, moment: &DateTimeValue, arguments: &[CowValue<'_>]) -> Result<Value>
     ensures { Returns result (Formats moment.now (one_text arguments.now)) }
 {
@@ -28,11 +25,15 @@ pub fn format(alloc: Global, moment: &DateTimeValue, arguments: &[CowValue<'_>])
     format_by(alloc, moment, layout)
 }
 
-/// Prints a DateTime by the layout `2006-01-02T15:04:05.999999999Z07:00`. For years 0 to 9999 this is a date-time of
-/// RFC 3339, section 5.6.
-#[tactic(auto, unfolding(crate::specs::Layouts::stamp_by_layout))]
+/// The stamp of a moment: its text by the layout `2006-01-02T15:04:05.999999999Z07:00`, which is a date-time of RFC 3339
+/// (section 5.6) where the year is within 0 and 9999.
+///
+/// # Errors
+///
+/// `MemoryError` alone.
+#[tactic(auto, unfolding(crate::specs::Layouts::stamp_text))]
 pub fn stamp(alloc: Global, moment: &DateTimeValue) -> Result<Text>
-    ensures text { IfOk result (λ s. s ≡ stamp_by_layout moment.now) }
+    ensures text { IfOk result (λ s. s ≡ stamp_text moment.now) }
     ensures err { OnlyMemory result }
 {
     let tokens = [
@@ -70,7 +71,7 @@ fn text_of(alloc: Global, moment: &DateTimeValue, tokens: &[LayoutToken]) -> Res
     Ok(text.to_string(alloc)?)
 }
 
-// A DateTime that is printed by these tokens.
+// A moment, printed by tokens.
 #[derive(Drop)]
 struct ByTokens<'a> {
     moment: &'a DateTimeValue,

@@ -1,4 +1,4 @@
-//! What tokens find in a string, and what is known of a DateTime from them.
+//! What tokens find in a text, and what is known of a moment by them.
 ghost use Rattle.std.specs.Prelude.{◌≡◌};
 ghost use Rattle.expr_layout.specs.KnownFields.{agreement, offset_agreement, with_finding, no_fields};
 
@@ -10,12 +10,12 @@ pub enum Finding {
     Month(u32),
     Day(u32),
     YearDay(u32),
-    /// A day of the week, where 0 is Sunday.
+    /// A day of the week, of which 0 is Sunday.
     Weekday(u32),
     Hour(u32),
-    /// An hour on a 12-hour clock, or on a 24-hour clock if no half of the day is found.
+    /// An hour of half a day, or of a whole one where no half is found.
     HalfHour(u32),
-    /// The half of the day: 0 for AM, 1 for PM.
+    /// The half of the day, of which 0 is before noon.
     Half(u32),
     Minute(u32),
     Second(u32),
@@ -33,7 +33,7 @@ pub enum NameTable {
     Weekdays,
 }
 
-/// What is known of a DateTime.
+/// What is known of a moment.
 #[derive(Clone, Copy, Debug, PartialEq, Eq)]
 pub struct KnownFields {
     pub year: Option<u32>,
@@ -51,7 +51,7 @@ pub struct KnownFields {
 }
 
 impl KnownFields {
-    /// Nothing is known.
+    /// Nothing.
     pub fn new() -> KnownFields
         ensures { result ≡ no_fields }
     {
@@ -71,7 +71,7 @@ impl KnownFields {
         }
     }
 
-    /// Adds a finding. `None` if it contradicts what is known of the same field.
+    /// What is known with a finding, which must agree with what is known of the same field.
     pub fn with_finding(mut self, finding: Finding) -> Option<KnownFields>
         ensures { result ≡ with_finding finding self }
     {
@@ -94,7 +94,7 @@ impl KnownFields {
     }
 }
 
-// The value of a field, if what was known and what was found agree.
+// What is known of a field and was found of it, where they agree.
 fn agreement(known: Option<u32>, found: u32) -> Option<Option<u32>>
     ensures { result ≡ agreement known found }
 {

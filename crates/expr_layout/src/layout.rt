@@ -1,14 +1,14 @@
-//! Splitting layouts into tokens.
+//! The tokens of layouts.
 ghost use Rattle.std.specs.Prelude.{◌≡◌, ℕ, ◌+◌, ◌<◌, ◌≤◌, ◌++◌, [], false, length, IfOk, MatchOption};
 ghost use Rattle.std.specs.Char.{encode_utf8};
-ghost use Rattle.expr_layout.specs.Layouts.{Heads, IsLayout, after_name, first_of, first_or, fraction_at, either, ends_run, is_second, named_token, numbers, offsets, run_at, run_behind, run_token, token_and_rest, seen_run, short_words, layout_token_at, whole_run, words};
+ghost use Rattle.expr_layout.specs.Layouts.{Heads, IsLayout, after_name, first_of, first_or, fraction_at, either, ends_run, is_second, named_token, numbers, offsets, run_at, run_behind, run_token, token_and_rest, seen_run, short_words, token_at, whole_run, words};
 ghost use Rattle.expr_error.specs.ErrorKind.{OnlyMemory};
 
 use crate::token::{Field, LayoutToken, Pad, Spelling};
 use expr_value::Result;
 use std::alloc::Global;
 
-/// The tokens of a layout, in the syntax of Go's package `time`.
+/// The tokens of a layout.
 pub fn tokens_of(alloc: Global, layout: &str) -> Result<Vec<LayoutToken>>
     ensures ok { IfOk result (λ tokens. IsLayout false layout.now tokens.items) }
     ensures err { OnlyMemory result }
@@ -24,7 +24,7 @@ pub fn tokens_of(alloc: Global, layout: &str) -> Result<Vec<LayoutToken>>
     Ok(tokens)
 }
 
-// The first token and the rest. `second` says that the token before it is a second, which a fraction may follow.
+// The token at the head of a text, which may stand right behind a second, and what stands behind it.
 fn next_token(second: bool, text: &str) -> Option<(LayoutToken, &str)>
     ensures { MatchOption result (text.now ≡ [])
         (λ found. Heads second text.now found.0 found.1.now × (length found.1.now < length text.now)) }
@@ -35,9 +35,9 @@ fn next_token(second: bool, text: &str) -> Option<(LayoutToken, &str)>
     }
 }
 
-// The first token that isn't a literal, and the rest. `second` says that the token before it is a second.
+// The token that stands at the head of a text, which may stand right behind a second.
 fn token_at(second: bool, text: &str) -> Option<(LayoutToken, &str)>
-    ensures { token_and_rest result ≡ layout_token_at second text.now }
+    ensures { token_and_rest result ≡ token_at second text.now }
 {
     if second {
         return either(fraction_at(text), named_token(text));
@@ -57,7 +57,7 @@ fn either<'a>(
     }
 }
 
-// A character that is printed as it is.
+// One character, which stands for itself.
 fn character(text: &str) -> Option<(LayoutToken, &str)>
     ensures { MatchOption result (text.now ≡ [])
         (λ found. (c : ℕ) × (found.0 ≡ LayoutToken.Literal c) × (text.now ≡ encode_utf8 c ++ found.1.now)) }
@@ -76,7 +76,7 @@ fn is_second(token: LayoutToken) -> bool
     }
 }
 
-// A point or a comma, followed by one to nine zeros or by one to nine nines.
+// A point or a comma at the head of a text, and one to nine zeros or as many nines behind it.
 fn fraction_at(text: &str) -> Option<(LayoutToken, &str)>
     ensures { token_and_rest result ≡ fraction_at text.now }
 {
@@ -89,7 +89,7 @@ fn fraction_at(text: &str) -> Option<(LayoutToken, &str)>
     }
 }
 
-// One to nine zeros, or one to nine nines.
+// One to nine zeros at the head of a text, or as many nines.
 #[tactic(auto, unfolding(crate::specs::Layouts::run_behind))]
 fn run_behind(separator: char, text: &str) -> Option<(LayoutToken, &str)>
     ensures { token_and_rest result ≡ run_behind separator text.now }
@@ -118,7 +118,7 @@ fn nines<'a>(separator: char, run: Option<(u32, &'a str)>) -> Option<(LayoutToke
     }
 }
 
-// One to nine copies of a digit, with no zero or nine after them.
+// One to nine of a digit at the head of a text, where no further zero or nine stands behind them.
 fn whole_run(digit: char, text: &str) -> Option<(u32, &str)>
     requires { digit < 128 }
     ensures { seen_run result ≡ whole_run (run_at 10 digit 0 text.now) }
@@ -132,7 +132,7 @@ fn whole_run(digit: char, text: &str) -> Option<(u32, &str)>
     None
 }
 
-// Whether the next byte is neither a zero nor a nine.
+// Whether a text begins with no zero and no nine.
 fn ends_run(text: &str) -> bool
     ensures { result ≡ ends_run text.now }
 {
@@ -142,7 +142,7 @@ fn ends_run(text: &str) -> bool
     }
 }
 
-// Number of copies of a digit at the front, if they are fewer than a limit.
+// How many of a digit stand at the head of a text, where these are fewer than a limit.
 #[tactic(auto, unfolding(crate::specs::Layouts::run_at))]
 fn run_at(left: u32, digit: char, count: u32, text: &str) -> Option<(u32, &str)>
     requires digit { digit < 128 }
@@ -158,7 +158,7 @@ fn run_at(left: u32, digit: char, count: u32, text: &str) -> Option<(u32, &str)>
     }
 }
 
-// The token whose name is at the front, and the rest.
+// The token whose name stands at the head of a text, and what stands behind it.
 fn named_token(text: &str) -> Option<(LayoutToken, &str)>
     ensures { token_and_rest result ≡ named_token text.now }
 {
@@ -233,7 +233,7 @@ fn numbers<'a>(
     first_token("06", LayoutToken::ShortYear, text, others)
 }
 
-// A token and the rest, if its name is at the front. Otherwise what the other tokens give.
+// A token and what stands behind its name, where that stands at the head of a text, or else what the others find.
 fn first_token<'a>(
     name: &str,
     token: LayoutToken,
@@ -249,7 +249,7 @@ fn first_token<'a>(
     }
 }
 
-// A token for a number and the rest, if its name is at the front. Otherwise what the other tokens give.
+// The same of a number.
 fn number_token<'a>(
     name: &str,
     field: Field,
@@ -263,7 +263,7 @@ fn number_token<'a>(
     first_token(name, LayoutToken::Number(field, pad), text, others)
 }
 
-// A token for an offset and the rest, if its name is at the front. Otherwise what the other tokens give.
+// The same of an offset.
 fn offset_token<'a>(
     name: &str,
     spelling: Spelling,
@@ -276,8 +276,7 @@ fn offset_token<'a>(
     first_token(name, LayoutToken::Offset(spelling), text, others)
 }
 
-// A token for an offset that prints zero as `Z`, and the rest, if its name is at the front. Otherwise what the other
-// tokens give.
+// The same of an offset that is `Z` where there is none.
 fn zulu_token<'a>(
     name: &str,
     spelling: Spelling,

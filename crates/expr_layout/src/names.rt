@@ -1,8 +1,8 @@
-//! Short names of months and weekdays.
+//! The first three letters of the names of months and of days of the week.
 ghost use Rattle.std.specs.Prelude.{◌≡◌, take};
 ghost use Rattle.expr_value.specs.Strings.{month_name, weekday_name};
 
-/// First three letters of a month's name, where 1 is January.
+/// The first three letters of a month's name.
 pub(crate) fn short_month_name(number: u32) -> &'static str
     ensures { result.now ≡ take 3 (month_name number) }
 {
@@ -23,7 +23,7 @@ pub(crate) fn short_month_name(number: u32) -> &'static str
     }
 }
 
-/// First three letters of a weekday's name, where 0 is Sunday.
+/// The first three letters of the name of a day of the week.
 pub(crate) fn short_weekday_name(number: u32) -> &'static str
     ensures { result.now ≡ take 3 (weekday_name number) }
 {

@@ -1,10 +1,10 @@
-//! Printing DateTimes by the tokens of a layout.
+//! Moments printed by the tokens of a layout.
 ghost use Rattle.std.specs.Prelude.{◌≡◌, ◌<◌, min};
 ghost use Rattle.std.specs.Fmt.{WritesOnOk};
 ghost use Rattle.expr_datetime.specs.Moments.{year_text};
 ghost use Rattle.expr_datetime.specs.Times.{offset_of};
 ghost use Rattle.expr_moment.specs.Fields.{date_at, time_at, year_day_at};
-ghost use Rattle.expr_layout.specs.Layouts.{leading_fraction, fraction_places, half_hour, half_name, hours_of, minutes_of, field_number, pad_text, padded_number, padded_more, printed_text, seconds_of, short_places, short_year, signed_offset, spelled_offset, token_text, zulu};
+ghost use Rattle.expr_layout.specs.Layouts.{fraction_of, fraction_places, half_hour, half_name, hours_of, minutes_of, number_of, pad_text, padded_number, padded_more, printed_text, seconds_of, short_places, short_year, signed_offset, offset_text, token_text, zulu};
 
 use crate::names::{short_month_name, short_weekday_name};
 use crate::token::{Field, LayoutToken, Pad, Spelling};
@@ -14,7 +14,7 @@ use expr_value::{DateTimeValue, month_name, weekday_name};
 use std::fmt;
 use std::fmt::{Formatter, Write};
 
-/// Prints a DateTime by the tokens of a layout.
+/// Prints a moment by the tokens of a layout.
 pub(crate) fn show<W: Write>(
     moment: &DateTimeValue,
     tokens: &[LayoutToken],
@@ -81,7 +81,7 @@ fn short_year(moment: &DateTimeValue) -> u64
 }
 
 fn number_of(field: Field, moment: &DateTimeValue) -> u64
-    ensures { result ≡ field_number field moment.now }
+    ensures { result ≡ number_of field moment.now }
 {
     match field {
         Field::Month => date_shown(moment).to_plain().month as u64,
@@ -99,7 +99,7 @@ fn hour(moment: &DateTimeValue) -> u64
     time_shown(moment).to_plain().hour as u64
 }
 
-// The hour on a 12-hour clock, from 1 to 12.
+// The hour of half a day, from 1 to 12.
 fn half_hour(hour: u64) -> u64
     ensures { result ≡ half_hour hour }
 {
@@ -151,7 +151,7 @@ fn show_pad<W: Write>(pad: Pad, f: &mut Formatter<W>) -> fmt::Result
     }
 }
 
-// `morning` or `evening`, by the half of the day.
+// The name of the half of the day.
 fn half_name<'a>(morning: &'a str, evening: &'a str, moment: &DateTimeValue) -> &'a str
     ensures { result.now ≡ half_name morning.now evening.now moment.now }
 {
@@ -186,9 +186,9 @@ fn show_offset_of<W: Write>(
     show_spelled(spelling, seconds.unsigned_abs(), f)
 }
 
-#[tactic(auto, unfolding(crate::specs::Layouts::spelled_offset))]
+#[tactic(auto, unfolding(crate::specs::Layouts::offset_text))]
 fn show_spelled<W: Write>(spelling: Spelling, seconds: u32, f: &mut Formatter<W>) -> fmt::Result
-    ensures { WritesOnOk W.write_str_gives f.old result (spelled_offset spelling seconds) f.new }
+    ensures { WritesOnOk W.write_str_gives f.old result (offset_text spelling seconds) f.new }
 {
     match spelling {
         Spelling::Hours => show_hours(seconds, f),
@@ -267,9 +267,9 @@ fn show_short_fraction<W: Write>(
     show_fraction_digits(places.min(9), parts, f)
 }
 
-// The first `places` decimals of the second. More than nine count as nine.
+// The second's fraction in so many digits, of which nine count.
 fn fraction_of(places: u32, moment: &DateTimeValue) -> u64
-    ensures { result ≡ leading_fraction places (time_at moment.now).nanosecond }
+    ensures { result ≡ fraction_of places (time_at moment.now).nanosecond }
 {
     let unit = power_of_ten(9 - places.min(9));
     time_shown(moment).to_plain().subsec_nanosecond as u64 / unit

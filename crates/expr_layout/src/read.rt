@@ -1,16 +1,16 @@
-//! Reading strings by the tokens of a layout.
+//! Texts read by the tokens of a layout.
 ghost use Rattle.std.specs.Prelude.{◌≡◌, pos, neg_ℤ, ◌+◌, ◌*◌, ◌<◌, ◌≤◌, IfSome, option_map};
 ghost use Rattle.std.specs.Char.{encode_utf8};
 ghost use Rattle.std.specs.Option.{option_and_then};
 ghost use Rattle.expr_layout.specs.Layouts.{after_name, either};
-ghost use Rattle.expr_layout.specs.KnownFields.{after_any_case, after_pad, after_space, number_below, digit_at, found_as, found_at, found_number, four_digits, fraction_found, full_year, with_next_unit, half_at, hours_at, if_more, mark_at, name_at, name_in_table, nothing_behind, offset_at, one_more, parts_at, parts_behind, read_all, seen_finding, seen_number, small_zulu_at, spelled_at, two_digits, no_fields, up_to_three, up_to_two, zulu_at};
+ghost use Rattle.expr_layout.specs.KnownFields.{after_any_case, after_pad, after_space, number_below, digit_at, found_as, found_at, found_number, four_digits, fraction_found, full_year, with_next_unit, half_at, hours_at, if_more, mark_at, name_at, name_of, nothing_behind, offset_at, one_more, parts_at, parts_behind, read_all, seen_finding, seen_number, small_zulu_at, spelled_at, two_digits, no_fields, up_to_three, up_to_two, zulu_at};
 
 use crate::found::{Finding, KnownFields, NameTable};
 use crate::names::{short_month_name, short_weekday_name};
 use crate::token::{Field, LayoutToken, Pad, Spelling};
 use expr_value::{month_name, weekday_name};
 
-/// What the tokens find in a string. `None` if they don't read the whole string, or if what they find is contradictory.
+/// What the tokens of a layout find in a text, if they read the whole text and what they find agrees.
 pub fn read_all(tokens: &[LayoutToken], text: &[u8]) -> Option<KnownFields>
     ensures { result ≡ read_all tokens.now no_fields text.now }
 {
@@ -29,7 +29,7 @@ pub fn read_all(tokens: &[LayoutToken], text: &[u8]) -> Option<KnownFields>
     if rest.is_empty() { Some(known) } else { None }
 }
 
-// What a token finds at the front, and the rest.
+// What a token finds at the head of a text, and what stands behind it.
 #[tactic(auto, unfolding(crate::specs::KnownFields::found_at))]
 fn found_at(token: LayoutToken, text: &[u8]) -> Option<(Finding, &[u8])>
     ensures { seen_finding result ≡ found_at token text.now }
@@ -128,7 +128,7 @@ fn found_number(field: Field, number: u32) -> Finding
     }
 }
 
-// A digit at the front, and the rest.
+// A digit at the head of a text, and what stands behind it.
 fn digit_at(text: &[u8]) -> Option<(u32, &[u8])>
     ensures value { seen_number result ≡ digit_at text.now }
     ensures small { IfSome result (λ d. d.0 < 10) }
@@ -147,7 +147,7 @@ fn digit_at(text: &[u8]) -> Option<(u32, &[u8])>
     }
 }
 
-// Appends one more digit to a number.
+// A number with one more digit behind it.
 fn one_more<'a>(taken: (u32, &'a [u8])) -> Option<(u32, &'a [u8])>
     requires { taken.0 < 1000 }
     ensures value { seen_number result ≡ one_more (taken.entry.0, taken.entry.1.now) }
@@ -159,7 +159,7 @@ fn one_more<'a>(taken: (u32, &'a [u8])) -> Option<(u32, &'a [u8])>
     }
 }
 
-// Exactly two digits at the front.
+// Exactly two digits at the head of a text.
 fn two_digits(text: &[u8]) -> Option<(u32, &[u8])>
     ensures value { seen_number result ≡ two_digits text.now }
     ensures small { IfSome result (λ taken. taken.0 < 100) }
@@ -170,7 +170,7 @@ fn two_digits(text: &[u8]) -> Option<(u32, &[u8])>
     }
 }
 
-// Exactly four digits at the front.
+// Exactly four.
 fn four_digits(text: &[u8]) -> Option<(u32, &[u8])>
     ensures value { seen_number result ≡ four_digits text.now }
     ensures small { IfSome result (λ taken. taken.0 < 10000) }
@@ -191,7 +191,7 @@ fn three_digits(text: &[u8]) -> Option<(u32, &[u8])>
     }
 }
 
-// One or two digits at the front.
+// One or two digits.
 fn up_to_two(text: &[u8]) -> Option<(u32, &[u8])>
     ensures value { seen_number result ≡ up_to_two text.now }
     ensures small { IfSome result (λ taken. taken.0 < 100) }
@@ -202,7 +202,7 @@ fn up_to_two(text: &[u8]) -> Option<(u32, &[u8])>
     }
 }
 
-// One to three digits at the front.
+// One to three.
 fn up_to_three(text: &[u8]) -> Option<(u32, &[u8])>
     ensures { seen_number result ≡ up_to_three text.now }
 {
@@ -212,7 +212,7 @@ fn up_to_three(text: &[u8]) -> Option<(u32, &[u8])>
     }
 }
 
-// Appends one more digit to a number, if there is one.
+// A number with one more digit, if that stands there.
 fn if_more<'a>(taken: (u32, &'a [u8])) -> (u32, &'a [u8])
     requires { taken.0 < 1000 }
     ensures value { (result.0, result.1.now) ≡ if_more (taken.entry.0, taken.entry.1.now) }
@@ -224,7 +224,7 @@ fn if_more<'a>(taken: (u32, &'a [u8])) -> (u32, &'a [u8])
     }
 }
 
-// The string without a space at its front.
+// A text without the space at its head.
 fn after_space(text: &[u8]) -> &[u8]
     ensures { result.now ≡ after_space text.now }
 {
@@ -263,7 +263,7 @@ fn long_weekday_at(text: &[u8]) -> Option<(u32, &[u8])>
     }
 }
 
-// The first name at the front, of `left` names from `number` on, and its number.
+// The first of so many names, from a number on, that stands at the head of a text.
 fn name_at(left: u32, names: NameTable, number: u32, text: &[u8]) -> Option<(u32, &[u8])>
     requires { left + number < 100 }
     ensures { seen_number result ≡ name_at left names number text.now }
@@ -278,7 +278,7 @@ fn name_at(left: u32, names: NameTable, number: u32, text: &[u8]) -> Option<(u32
 }
 
 fn name_of(names: NameTable, number: u32) -> &'static str
-    ensures { result.now ≡ name_in_table names number }
+    ensures { result.now ≡ name_of names number }
 {
     match names {
         NameTable::LongMonths => month_name(number),
@@ -288,7 +288,7 @@ fn name_of(names: NameTable, number: u32) -> &'static str
     }
 }
 
-// The rest after a name at the front, in upper or lower case ASCII.
+// What stands behind a name at the head of a text, whichever case its ASCII letters have.
 fn after_any_case<'a>(name: &[u8], text: &'a [u8]) -> Option<&'a [u8]>
     ensures { option_map (λ rest. rest.now) result ≡ after_any_case name.now text.now }
 {
@@ -307,7 +307,7 @@ fn after_any_case<'a>(name: &[u8], text: &'a [u8]) -> Option<&'a [u8]>
     }
 }
 
-// Two digits at the front, if they write a number below a limit.
+// Two digits at the head of a text that are below a limit.
 fn two_below(limit: u32, text: &[u8]) -> Option<(u32, &[u8])>
     ensures value { seen_number result ≡ number_below limit (two_digits text.now) }
     ensures small { IfSome result (λ taken. taken.0 < 100) }
@@ -324,7 +324,7 @@ fn two_below(limit: u32, text: &[u8]) -> Option<(u32, &[u8])>
     }
 }
 
-// Hours, in seconds.
+// Hours in seconds.
 fn hours_at(text: &[u8]) -> Option<(u32, &[u8])>
     ensures value { seen_number result ≡ hours_at text.now }
     ensures small { IfSome result (λ taken. taken.0 < 360000) }
@@ -335,7 +335,7 @@ fn hours_at(text: &[u8]) -> Option<(u32, &[u8])>
     }
 }
 
-// Adds the seconds of a smaller unit that follows a separator.
+// Seconds, and those of further units behind a separator.
 fn with_next_unit<'a>(separator: &str, unit: u32, taken: (u32, &'a [u8])) -> Option<(u32, &'a [u8])>
     requires unit { unit ≤ 60 }
     requires small { taken.0 < 400000 }
@@ -352,14 +352,14 @@ fn with_next_unit<'a>(separator: &str, unit: u32, taken: (u32, &'a [u8])) -> Opt
     }
 }
 
-// The rest after a name at the front.
+// What stands behind a name at the head of a text.
 fn after_name<'a>(name: &[u8], text: &'a [u8]) -> Option<&'a [u8]>
     ensures { option_map (λ rest. rest.now) result ≡ after_name name.now text.now }
 {
     text.strip_prefix(name)
 }
 
-// Hours and minutes, in seconds.
+// Hours and minutes in seconds.
 fn minutes_at<'a>(separator: &str, text: &'a [u8]) -> Option<(u32, &'a [u8])>
     ensures value { seen_number result
         ≡ option_and_then (with_next_unit separator.now 60) (hours_at text.now) }
@@ -371,7 +371,7 @@ fn minutes_at<'a>(separator: &str, text: &'a [u8]) -> Option<(u32, &'a [u8])>
     }
 }
 
-// Hours, minutes and seconds, in seconds.
+// Hours, minutes and seconds in seconds.
 fn seconds_at<'a>(separator: &str, text: &'a [u8]) -> Option<(u32, &'a [u8])>
     ensures value { seen_number result
         ≡ option_and_then (with_next_unit separator.now 1)
@@ -398,7 +398,7 @@ fn spelled_at(spelling: Spelling, text: &[u8]) -> Option<(u32, &[u8])>
     }
 }
 
-// An offset with its sign, in seconds.
+// An offset with its sign.
 fn offset_at(spelling: Spelling, text: &[u8]) -> Option<(Finding, &[u8])>
     ensures { seen_finding result ≡ offset_at spelling text.now }
 {
@@ -429,7 +429,7 @@ fn offset_behind<'a>(taken: Option<(u32, &'a [u8])>) -> Option<(Finding, &'a [u8
     }
 }
 
-// Zero for `Z`, otherwise the offset.
+// No offset behind `Z`, and else the offset.
 fn zulu_or_offset(spelling: Spelling, text: &[u8]) -> Option<(Finding, &[u8])>
     ensures { seen_finding result ≡ either (zulu_at text.now) (offset_at spelling text.now) }
 {
@@ -439,7 +439,7 @@ fn zulu_or_offset(spelling: Spelling, text: &[u8]) -> Option<(Finding, &[u8])>
     }
 }
 
-// Zero for `Z` or `z`, otherwise an offset of hours and minutes.
+// The same where `z` stands for `Z` too, and with hours and minutes.
 fn stamp_offset(text: &[u8]) -> Option<(Finding, &[u8])>
     ensures { seen_finding result ≡ either (small_zulu_at text.now)
         (either (zulu_at text.now) (offset_at Spelling.ColonMinutes text.now)) }
@@ -450,7 +450,7 @@ fn stamp_offset(text: &[u8]) -> Option<(Finding, &[u8])>
     }
 }
 
-// A character that is read as it is.
+// What stands for itself.
 fn literal(c: char, text: &[u8]) -> Option<(Finding, &[u8])>
     ensures { seen_finding result ≡ nothing_behind (after_name (encode_utf8 c) text.now) }
 {
@@ -462,7 +462,7 @@ fn literal(c: char, text: &[u8]) -> Option<(Finding, &[u8])>
     }
 }
 
-// A space, `T` or `t`.
+// A space, or one of `T` and `t`.
 fn mark_at(text: &[u8]) -> Option<(Finding, &[u8])>
     ensures { seen_finding result ≡ mark_at text.now }
 {
@@ -472,7 +472,7 @@ fn mark_at(text: &[u8]) -> Option<(Finding, &[u8])>
     }
 }
 
-// The half of the day.
+// The half of a day.
 fn half_at(text: &[u8]) -> Option<(Finding, &[u8])>
     ensures { seen_finding result ≡ half_at text.now }
 {
@@ -485,7 +485,7 @@ fn half_at(text: &[u8]) -> Option<(Finding, &[u8])>
     }
 }
 
-// The fraction of a second, or zero if there is no separator with a digit after it.
+// The fraction of a second, and nothing where no separator stands with a digit behind it.
 fn fraction_found(separator: char, text: &[u8]) -> Option<(Finding, &[u8])>
     ensures { seen_finding result ≡ fraction_found separator text.now }
 {
@@ -507,7 +507,7 @@ fn parts_behind<'a>(text: &'a [u8], digits: &'a [u8]) -> (Finding, &'a [u8])
     (Finding::Nanosecond(parts), rest)
 }
 
-// The nanoseconds that the digits at the front write, of which the first nine count, and the rest.
+// The nanoseconds that the digits at the head of a text write, of which nine count, and what stands behind them.
 fn parts_at(text: &[u8]) -> (u32, &[u8])
     ensures { (result.0, result.1.now) ≡ parts_at 100000000 0 text.now }
 {

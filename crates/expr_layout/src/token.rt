@@ -6,13 +6,13 @@ pub enum Field {
     Month,
     Day,
     Hour,
-    /// The hour on a 12-hour clock, from 1 to 12.
+    /// The hour of half a day, from 1 to 12.
     HalfHour,
     Minute,
     Second,
 }
 
-/// What fills a number that has fewer digits than its width.
+/// What stands before a number that has fewer digits than its places.
 #[derive(Clone, Copy, Debug, PartialEq, Eq)]
 pub enum Pad {
     Zero,
@@ -20,7 +20,7 @@ pub enum Pad {
     Nothing,
 }
 
-/// Which parts of an offset are written, and whether with colons.
+/// Which parts of an offset are written, and whether colons stand between them.
 #[derive(Clone, Copy, Debug, PartialEq, Eq)]
 pub enum Spelling {
     Hours,
@@ -30,7 +30,7 @@ pub enum Spelling {
     ColonSeconds,
 }
 
-/// What a layout prints or reads.
+/// What a layout prints or reads at a place.
 #[derive(Clone, Copy, Debug, PartialEq, Eq)]
 pub enum LayoutToken {
     LongMonth,
@@ -46,21 +46,21 @@ pub enum LayoutToken {
     UpperHalf,
     /// `am` or `pm`.
     LowerHalf,
-    /// The name of the time zone, or the offset.
+    /// The text of the place.
     Zone,
     Offset(Spelling),
-    /// `Z` for offset zero, otherwise the offset.
+    /// `Z` for no offset, and else the offset.
     Zulu(Spelling),
-    /// A separator and this number of decimals of the second.
+    /// A separator and so many digits of the second's fraction.
     Fraction(char, u32),
-    /// A separator and decimals of the second, without trailing zeros. Nothing if all are zero.
+    /// The same without zeros at the end.
     ShortFraction(char, u32),
-    /// A character that is printed and read as it is.
+    /// A character that stands for itself.
     Literal(char),
-    /// A number in exactly two digits. Only the forms that `date` reads without a layout have it.
+    /// A number in just two digits, in stamps.
     TwoDigits(Field),
-    /// `T`, `t` or a space. Only the forms that `date` reads without a layout have it.
+    /// `T`, `t` or a space, in stamps.
     Mark,
-    /// `Z`, `z`, or an offset in hours and minutes. Only the forms that `date` reads without a layout have it.
+    /// `Z`, `z`, or an offset in hours and minutes, in stamps.
     StampOffset,
 }

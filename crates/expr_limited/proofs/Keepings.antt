@@ -1,16 +1,16 @@
--- What a built-in keeps before it runs its predicate, by its name.
+-- What a built-in keeps before it asks, by what is told of it.
 use Rattle.std.proofs.Common.{◌≡◌, ℕ, true, false, List, [], ◌∷◌, None, Result, Ok, Err, refl, sym, ap, ◌∙◌, subst}
 use Rattle.std.specs.Prelude.{if◌then◌else◌}
 use Rattle.expr_meaning.specs.Host.{Host}
 use Rattle.expr_functions.specs.Functions.{higher_order_named}
 use Rattle.expr_predicates.specs.Calls.{FoldOver}
-use Rattle.expr_limits.specs.Sizes.{depth, weight}
+use Rattle.expr_sizes.specs.Sizes.{depth, weight}
 use Rattle.expr_error.specs.ErrorKind.{ErrorKind}
 use Rattle.expr_value.specs.declared.value.Value.{Value}
-use Rattle.expr_meaning.specs.HigherOrder.{retained_first}
-use Rattle.expr_limits.specs.Counting.{KeepsAll}
-use Rattle.expr_limits.specs.MeterView.{Charges, MeterView}
-use Rattle.expr_limits.specs.Rooms.{Holds, Room, rooms}
+use Rattle.expr_meter.specs.HigherOrder.{retained_first}
+use Rattle.expr_meter.specs.Counting.{KeepsAll}
+use Rattle.expr_meter.specs.MeterView.{Charges, MeterView}
+use Rattle.expr_meter.specs.Rooms.{Holds, Room, rooms}
 use Rattle.expr_limited.specs.Firsts.{firsts, firsts_of_built_in, firsts_of}
 
 -- nothing is kept

@@ -1,6 +1,6 @@
 pub mod Calls
 pub mod Copies
 pub mod Firsts
-pub mod Given
+pub mod Outcomes
 pub mod Reached
 pub mod Steps

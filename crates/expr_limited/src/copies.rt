@@ -1,16 +1,16 @@
 //! What a call copies of its arguments.
 ghost use Rattle.expr_limited.specs.Copies.{copied_values};
-ghost use Rattle.expr_limits.specs.Counting.{KeepsAll};
-ghost use Rattle.expr_limits.specs.MeterView.{Charges};
-ghost use Rattle.expr_limits.specs.Rooms.{rooms};
+ghost use Rattle.expr_meter.specs.Counting.{KeepsAll};
+ghost use Rattle.expr_meter.specs.MeterView.{Charges};
+ghost use Rattle.expr_meter.specs.Rooms.{rooms};
 
-use expr_limits::{Budget, Meter};
+use expr_meter::{Budget, Meter};
 use expr_stack::{Operand, Stack};
 use expr_value::Value;
 use std::alloc::AllocError;
 
-/// Counts those of this many top values that are in the kept list, the deepest first. The call copies them,
-/// since it holds them for longer than the list does.
+/// Counts those of so many top values that stand in places, the deepest first: they are copied to be held for longer than
+/// the places stand.
 pub fn keep_places(
     stack: &Stack<'_>,
     kept: &[Value],

@@ -1,22 +1,22 @@
-//! What a call keeps before it runs a predicate.
+//! What a call keeps before it asks.
 ghost use Rattle.std.specs.Prelude.{◌≡◌, IfOk, Ok, Some, false, true};
 ghost use Rattle.expr_costs.specs.Retention.{RetainsAs};
 ghost use Rattle.expr_functions.specs.Functions.{higher_order_named};
 ghost use Rattle.expr_functions.specs.declared.functions.HigherOrderCall.{HigherOrderCall as declared};
 ghost use Rattle.expr_limited.specs.Firsts.{firsts, firsts_of};
-ghost use Rattle.expr_limits.specs.Counting.{KeepsAll};
-ghost use Rattle.expr_limits.specs.MeterView.{Charges};
-ghost use Rattle.expr_limits.specs.Rooms.{rooms};
+ghost use Rattle.expr_meter.specs.Counting.{KeepsAll};
+ghost use Rattle.expr_meter.specs.MeterView.{Charges};
+ghost use Rattle.expr_meter.specs.Rooms.{rooms};
 ghost use Rattle.expr_predicates.specs.Calls.{FoldOver, fold_of_call};
 
-use expr_arguments::CowValue;
 use expr_costs::{Retention, first_retained};
+use expr_cow::CowValue;
 use expr_functions::HigherOrderCall;
-use expr_limits::{Budget, Meter};
 use expr_meaning::Functions;
+use expr_meter::{Budget, Meter};
 use std::alloc::AllocError;
 
-/// What the built-in of this name keeps of each result. Counts what it keeps before the first.
+/// What the built-in of a name keeps of each reply; what it keeps before it asks is counted.
 pub fn keep_first<H: Functions>(
     host: &H,
     name: &str,
@@ -40,7 +40,7 @@ pub fn keep_first<H: Functions>(
     Ok(Retention::from_higher_order(call))
 }
 
-/// Counts what a built-in keeps before it runs its predicate.
+/// Counts what a built-in keeps before it asks.
 fn count_first(
     call: HigherOrderCall,
     arguments: &[CowValue<'_>],

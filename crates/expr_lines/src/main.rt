@@ -1,5 +1,4 @@
-//! The program `expr_lines`: filters, counts or rewrites records with an expression. Each line is a record in
-//! JSON.
+//! The program `expr_lines`: keeps, counts or rewrites records, one JSON object a line, by an expression.
 #![tactic(auto)]
 
 mod options;
@@ -8,8 +7,8 @@ mod reports;
 
 use expr::{Context, Environment};
 use expr_records::{
-    Course, FAILED, JsonReader, LineBuffer, Query, RecordFilter, StreamEnd, Tally, bind,
-    code_of_text, finish,
+    Course, FAILED, JsonReader, LineBuffer, Query, Sieve, StreamEnd, Tally, bind, code_of_text,
+    finish,
 };
 use jiff::Timestamp;
 use options::Options;
@@ -20,17 +19,17 @@ use std::io::{BufReader, BufWriter, ErrorKind, IsTerminal, Read, Stderr, Write};
 use std::process::ExitCode;
 use std::{env, fs};
 
-/// The status for wrong arguments and for an expression that doesn't compile.
+/// Wrong words, or a text that doesn't compile.
 const USAGE: u8 = 2;
 
-/// How many bytes are read or written at a time.
+/// How many bytes are read or written at once.
 const BUFFER: usize = 1 << 16;
 
 fn main(rt: HostRuntime) -> ExitCode {
     let words: Result<Vec<String>, AllocError> = match env::args(&rt) {
         Ok(args) => args.collect(rt.alloc()),
         Err(error) if error.kind() == ErrorKind::InvalidData => {
-            let _ = writeln!(rt.stderr(), "expr_lines: an argument is not UTF-8");
+            let _ = writeln!(rt.stderr(), "expr_lines: a word is not UTF-8");
             return ExitCode::from(USAGE);
         }
         Err(_) => Err(AllocError),
@@ -48,7 +47,7 @@ fn main(rt: HostRuntime) -> ExitCode {
     }
 }
 
-/// Does what the options ask for, and returns the status.
+/// Does what the options ask for, and answers the status.
 fn run(rt: &HostRuntime, options: &Options) -> u8 {
     let alloc = rt.alloc();
     let mut err = rt.stderr();
@@ -70,7 +69,7 @@ fn run(rt: &HostRuntime, options: &Options) -> u8 {
     let Ok(out) = BufWriter::with_capacity(alloc, BUFFER, rt.stdout()) else {
         return FAILED;
     };
-    let mut record_filter = RecordFilter {
+    let mut sieve = Sieve {
         judge: Query::new(alloc, &environment, &names, options.purpose, &code),
         stops: options.stops,
         held: LineBuffer::new(alloc, options.bound),
@@ -79,10 +78,10 @@ fn run(rt: &HostRuntime, options: &Options) -> u8 {
         err,
         tally: Tally::new(),
     };
-    work(rt, options, &mut record_filter)
+    work(rt, options, &mut sieve)
 }
 
-/// The context of the arguments `NAME=CODE`. Returns None if one of them fails, and reports why.
+/// The values of the words `NAME=CODE` under their names, or None where one is refused, which is said.
 fn names_of<E: Write>(
     alloc: Global,
     environment: &Environment,
@@ -104,11 +103,11 @@ fn names_of<E: Write>(
     Some(names)
 }
 
-/// Processes the files, and returns the status.
+/// Brings the files through a sieve, and answers the status.
 fn work<W: Write, E: Write>(
     rt: &HostRuntime,
     options: &Options,
-    record_filter: &mut RecordFilter<Query<Environment>, W, E>,
+    sieve: &mut Sieve<Query<Environment>, W, E>,
 ) -> u8 {
     let mut course = Course::Done;
     let mut names = options.files.as_slice();
@@ -116,50 +115,46 @@ fn work<W: Write, E: Write>(
         names = &["-"];
     }
     for name in names {
-        let end = process_named(rt, options, *name, record_filter);
-        tell_end(&mut record_filter.err, *name, &end);
+        let end = sift_named(rt, options, *name, sieve);
+        tell_end(&mut sieve.err, *name, &end);
         course = course.after(&end);
         if end.is_last() {
             break;
         }
     }
     if matches!(course, Course::Done | Course::Unread) {
-        if let Err(error) = finish(
-            &mut record_filter.out,
-            options.purpose,
-            &record_filter.tally,
-        ) {
+        if let Err(error) = finish(&mut sieve.out, options.purpose, &sieve.tally) {
             let end = StreamEnd::Unwritten(error);
-            tell_end(&mut record_filter.err, "standard output", &end);
+            tell_end(&mut sieve.err, "standard output", &end);
             course = course.after(&end);
         }
     }
-    course.status(&record_filter.tally, options.purpose.seeks())
+    course.status(&sieve.tally, options.purpose.seeks())
 }
 
-/// Processes a file. The name `-` is standard input.
-fn process_named<W: Write, E: Write>(
+/// Brings a file through a sieve, of which `-` is standard input.
+fn sift_named<W: Write, E: Write>(
     rt: &HostRuntime,
     options: &Options,
     name: &str,
-    record_filter: &mut RecordFilter<Query<Environment>, W, E>,
+    sieve: &mut Sieve<Query<Environment>, W, E>,
 ) -> StreamEnd {
     let alloc = rt.alloc();
     if name == "-" {
         let stream = ProgressReader::new(rt.stdin(), rt, progress_of(rt, options, 0));
-        return process_stream(alloc, name, stream, record_filter);
+        return sift_stream(alloc, name, stream, sieve);
     }
     match fs::open(rt, name) {
         Ok(file) => {
             let length = file.metadata().map_or(0, |data| data.len());
             let stream = ProgressReader::new(file, rt, progress_of(rt, options, length));
-            process_stream(alloc, name, stream, record_filter)
+            sift_stream(alloc, name, stream, sieve)
         }
         Err(error) => StreamEnd::Unread(error),
     }
 }
 
-/// The progress of a stream of this length, if it is wanted and standard error is a terminal.
+/// The progress of a stream of some length, if it is to be told and standard error is a terminal.
 fn progress_of(rt: &HostRuntime, options: &Options, length: u64) -> Option<Progress<Stderr>> {
     let err = rt.stderr();
     if options.tells && err.is_terminal() {
@@ -169,15 +164,15 @@ fn progress_of(rt: &HostRuntime, options: &Options, length: u64) -> Option<Progr
     }
 }
 
-/// Processes a stream.
-fn process_stream<R: Read + Drop, W: Write, E: Write>(
+/// Brings a stream through a sieve.
+fn sift_stream<R: Read + Drop, W: Write, E: Write>(
     alloc: Global,
     name: &str,
     stream: R,
-    record_filter: &mut RecordFilter<Query<Environment>, W, E>,
+    sieve: &mut Sieve<Query<Environment>, W, E>,
 ) -> StreamEnd {
     match BufReader::with_capacity(alloc, BUFFER, stream) {
-        Ok(mut reader) => record_filter.process(alloc, name, &mut reader),
+        Ok(mut reader) => sieve.sift(alloc, name, &mut reader),
         Err(error) => StreamEnd::Unread(error),
     }
 }

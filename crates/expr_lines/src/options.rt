@@ -1,41 +1,40 @@
-//! The arguments of the program.
+//! The program's words.
 use clap::{Arg, ArgAction, ArgMatches, Command, Error, value_parser};
 use expr_records::Purpose;
 use std::alloc::{AllocError, Global};
 
-/// What `--help` prints before the options.
-const ABOUT: &str = "Filters, counts or rewrites JSON lines with an expression.";
+/// What `--help` says before the options.
+const ABOUT: &str = "Keeps, counts or rewrites records, one JSON object a line, by an expression.";
 
-/// What `--help` prints after the options.
+/// What `--help` says behind the options.
 const NOTES: &str = "\
-The expression sees the members of a line's JSON object as names, and the whole object as $env.
-Lines for which it is true are written as they are. Blank lines are skipped. A line with an error
-is reported on standard error, and the rest goes on. It is an error if the line is not a JSON
-object, if it has a number that isn't whole, if the expression fails, or if the result is neither
-true nor false. Put -- before an expression that begins with -.
+An expression sees a record's members as names, and the whole record as $env. Lines for which it
+is true are written as they are; lines without a record in them are passed over. A record that is
+refused (no JSON object, a number that isn't whole, a refusal of the expression, an answer that is
+neither true nor false) is told of on standard error, and the rest goes on. An expression that
+begins with - stands behind --.
 
-Status: 0 if something was kept or everything was rewritten, 1 if nothing was kept, 2 for wrong
-arguments or an expression that doesn't compile, 3 if a line had an error, 4 if something can't be
-read or written.";
+Status: 0 something was kept or all was rewritten, 1 nothing was kept, 2 wrong words or an
+expression that doesn't compile, 3 records were refused, 4 something can't be read or written.";
 
-/// What the arguments ask for.
+/// What the words ask for.
 #[derive(Drop)]
 pub struct Options<'a> {
     pub expression: &'a str,
-    /// Names of files. The name `-` is standard input.
+    /// Names of files, of which `-` is standard input.
     pub files: Vec<&'a str>,
-    /// Arguments `NAME=CODE`.
+    /// Words `NAME=CODE`.
     pub names: Vec<&'a str>,
     pub purpose: Purpose,
-    /// Whether to stop at the first record with an error.
+    /// Whether a refused record ends the work.
     pub stops: bool,
-    /// The greatest length of a line, in bytes.
+    /// The most bytes that a line may have.
     pub bound: usize,
-    /// Whether to show the progress.
+    /// Whether to tell how far the work is.
     pub tells: bool,
 }
 
-/// An option without a value, with its name and its letter.
+/// An option without a value, by its name or its letter.
 fn flag<'a>(alloc: Global, name: &'a str, letter: char, help: &'a str) -> Arg<'a> {
     Arg::new(alloc, name)
         .short(letter)
@@ -44,49 +43,49 @@ fn flag<'a>(alloc: Global, name: &'a str, letter: char, help: &'a str) -> Arg<'a
         .help(help)
 }
 
-/// The option that rewrites records.
+/// The option that has records rewritten.
 fn map_option<'a>(alloc: Global) -> Result<Arg<'a>, AllocError> {
-    let help = "Write each result as a line of JSON";
+    let help = "Write the expression's answer about each record, as a line of JSON";
     flag(alloc, "map", 'm', help)
         .conflicts_with("count")?
         .conflicts_with("invert")
 }
 
-/// The options that say what to do with the records.
+/// The options that say what is done with the records.
 fn with_purposes<'a>(alloc: Global, command: Command<'a>) -> Result<Command<'a>, AllocError> {
     let map = map_option(alloc)?;
-    let count = "Write how many results are true";
-    let invert = "Keep or count the lines for which the result is false";
+    let count = "Write how many records there are for which the expression is true";
+    let invert = "Keep or count the records for which the expression is false";
     command
         .arg(map)?
         .arg(flag(alloc, "count", 'c', count))?
         .arg(flag(alloc, "invert", 'v', invert))
 }
 
-/// The option for arguments `NAME=CODE`.
+/// The option whose values are the words `NAME=CODE`.
 fn name_option<'a>(alloc: Global) -> Arg<'a> {
     Arg::new(alloc, "name")
         .short('n')
         .long("name")
         .value_name("NAME=CODE")
         .action(ArgAction::Append)
-        .help("Set NAME to the value of CODE; it wins over a member of that name")
+        .help("Put the value of CODE under NAME, before the records' members")
 }
 
-/// The option for the greatest length of a line.
+/// The option that bounds the lines.
 fn bound_option<'a>(alloc: Global) -> Arg<'a> {
     Arg::new(alloc, "max-line")
         .long("max-line")
         .value_name("BYTES")
         .value_parser(value_parser!(u32))
         .default_value("64000000")
-        .help("Make longer lines an error")
+        .help("Refuse records of longer lines")
 }
 
-/// The options that say how to work.
+/// The options that say how the work goes.
 fn with_manners<'a>(alloc: Global, command: Command<'a>) -> Result<Command<'a>, AllocError> {
-    let fail_fast = "Stop at the first line with an error";
-    let progress = "Show the progress each second, if standard error is a terminal";
+    let fail_fast = "End at the first record that is refused";
+    let progress = "Tell how far the work is, where standard error is a terminal";
     command
         .arg(name_option(alloc))?
         .arg(flag(alloc, "fail-fast", 'f', fail_fast))?
@@ -94,15 +93,15 @@ fn with_manners<'a>(alloc: Global, command: Command<'a>) -> Result<Command<'a>, 
         .arg(flag(alloc, "progress", 'p', progress))
 }
 
-/// The arguments that are not options.
+/// The words that are no options.
 fn with_operands<'a>(alloc: Global, command: Command<'a>) -> Result<Command<'a>, AllocError> {
     let expression = Arg::new(alloc, "EXPRESSION")
         .required(true)
-        .help("The expression to evaluate for each line");
+        .help("What is asked about each record");
     let files = Arg::new(alloc, "FILE")
         .num_args(0..)
         .action(ArgAction::Append)
-        .help("Files to read; - or no file is standard input");
+        .help("Files of records; - or none is standard input");
     command.arg(expression)?.arg(files)
 }
 
@@ -115,7 +114,7 @@ fn command<'a>(alloc: Global) -> Result<Command<'a>, AllocError> {
     with_manners(alloc, with_purposes(alloc, command)?)
 }
 
-/// What to do with the records.
+/// What is done with the records.
 fn purpose_of(matches: &ArgMatches) -> Purpose {
     let truth = !matches.get_flag("invert");
     if matches.get_flag("map") {
@@ -143,11 +142,11 @@ fn values_of<'a>(
 }
 
 impl<'a> Options<'a> {
-    /// Reads the arguments. The first is the program's name.
+    /// What the words ask for, of which the first is the program's name.
     ///
     /// # Errors
     ///
-    /// Returns what to print for wrong arguments or for `--help`.
+    /// What to say, of wrong words or for help.
     pub fn read(alloc: Global, words: &'a [String]) -> Result<Options<'a>, Error> {
         let matches = command(alloc)?.try_get_matches_from(words)?;
         Ok(Options {

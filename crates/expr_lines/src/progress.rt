@@ -1,9 +1,9 @@
-//! The progress of reading, shown on a terminal.
+//! How far the reading of a stream is, told on a terminal.
 use memchr::memchr_iter;
 use std::io::{self, Read, Write};
 use std::rt::Clock;
 
-/// A stream that shows, about once a second, how much of it was read and how fast.
+/// A stream that tells, about once a second, how much of it was read and how fast.
 #[derive(Drop)]
 pub struct ProgressReader<'k, T, E, K> {
     inner: T,
@@ -11,23 +11,23 @@ pub struct ProgressReader<'k, T, E, K> {
     progress: Option<Progress<E>>,
 }
 
-/// How much of a stream was read.
+/// What was read of a stream.
 #[derive(Drop)]
 pub struct Progress<E> {
-    /// Where the progress is shown.
+    /// Where it is told.
     err: E,
-    /// When the reading started, in whole seconds.
+    /// When the reading began, in whole seconds.
     start: u64,
-    /// When the progress was last shown, in seconds after the start.
+    /// How many seconds after that it was told last.
     told: u64,
     bytes: u64,
     records: u64,
-    /// The length of the stream in bytes, or 0 if it is not known.
+    /// How long the stream is, or 0 where that isn't known.
     length: u64,
 }
 
 impl<E: Write> Progress<E> {
-    /// The progress at the start of a stream.
+    /// That of a stream of which nothing was read yet.
     pub fn new<K: Clock>(clock: &K, length: u64, err: E) -> Progress<E> {
         let start = clock.monotonic().map_or(0, |time| time.as_secs());
         Progress {
@@ -40,8 +40,7 @@ impl<E: Write> Progress<E> {
         }
     }
 
-    /// Counts the bytes that were read, and shows the progress if a second has passed. At the end of the
-    /// stream it erases what it showed.
+    /// Notes what was read, and tells of it if a second has passed. At the end of the stream what was told is wiped away.
     fn note<K: Clock>(&mut self, clock: &K, bytes: &[u8]) {
         self.bytes = self.bytes.saturating_add(bytes.len() as u64);
         let lines = memchr_iter(b'\n', bytes).count();
@@ -58,7 +57,7 @@ impl<E: Write> Progress<E> {
         }
     }
 
-    /// Shows how much was read in this many seconds. The next output overwrites it.
+    /// Tells how much was read in some seconds. The next that is written takes its place.
     fn tell(&mut self, seconds: u64) {
         let seconds = seconds.max(1);
         let megabytes = self.bytes / 1_000_000;
@@ -78,7 +77,7 @@ impl<E: Write> Progress<E> {
 }
 
 impl<'k, T, E, K> ProgressReader<'k, T, E, K> {
-    /// Creates a stream that shows this progress, or none.
+    /// A stream whose progress is told, or isn't.
     pub fn new(
         inner: T,
         clock: &'k K,

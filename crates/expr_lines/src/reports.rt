@@ -1,16 +1,15 @@
-//! Reports on standard error. If one can't be written, nothing else changes.
+//! What the program says on standard error. A failure to say it changes nothing.
 use expr::{Error, line_column_of};
 use expr_records::StreamEnd;
 use std::alloc::Global;
 use std::io::{self, ErrorKind, Write};
 
-/// Reports an argument that isn't `NAME=CODE`.
+/// Says that a word isn't `NAME=CODE`.
 pub fn tell_bad_name<E: Write>(err: &mut E, word: &str) {
-    let _ = writeln!(err, "expr_lines: --name expects NAME=CODE, found {word}");
+    let _ = writeln!(err, "expr_lines: --name takes NAME=CODE, and not {word}");
 }
 
-/// Reports why an expression failed. If it doesn't compile, the report shows the position of the error with a
-/// caret under it.
+/// Says why a text was refused; of one that doesn't compile, the place of the fault, with a caret under it.
 pub fn tell_refused_text<E: Write>(alloc: Global, err: &mut E, text: &str, error: &Error) {
     if let Error::PestError(place) = error {
         if let Ok(at) = line_column_of(alloc, text, *place) {
@@ -22,10 +21,10 @@ pub fn tell_refused_text<E: Write>(alloc: Global, err: &mut E, text: &str, error
             return;
         }
     }
-    let _ = writeln!(err, "expr_lines: the expression {text} fails: {error}");
+    let _ = writeln!(err, "expr_lines: the expression {text} is refused: {error}");
 }
 
-/// Reports a stream that can't be read, or output that can't be written. A closed pipe is not reported.
+/// Says that a stream of this name can't be read, or that the output can't be written. That nobody reads it isn't said.
 pub fn tell_end<E: Write>(err: &mut E, name: &str, end: &StreamEnd) {
     match end {
         StreamEnd::Whole | StreamEnd::Stopped => {}
@@ -38,7 +37,7 @@ pub fn tell_end<E: Write>(err: &mut E, name: &str, end: &StreamEnd) {
     }
 }
 
-/// Reports an error of input or output.
+/// Says that something can't be read or written.
 fn tell_unusable<E: Write>(err: &mut E, name: &str, error: &io::Error) {
     let _ = writeln!(err, "expr_lines: {name}: {error}");
 }

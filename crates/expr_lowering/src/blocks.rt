@@ -1,8 +1,8 @@
-//! Writes the blocks of a program one after the other, each from its end to its start.
+//! Blocks, one after the other, each from its end to its start.
 ghost use Rattle.std.specs.Prelude.{◌≡◌, ◌≤◌, [], length, map, vec_len, IfOk, OnOk, MatchOption};
 ghost use Rattle.expr_code.specs.Codes.{IsCode};
 ghost use Rattle.expr_tree.specs.TermOf.{program_term, term_of};
-ghost use Rattle.expr_code.specs.Patterns.{KeepPatterns};
+ghost use Rattle.expr_instructions.specs.Patterns.{KeepPatterns};
 ghost use Rattle.expr_lowering.specs.Leading.{Leads, Writes, at_block_start, with_jump, with_task};
 ghost use Rattle.expr_lowering.specs.Keeping.{BlockLentKeeps, Keeps, NextKeeps, WorkKeeps};
 ghost use Rattle.expr_lowering.specs.Kept.{NodeKeeps, ProgramKeeps};
@@ -12,13 +12,13 @@ ghost use Rattle.expr_lowering.specs.Tasks.{term_task};
 
 use crate::lowering::{LentBlock, Lowering};
 use crate::worklist::WorkItem;
-use expr_code::Instruction;
+use expr_instructions::Instruction;
 use expr_tree::node::{Node, Program};
 use std::alloc::AllocError;
 use std::mem;
 
 impl<'p> Lowering<'p> {
-    /// Takes a waiting part: writes what comes after it, and returns its node, which is next.
+    /// A part that waited: what stands behind it, and its node, which is written next.
     #[inline(never)]
     fn work(&mut self, work: WorkItem<'p>) -> Result<&'p Node, AllocError>
         ensures leads { IfOk result (λ next. Leads 0 (with_task (task_of work.entry) (state_of self.old))
@@ -69,7 +69,7 @@ impl<'p> Lowering<'p> {
         }
     }
 
-    /// Writes the jump over the second branch of a conditional. The test before the first branch then waits.
+    /// The jump over the second of two ways, which is written; the test between the condition and the first waits.
     fn turn(&mut self, condition: &'p Node, mark: usize) -> Result<(), AllocError>
         ensures state { OnOk result (state_of self.new
             ≡ with_jump (term_of condition.now) mark (state_of self.old)) }
@@ -81,7 +81,7 @@ impl<'p> Lowering<'p> {
         self.put_off(WorkItem::JumpIfFalse(condition, here))
     }
 
-    /// Takes the next waiting part, if there is one: writes what comes after it, and returns its node.
+    /// The node of the next part that waits, if there is one; what stands behind it is written.
     #[inline(always)]
     fn next(&mut self) -> Result<Option<&'p Node>, AllocError>
         ensures leads { IfOk result (λ next. MatchOption next
@@ -97,7 +97,7 @@ impl<'p> Lowering<'p> {
         }
     }
 
-    /// Writes a node, and returns the next one.
+    /// A node, and what is written next.
     #[inline(always)]
     fn step(&mut self, node: &'p Node) -> Result<Option<&'p Node>, AllocError>
         ensures leads { IfOk result (λ next. MatchOption next
@@ -114,7 +114,7 @@ impl<'p> Lowering<'p> {
         }
     }
 
-    /// Writes a node and all that waits.
+    /// A node and all that waits.
     #[inline(always)]
     fn rest(&mut self, node: &'p Node) -> Result<(), AllocError>
         ensures written { OnOk result (Leads 1 (with_task (term_task (term_of node.now)) (state_of self.old))
@@ -129,8 +129,7 @@ impl<'p> Lowering<'p> {
         Ok(())
     }
 
-    /// Writes the block of a program in the present scope. `earlier` counts the promised programs that have
-    /// no later block.
+    /// Writes the block of a program in the present scope, of whose promised programs so many have no later block.
     #[inline(never)]
     fn write(&mut self, program: &'p Program, earlier: usize) -> Result<(), AllocError>
         requires { worklist_of self.old.works.next self.old.works.rest.items ≡ [] }
@@ -146,8 +145,7 @@ impl<'p> Lowering<'p> {
         self.rest(&program.expr)
     }
 
-    /// The block of a program in the present scope. `earlier` counts the promised programs that have no later
-    /// block.
+    /// The block of a program in the present scope, of whose promised programs so many have no later block.
     #[inline(always)]
     fn block(&mut self, program: &'p Program, earlier: usize) -> Result<LentBlock<'p>, AllocError>
         requires { worklist_of self.old.works.next self.old.works.rest.items ≡ [] }
@@ -162,7 +160,7 @@ impl<'p> Lowering<'p> {
         Ok(mem::replace(&mut self.block, Vec::new(self.alloc)))
     }
 
-    /// The blocks of a program and of the predicates in it.
+    /// The blocks of a program and of those that are promised one on the way.
     #[inline(always)]
     pub(crate) fn blocks(
         &mut self,

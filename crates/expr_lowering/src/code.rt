@@ -1,24 +1,23 @@
 //! Flat code in memory.
-ghost use Rattle.expr_code.specs.Shapes.{IsSafeShape};
+ghost use Rattle.expr_instructions.specs.Shapes.{IsSafeShape};
 
 use crate::lowering::Lowering;
-use expr_code::Block;
+use expr_instructions::Block;
 use expr_pattern::PatternRoom;
 use expr_tree::node::{Pattern, Program};
 use expr_value::{Result, Value};
 use std::alloc::Global;
 
-/// Flat code: blocks of instructions, and a room for a pattern. [`Code::from_blocks`] makes any code again
-/// from its blocks. Each jump stays within its block, each call with a predicate runs a later block, and each
-/// instruction finds its operands and slots.
+/// Flat code: blocks of instructions, and nothing else, a room for a pattern aside. [`Code::from_blocks`] gives any code back
+/// from its blocks. Each jump stays within its block, each call with a predicate asks a later block, and each instruction
+/// finds its operands and slots.
 #[derive(Drop)]
 pub struct Code<L, N, P> {
-    /// The block of the program.
+    /// The block that is run.
     pub first: Block<L, N, P>,
-    /// The blocks of the predicates.
+    /// The blocks of predicates.
     pub later: Vec<Block<L, N, P>>,
-    /// Room for the first pattern that a run builds and that is not a literal. All runs of this code share
-    /// it.
+    /// Room for the first pattern that a run builds, since it is no literal; the runs of this code share it.
     pub room: PatternRoom,
     pub ghost safe: { IsSafeShape first later },
 }
@@ -31,12 +30,12 @@ impl<'p> Code<&'p Value, &'p String, &'p Pattern> {
     ghost use Rattle.expr_tree.specs.TermOf.{program_term};
     ghost use Rattle.expr_error.specs.ErrorKind.{OnlyMemory};
 
-    /// Lowers a program to code that borrows its literals, its names and its compiled patterns. It also makes
-    /// what pays off only from the second run.
+    /// The code of a program, which lends its literals, its names and the patterns that it keeps. What serves the second run
+    /// on and costs more than one run is made as well.
     ///
     /// # Errors
     ///
-    /// Returns `MemoryError` if an allocation fails.
+    /// `MemoryError`, if a growth is refused.
     pub fn lower(
         alloc: Global,
         program: &'p Program,
@@ -50,12 +49,11 @@ impl<'p> Code<&'p Value, &'p String, &'p Pattern> {
         Self::lower_for(alloc, program, true)
     }
 
-    /// Lowers a program to code, as [`Code::lower`] does, for a single run. It skips what pays off only from
-    /// the second.
+    /// The code of a program, as [`Code::lower`] gives it, for one run.
     ///
     /// # Errors
     ///
-    /// Returns `MemoryError` if an allocation fails.
+    /// `MemoryError`, if a growth is refused.
     pub fn lower_once(
         alloc: Global,
         program: &'p Program,

@@ -1,30 +1,29 @@
 //! Code that a host keeps: a copy that owns its literals, its names and its patterns.
 ghost use Rattle.std.specs.Prelude.{◌≡◌, map, IfOk, string_bytes};
-ghost use Rattle.expr_code.specs.InMemory.{op_of};
+ghost use Rattle.expr_instructions.specs.InMemory.{op_of};
 ghost use Rattle.expr_lowering.specs.Blocks.{blocks_of};
 ghost use Rattle.expr_lowering.specs.Owned.{own_text, own_value};
 ghost use Rattle.expr_error.specs.ErrorKind.{OnlyMemory};
 
 use crate::code::Code;
-use expr_code::{Block, Instruction, Pointer, PredicateCall};
+use expr_instructions::{Block, Instruction, Pointer, PredicateCall};
 use expr_pattern::{Pattern, PatternRoom};
 use expr_value::{Result, Value};
 use std::alloc::{AllocError, Global};
 
 /// Code that owns its literals, its names and its patterns, so that it outlives its program.
-pub type OwnedCode = Code<Box<Value>, Box<String>, Box<Pattern>>;
+pub type KeptCode = Code<Box<Value>, Box<String>, Box<Pattern>>;
 
-/// An instruction that owns its parts.
+/// An instruction that owns what it holds.
 type OwnInstruction = Instruction<Box<Value>, Box<String>, Box<Pattern>>;
 
 impl<L: Pointer<Value>, N: Pointer<String>, P: Pointer<Pattern>> Code<L, N, P> {
-    /// Copies the code. The copy owns its literals, its names and its patterns. It shares what is compiled of
-    /// a pattern.
+    /// A copy that owns its literals, its names and its patterns. What is compiled of a pattern is shared with it.
     ///
     /// # Errors
     ///
-    /// Returns `MemoryError` if an allocation fails.
-    pub fn keep(&self, alloc: Global) -> Result<OwnedCode>
+    /// `MemoryError`, if a growth is refused.
+    pub fn keep(&self, alloc: Global) -> Result<KeptCode>
         ensures blocks { IfOk result (λ c. blocks_of own_value own_text c ≡ blocks_of L.held
             (λ n. string_bytes (N.held n)) self.now) }
         ensures refused { OnlyMemory result }
@@ -162,7 +161,7 @@ fn kept_call<N: Pointer<String>>(
     Ok(Box::new(alloc, call)?)
 }
 
-// The same pattern, if there is one. What is compiled of it is shared.
+// The same pattern, if there is one: what is compiled of it is shared.
 fn kept_pattern<P: Pointer<Pattern>>(
     alloc: Global,
     pattern: &Option<P>,

@@ -1,5 +1,4 @@
-//! Lowering: from a program to its code, the copy of it that a host keeps, and what the code needs from a
-//! host.
+//! From a program to its flat code: blocks of instructions in memory.
 #![tactic(auto)]
 
 mod blocks;
@@ -8,13 +7,10 @@ mod forms;
 mod kept;
 mod literals;
 mod lowering;
-mod name_set;
-mod needs;
 mod safety;
 mod scopes;
 mod worklist;
 
 pub use code::Code;
-pub use expr_code::{Block, Instruction, Pointer, PredicateCall};
-pub use kept::OwnedCode;
-pub use needs::{functions_of, missing_names, with_nil};
+pub use expr_instructions::{Block, Instruction, Pointer, PredicateCall};
+pub use kept::KeptCode;

@@ -1,15 +1,16 @@
-//! Code from blocks that a host gives: a check that they are safe.
+//! Code of blocks that another gives: they are tested to be safe.
 ghost use Rattle.std.specs.Prelude.{◌≡◌, ℕ, suc, ◌+◌, ◌-◌, ◌^◌, ◌<◌, ◌≤◌, ◌↔◌, true, IfOk};
 ghost use Rattle.expr_code.specs.CallBinds.{bound_count};
-ghost use Rattle.expr_code.specs.Instructions.{cut, takes};
-ghost use Rattle.expr_code.specs.Walk.{Walk};
+ghost use Rattle.expr_code.specs.Machine.{cut, takes};
+ghost use Rattle.expr_code.specs.Rest.{Walk};
 ghost use Rattle.expr_code.specs.Safe.{FindsAll, FindsEnd};
-ghost use Rattle.expr_code.specs.InMemory.{op_of};
-ghost use Rattle.expr_code.specs.Shapes.{IsSafeShape, no_text, no_value, shape_of};
+ghost use Rattle.expr_instructions.specs.InMemory.{op_of};
+ghost use Rattle.expr_instructions.specs.Shapes.{IsSafeShape, no_text, no_value, shape_of};
 ghost use Rattle.expr_lowering.specs.Needs.{Admits, IsAtMost, Meets, MeetsAt};
 
 use crate::code::Code;
-use expr_code::{Binds, Block, Instruction, PredicateCall};
+use expr_code::Binds;
+use expr_instructions::{Block, Instruction, PredicateCall};
 use expr_pattern::PatternRoom;
 use expr_value::refusal;
 use std::alloc::{AllocError, Global};
@@ -18,14 +19,13 @@ impl<L: Drop, N: Drop, P: Drop> Code<L, N, P> {
     ghost use Rattle.expr_error.specs.ErrorKind.{RefusesWith, evaluation};
     ghost use Rattle.expr_lowering.specs.Blocks.{HasBlocks, IsOnlyCodeOf};
 
-    /// Makes code from blocks. You may take any code apart and put it together again: the result is equal,
+    /// The code of these blocks. A code is its blocks: whoever takes one apart and puts it together again has that very code,
     /// with a new room for a pattern.
     ///
     /// # Errors
     ///
-    /// Returns `ExprError` if the blocks are not safe. A jump may leave its block, a call may run a block
-    /// that doesn't exist, or an instruction may not find its operands or slots. Returns `MemoryError` if an
-    /// allocation fails.
+    /// `ExprError`, if the blocks are not safe: a jump leaves its block, a call asks a block that is not there, or an
+    /// instruction may not find its operands or slots. `MemoryError`, if a growth is refused.
     #[tactic(auto, using(crate::proofs::OneCode::same_code))]
     pub fn from_blocks(
         alloc: Global,
@@ -49,21 +49,21 @@ impl<L: Drop, N: Drop, P: Drop> Code<L, N, P> {
     }
 }
 
-/// What the rest of a block needs, from some position on. The stack must have at least the height `lowest`
-/// and be below `below`. If no height meets that, the block is never safe.
+/// What a place in a block needs, so that all is found from there to the block's end. The stack is a least height or higher,
+/// and below another height; a place with no such height is never safe.
 #[derive(Clone, Copy)]
 pub struct Need {
     /// The least height of the stack, in values.
     pub lowest: usize,
-    /// The stack must be below this height. No stack is as high as `usize::MAX`.
+    /// A height that the stack is below; no stack is as high as `usize::MAX`.
     pub below: usize,
-    /// How many slots there must be. Code may read the slot `usize::MAX`, so this can be one more than that.
+    /// How many slots there must be. A code may read the slot `usize::MAX`, so the count can be one more than that.
     pub slots: u128,
-    /// How many slots there may be at most when the block starts. None means any number.
+    /// How many slots there may be, at most, where the block is entered; nothing if there is no bound.
     pub entered: Option<usize>,
 }
 
-/// Needs nothing.
+/// Nothing is needed.
 const NOTHING: Need = Need {
     lowest: 0,
     below: usize::MAX,
@@ -71,7 +71,7 @@ const NOTHING: Need = Need {
     entered: None,
 };
 
-/// Nothing meets this need.
+/// No stack is right.
 const NEVER: Need = Need {
     lowest: 0,
     below: 0,
@@ -79,7 +79,7 @@ const NEVER: Need = Need {
     entered: None,
 };
 
-/// The end of a block needs one value.
+/// The block's end needs one value.
 const END: Need = Need {
     lowest: 1,
     below: 2,
@@ -88,7 +88,7 @@ const END: Need = Need {
 };
 
 impl Need {
-    /// The need of both.
+    /// What this and the other need.
     fn both(self, other: Need) -> Need
         ensures { (first stack slots : ℕ) → Meets result first stack slots
             ↔ (Meets self first stack slots × Meets other first stack slots) }
@@ -101,7 +101,7 @@ impl Need {
         }
     }
 
-    /// The need before one value replaces this many.
+    /// What is needed before one value takes the place of so many.
     fn replacing(self, taken: usize) -> Need
         ensures { (first stack slots : ℕ) → stack < 2 ^ 64 - 1 → Meets result first stack slots
             ↔ ((taken ≤ stack) × Meets self first (suc (stack - taken)) slots) }
@@ -114,7 +114,7 @@ impl Need {
         }
     }
 
-    /// The need before the top is popped.
+    /// What is needed before the top is taken.
     fn under_top(self) -> Need
         ensures { (first stack slots : ℕ) → stack < 2 ^ 64 - 1 → Meets result first stack slots
             ↔ ((0 < stack) × Meets self first (stack - 1) slots) }
@@ -127,7 +127,7 @@ impl Need {
         }
     }
 
-    /// The need before a slot is read.
+    /// What is needed before a slot is read.
     fn reading(self, slot: usize) -> Need
         ensures { (first stack slots : ℕ) → Meets result first stack slots
             ↔ ((slot < slots) × Meets self first stack slots) }
@@ -140,7 +140,7 @@ impl Need {
         }
     }
 
-    /// The need before the slots from this one on are set. After that there are `left` slots.
+    /// What is needed before the slots from one on are set, of which so many are there then.
     fn setting(self, slot: usize, left: u128) -> Need
         ensures { (first stack slots : ℕ) → Meets result first stack slots
             ↔ ((first ≤ slot) × (slot ≤ slots) × Meets self first stack left) }
@@ -156,7 +156,7 @@ impl Need {
         }
     }
 
-    /// Whether a block with this need at its start may start with this many slots.
+    /// Whether a block whose start needs this may be entered with so many slots.
     pub fn is_met(self, slots: u128) -> bool
         ensures { (result ≡ true) ↔ Meets self slots 0 slots }
     {
@@ -168,7 +168,7 @@ impl Need {
     }
 }
 
-/// The stricter of two bounds.
+/// The stricter bound of two.
 fn stricter(one: Option<usize>, other: Option<usize>) -> Option<usize>
     ensures { (first : ℕ) → IsAtMost result first ↔ (IsAtMost one first × IsAtMost other first) }
 {
@@ -181,7 +181,7 @@ fn stricter(one: Option<usize>, other: Option<usize>) -> Option<usize>
     }
 }
 
-/// The need with this many needs after it.
+/// The need that has so many behind it.
 fn need_at(needs: &[Need], passed: usize) -> Need
     ensures { (first stack slots : ℕ) → Meets result first stack slots
         ↔ MeetsAt needs.now first passed stack slots }
@@ -193,8 +193,7 @@ fn need_at(needs: &[Need], passed: usize) -> Need
     }
 }
 
-/// The need before an instruction, given the needs at each position after it and at the start of each later
-/// block.
+/// What is needed before an instruction, given what is needed at each place after it and at the start of each later block.
 fn need_before<L, N, P>(instruction: &Instruction<L, N, P>, needs: &[Need], starts: &[Need]) -> Need
     ensures { (first stack slots : ℕ) → stack < 2 ^ 64 - 1 → Meets result first stack slots
         ↔ FindsAll (Admits starts.now) first (op_of no_value no_text instruction.now)
@@ -235,7 +234,7 @@ fn need_before<L, N, P>(instruction: &Instruction<L, N, P>, needs: &[Need], star
     }
 }
 
-/// How many values a slice takes: the value itself and its bounds.
+/// How many values a slice takes: the sliced one and its bounds.
 fn sliced(start: bool, stop: bool) -> usize
     ensures { result ≡ takes (cut start stop) }
 {
@@ -246,7 +245,7 @@ fn sliced(start: bool, stop: bool) -> usize
     }
 }
 
-/// The need before a call that may run a later block, given the need after it.
+/// What is needed before a call that may ask a later block, given what the next place needs.
 fn need_before_call<N>(call: &PredicateCall<N>, next: Need, starts: &[Need]) -> Need
     ensures { (first stack slots : ℕ) → stack < 2 ^ 64 - 1 → Meets result first stack slots
         ↔ ((call.now.count ≤ stack) × (first ≤ call.now.slot) × (call.now.slot ≤ slots)
@@ -271,8 +270,7 @@ fn bound_count(binds: Binds) -> u128
     }
 }
 
-/// The need at the start of a block, given the needs at the starts of the later blocks, from the last to the
-/// next.
+/// What the start of a block needs, given what the starts of the later blocks do, which stand from the last to the next.
 fn need_of_block<L, N, P>(
     alloc: Global,
     block: &Block<L, N, P>,
@@ -289,7 +287,7 @@ fn need_of_block<L, N, P>(
     Ok(need_at(&needs, 0))
 }
 
-/// Whether blocks are safe. The first one starts without slots.
+/// Whether blocks are safe, of which the first is run with no slots.
 fn are_safe<L, N, P>(
     alloc: Global,
     first: &Block<L, N, P>,

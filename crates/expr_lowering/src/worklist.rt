@@ -1,16 +1,16 @@
-//! The parts of a block that are still to be written.
+//! What is still to be written of a block.
 ghost use Rattle.std.specs.Prelude.{◌≡◌, None, length, vec_len};
 
 use expr_tree::node::{Node, Program};
 use std::alloc::{AllocError, Global};
 
-/// A part of a block that is still to be written, and what comes after it. For a jump, the number counts the
-/// instructions after its target.
+/// A part of a block that is still to be written, with what stands behind it. A jump is told how many instructions stand
+/// behind its target.
 #[derive(Clone, Copy)]
 pub(crate) enum WorkItem<'p> {
     /// A node.
     Node(&'p Node),
-    /// The value of the innermost line, which goes into a slot.
+    /// The value of the innermost line, which is stored.
     Line(&'p Node),
     /// A bound of a slice, which is checked.
     Bound(&'p Node),
@@ -22,17 +22,17 @@ pub(crate) enum WorkItem<'p> {
     UnlessNil(&'p Node, usize),
     /// A condition.
     JumpIfFalse(&'p Node, usize),
-    /// A condition, and the first of two programs. The second is written.
+    /// A condition, and the first of two programs, the second of which is written.
     Choice(&'p Node, &'p Program, usize),
-    /// A condition, and the first of two nodes. The second is written.
+    /// A condition, and the first of two nodes, the second of which is written.
     Ternary(&'p Node, &'p Node, usize),
 }
 
-/// The waiting parts. The next one is outside the list, so that most programs need no list.
+/// Parts that wait. The next one stands apart, so that most programs take no list for them.
 #[derive(Drop)]
 pub(crate) struct Worklist<'p> {
     pub(crate) next: Option<WorkItem<'p>>,
-    /// The others. The last of them is the next.
+    /// The others, of which the last is the next.
     pub(crate) rest: Vec<WorkItem<'p>>,
     ghost next_first: { next ≡ None → vec_len rest ≡ 0 },
 }
@@ -41,7 +41,7 @@ impl<'p> Worklist<'p> {
     ghost use Rattle.std.specs.Prelude.{[], ◌∷◌, OnOk, MatchOption};
     ghost use Rattle.expr_lowering.specs.Lent.{worklist_of};
 
-    /// Creates an empty worklist.
+    /// None.
     pub(crate) fn new(alloc: Global) -> Worklist<'p>
         ensures { worklist_of result.next result.rest.items ≡ [] }
     {
@@ -51,7 +51,7 @@ impl<'p> Worklist<'p> {
         }
     }
 
-    /// Adds a part, which comes next.
+    /// One more, which is the next.
     #[inline(always)]
     pub(crate) fn push(&mut self, work: WorkItem<'p>) -> Result<(), AllocError>
         ensures { OnOk result (worklist_of self.new.next self.new.rest.items
@@ -67,7 +67,7 @@ impl<'p> Worklist<'p> {
         Ok(())
     }
 
-    /// Removes and returns the next part.
+    /// The next one, taken off.
     #[inline(always)]
     pub(crate) fn pop(&mut self) -> Option<WorkItem<'p>>
         ensures { MatchOption result

@@ -12,5 +12,5 @@ mod turns;
 
 pub use acts::texts;
 pub use conditions::{known_if, passed_unless, passing_on};
-pub use kept::ReusableMachine;
+pub use kept::KeptMachine;
 pub use machine::{Machine, block_of, execute, run};

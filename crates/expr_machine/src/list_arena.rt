@@ -1,4 +1,4 @@
-//! The arena for the lists of a kept machine.
+//! The arena that a kept machine's lists stand in.
 use bumpalo::Bump;
 use expr_lowering::{Code, Pointer};
 use expr_pattern::Pattern;
@@ -6,20 +6,20 @@ use expr_value::Value;
 use std::alloc::{AllocError, Global};
 use std::marker::Model;
 
-/// How many bytes the arena has for an instruction: an entry of a stack and a value that it owns, a slot and
-/// a value in the kept list. The lists may have doubled and moved.
+/// How many bytes are taken for an instruction: of an entry of a stack and a value of its own, and of a slot and a value in
+/// a place, whose lists may have grown to the double and have moved.
 const BYTES_OF_ONE: usize = 256;
 
-/// The arena for the lists of a kept machine. It is allocated once, and each run has all of it. If a run
-/// needs more, a larger one replaces it.
+/// The room that the lists of a kept machine stand in: it is taken once, and each run has all of it. A run that needs more
+/// is given a larger one, which is kept in its place.
 #[derive(Drop)]
 pub struct ListArena {
     arena: Option<Bump>,
-    /// The free bytes of the arena when it holds no list.
+    /// How many bytes are free where no list stands there.
     whole: usize,
 }
 
-// Contracts don't see the arena: its content is dropped when a run ends.
+// Clauses see nothing of it: what stands there is let go of when a run ends.
 impl Model for ListArena {
     ghost use Rattle.std.specs.Prelude.{⊤};
 
@@ -29,7 +29,7 @@ impl Model for ListArena {
 }
 
 impl ListArena {
-    /// Creates an arena without memory.
+    /// No room is taken yet.
     #[inline(always)]
     pub fn new() -> ListArena {
         ListArena {
@@ -38,11 +38,11 @@ impl ListArena {
         }
     }
 
-    /// The allocator for the lists of a run. The first call allocates the arena.
+    /// Where the lists of a run of a code are made. The room is taken at the first call.
     ///
     /// # Errors
     ///
-    /// Returns `AllocError` if an allocation fails.
+    /// `AllocError` where it is refused.
     #[inline(always)]
     pub fn lists<L: Pointer<Value>, N: Pointer<String>, K: Pointer<Pattern>>(
         &mut self,
@@ -58,7 +58,7 @@ impl ListArena {
         }
     }
 
-    /// Allocates the arena for this code.
+    /// Takes the room for a code.
     #[inline(never)]
     fn take<L: Pointer<Value>, N: Pointer<String>, K: Pointer<Pattern>>(
         &mut self,
@@ -71,7 +71,7 @@ impl ListArena {
         Ok(())
     }
 
-    /// Frees all of the arena. No list may be left in it.
+    /// All of the room is free again, once no list stands there.
     #[inline(always)]
     pub fn clear(&mut self) {
         if let Some(arena) = &self.arena {
@@ -82,7 +82,7 @@ impl ListArena {
         self.reset();
     }
 
-    /// Frees all of the arena after a list left something behind.
+    /// The same where something has been left of a list.
     #[inline(never)]
     fn reset(&mut self) {
         if let Some(arena) = &mut self.arena {
@@ -92,7 +92,7 @@ impl ListArena {
     }
 }
 
-/// How many bytes the lists of a run may take. A later block starts with up to three more slots.
+/// How many bytes the lists of a run may take: a later block begins with up to three slots more.
 fn room_of<L: Pointer<Value>, N: Pointer<String>, K: Pointer<Pattern>>(
     code: &Code<L, N, K>,
 ) -> usize {

@@ -1,17 +1,16 @@
--- Operators return a value or an evaluation error, and `matches` a pattern error too.
+-- Operators give a value or refuse to evaluate, and `matches` refuses a pattern too.
 use Rattle.std.proofs.Common.{◌≡◌, ℤ, pos, Bool, true, false, cond, List, Option, Some, None, Result, Ok, Err, IfErr, refl, sym, subst, int_eq, bytes_eq, codes, ℕ}
 use Rattle.expr_moment.specs.Fields.{between}
 use Rattle.expr_moment.specs.Zones.{moment_or_refusal}
 use Rattle.expr_operators.specs.Matching.{MatchMayReturn, MatchMayReturnLayers, MatchesText}
 use Rattle.expr_operators.specs.Operators.{sum_of_layers, operator_answer, truth_or_refusal, product_of_layers, unary_answer, unary_answer_layer, remainder_layers, difference_of_layers, truth, truth_layer, verdict}
 use Rattle.expr_operators.specs.Positions.{checked_bound, checked_bound_layer, index_answer, index_answer_layers, range_answer, range_answer_layers, slice_answer, slice_answer_layer}
-use Rattle.expr_context.specs.Context.{ContextView, hash}
-use Rattle.expr_context.specs.Lookups.{field_of, first_of_two, lookup_answer}
-use Rattle.expr_operators.specs.Bounds.{some_bound}
-use Rattle.expr_functions.specs.declared.operator.Operator.{Operator}
-use Rattle.expr_functions.specs.declared.operator.Operator.TheVariants.{Add, Subtract, Multiply, Modulo}
-use Rattle.expr_functions.specs.declared.operator.UnaryOperator.{UnaryOperator}
-use Rattle.expr_functions.specs.declared.operator.UnaryOperator.TheVariants.{Not, Positive, Negative}
+use Rattle.expr_steps.specs.Context.{ContextView, field_of, first_of_two, hash, lookup_answer}
+use Rattle.expr_steps.specs.Bounds.{some_bound}
+use Rattle.expr_tree.specs.declared.operator.Operator.{Operator}
+use Rattle.expr_tree.specs.declared.operator.Operator.TheVariants.{Add, Subtract, Multiply, Modulo}
+use Rattle.expr_tree.specs.declared.operator.UnaryOperator.{UnaryOperator}
+use Rattle.expr_tree.specs.declared.operator.UnaryOperator.TheVariants.{Not, Positive, Negative}
 use Rattle.expr_value.specs.Answers.{Answer}
 use Rattle.expr_error.specs.ErrorKind.{ErrorKind, evaluation, pattern}
 use Rattle.expr_datetime.specs.ShiftedMoments.{moment_later, moment_earlier}
@@ -20,7 +19,7 @@ use Rattle.expr_value.specs.declared.value.Value as value
 use Rattle.expr_value.specs.declared.value.Value.{Value, out-Value}
 use Rattle.expr_value.specs.declared.value.Value.TheOpen.{Value-F}
 
--- a value, or an evaluation error
+-- a value, or a refusal to evaluate
 abbrev pub Evaluates : {A : Type 0} → Result A ErrorKind → Type 0
 Evaluates r = IfErr r (λ f. f ≡ evaluation)
 
@@ -36,7 +35,7 @@ pub either-evaluates : {A : Type 0} (b : Bool) (r s : Result A ErrorKind) → Ev
 either-evaluates true r s p q = p
 either-evaluates false r s p q = q
 
--- DateTimes
+-- moments
 pub moment_or_refusal-evaluates : (o : Option DateTimeValue) → Evaluates (moment_or_refusal o)
 moment_or_refusal-evaluates None = refl
 moment_or_refusal-evaluates (Some t) = tt
@@ -148,7 +147,7 @@ lookup_answer-evaluates ctx key =
     either-evaluates (bytes_eq key (codes "$env")) (Ok (value.Map ctx.map)) (first_of_two (ctx.value_of key) (field_of (ctx.value_of hash) key)) tt
     (first_of_two-evaluates (ctx.value_of key) (field_of (ctx.value_of hash) key))
 
--- `matches`, which may have a pattern error too
+-- `matches`, where a pattern may be refused too
 module _ (P : ErrorKind → Type 0) (of_evaluation : P evaluation) (of_pattern : P pattern) where
   matches_text : (text source : List ℕ) (a : Answer) → MatchesText text source a → IfErr a P
   matches_text text source (Ok v) p = tt

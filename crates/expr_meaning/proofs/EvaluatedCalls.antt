@@ -1,12 +1,12 @@
--- Built-ins on values return a value or an evaluation error.
+-- Built-ins on values give a value or refuse to evaluate.
 use Rattle.std.proofs.Common.{◌≡◌, ℕ, ℤ, pos, negsuc, ◌==◌, ◌*◌, ◌^◌, nat_lt, cond, false, List, [], length, Option, Some, None, Ok, Err, refl, option_map, rules}
 use Rattle.std.specs.Option.{option_and_then}
 use Rattle.expr_arguments.specs.Arguments.{answer_on, any_value, array_and_text, all_of, one_of, one_text, text_and_integer, two_integers, two_of, two_texts}
 use Rattle.expr_builtins.specs.Bits as bits
 use Rattle.expr_builtins.specs.Numbers as numbers
 use Rattle.expr_builtins.specs.Nested.{all_flat_items}
-use Rattle.expr_builtins.specs.Text as text
-use Rattle.expr_builtins.specs.Trimmed as trimmed
+use Rattle.expr_strings.specs.Text as text
+use Rattle.expr_strings.specs.Trimmed as trimmed
 use Rattle.expr_builtins.specs.Collections as collections
 use Rattle.expr_builtins.specs.Conversions as conversions
 use Rattle.expr_encoding.specs.Base64.{FromBase64Layer, FromText, text_in_base64}
@@ -35,7 +35,7 @@ use Rattle.expr_value.specs.declared.value.Value.{Value, out-Value}
 use Rattle.expr_value.specs.declared.value.Value.TheOpen.{Value-F}
 use Rattle.expr_meaning.proofs.Evaluated.{Evaluates, either-evaluates, index_answer-evaluates, same-evaluates}
 
--- the result of a call on arguments of its kinds
+-- what a call answers on arguments of its kinds
 answer_on-evaluates : {A : Type 0} (o : Option A) (answers : A → Answer) → ((x : A) → Evaluates (answers x)) → Evaluates (answer_on o answers)
 answer_on-evaluates None answers p = refl
 answer_on-evaluates (Some x) answers p = p x
@@ -53,7 +53,7 @@ choice_among-evaluates choice vs =
     either-evaluates (length vs == 0) (Err evaluation) (answer_on (all_of integer_of (all_flat_items vs)) (λ ns. Ok (numbers.choice_of choice ns))) refl
     (answer_on-evaluates (all_of integer_of (all_flat_items vs)) (λ ns. Ok (numbers.choice_of choice ns)) (λ ns. tt))
 
--- strings
+-- texts
 repeated-evaluates : (s : List ℕ) (n : ℤ) → Evaluates (text.repeated_text s n)
 repeated-evaluates s (pos n) =
     either-evaluates (nat_lt 1000000 n) (Err evaluation) (cond (nat_lt (n * length s) (2 ^ 64)) (Ok _) (Err evaluation)) refl
@@ -91,8 +91,8 @@ to_pairs-evaluates v = refl
 
 concat-evaluates : (vs : List Value) → Evaluates (collections.concat vs)
 concat-evaluates vs =
-    either-evaluates (length vs == 0) (Err evaluation) (answer_on (option_map collections.concatenated (all_of items_of vs)) (λ xs. Ok (value.Array xs))) refl
-    (answer_on-evaluates (option_map collections.concatenated (all_of items_of vs)) (λ xs. Ok (value.Array xs)) (λ xs. tt))
+    either-evaluates (length vs == 0) (Err evaluation) (answer_on (option_map collections.in_a_row (all_of items_of vs)) (λ xs. Ok (value.Array xs))) refl
+    (answer_on-evaluates (option_map collections.in_a_row (all_of items_of vs)) (λ xs. Ok (value.Array xs)) (λ xs. tt))
 
 -- conversions
 read-evaluates : (s : List ℕ) (a : Answer) → conversions.ReadsInteger s a → Evaluates a
@@ -108,26 +108,26 @@ int-evaluates : (o : Option Value) (a : Answer) → conversions.IntOne o a → E
 int-evaluates None a p = same-evaluates a (Err evaluation) p refl
 int-evaluates (Some v) a p = int_layer-evaluates (out-Value v) a p
 
--- a call whose errors come only from its arguments is left to the search
-pub BitCalled-evaluates : (c : BitCall) (vs : List Value) (a : Answer) → bits.BitCalled c vs a → Evaluates a
+-- a call that refuses for its arguments alone is left to the search
+pub BitCalled-evaluates : (c : BitCall) (vs : List Value) (a : Answer) → bits.Called c vs a → Evaluates a
 BitCalled-evaluates bit.Bitshl vs a p = on (two_integers vs) _ a p (λ x. counted-evaluates (bits.shifted_left x.0) x.1)
 BitCalled-evaluates bit.Bitshr vs a p = on (two_integers vs) _ a p (λ x. counted-evaluates (bits.shifted_right x.0) x.1)
 BitCalled-evaluates bit.Bitushr vs a p = on (two_integers vs) _ a p (λ x. counted-evaluates (bits.shifted_unsigned x.0) x.1)
 BitCalled-evaluates c vs a p = search (rules, same-evaluates)
 
-pub NumberCalled-evaluates : (c : NumberCall) (vs : List Value) (a : Answer) → numbers.NumberCalled c vs a → Evaluates a
+pub NumberCalled-evaluates : (c : NumberCall) (vs : List Value) (a : Answer) → numbers.Called c vs a → Evaluates a
 NumberCalled-evaluates number.Max vs a p = same-evaluates a _ p (choice_among-evaluates _ vs)
 NumberCalled-evaluates number.Min vs a p = same-evaluates a _ p (choice_among-evaluates _ vs)
 NumberCalled-evaluates c vs a p = search (rules, same-evaluates)
 
-pub TextCalled-evaluates : (c : TextCall) (vs : List Value) (a : Answer) → text.TextCalled c vs a → Evaluates a
+pub TextCalled-evaluates : (c : TextCall) (vs : List Value) (a : Answer) → text.Called c vs a → Evaluates a
 TextCalled-evaluates text_call.Trim vs a p = trimmed-evaluates (one_text vs) (two_texts vs) a p
 TextCalled-evaluates text_call.Upper vs a p = cased-evaluates _ (one_text vs) a p
 TextCalled-evaluates text_call.Lower vs a p = cased-evaluates _ (one_text vs) a p
 TextCalled-evaluates text_call.Repeat vs a p = on (text_and_integer vs) _ a p (λ x. repeated-evaluates x.0 x.1)
 TextCalled-evaluates c vs a p = search (rules, same-evaluates)
 
-pub CollectionCalled-evaluates : (c : CollectionCall) (vs : List Value) (a : Answer) → collections.CollectionCalled c vs a → Evaluates a
+pub CollectionCalled-evaluates : (c : CollectionCall) (vs : List Value) (a : Answer) → collections.Called c vs a → Evaluates a
 CollectionCalled-evaluates collection.Take vs a p = on (two_of items_of integer_of vs) _ a p (λ x. taken-evaluates x.0 x.1)
 CollectionCalled-evaluates collection.Concat vs a p = same-evaluates a (collections.concat vs) p (concat-evaluates vs)
 CollectionCalled-evaluates collection.Keys vs a p = on (one_of any_value vs) _ a p (λ v. keys-evaluates (out-Value v))
@@ -141,7 +141,7 @@ CollectionCalled-evaluates collection.FromPairs vs a p =
     )
 CollectionCalled-evaluates c vs a p = search (rules, same-evaluates)
 
-pub ConversionCalled-evaluates : (c : ConversionCall) (vs : List Value) (a : Answer) → conversions.ConversionCalled c vs a → Evaluates a
+pub ConversionCalled-evaluates : (c : ConversionCall) (vs : List Value) (a : Answer) → conversions.Called c vs a → Evaluates a
 ConversionCalled-evaluates conversion.Int vs a p = int-evaluates (one_of any_value vs) a p
 ConversionCalled-evaluates c vs a p = search (rules, same-evaluates)
 

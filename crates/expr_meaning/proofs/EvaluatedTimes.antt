@@ -1,16 +1,16 @@
--- Methods, and calls of times, return a value or an evaluation error.
+-- Methods, and calls of times, give a value or refuse to evaluate.
 use Rattle.std.proofs.Common.{◌≡◌, ℕ, ℤ, List, [], ◌∷◌, Option, Some, None, Ok, Err, inl, inr, refl}
 use Rattle.expr_arguments.specs.Arguments.{answer_on, without_arguments, one_duration, one_text}
 use Rattle.expr_arguments.specs.Times.{one_moment, one_zone, three_integers, timezone_of}
-use Rattle.expr_time.specs.LengthMethods.{method_answer, by_step, ReadsLength, OfText}
-use Rattle.expr_time.specs.declared.length_method.DurationMethod.{DurationMethod}
-use Rattle.expr_time.specs.declared.length_method.DurationMethod.TheVariants as of_length
+use Rattle.expr_duration.specs.Methods.{method_answer, by_step, ReadsLength, OfText}
+use Rattle.expr_duration.specs.declared.method.DurationMethod.{DurationMethod}
+use Rattle.expr_duration.specs.declared.method.DurationMethod.TheVariants as of_length
 use Rattle.expr_layout.specs.Layouts.{Formats}
 use Rattle.expr_layout.specs.declared.found.KnownFields.{KnownFields}
 use Rattle.expr_moment.specs.Dates.{AddsDate}
 use Rattle.expr_moment.specs.Fields.{between}
 use Rattle.expr_moment.specs.Zones.{at_civil, moment_or_refusal}
-use Rattle.expr_meaning.specs.Methods.{AllowsDurationMethod, AllowsMethod, AllowsMethodLayer, AllowsMomentMethod, AllowsNameMethod}
+use Rattle.expr_steps.specs.Methods.{AllowsDurationMethod, AllowsMethod, AllowsMethodLayer, AllowsMomentMethod, AllowsNameMethod}
 use Rattle.expr_time.specs.Calls.{TimeCallMayReturn}
 use Rattle.expr_time.specs.Civil.{AllowsDate, Dates, DatesLayout, DatesNamed, DatesText, DatesThree, DatesTwo, MomentMayReturnIf, place_read, by_form}
 use Rattle.expr_time.specs.Moments.{AddsDates, AnsweredAt, location_answer, name_answer}
@@ -31,7 +31,7 @@ use Rattle.expr_value.specs.declared.value.Value.TheOpen.{Value-F}
 use Rattle.expr_datetime.specs.declared.zone.TimezoneValue.{TimezoneValue}
 use Rattle.expr_meaning.proofs.Evaluated.{Evaluates, between-evaluates, equal-evaluates, moment_or_refusal-evaluates, same-evaluates}
 
--- an evaluation error, either way round
+-- a refusal to evaluate, either way round
 refusal : (a : Answer) → a ≡ Err evaluation → Evaluates a
 refusal a e = same-evaluates a (Err evaluation) e refl
 
@@ -67,7 +67,7 @@ duration_method-evaluates : (key : List ℕ) (n : ℤ) (vs : List Value) (a : An
 duration_method-evaluates key n vs a (inl p) = same-evaluates a (method_answer p.0 n vs) p.2 (method_answer-evaluates p.0 n vs)
 duration_method-evaluates key n vs a (inr p) = refusal a p.1
 
--- methods of DateTimes
+-- methods of moments
 location_answer-evaluates : (vs : List Value) (o : Option TimezoneValue) → Evaluates (location_answer vs o)
 location_answer-evaluates vs None = refl
 location_answer-evaluates vs (Some zone) = without_arguments-evaluates vs _

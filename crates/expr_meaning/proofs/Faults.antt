@@ -1,15 +1,14 @@
--- The errors of a program: an evaluation error, a pattern error, or an error of a function of the host.
+-- What a program is refused with: that it can't be evaluated, a pattern, or what a function of the host refuses with.
 use Rattle.std.proofs.Common.{◌≡◌, ◌≢◌, ◌⊎◌, ℕ, ℤ, Bool, true, false, List, [], ◌∷◌, ◌++◌, map, Option, Some, None, Result, Ok, Err, IfErr, MatchBool, ◌||◌, bytes_eq, codes, cond, inl, inr, refl, sym, subst}
 use Rattle.expr_operators.specs.Operators.{operator_answer, unary_answer, truth}
 use Rattle.expr_operators.specs.Positions.{checked_bound, index_answer, range_answer, slice_answer}
-use Rattle.expr_functions.specs.Strictness.{operator_strictness}
-use Rattle.expr_functions.specs.declared.strictness.Strictness.{Strictness}
-use Rattle.expr_functions.specs.declared.strictness.Strictness.TheVariants.{Both, EndsAtFalse, EndsAtTrue, Pattern}
+use Rattle.expr_operators.specs.Strictness.{operator_strictness}
+use Rattle.expr_operators.specs.declared.strictness.Strictness.{Strictness}
+use Rattle.expr_operators.specs.declared.strictness.Strictness.TheVariants.{Both, EndsAtFalse, EndsAtTrue, Pattern}
 use Rattle.expr_predicates.specs.Calls.{AllowsHigherOrder, SortsItems, array_and_more, array_then, fold_of_call, direction_named, direction_of, reduce_from_first, runs_alone, sort_in_direction, fold_of, fold_of_array}
 use Rattle.expr_predicates.specs.Runs.{FoldMayReturn, AnswersItself}
-use Rattle.expr_predicates.specs.Sorting.{IsSorting, Sorts, are_alike, beside_keys, own_answers}
-use Rattle.expr_context.specs.Told.{PredicateArgsView}
-use Rattle.expr_predicates.specs.Folds.{Fold, ItemAnswer, FoldOutcome, args_about, fold_outcome, refuses_answer, sorting, has_stopped}
+use Rattle.expr_sorting.specs.Sorting.{IsSorting, Sorts, are_alike, beside_keys, own_answers}
+use Rattle.expr_predicates.specs.Folds.{Fold, ItemAnswer, PredicateArgsView, FoldOutcome, args_about, fold_outcome, refuses_answer, sorting, has_stopped}
 use Rattle.expr_functions.specs.Functions.{builtin_named}
 use Rattle.expr_functions.specs.declared.functions.HigherOrderCall.{HigherOrderCall}
 use Rattle.expr_functions.specs.declared.functions.HigherOrderCall.TheVariants.{Reduce, SortBy}
@@ -17,12 +16,11 @@ use Rattle.expr_functions.specs.declared.functions.Builtin.{Builtin}
 use Rattle.expr_functions.specs.declared.functions.Builtin.TheVariants as builtin
 use Rattle.expr_functions.specs.declared.functions.ValueCall.{ValueCall}
 use Rattle.expr_functions.specs.declared.functions.ValueCall.TheVariants as on_values
-use Rattle.expr_context.specs.Context.{ContextView, override}
-use Rattle.expr_context.specs.Lookups.{predicate_context, lookup_answer}
-use Rattle.expr_operators.specs.Bounds.{some_bound}
-use Rattle.expr_meaning.specs.Methods.{AllowsMethod}
+use Rattle.expr_steps.specs.Context.{ContextView, predicate_context, lookup_answer, override}
+use Rattle.expr_steps.specs.Bounds.{some_bound}
+use Rattle.expr_steps.specs.Methods.{AllowsMethod}
 use Rattle.expr_tree.specs.Term.{Term, name, literal, list, mapping, range, call, unary, operation, postfix, choice, Postfix, index, slice, coalesce, pipe, ternary, method, Bound, unbounded, bound, Terms, no_terms, term, TermPairs, pairs_end, pair, Predicate, no_predicate, predicate, Block, answers, line}
-use Rattle.expr_functions.specs.declared.operator.Operator.{Operator}
+use Rattle.expr_tree.specs.declared.operator.Operator.{Operator}
 use Rattle.expr_value.specs.Answers.{Answer, Then, ThenIfOk}
 use Rattle.expr_error.specs.ErrorKind.{ErrorKind, evaluation, pattern}
 use Rattle.expr_value.specs.Values.{items_of, string_of}
@@ -82,7 +80,7 @@ fold_of_call-evaluates : (b : HigherOrderCall) (vs : List Value) (given : Bool) 
 fold_of_call-evaluates b vs given =
     either-evaluates (given || runs_alone b) (fold_of_array b (array_and_more vs)) (Err evaluation) (fold_of_array-evaluates b (array_and_more vs) (array_and_more-evaluates vs)) refl
 
--- A property of errors, which all evaluation errors have.
+-- What refusals are like: all that come of evaluation are.
 module _ (P : ErrorKind → Type 0) (of_evaluation : P evaluation) where
   pub Evaluates-faults : {A : Type 0} (r : Result A ErrorKind) → Evaluates r → IfErr r P
   Evaluates-faults (Ok v) e = tt
@@ -131,7 +129,7 @@ module _ (P : ErrorKind → Type 0) (of_evaluation : P evaluation) where
   outcomes (sorting down) rs a p = sorts down rs a p
   outcomes t rs a p = value a (fold_outcome t rs) p
 
-  -- a predicate whose errors have the property
+  -- a predicate of which the refusals are such
   module _ (asks : PredicateArgsView → Answer → Type 0) (of_asks : (q : PredicateArgsView) (a : Answer) → asks q a → IfErr a P) where
     asked : (t : Fold) (left : List Value) (rs : List ItemAnswer) (a : Answer) → FoldMayReturn t asks left rs a → IfErr a P
     asked t [] rs a p = outcomes t rs a p
@@ -161,7 +159,7 @@ module _ (P : ErrorKind → Type 0) (of_evaluation : P evaluation) where
       by_builtin (Some (builtin.OnValues c)) a p = on_values_faults c a p
       by_builtin (Some (builtin.HigherOrder b)) a p = higher_order b vs given a p
 
-      -- a built-in has an evaluation error, or that of its predicate
+      -- a built-in refuses to evaluate, or with what its predicate was refused with
       pub AllowsBuiltin-faults : (a : Answer) → AllowsBuiltin host key vs given asks a → IfErr a P
       AllowsBuiltin-faults a p = by_builtin (builtin_named key) a p
 
@@ -171,11 +169,11 @@ module _ (P : ErrorKind → Type 0) (of_evaluation : P evaluation) where
       called of_host true e (Err f) p = of_host f e p
       called of_host false e a p = AllowsBuiltin-faults a p
 
-      -- a call may have the error of the host's function too
+      -- a call may be refused with what the host's function refuses with too
       pub AllowsCall-faults : (of_host : (f : ErrorKind) → host.is_added key ≡ true → host.calls key vs (Err f) → P f) → (a : Answer) → AllowsCall host key vs given asks a → IfErr a P
       AllowsCall-faults of_host a p = called of_host (host.is_added key) refl a p
 
-  -- an item as the result for itself is no error
+  -- an item as the answer about itself is no refusal
   pub AnswersItself-faults : (q : PredicateArgsView) (a : Answer) → AnswersItself q a → IfErr a P
   AnswersItself-faults q a p = value a q.item p
 
@@ -200,7 +198,7 @@ module _ (P : ErrorKind → Type 0) (of_evaluation : P evaluation) where
   defaults other f Value-F.Nil v a p = f a p
   defaults other f layer v a p = value a v p
 
-  -- a host whose errors have the property
+  -- a host of which the refusals are such
   module _ (of_pattern : P pattern) (host : Host) (of_host : (key : List ℕ) (vs : List Value) (f : ErrorKind) → host.is_added key ≡ true → host.calls key vs (Err f) → P f) where
     continued : (right : Answer → Type 0) → ((a : Answer) → right a → IfErr a P) → (s : Strictness) (op : Operator) (x : Value) (a : Answer) → OperationMayReturnBy s op x right a → IfErr a P
     continued right f Both op x a p = Then-faults right _ f (λ y r. by r (operator_answer op x y) (operator_answer-evaluates op x y)) a p
@@ -278,7 +276,7 @@ module _ (P : ErrorKind → Type 0) (of_evaluation : P evaluation) where
       AllowsBlock-faults ctx (line key t b) a p =
           Then-faults (Allows (world_of host ctx) t) _ (Allows-faults ctx t) (λ v. AllowsBlock-faults (override ctx key v) b) a p
 
--- an evaluation error, or one of a predicate
+-- a refusal to evaluate, or one of a predicate
 abbrev Passed : (PredicateArgsView → Answer → Type 0) → ErrorKind → Type 0
 Passed asks f = (f ≡ evaluation) ⊎ ((q : PredicateArgsView) × asks q (Err f))
 
@@ -286,9 +284,9 @@ passed : (asks : PredicateArgsView → Answer → Type 0) (q : PredicateArgsView
 passed asks q (Ok v) h = tt
 passed asks q (Err f) h = inr (q, h)
 
--- This error, which is no evaluation error.
+-- The same, of one refusal that is none to evaluate.
 module _ (f : ErrorKind) (other : f ≢ evaluation) where
-  -- a built-in passes on the error of its predicate
+  -- a built-in passes on what its predicate was refused with
   pub builtin_faults : (host : Host) (key : List ℕ) (vs : List Value) (given : Bool) (asks : PredicateArgsView → Answer → Type 0)
       → AllowsBuiltin host key vs given asks (Err f) → (q : PredicateArgsView) × asks q (Err f)
   builtin_faults host key vs given asks p = of_asked (AllowsBuiltin-faults (Passed asks) (inl refl) asks (passed asks) host key vs given (Err f) p)
@@ -300,7 +298,7 @@ module _ (f : ErrorKind) (other : f ≢ evaluation) where
   pub method_faults : (key : List ℕ) (v : Value) (vs : List Value) → ¬ (AllowsMethod key v vs (Err f))
   method_faults key v vs p = other (AllowsMethod-evaluates key v vs (Err f) p)
 
-  -- a call passes on the error of its predicate or of the host's function
+  -- a call passes on what its predicate or the host's function was refused with
   pub call_faults : (host : Host) (key : List ℕ) (vs : List Value) (given : Bool) (asks : PredicateArgsView → Answer → Type 0)
       → AllowsCall host key vs given asks (Err f) → ((q : PredicateArgsView) × asks q (Err f)) ⊎ ((host.is_added key ≡ true) × host.calls key vs (Err f))
   call_faults host key vs given asks p = choose (host.is_added key) refl p
@@ -316,7 +314,7 @@ module _ (f : ErrorKind) (other : f ≢ evaluation) where
       AllowsCall-faults (λ k. k ≢ f) (λ e. other (sym e)) AnswersItself (AnswersItself-faults (λ k. k ≢ f) (λ e. other (sym e))) host key vs given
       (λ k added h e. never key vs added (subst (λ k. host.calls key vs (Err k)) e h)) (Err f) p refl
 
-  -- a program has a pattern error, or the error of a function of the host
+  -- a program is refused by a pattern, or with what a function of the host is refused with
   pub program_faults : f ≢ pattern → (host : Host) → NeverRefusesWith host f → (ctx : ContextView) (b : Block) → ¬ (AllowsBlock (world_of host ctx) b (Err f))
   program_faults no_pattern host never ctx b p =
       AllowsBlock-faults (λ k. k ≢ f) (λ e. other (sym e)) (λ e. no_pattern (sym e)) host

@@ -8,20 +8,19 @@ use Rattle.expr_tree.proofs.Rising.{Contains-from_has}
 use Rattle.expr_tree.specs.Context.{Agree}
 use Rattle.expr_tree.specs.Names.{AreNamesOf, env, operands, postfix_operands, bound_operands, all_operands, pairs_operands, predicate_operands, block_operands}
 use Rattle.expr_tree.specs.Term.{Term, name, literal, list, mapping, range, call, unary, operation, postfix, choice, Postfix, index, slice, coalesce, pipe, ternary, method, Bound, unbounded, bound, Terms, no_terms, term, TermPairs, pairs_end, pair, Predicate, no_predicate, predicate, Block, answers, line}
-use Rattle.expr_functions.specs.declared.operator.Operator.{Operator}
-use Rattle.expr_functions.specs.Strictness.{operator_strictness}
-use Rattle.expr_functions.specs.declared.strictness.Strictness.{Strictness}
-use Rattle.expr_functions.specs.declared.strictness.Strictness.TheVariants.{Both, EndsAtFalse, EndsAtTrue, Pattern}
+use Rattle.expr_tree.specs.declared.operator.Operator.{Operator}
+use Rattle.expr_operators.specs.Strictness.{operator_strictness}
+use Rattle.expr_operators.specs.declared.strictness.Strictness.{Strictness}
+use Rattle.expr_operators.specs.declared.strictness.Strictness.TheVariants.{Both, EndsAtFalse, EndsAtTrue, Pattern}
 use Rattle.expr_error.specs.ErrorKind.{ErrorKind}
 use Rattle.expr_value.specs.declared.value.Value as value
 use Rattle.expr_value.specs.declared.value.Value.{Value, out-Value}
 use Rattle.expr_value.specs.declared.value.Value.TheOpen.{Value-F}
 use Rattle.expr_meaning.specs.Allows.{Allows, AllowsAll, AllowsPredicate, AllowsBlock, AllowsBound, AllowsCall, AllowsPairs, AllowsPiped, AllowsPostfix, AndThenLayer, OperationMayReturnBy, OrElseLayer, BranchMayReturnLayer, DefaultsLayer, is_given}
 use Rattle.expr_meaning.specs.Calls.{AllowsBuiltin}
-use Rattle.expr_context.specs.Context.{ContextView, override, hash}
-use Rattle.expr_context.specs.Lookups.{predicate_context, with_binding, field_of, first_of_two, lookup_answer}
+use Rattle.expr_steps.specs.Context.{ContextView, predicate_context, with_binding, override, hash, field_of, first_of_two, lookup_answer}
 use Rattle.expr_meaning.proofs.Dispatching.{AllowsBuiltin-keeps, either-keeps}
-use Rattle.expr_context.specs.Told.{PredicateArgsView}
+use Rattle.expr_predicates.specs.Folds.{PredicateArgsView}
 use Rattle.expr_value.proofs.Answered.{Then-keeps, first-keeps}
 use Rattle.expr_value.specs.Answers.{Answer}
 use Rattle.expr_meaning.specs.Host.{Host}

@@ -1,4 +1,4 @@
-//! Calls of functions, up to the first run of a predicate.
+//! Calls, up to where a predicate is asked.
 ghost use Rattle.std.specs.Prelude.{◌≡◌, IfOk, false, true};
 ghost use Rattle.expr_meaning.specs.Allows.{AllowsCall};
 ghost use Rattle.expr_meaning.specs.Dispatch.{DispatchesTo, DispatchesToBuiltin, Refuses, RefusesBuiltin};
@@ -9,33 +9,28 @@ ghost use Rattle.expr_error.specs.ErrorKind.{RefusesWith};
 
 use crate::environment::{AddedZones, ExprCall, Functions};
 use expr_arguments::values_of_cows;
-use expr_builtins::{
-    call_conversion, call_on_bits, call_on_collections, call_on_numbers, call_on_texts,
-};
+use expr_builtins::{call_conversion, call_on_bits, call_on_collections, call_on_numbers};
 use expr_encoding::call_encoding;
 use expr_functions::{Builtin, ValueCall};
-use expr_operators::{CowValue, unknown_function};
+use expr_operators::CowValue;
 use expr_predicates::{PredicateRun, sort};
+use expr_steps::unknown_function;
+use expr_strings::call_on_texts;
 use expr_time::call_time;
 use expr_value::{Items, Result, Value};
 use std::alloc::Global;
 
-/// The start of a call.
+/// What a call begins with.
 #[derive(Drop)]
 pub enum Dispatch<'s> {
-    /// The result of a function that runs no predicate.
+    /// The answer of a function that asks no predicate.
     Answered(Value),
-    /// A built-in that runs a predicate, or that takes each item as the predicate's result.
+    /// A built-in that asks one, or takes each item as the answer about itself.
     Asks(PredicateRun<'s>),
 }
 
-/// Starts a call on these values, with a predicate or without one. The host's function of this name comes
-/// before the built-in. A built-in that runs a predicate holds its array as the call did.
-///
-/// # Errors
-///
-/// Returns `ExprError` if no function has this name or if a built-in fails at once. Returns the errors of the
-/// host's function, and `MemoryError` if an allocation fails.
+/// Begins a call on these values, with a predicate or without one: of the host's function of the name, else of the
+/// built-in. A built-in that asks a predicate holds its array as the call did.
 pub fn dispatch_call<'s, H: Functions>(
     alloc: Global,
     host: &H,
@@ -55,7 +50,7 @@ pub fn dispatch_call<'s, H: Functions>(
     dispatch_builtin(alloc, host, ident, args, given)
 }
 
-/// Starts a call of the built-in of this name.
+/// Begins a call of the built-in of a name.
 fn dispatch_builtin<'s, H: Functions>(
     alloc: Global,
     host: &H,
@@ -78,7 +73,7 @@ fn dispatch_builtin<'s, H: Functions>(
     }
 }
 
-/// Calls a built-in that runs no predicate.
+/// What a built-in answers that asks no predicate.
 fn call_on_values<H: Functions>(
     alloc: Global,
     host: &H,
@@ -102,12 +97,7 @@ fn call_on_values<H: Functions>(
     }
 }
 
-/// Calls a function without a predicate.
-///
-/// # Errors
-///
-/// Returns `ExprError` if no function has this name or if it fails, the errors of the host's function, and
-/// `MemoryError` if an allocation fails.
+/// What a call answers that is given no predicate.
 pub fn call_alone<'s, H: Functions>(
     alloc: Global,
     host: &H,
@@ -122,11 +112,7 @@ pub fn call_alone<'s, H: Functions>(
     }
 }
 
-/// Calls a function that the host has added.
-///
-/// # Errors
-///
-/// Returns the errors of the function, and `MemoryError` if an allocation fails.
+/// What a function answers on these values that the host has added.
 pub fn call_added<H: Functions>(
     alloc: Global,
     host: &H,

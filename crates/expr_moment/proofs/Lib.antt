@@ -1,3 +1,2 @@
 pub mod InZone
 pub mod Shown
-pub mod Stored

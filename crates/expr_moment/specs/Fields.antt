@@ -1,4 +1,4 @@
--- Fields of a DateTime: local date and time of day, and the numbers of its instant.
+-- What the clock of a moment's place shows, and numbers of a moment.
 use Rattle.std.specs.Prelude.{ℕ, ℤ, pos, neg_ℤ, ◌+◌, ◌%◌, ◌-ℤ◌, ◌&&◌, int_le, List, Ok, Err, codes, if◌then◌else◌}
 use Rattle.std.specs.Int.{int_div_euclid}
 use Rattle.std.specs.Ordering.{int_eq}
@@ -14,18 +14,18 @@ use Rattle.expr_value.specs.declared.value.Value.{Value}
 use Rattle.expr_moment.specs.declared.fields.DateTimeField.{DateTimeField}
 use Rattle.expr_moment.specs.declared.fields.DateTimeField.TheVariants as is
 
--- the local date and the local time of day
+-- the date and the time of day that the clock of its place shows
 abbrev pub date_at : DateTimeValue → Day
 date_at t = date_shown (local_nanos t)
 
 abbrev pub time_at : DateTimeValue → Clock
 time_at t = time_shown (local_nanos t)
 
--- the day of the week, where 0 is Sunday
+-- the day of the week, of which 0 is Sunday
 abbrev pub weekday_at : DateTimeValue → ℕ
 weekday_at t = (weekday_number (int_div_euclid (local_nanos t) day_length) + 1) % 7
 
--- the day of the year, from 1
+-- the place of the day in its year, from 1
 abbrev pub year_day_at : DateTimeValue → ℕ
 year_day_at t = day_of_year (date_at t).year (date_at t).month (date_at t).day
 
@@ -33,32 +33,32 @@ year_day_at t = day_of_year (date_at t).year (date_at t).month (date_at t).day
 abbrev pub zero_instant : ℤ
 zero_instant = neg_ℤ (pos 62_135_596_800_000_000_000)
 
--- a number that fits in 64 bits, or else 0
+-- a number that fits 64 bits, and else 0
 abbrev pub within_64 : ℤ → ℤ
 within_64 n = if int_le (neg_ℤ (pos 9223372036854775808)) n && int_le n (pos 9223372036854775807) then n else pos 0
 
--- the nanoseconds between two DateTimes, within 64 bits
+-- the nanoseconds between two moments, within 64 bits
 abbrev pub between : DateTimeValue → DateTimeValue → Answer
 between t u =
     let n = instant t -ℤ instant u in
     if int_le (neg_ℤ (pos 9223372036854775808)) n && int_le n (pos 9223372036854775807) then Ok (value.Duration n) else Err evaluation
 
--- a field of a DateTime. The instant is in whole units, rounded down.
-abbrev pub field_value : DateTimeField → DateTimeValue → Value
-field_value is.Year t = value.Integer (date_at t).year
-field_value is.Month t = value.Month (date_at t).month
-field_value is.Day t = value.Integer (pos (date_at t).day)
-field_value is.Hour t = value.Integer (pos (time_at t).hour)
-field_value is.Minute t = value.Integer (pos (time_at t).minute)
-field_value is.Second t = value.Integer (pos (time_at t).second)
-field_value is.Nanosecond t = value.Integer (pos (time_at t).nanosecond)
-field_value is.YearDay t = value.Integer (pos (year_day_at t))
-field_value is.Weekday t = value.Weekday (weekday_at t)
-field_value is.Unix t = value.Integer (int_div_euclid (instant t) (pos 1_000_000_000))
-field_value is.UnixMilli t = value.Integer (int_div_euclid (instant t) (pos 1_000_000))
-field_value is.UnixMicro t = value.Integer (int_div_euclid (instant t) (pos 1_000))
-field_value is.UnixNano t = value.Integer (within_64 (instant t))
-field_value is.IsZero t = value.Bool (int_eq (instant t) zero_instant)
+-- what a field of a moment is; the instant is in whole units, rounded down
+abbrev pub field_of : DateTimeField → DateTimeValue → Value
+field_of is.Year t = value.Integer (date_at t).year
+field_of is.Month t = value.Month (date_at t).month
+field_of is.Day t = value.Integer (pos (date_at t).day)
+field_of is.Hour t = value.Integer (pos (time_at t).hour)
+field_of is.Minute t = value.Integer (pos (time_at t).minute)
+field_of is.Second t = value.Integer (pos (time_at t).second)
+field_of is.Nanosecond t = value.Integer (pos (time_at t).nanosecond)
+field_of is.YearDay t = value.Integer (pos (year_day_at t))
+field_of is.Weekday t = value.Weekday (weekday_at t)
+field_of is.Unix t = value.Integer (int_div_euclid (instant t) (pos 1_000_000_000))
+field_of is.UnixMilli t = value.Integer (int_div_euclid (instant t) (pos 1_000_000))
+field_of is.UnixMicro t = value.Integer (int_div_euclid (instant t) (pos 1_000))
+field_of is.UnixNano t = value.Integer (within_64 (instant t))
+field_of is.IsZero t = value.Bool (int_eq (instant t) zero_instant)
 
 -- the name of a field
 abbrev pub field_name : DateTimeField → List ℕ

@@ -1,4 +1,3 @@
-pub mod AddedZones
 pub mod Dates
 pub mod Fields
 pub mod Zones

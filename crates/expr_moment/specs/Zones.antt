@@ -1,4 +1,4 @@
--- DateTimes in other zones, and the instants at which a local clock shows a given time.
+-- Moments in other places, and the moments at which the clock of a place shows a civil time.
 use Rattle.std.specs.Prelude.{ℤ, pos, ◌-ℤ◌, Option, None, Some, Ok, Err, if◌then◌else◌}
 use Rattle.std.specs.Ordering.{int_eq}
 use Rattle.jiff.specs.Types.{DateTime}
@@ -14,25 +14,25 @@ use Rattle.expr_datetime.specs.declared.moment.MomentZone.TheVariants.{Fixed, Na
 use Rattle.expr_value.specs.declared.value.Value as value
 use Rattle.expr_datetime.specs.declared.zone.TimezoneValue.{TimezoneValue}
 
--- the time zone of a DateTime. At offset zero it is UTC.
+-- the zone of a moment; UTC where it has none and no offset
 abbrev pub location_of : DateTimeValue → Option TimezoneValue
 location_of t = elim (zone_of t) [ Some zone ↦ Some zone | None ↦ if int_eq (offset_of t) (pos 0) then Some utc else None ]
 
--- the instant that jiff gives a local time in a zone or at an offset
+-- the instant at which jiff puts a civil time on the clock of a place
 abbrev pub picked_in : MomentZone → DateTime → ℤ
 picked_in (Fixed offset) dt = civil_nanos dt -ℤ nanos_of_seconds offset.seconds
 picked_in (Named zone) dt = picked_instant (rules_of zone) dt
 
--- a DateTime, if it has this local time
+-- a moment whose clock shows a civil time, and no other
 abbrev pub if_shows : DateTime → Option DateTimeValue → Option DateTimeValue
 if_shows dt None = None
 if_shows dt (Some t) = if int_eq (local_nanos t) (civil_nanos dt) then Some t else None
 
--- the DateTime that jiff gives a local time, if it is in range and has that local time
+-- the moment at which jiff puts a civil time on the clock of a place, if it is in range and the clock shows that time then
 abbrev pub at_civil : MomentZone → DateTime → Option DateTimeValue
 at_civil place dt = if_shows dt (at_instant (picked_in place dt) place)
 
--- a DateTime, or an error if there is none
+-- a moment, or a refusal where there is none
 abbrev pub moment_or_refusal : Option DateTimeValue → Answer
 moment_or_refusal None = Err evaluation
 moment_or_refusal (Some t) = Ok (value.DateTime t)

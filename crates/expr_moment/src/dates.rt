@@ -1,4 +1,4 @@
-//! Dates some years, months and days later.
+//! Dates some years, months and days on.
 ghost use Rattle.std.specs.Prelude.{◌≡◌, ℤ, pos, ◌-◌, ◌+ℤ◌, ◌*ℤ◌, MatchOption};
 ghost use Rattle.std.specs.Int.{IsInRange};
 ghost use Rattle.jiff.specs.Words.{epoch_day, IsEpochDay, IsWithin, IsYear};
@@ -8,8 +8,8 @@ ghost use Rattle.expr_moment.specs.Dates.{day_reached, first_day, months_on, yea
 
 use jiff::civil::Date;
 
-/// Adds years and months to a date, and then days. The day of the month counts from the first day of the new month, so
-/// a day that the month doesn't have rolls over. `None` if the date is out of range.
+/// The date some years and months, and then some days after a date: from the first of the month that the months reach,
+/// as many days on as the date was after its own first, and then the days.
 pub fn date_after(date: Date, years: i64, months: i64, days: i64) -> Option<Date>
     ensures { MatchOption result (¬ (IsReached (plain_day date) years months days))
         (λ d. (epoch_day d ≡ day_reached (plain_day date) years months days)
@@ -23,7 +23,7 @@ pub fn date_after(date: Date, years: i64, months: i64, days: i64) -> Option<Date
     }
 }
 
-/// The first day of a month, counted in months from January of the year 0.
+/// The first day of a month, by its months from January of the year 0.
 fn first_of(months: i128) -> Option<Date>
     ensures { MatchOption result (¬ (IsYear (year_at months)))
         (λ d. (epoch_day d ≡ first_day months) × IsYear (year_at months)) }
@@ -48,7 +48,7 @@ fn first_in(year: i16, month: u8) -> Date
     })
 }
 
-/// The date `days` days later.
+/// The date so many days after a date.
 fn day_after(first: Date, days: i128) -> Option<Date>
     ensures { MatchOption result (¬ (IsEpochDay (epoch_day first +ℤ days)))
         (λ d. (epoch_day d ≡ epoch_day first +ℤ days) × IsEpochDay (epoch_day first +ℤ days)) }
@@ -65,21 +65,21 @@ fn day_after(first: Date, days: i128) -> Option<Date>
     }
 }
 
-/// Days, plus those from the first of the month to a date.
+/// Some days, and those from the first of its month to a date.
 fn days_on(date: Date, days: i64) -> i128
     ensures { result ≡ pos (date.day - 1) +ℤ days }
 {
     date.day() as i128 - 1 + days as i128
 }
 
-/// Years in months.
+/// So many years, in months.
 fn in_months(years: i64) -> i128
     ensures { result ≡ years *ℤ pos 12 }
 {
     years as i128 * 12
 }
 
-/// Number of months from January of the year 0 to the month of a date.
+/// The months from January of the year 0 to the month of a date.
 fn month_number(date: Date) -> i128
     ensures value { result ≡ date.year *ℤ pos 12 +ℤ pos (date.month - 1) }
     ensures small { IsWithin 1_000_000 result }
@@ -88,7 +88,7 @@ fn month_number(date: Date) -> i128
     months + (date.month() as i128 - 1)
 }
 
-/// Number of months from January of the year 0 to the month of a date, years and months later.
+/// The same, so many years and months later.
 fn month_after(date: Date, years: i64, months: i64) -> i128
     ensures { result ≡ months_on (plain_day date) years months }
 {

@@ -1,18 +1,18 @@
-//! Fields of a DateTime: what its clock shows, and the numbers of its instant.
+//! What the clock of a moment's place shows, and numbers of a moment.
 ghost use Rattle.std.specs.Prelude.{◌≡◌, ◌≢◌, ◌+◌, ◌%◌, pos, MatchOption};
 ghost use Rattle.std.specs.Int.{int_div_euclid};
 ghost use Rattle.jiff.specs.Words.{weekday_of};
 ghost use Rattle.expr_datetime.specs.Calendar.{plain_clock, plain_day};
 ghost use Rattle.expr_datetime.specs.Times.{instant};
-ghost use Rattle.expr_moment.specs.Fields.{date_at, field_name, field_value, time_at, weekday_at, within_64, year_day_at};
+ghost use Rattle.expr_moment.specs.Fields.{date_at, field_name, field_of, time_at, weekday_at, within_64, year_day_at};
 
 use expr_value::{DateTimeValue, Value};
 use jiff::civil::{Date, Time};
 
-/// The instant 0001-01-01T00:00:00Z, in nanoseconds since 1970. Go's zero time.
+/// The instant 0001-01-01T00:00:00Z, in nanoseconds.
 pub const ZERO_INSTANT: i128 = -62_135_596_800_000_000_000;
 
-/// A field of a DateTime. Each variant has the language's own name.
+/// A number of a moment, or what its clock shows of it, under the language's own name for it.
 #[derive(Clone, Copy, Debug, PartialEq, Eq)]
 pub enum DateTimeField {
     Year,
@@ -24,20 +24,20 @@ pub enum DateTimeField {
     Nanosecond,
     YearDay,
     Weekday,
-    /// Seconds since 1970, rounded down.
+    /// The whole seconds of the instant, rounded down.
     Unix,
-    /// Milliseconds since 1970, rounded down.
+    /// Its milliseconds, rounded down.
     UnixMilli,
-    /// Microseconds since 1970, rounded down.
+    /// Its microseconds, rounded down.
     UnixMicro,
-    /// Nanoseconds since 1970, or 0 if they do not fit in 64 bits.
+    /// Its nanoseconds, or 0 where they do not fit 64 bits.
     UnixNano,
     /// Whether it is the instant 0001-01-01T00:00:00Z.
     IsZero,
 }
 
 impl DateTimeField {
-    /// The field with this name, or `None`.
+    /// The field of a name.
     pub fn from_name(name: &str) -> Option<DateTimeField>
         ensures { MatchOption result ((f : DateTimeField) → field_name f ≢ name.now)
             (λ f. field_name f ≡ name.now) }
@@ -61,9 +61,9 @@ impl DateTimeField {
         }
     }
 
-    /// The field of a DateTime.
+    /// The field of a moment.
     pub fn value_of(self, moment: &DateTimeValue) -> Value
-        ensures { result ≡ field_value self moment.now }
+        ensures { result ≡ field_of self moment.now }
     {
         match self {
             DateTimeField::Year => Value::Integer(year(moment)),
@@ -88,7 +88,7 @@ impl DateTimeField {
     }
 }
 
-/// The local date.
+/// The date that the clock of a moment's place shows.
 pub fn date_shown(moment: &DateTimeValue) -> Date
     ensures date { plain_day result ≡ date_at moment.now }
     ensures year { result.year ≡ (date_at moment.now).year }
@@ -98,7 +98,7 @@ pub fn date_shown(moment: &DateTimeValue) -> Date
     moment.civil().date()
 }
 
-/// The local time of day.
+/// The time of day that the clock of a moment's place shows.
 pub fn time_shown(moment: &DateTimeValue) -> Time
     ensures time { plain_clock result ≡ time_at moment.now }
     ensures hour { result.hour ≡ (time_at moment.now).hour }
@@ -121,14 +121,14 @@ fn year_day(moment: &DateTimeValue) -> i64
     date_shown(moment).to_plain().day_of_year() as i64
 }
 
-/// The local day of the week, where 0 is Sunday.
+/// The day of the week that the clock of a moment's place shows, of which 0 is Sunday.
 pub fn weekday(moment: &DateTimeValue) -> u32
     ensures { result ≡ weekday_at moment.now }
 {
     weekday_of(moment.civil().date())
 }
 
-/// The day of the week of a date, where 0 is Sunday.
+/// The day of the week of a date, of which 0 is Sunday.
 pub(crate) fn weekday_of(date: Date) -> u32
     ensures { result ≡ (weekday_of date + 1) % 7 }
 {

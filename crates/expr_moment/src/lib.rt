@@ -1,13 +1,5 @@
-//! DateTimes in zones: calendar fields, civil times, later dates.
-//!
-//! - `fields` has what the local clock shows at a DateTime, `zones` DateTimes in other zones and at a civil time, and
-//!   `dates` the date some years, months and days later. The rules of time zones are those of `jiff`.
-//! - `proofs/Shown.antt` shows that the fields of `jiff` are those of the calendar of `expr_datetime`.
-//! - `proofs/InZone.antt` makes DateTimes of private parts of `expr_datetime`. No other crate names private parts of
-//!   another.
-//! - `specs/AddedZones.antt` says what it means to add a time zone to an environment.
-//!
-//! A function that returns a `Result` returns `MemoryError` if an allocation fails. `# Errors` lists its other errors.
+//! Moments in places: what the clock of a moment's place shows, moments in other places and at a civil time, and dates some
+//! years, months and days on.
 #![tactic(auto)]
 
 mod dates;

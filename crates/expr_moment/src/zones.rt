@@ -1,4 +1,4 @@
-//! DateTimes in other zones, and the instants at which a local clock shows a given time.
+//! Moments in other places, and the moments at which the clock of a place shows a civil time.
 ghost use Rattle.std.specs.Prelude.{◌≡◌, Some, IfOk};
 ghost use Rattle.expr_value.specs.Answers.{ReturnsExactly};
 ghost use Rattle.expr_datetime.specs.ShiftedMoments.{at_instant, moment_in};
@@ -14,11 +14,7 @@ use jiff::civil::DateTime;
 use jiff::tz::Offset;
 use std::alloc::Global;
 
-/// The DateTime as a value.
-///
-/// # Errors
-///
-/// Returns `ExprError` if there is none.
+/// A moment, or a refusal where there is none.
 pub fn moment_or_refusal(alloc: Global, moment: Option<DateTimeValue>) -> Result<Value>
     ensures { ReturnsExactly result (moment_or_refusal moment) }
 {
@@ -28,7 +24,7 @@ pub fn moment_or_refusal(alloc: Global, moment: Option<DateTimeValue>) -> Result
     }
 }
 
-/// A DateTime at the instant of `moment`, in a time zone.
+/// The same instant in a zone.
 pub fn in_zone(moment: &DateTimeValue, zone: &TimezoneValue) -> Result<DateTimeValue>
     ensures ok { IfOk result (λ t. t ≡ moment_in moment.now (Named zone.now)) }
     ensures err { OnlyMemory result }
@@ -36,7 +32,7 @@ pub fn in_zone(moment: &DateTimeValue, zone: &TimezoneValue) -> Result<DateTimeV
     Ok(DateTimeValue::zoned(moment.timestamp(), zone.clone()?))
 }
 
-/// The time zone of a DateTime. At a fixed offset it is UTC if the offset is zero, and otherwise `None`.
+/// The zone of a moment, or UTC where it has none and no offset.
 pub fn location(alloc: Global, moment: &DateTimeValue) -> Result<Option<TimezoneValue>>
     ensures ok { IfOk result (λ z. z ≡ location_of moment.now) }
     ensures err { OnlyMemory result }
@@ -50,7 +46,7 @@ pub fn location(alloc: Global, moment: &DateTimeValue) -> Result<Option<Timezone
     Ok(None)
 }
 
-// Another instant, in the zone or at the offset of a DateTime.
+// Another instant in the place of a moment.
 fn in_same_zone(moment: &DateTimeValue, timestamp: Timestamp) -> Result<DateTimeValue>
     ensures instant { IfOk result (λ t. instant t ≡ timestamp.nanosecond) }
     ensures place { IfOk result (λ t. moment_zone t ≡ moment_zone moment.now) }
@@ -62,7 +58,7 @@ fn in_same_zone(moment: &DateTimeValue, timestamp: Timestamp) -> Result<DateTime
     }
 }
 
-/// The instant, in nanoseconds since 1970, in the zone or at the offset of `moment`. `None` if it is out of range.
+/// The moment at an instant, in nanoseconds, in the place of another, if it is in range.
 pub fn at_instant(moment: &DateTimeValue, nanoseconds: i128) -> Result<Option<DateTimeValue>>
     ensures ok { IfOk result (λ t. t ≡ at_instant nanoseconds (moment_zone moment.now)) }
     ensures err { OnlyMemory result }
@@ -73,8 +69,7 @@ pub fn at_instant(moment: &DateTimeValue, nanoseconds: i128) -> Result<Option<Da
     }
 }
 
-/// The DateTime that jiff gives a local time in a zone. `None` if it is out of range or the local clock skips that
-/// time.
+/// The moment at which jiff puts a civil time on the clock of a zone, if it is in range and the clock shows that time then.
 pub fn civil_in_zone(zone: &TimezoneValue, civil: DateTime) -> Result<Option<DateTimeValue>>
     ensures ok { IfOk result (λ t. t ≡ at_civil (Named zone.now) civil) }
     ensures err { OnlyMemory result }
@@ -89,7 +84,7 @@ pub fn civil_in_zone(zone: &TimezoneValue, civil: DateTime) -> Result<Option<Dat
     Ok(None)
 }
 
-/// The DateTime of a local time at an offset, or `None` if it is out of range.
+/// The moment at which a clock at an offset shows a civil time, if it is in range.
 pub fn civil_at_offset(offset: Offset, civil: DateTime) -> Option<DateTimeValue>
     ensures { result ≡ at_civil (Fixed offset) civil }
 {
@@ -99,7 +94,7 @@ pub fn civil_at_offset(offset: Offset, civil: DateTime) -> Option<DateTimeValue>
     }
 }
 
-/// The DateTime that jiff gives a local time, in the zone or at the offset of `moment`.
+/// The moment at which jiff puts a civil time on the clock of a moment's place.
 pub fn civil_beside(moment: &DateTimeValue, civil: DateTime) -> Result<Option<DateTimeValue>>
     ensures ok { IfOk result (λ t. t ≡ at_civil (moment_zone moment.now) civil) }
     ensures err { OnlyMemory result }

@@ -2,10 +2,10 @@
 use Rattle.std.proofs.Common.{◌≡◌, Bool, true, false, IsTrue, Option, Some, None, Result, Ok, Err, not, sym, subst, rules}
 use Rattle.std.specs.Ordering.{int_eq}
 use Rattle.std.specs.Prelude.{ℤ, pos, int_rem, cond}
-use Rattle.expr_functions.specs.declared.operator.Operator.{Operator}
-use Rattle.expr_functions.specs.declared.operator.Operator.TheVariants.{Add, Subtract, Multiply, Divide, Modulo, Pow, Equal, NotEqual, GreaterThan, GreaterThanOrEqual, LessThan, LessThanOrEqual, And, Or, In, NotIn, Contains, StartsWith, EndsWith, Matches}
-use Rattle.expr_functions.specs.declared.operator.UnaryOperator.{UnaryOperator}
-use Rattle.expr_functions.specs.declared.operator.UnaryOperator.TheVariants.{Not, Positive, Negative}
+use Rattle.expr_tree.specs.declared.operator.Operator.{Operator}
+use Rattle.expr_tree.specs.declared.operator.Operator.TheVariants.{Add, Subtract, Multiply, Divide, Modulo, Pow, Equal, NotEqual, GreaterThan, GreaterThanOrEqual, LessThan, LessThanOrEqual, And, Or, In, NotIn, Contains, StartsWith, EndsWith, Matches}
+use Rattle.expr_tree.specs.declared.operator.UnaryOperator.{UnaryOperator}
+use Rattle.expr_tree.specs.declared.operator.UnaryOperator.TheVariants.{Not, Positive, Negative}
 use Rattle.expr_error.specs.ErrorKind.{evaluation}
 use Rattle.expr_error.specs.declared.error.Error.{Error}
 use Rattle.expr_value.specs.declared.value.Value as value
@@ -21,7 +21,7 @@ plain-Integer n = search (rules, the_lemmas)
 pub plain-Bool : (b : Bool) → IsTrue (is_alloc_free_value (value.Bool b))
 plain-Bool b = search (rules, the_lemmas)
 
--- a value of the result is plain
+-- a value of the answer is plain
 abbrev pub IsPlainAnswer : Answer → Type 0
 IsPlainAnswer (Ok v) = IsTrue (is_alloc_free_value v)
 IsPlainAnswer (Err k) = Unit {0}
@@ -90,7 +90,7 @@ pub bool-plain : (v : Value-F Value) → IsPlainAnswer (truth_layer v)
 bool-plain (Value-F.Bool b) = plain-Bool b
 bool-plain v = tt
 
--- a value is plain if the result that it is is plain
+-- a value that an answer is, is plain where the answer is
 pub plain-at : (a : Answer) (v : Value) → Ok v ≡ a → IsPlainAnswer a → IsTrue (is_alloc_free_value v)
 plain-at a v e p = subst IsPlainAnswer (sym e) p
 

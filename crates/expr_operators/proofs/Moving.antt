@@ -1,4 +1,4 @@
--- Sums and differences of DateTimes and durations, by the values that were found.
+-- Sums and differences of moments and lengths of time, by the values that were found.
 use Rattle.std.proofs.Common.{rules, ◌≡◌, ◌∙◌, ap, sym, ℤ}
 use Rattle.expr_datetime.specs.ShiftedMoments.{moment_later, moment_earlier}
 use Rattle.expr_datetime.specs.declared.moment.DateTimeValue.{DateTimeValue}

@@ -1,11 +1,10 @@
 pub mod AllocFree
-pub mod Bounds
 pub mod Matching
-pub mod OnOperands
 pub mod Operators
 pub mod Positions
-pub use Rattle.expr_arguments.specs.Cow
-pub use Rattle.expr_error.specs.ErrorKind
+pub mod Strictness
+pub use Rattle.expr_cow.specs.Cow
 pub use Rattle.expr_value.specs.Answers
+pub use Rattle.expr_error.specs.ErrorKind
 pub use Rattle.expr_value.specs.Names
 pub use Rattle.expr_value.specs.Values

@@ -1,14 +1,14 @@
--- The operators on values. For kinds that no line names, the result is an error.
+-- What the operators give on values. Kinds that no line names are refused.
 use Rattle.std.specs.Prelude.{◌≡◌, ◌⊎◌, ℕ, Bool, true, false, not, ◌||◌, nat_eq, List, [], ◌∷◌, ◌++◌, Option, Some, None, is_some, option_map, Ok, Err, pos, int_rem, if◌then◌else◌}
 use Rattle.std.specs.Cmp.Lexicographic.{slice_cmp}
 use Rattle.std.specs.Int.{w64, int_wrapping_add, int_wrapping_sub, int_wrapping_mul, int_wrapping_neg}
 use Rattle.std.specs.List.{list_any, starts_with, ends_with}
 use Rattle.std.specs.Ordering.{nat_cmp, int_cmp, int_eq, is_lt, is_le, is_gt, is_ge}
 use Rattle.std.specs.declared.cmp.Ordering.{Ordering}
-use Rattle.expr_functions.specs.declared.operator.Operator.{Operator}
-use Rattle.expr_functions.specs.declared.operator.Operator.TheVariants.{Add, Subtract, Multiply, Modulo, Equal, NotEqual, GreaterThan, GreaterThanOrEqual, LessThan, LessThanOrEqual, In, NotIn, Contains, StartsWith, EndsWith}
-use Rattle.expr_functions.specs.declared.operator.UnaryOperator.{UnaryOperator}
-use Rattle.expr_functions.specs.declared.operator.UnaryOperator.TheVariants.{Not, Positive, Negative}
+use Rattle.expr_tree.specs.declared.operator.Operator.{Operator}
+use Rattle.expr_tree.specs.declared.operator.Operator.TheVariants.{Add, Subtract, Multiply, Modulo, Equal, NotEqual, GreaterThan, GreaterThanOrEqual, LessThan, LessThanOrEqual, In, NotIn, Contains, StartsWith, EndsWith}
+use Rattle.expr_tree.specs.declared.operator.UnaryOperator.{UnaryOperator}
+use Rattle.expr_tree.specs.declared.operator.UnaryOperator.TheVariants.{Not, Positive, Negative}
 use Rattle.expr_error.specs.ErrorKind.{evaluation}
 use Rattle.expr_datetime.specs.ShiftedMoments.{moment_later, moment_earlier}
 use Rattle.expr_value.specs.Names.{find}
@@ -21,8 +21,7 @@ use Rattle.expr_value.specs.Answers.{Answer}
 use Rattle.expr_moment.specs.Fields.{between}
 use Rattle.expr_moment.specs.Zones.{moment_or_refusal}
 
--- sums, differences and products wrap at 64 bits. The sum of two strings joins them. The sum of a DateTime and a
--- duration must be in range, and the difference of two DateTimes must fit in 64 bits of nanoseconds.
+-- sums, differences and products wrap at 64 bits; the sum of two texts is the one before the other; a moment is moved within the range of moments, and two have a length of time between them where it fits 64 bits
 abbrev pub sum_of_layers : Value-F Value → Value-F Value → Answer
 sum_of_layers (Value-F.Integer a) (Value-F.Integer b) = Ok (value.Integer (int_wrapping_add w64 a b))
 sum_of_layers (Value-F.Duration a) (Value-F.Duration b) = Ok (value.Duration (int_wrapping_add w64 a b))
@@ -53,7 +52,7 @@ product_of_layers a b = Err evaluation
 abbrev pub product_of : Value → Value → Answer
 product_of a b = product_of_layers (out-Value a) (out-Value b)
 
--- the remainder has the sign of the left operand. By 0 it is an error.
+-- the remainder has the sign of the left side; none is left by 0
 abbrev pub remainder_layers : Value-F Value → Value-F Value → Answer
 remainder_layers (Value-F.Integer a) (Value-F.Integer b) = if int_eq b (pos 0) then Err evaluation else Ok (value.Integer (int_rem a b))
 remainder_layers a b = Err evaluation
@@ -61,7 +60,7 @@ remainder_layers a b = Err evaluation
 abbrev pub remainder : Value → Value → Answer
 remainder a b = remainder_layers (out-Value a) (out-Value b)
 
--- the order of two values of one kind. Strings are ordered by bytes, DateTimes by their instants.
+-- how two values stand in the order of their kind; texts are ordered by bytes, moments by their instants
 abbrev pub order_of_layers : Value-F Value → Value-F Value → Option Ordering
 order_of_layers (Value-F.Integer a) (Value-F.Integer b) = Some (int_cmp a b)
 order_of_layers (Value-F.Duration a) (Value-F.Duration b) = Some (int_cmp a b)
@@ -72,8 +71,7 @@ order_of_layers a b = None
 abbrev pub order_of : Value → Value → Option Ordering
 order_of a b = order_of_layers (out-Value a) (out-Value b)
 
--- Pairs of kinds whose equality is an error, in either order: a month or weekday and an integer, a map with names and a
--- map with scalar keys.
+-- Pairs of kinds whose equality is refused, either way round: a month or weekday and an integer, a map by names and a map by keys.
 abbrev pub are_compared_layers : Value-F Value → Value-F Value → Bool
 are_compared_layers (Value-F.Month a) (Value-F.Integer b) = false
 are_compared_layers (Value-F.Integer a) (Value-F.Month b) = false
@@ -86,12 +84,11 @@ are_compared_layers a b = true
 abbrev pub are_compared : Value → Value → Bool
 are_compared a b = are_compared_layers (out-Value a) (out-Value b)
 
--- whether two values are equal, if equality is defined for their kinds
+-- whether two values are equal, where that is asked of their kinds
 abbrev pub equality : Value → Value → Option Bool
 equality a b = if are_compared a b then Some (equals a b) else None
 
--- A name or key is in its map, and a value is in an array if it equals an item. Any value may be looked up as a key or
--- as an item.
+-- A name or key of a map, or what equals an item of an array, belongs to it. Any value may be sought as a key or as an item.
 abbrev pub belongs_layers : Value → Value-F Value → Value-F Value → Option Bool
 belongs_layers v a (Value-F.Array items) = Some (list_any (λ item. equals item v) items)
 belongs_layers v a (Value-F.KeyedMap m) = Some (is_some (at_key v m))
@@ -101,12 +98,12 @@ belongs_layers v a b = None
 abbrev pub belongs : Value → Value → Option Bool
 belongs a b = belongs_layers a (out-Value a) (out-Value b)
 
--- whether the part occurs anywhere in the string
+-- whether the part stands somewhere in the text
 unfoldable pub occurs : List ℕ → List ℕ → Bool
 occurs part [] = starts_with nat_eq [] part
 occurs part (b ∷ bs) = starts_with nat_eq (b ∷ bs) part || occurs part bs
 
--- a string contains its parts, an array what equals an item, and a map its names
+-- a text contains its parts, an array what equals an item, and a map its names
 abbrev pub containment_layers : Value-F Value → Value → Value-F Value → Option Bool
 containment_layers (Value-F.String text) v (Value-F.String part) = Some (occurs part text)
 containment_layers (Value-F.Array items) v b = Some (list_any (λ item. equals item v) items)
@@ -116,7 +113,7 @@ containment_layers a v b = None
 abbrev pub containment : Value → Value → Option Bool
 containment a b = containment_layers (out-Value a) b (out-Value b)
 
--- whether a string begins with another, and whether it ends with it
+-- whether a text begins with another, and whether it ends with it
 abbrev pub begins_with_layers : Value-F Value → Value-F Value → Option Bool
 begins_with_layers (Value-F.String text) (Value-F.String front) = Some (starts_with nat_eq text front)
 begins_with_layers a b = None
@@ -131,7 +128,7 @@ ends_in_layers a b = None
 abbrev pub ends_in : Value → Value → Option Bool
 ends_in a b = ends_in_layers (out-Value a) (out-Value b)
 
--- The results of operators that return a boolean. Other operators have none, quotients and powers among them.
+-- What the operators that answer yes or no say of two values. The others say nothing: quotients and powers among them.
 unfoldable pub verdict : Operator → Value → Value → Option Bool
 verdict Equal a b = equality a b
 verdict NotEqual a b = option_map not (equality a b)
@@ -149,12 +146,12 @@ verdict op a b = None
 abbrev pub truth_answer : Bool → Answer
 truth_answer b = Ok (value.Bool b)
 
--- a boolean if there is one, otherwise an error
+-- a boolean where something is said, and else a refusal
 abbrev pub truth_or_refusal : Option Bool → Answer
 truth_or_refusal (Some b) = truth_answer b
 truth_or_refusal None = Err evaluation
 
--- the result of an operator that evaluates both operands
+-- what an operator that asks both sides gives on their values
 unfoldable pub operator_answer : Operator → Value → Value → Answer
 operator_answer Add a b = sum_of a b
 operator_answer Subtract a b = difference_of a b
@@ -162,7 +159,7 @@ operator_answer Multiply a b = product_of a b
 operator_answer Modulo a b = remainder a b
 operator_answer op a b = truth_or_refusal (verdict op a b)
 
--- one result is a boolean and the other is its opposite, or both are errors
+-- one answer is a boolean and the other is the opposite one, or both are refused
 abbrev pub AreOpposite : Answer → Answer → Type 0
 AreOpposite a b = ((t : Bool) × (a ≡ truth_answer t) × (b ≡ truth_answer (not t))) ⊎ ((a ≡ Err evaluation) × (b ≡ Err evaluation))
 
@@ -174,7 +171,7 @@ truth_layer v = Err evaluation
 abbrev pub truth : Value → Answer
 truth v = truth_layer (out-Value v)
 
--- the result of a unary operator
+-- what an operator before its operand gives on its value
 abbrev pub unary_answer_layer : UnaryOperator → Value-F Value → Answer
 unary_answer_layer Not (Value-F.Bool b) = Ok (value.Bool (not b))
 unary_answer_layer Positive (Value-F.Integer n) = Ok (value.Integer n)

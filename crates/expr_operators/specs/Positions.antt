@@ -1,4 +1,4 @@
--- Ranges, indices and slices on values. For kinds that no line names, the result is an error.
+-- What a range, an index and a slice give on values. Kinds that no line names are refused.
 use Rattle.std.specs.Prelude.{ℕ, ◌+◌, ◌-◌, min, ℤ, pos, negsuc, ◌+ℤ◌, ◌-ℤ◌, int_le, unsigned_abs, List, length, map, take, drop, Option, Result, Ok, Err, encode_utf8_all, if◌then◌else◌}
 use Rattle.std.specs.List.{range_with_len}
 use Rattle.std.specs.Option.{option_map_or}
@@ -8,17 +8,17 @@ use Rattle.expr_value.specs.declared.value.Value as value
 use Rattle.expr_value.specs.declared.value.Value.{Value, out-Value}
 use Rattle.expr_value.specs.declared.value.Value.TheOpen.{Value-F}
 use Rattle.expr_value.specs.Answers.{Answer}
-pub use Rattle.expr_arguments.specs.Parts.{index_answer, index_answer_layers, item_from, or_nil}
+pub use Rattle.expr_cow.specs.Parts.{index_answer, index_answer_layers, item_from, or_nil}
 
--- number of integers from the first to the last, both included: none if the first is greater
+-- how many integers there are from the first to the last, both counted: none if the first is greater
 unfoldable pub how_many : ℤ → ℤ → ℕ
 how_many first last = if int_le first last then unsigned_abs (last -ℤ first) + 1 else 0
 
--- consecutive integers, from the first on
+-- so many integers in a row, from the first on
 unfoldable pub in_a_row : ℤ → ℕ → List Value
 in_a_row first count = map (λ k. value.Integer (first +ℤ pos k)) (range_with_len 0 count)
 
--- the integers from the first to the last, both included
+-- the integers from the first to the last, both of them too
 abbrev pub integers_between : ℤ → ℤ → List Value
 integers_between first last = in_a_row first (how_many first last)
 
@@ -37,17 +37,16 @@ checked_bound_layer v = Err evaluation
 abbrev pub checked_bound : Value → Result ℤ ErrorKind
 checked_bound v = checked_bound_layer (out-Value v)
 
--- The index of a bound among items. A negative bound counts from the end, and a bound outside is moved to the nearest
--- end.
+-- Where a bound stands among so many items. A negative one counts from the end, and none stands outside.
 abbrev pub bound_at : ℕ → ℤ → ℕ
 bound_at count (pos n) = min n count
 bound_at count (negsuc n) = count - (n + 1)
 
--- where a slice ends: at the end if there is no bound
+-- where a slice of so many items ends: without a bound at their end
 abbrev pub stop_at : ℕ → Option ℤ → ℕ
 stop_at count stop = option_map_or (bound_at count) stop count
 
--- where it starts: at the front if there is no bound, and never after its end
+-- where it starts: without a bound at the front, and never above its end
 abbrev pub start_at : ℕ → Option ℤ → Option ℤ → ℕ
 start_at count start stop = min (option_map_or (bound_at count) start 0) (stop_at count stop)
 
@@ -55,7 +54,7 @@ start_at count start stop = min (option_map_or (bound_at count) start 0) (stop_a
 abbrev pub part : {X : Type 0} → Option ℤ → Option ℤ → List X → List X
 part start stop xs = drop (start_at (length xs) start stop) (take (stop_at (length xs) stop) xs)
 
--- the string of some bytes, with U+FFFD for each piece that is no character
+-- the text of some bytes, with U+FFFD for each piece that is no character
 abbrev pub lossy_text : List ℕ → List ℕ
 lossy_text bytes = encode_utf8_all (lossy_chars bytes)
 

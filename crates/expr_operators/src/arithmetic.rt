@@ -1,4 +1,4 @@
-//! Addition, subtraction, multiplication and remainder.
+//! Sums, differences, products and remainders.
 ghost use Rattle.std.specs.Prelude.{◌≡◌, ◌++◌, IfOk, string_bytes, IsTrue};
 ghost use Rattle.expr_value.specs.Answers.{ReturnsExactly};
 ghost use Rattle.expr_operators.specs.Operators.{sum_of, difference_of, product_of, remainder};
@@ -6,16 +6,11 @@ ghost use Rattle.expr_operators.specs.AllocFree.{is_alloc_free_value, ReturnsAll
 
 use crate::messages::mismatch;
 use crate::moments::{difference, earlier, later};
-use expr_functions::operator::Operator;
+use expr_tree::operator::Operator;
 use expr_value::{Result, Text, Value, refusal};
 use std::alloc::{AllocError, Global};
 
-/// Adds two integers or two durations, joins two strings, or adds a duration to a DateTime. Integers and durations wrap
-/// around at 64 bits.
-///
-/// # Errors
-///
-/// Returns `ExprError` for other kinds, and for a DateTime out of range.
+/// The sum of two integers or two durations, two texts as one, or a moment moved by a duration.
 pub fn add(alloc: Global, left: &Value, right: &Value) -> Result<Value>
     ensures answer { ReturnsExactly result (sum_of left.now right.now) }
     ensures alloc_free { IsTrue (is_alloc_free_value left.now) → IsTrue (is_alloc_free_value right.now)
@@ -34,12 +29,7 @@ pub fn add(alloc: Global, left: &Value, right: &Value) -> Result<Value>
     }
 }
 
-/// Subtracts two integers, two durations or two DateTimes, or a duration from a DateTime. Integers and durations wrap
-/// around at 64 bits.
-///
-/// # Errors
-///
-/// Returns `ExprError` for other kinds, and if a DateTime or the duration between two is out of range.
+/// The difference of two integers, two durations or two moments, or a moment moved back by a duration.
 pub fn subtract(alloc: Global, left: &Value, right: &Value) -> Result<Value>
     ensures answer { ReturnsExactly result (difference_of left.now right.now) }
     ensures alloc_free { IsTrue (is_alloc_free_value left.now) → IsTrue (is_alloc_free_value right.now)
@@ -54,11 +44,7 @@ pub fn subtract(alloc: Global, left: &Value, right: &Value) -> Result<Value>
     }
 }
 
-/// Multiplies two integers, or a duration and an integer in either order. The product wraps around at 64 bits.
-///
-/// # Errors
-///
-/// Returns `ExprError` for other kinds.
+/// The product of two integers, or of a duration and an integer either way round.
 pub fn multiply(alloc: Global, left: &Value, right: &Value) -> Result<Value>
     ensures answer { ReturnsExactly result (product_of left.now right.now) }
     ensures alloc_free { IsTrue (is_alloc_free_value left.now) → IsTrue (is_alloc_free_value right.now)
@@ -73,11 +59,7 @@ pub fn multiply(alloc: Global, left: &Value, right: &Value) -> Result<Value>
     }
 }
 
-/// The remainder of two integers, with the sign of the left one.
-///
-/// # Errors
-///
-/// Returns `ExprError` for other kinds, and if the right one is 0.
+/// What is left of an integer after whole times another, with the sign of the left one.
 pub fn modulo(alloc: Global, left: &Value, right: &Value) -> Result<Value>
     ensures answer { ReturnsExactly result (remainder left.now right.now) }
     ensures alloc_free { IsTrue (is_alloc_free_value left.now) → IsTrue (is_alloc_free_value right.now)

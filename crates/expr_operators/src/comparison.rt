@@ -1,4 +1,4 @@
-//! Order and equality of two values.
+//! The order and the equality of two values.
 ghost use Rattle.std.specs.Prelude.{◌≡◌};
 ghost use Rattle.std.specs.Ordering.{int_cmp};
 ghost use Rattle.expr_datetime.specs.Times.{instant};
@@ -7,8 +7,7 @@ ghost use Rattle.expr_operators.specs.Operators.{are_compared, equality, order_o
 use expr_value::{DateTimeValue, Value};
 use std::cmp::Ordering;
 
-/// Compares two values of one kind, or returns `None` if the kinds differ or have no order. Strings are compared by
-/// bytes, DateTimes by their instants.
+/// How two values stand in the order of their kind, if it has one. Texts are ordered by bytes, moments by their instants.
 pub fn compare(left: &Value, right: &Value) -> Option<Ordering>
     ensures { result ≡ order_of left.now right.now }
 {
@@ -21,7 +20,7 @@ pub fn compare(left: &Value, right: &Value) -> Option<Ordering>
     }
 }
 
-/// Compares the instants of two DateTimes.
+/// Which of two moments is the later one.
 fn in_time(left: &DateTimeValue, right: &DateTimeValue) -> Ordering
     ensures { result ≡ int_cmp (instant left.now) (instant right.now) }
 {
@@ -30,7 +29,7 @@ fn in_time(left: &DateTimeValue, right: &DateTimeValue) -> Ordering
         .cmp(&right.timestamp().as_nanosecond())
 }
 
-/// Whether two values are equal, or `None` if `==` isn't defined for their kinds.
+/// Whether two values are equal, where that is asked of their kinds.
 pub fn are_equal(left: &Value, right: &Value) -> Option<bool>
     ensures { result ≡ equality left.now right.now }
 {
@@ -41,7 +40,7 @@ pub fn are_equal(left: &Value, right: &Value) -> Option<bool>
     }
 }
 
-/// Whether `==` is defined for the kinds of two values.
+/// Whether `==` answers for values of these kinds.
 fn are_comparable(left: &Value, right: &Value) -> bool
     ensures { result ≡ are_compared left.now right.now }
 {

@@ -1,18 +1,14 @@
-//! Parts of values that are owned or borrowed.
+//! Parts of values that are held.
 ghost use Rattle.expr_value.specs.Answers.{ReturnsExactly};
 ghost use Rattle.expr_operators.specs.Positions.{index_answer, slice_answer};
 
 use crate::messages::not_indexed;
 use crate::positions::{index, slice, slice_lent, take_item};
-use expr_arguments::{Cow, CowValue};
+use expr_cow::{Cow, CowValue};
 use expr_value::{Items, Result, Value, ValueMap};
 use std::alloc::Global;
 
-/// The part of a value at a key. A part of a borrowed value is borrowed, and an item of an owned array is moved out.
-///
-/// # Errors
-///
-/// Returns the errors of [`index`](crate::index).
+/// What a value has at a key: a part of a lent value is lent, and an item of an array of its own is moved out.
 pub fn part_of<'a>(
     alloc: Global,
     value: CowValue<'a>,
@@ -27,11 +23,7 @@ pub fn part_of<'a>(
     }
 }
 
-/// The slice of a value between two bounds. An owned value is cut, and of a borrowed one only the slice is copied.
-///
-/// # Errors
-///
-/// Returns the errors of [`slice`](crate::slice).
+/// What stands between two bounds of a value: one of its own is cut, and of a lent one that part alone is copied.
 pub fn slice_of(
     alloc: Global,
     value: CowValue<'_>,
@@ -46,7 +38,7 @@ pub fn slice_of(
     }
 }
 
-/// The part of an owned value at a key, owned.
+/// What a value that is given has at a key, held as one of its own.
 #[inline(never)]
 fn part_of_given<'a>(
     alloc: Global,
@@ -59,7 +51,7 @@ fn part_of_given<'a>(
     Ok(CowValue::from_owned(part_of_own(alloc, value, key, optional)?))
 }
 
-/// The part of an owned value at a key, moved out.
+/// What a value that is given has at a key, moved out.
 fn part_of_own(alloc: Global, value: Value, key: &Value, optional: bool) -> Result<Value>
     ensures { ReturnsExactly result (index_answer value key.now optional) }
 {
@@ -71,7 +63,7 @@ fn part_of_own(alloc: Global, value: Value, key: &Value, optional: bool) -> Resu
     }
 }
 
-/// The field of an owned map, moved out.
+/// The field of a map that is given, moved out.
 fn field_of_own(alloc: Global, map: ValueMap, key: &Value, optional: bool) -> Result<Value>
     ensures { ReturnsExactly result (index_answer (Value.Map map) key.now optional) }
 {
@@ -82,7 +74,7 @@ fn field_of_own(alloc: Global, map: ValueMap, key: &Value, optional: bool) -> Re
     }
 }
 
-/// The item of an owned array, moved out.
+/// The item of an array that is given, moved out.
 fn item_of_own(alloc: Global, items: Items<Value>, key: &Value, optional: bool) -> Result<Value>
     ensures { ReturnsExactly result (index_answer (Value.Array items) key.now optional) }
 {

@@ -1,4 +1,4 @@
-//! `matches`: whether a pattern matches anywhere in a string.
+//! `matches`: whether a pattern matches somewhere in a text.
 ghost use Rattle.std.specs.Prelude.{◌≡◌, ℕ, List, Some};
 ghost use Rattle.std.specs.Option.{option_copied};
 ghost use Rattle.expr_operators.specs.Matching.{MatchMayReturn};
@@ -6,19 +6,19 @@ ghost use Rattle.expr_value.specs.Answers.{Returns};
 ghost use Rattle.expr_error.specs.ErrorKind.{RefusesNoPattern};
 
 use crate::messages::mismatch;
-use expr_functions::operator::Operator;
 use expr_pattern::{Matchers, Pattern};
+use expr_tree::operator::Operator;
 use expr_value::{Result, Value};
 use std::alloc::Global;
 
-/// Whether the pattern on the right matches anywhere in the string on the left. Both kinds are checked before a pattern
-/// is compiled. A compiled pattern in `kept` is used if its source is the right string, and otherwise ignored. What is
-/// made for a pattern is kept in `matchers` for the next call.
+/// Whether the pattern on the right matches somewhere in the text on the left. Their kinds are looked at before a pattern
+/// is built. A kept pattern of the text on the right is used, and one of any other text is passed over; what is made for
+/// patterns is kept for the next call.
 ///
 /// # Errors
 ///
-/// Returns `ExprError` if the two aren't strings. Returns `RegexError` if the right string can't be compiled, which is
-/// impossible if `kept` has its pattern.
+/// `ExprError` where the two aren't texts, `RegexError` where the text on the right builds no pattern, which it does where
+/// one of that text is kept, and `MemoryError` where a growth is refused.
 #[inline(never)]
 pub fn match_pattern<'p>(
     alloc: Global,

@@ -1,11 +1,11 @@
-//! Whether a value has another among its parts. `None` means that the operator isn't defined for the kinds.
+//! Whether a value has another among its parts. Kinds that are not asked for this give none.
 ghost use Rattle.std.specs.Prelude.{◌≡◌};
 ghost use Rattle.expr_operators.specs.Operators.{begins_with, belongs, containment, ends_in, occurs};
 
 use expr_error::{has_back, has_front};
 use expr_value::Value;
 
-/// `in`: whether the left value is a name or key of the right map, or equal to an item of the right array.
+/// Whether the left value is a name or key of the right map, or equal to an item of the right array.
 pub fn is_within(left: &Value, right: &Value) -> Option<bool>
     ensures { result ≡ belongs left.now right.now }
 {
@@ -17,8 +17,7 @@ pub fn is_within(left: &Value, right: &Value) -> Option<bool>
     }
 }
 
-/// `contains`: whether the right value is a part of the left string, equal to an item of the left array, or a name of
-/// the left map.
+/// Whether the right value is a part of the left text, equal to an item of the left array, or a name of the left map.
 pub fn contains(left: &Value, right: &Value) -> Option<bool>
     ensures { result ≡ containment left.now right.now }
 {
@@ -30,7 +29,7 @@ pub fn contains(left: &Value, right: &Value) -> Option<bool>
     }
 }
 
-/// `startsWith`: whether the left string begins with the right one.
+/// Whether the left text begins with the right one.
 pub fn begins_with(left: &Value, right: &Value) -> Option<bool>
     ensures { result ≡ begins_with left.now right.now }
 {
@@ -42,7 +41,7 @@ pub fn begins_with(left: &Value, right: &Value) -> Option<bool>
     }
 }
 
-/// `endsWith`: whether the left string ends with the right one.
+/// Whether the left text ends with the right one.
 pub fn ends_in(left: &Value, right: &Value) -> Option<bool>
     ensures { result ≡ ends_in left.now right.now }
 {

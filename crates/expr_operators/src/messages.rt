@@ -1,4 +1,4 @@
-//! Messages of errors, for people.
+//! The texts of refusals: what was met, for people.
 ghost use Rattle.std.specs.Prelude.{Err};
 ghost use Rattle.expr_value.specs.Answers.{ReturnsExactly};
 ghost use Rattle.expr_error.specs.ErrorKind.{evaluation, IsOfKind};
@@ -7,7 +7,7 @@ use expr_value::{Error, Value};
 use std::alloc::{AllocError, Global};
 use std::fmt::Display;
 
-/// An `ExprError` with this message, or `MemoryError` if there was no memory for it.
+/// A refusal to evaluate, of this text, or for want of memory where there is none for it.
 pub fn refusal_of(text: Result<String, AllocError>) -> Error
     ensures { IsOfKind result evaluation }
 {
@@ -17,7 +17,7 @@ pub fn refusal_of(text: Result<String, AllocError>) -> Error
     }
 }
 
-/// The error for operands that an operator doesn't take.
+/// A refusal of two operands.
 pub fn mismatch<D: Display>(alloc: Global, operator: &D, left: &Value, right: &Value) -> Error
     ensures { IsOfKind result evaluation }
 {
@@ -26,7 +26,7 @@ pub fn mismatch<D: Display>(alloc: Global, operator: &D, left: &Value, right: &V
     refusal_of(format!(in alloc; "operator {operator} does not take {left} and {right}"))
 }
 
-/// The result of an operator on operands that it doesn't take: an `ExprError`.
+/// What an operator gives on operands that it refuses.
 #[inline(never)]
 pub fn refuse<D: Display>(
     alloc: Global,
@@ -39,7 +39,7 @@ pub fn refuse<D: Display>(
     Err(mismatch(alloc, operator, left, right))
 }
 
-/// The error for a key of a kind by which the value can't be indexed.
+/// A refusal of a key that the value has no places for.
 pub fn not_indexed(alloc: Global, value: &Value, key: &Value) -> Error
     ensures { IsOfKind result evaluation }
 {
@@ -48,7 +48,7 @@ pub fn not_indexed(alloc: Global, value: &Value, key: &Value) -> Error
     refusal_of(format!(in alloc; "no index of {value} by {key}"))
 }
 
-/// The error for a value of another kind than the expected one.
+/// A refusal of a value where another kind is expected.
 pub fn unexpected_kind(alloc: Global, expected: &str, met: &Value) -> Error
     ensures { IsOfKind result evaluation }
 {
@@ -56,7 +56,7 @@ pub fn unexpected_kind(alloc: Global, expected: &str, met: &Value) -> Error
     refusal_of(format!(in alloc; "expected {expected}, met {met}"))
 }
 
-/// The error for the operand of a unary operator that takes another kind.
+/// A refusal of an operand where an operator before it takes another kind.
 pub fn unexpected_after(alloc: Global, operator: &str, expected: &str, met: &Value) -> Error
     ensures { IsOfKind result evaluation }
 {
@@ -64,7 +64,7 @@ pub fn unexpected_after(alloc: Global, operator: &str, expected: &str, met: &Val
     refusal_of(format!(in alloc; "expected {expected} after {operator}, met {met}"))
 }
 
-/// The kind of a value, for messages.
+/// A value's kind, for messages.
 fn kind_of(value: &Value) -> &'static str {
     match value {
         Value::Integer(_) => "an Integer",
@@ -81,28 +81,4 @@ fn kind_of(value: &Value) -> &'static str {
         Value::Map(_) => "a Map",
         Value::KeyedMap(_) => "a KeyedMap",
     }
-}
-
-/// The error for a name that neither the context nor a `let` line has.
-#[inline(never)]
-pub fn unknown_name(alloc: Global, name: &str) -> Error
-    ensures { IsOfKind result evaluation }
-{
-    refusal_of(format!(in alloc; "unknown name {name}"))
-}
-
-/// The error for a function that is neither added nor built in.
-#[inline(never)]
-pub fn unknown_function(alloc: Global, name: &str) -> Error
-    ensures { IsOfKind result evaluation }
-{
-    refusal_of(format!(in alloc; "unknown function {name}"))
-}
-
-/// The error for a method that the value doesn't have.
-#[inline(never)]
-pub fn unknown_method(alloc: Global, name: &str) -> Error
-    ensures { IsOfKind result evaluation }
-{
-    refusal_of(format!(in alloc; "unknown method {name}"))
 }

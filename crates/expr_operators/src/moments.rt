@@ -1,4 +1,4 @@
-//! DateTimes plus or minus durations, and the duration between two DateTimes.
+//! Moments moved by lengths of time, and what lies between two of them.
 ghost use Rattle.expr_value.specs.Answers.{ReturnsExactly};
 ghost use Rattle.expr_datetime.specs.ShiftedMoments.{moment_later, moment_earlier};
 ghost use Rattle.expr_moment.specs.Fields.{between};
@@ -7,11 +7,7 @@ ghost use Rattle.expr_moment.specs.Zones.{moment_or_refusal};
 use expr_value::{DateTimeValue, Result, Value, refusal};
 use std::alloc::Global;
 
-/// The DateTime `nanoseconds` later, in the same zone.
-///
-/// # Errors
-///
-/// Returns `ExprError` if it is out of range.
+/// The moment so many nanoseconds later, in the same place.
 pub fn later(alloc: Global, moment: &DateTimeValue, nanoseconds: &i64) -> Result<Value>
     ensures { ReturnsExactly result (moment_or_refusal (moment_later moment.now nanoseconds.now)) }
 {
@@ -19,11 +15,7 @@ pub fn later(alloc: Global, moment: &DateTimeValue, nanoseconds: &i64) -> Result
     moment_or_refusal(alloc, moment.checked_add_signed(*nanoseconds))
 }
 
-/// The DateTime `nanoseconds` earlier, in the same zone.
-///
-/// # Errors
-///
-/// Returns `ExprError` if it is out of range.
+/// The moment so many nanoseconds earlier, in the same place.
 pub fn earlier(alloc: Global, moment: &DateTimeValue, nanoseconds: &i64) -> Result<Value>
     ensures { ReturnsExactly result (moment_or_refusal (moment_earlier moment.now nanoseconds.now)) }
 {
@@ -31,11 +23,7 @@ pub fn earlier(alloc: Global, moment: &DateTimeValue, nanoseconds: &i64) -> Resu
     moment_or_refusal(alloc, moment.checked_sub_signed(*nanoseconds))
 }
 
-/// The duration from `other` to `moment`.
-///
-/// # Errors
-///
-/// Returns `ExprError` if it does not fit in 64 bits of nanoseconds.
+/// The length of time from the second moment to the first.
 pub fn difference(alloc: Global, moment: &DateTimeValue, other: &DateTimeValue) -> Result<Value>
     ensures { ReturnsExactly result (between moment.now other.now) }
 {

@@ -1,4 +1,4 @@
-//! The operators on values.
+//! The operators, on values.
 ghost use Rattle.std.specs.Prelude.{◌≡◌, IfOk, Err, IsTrue};
 ghost use Rattle.expr_value.specs.Answers.{ReturnsExactly};
 ghost use Rattle.expr_operators.specs.Operators.{operator_answer, unary_answer, truth, truth_answer, verdict};
@@ -9,16 +9,11 @@ use crate::arithmetic::{add, modulo, multiply, subtract};
 use crate::comparison::{are_equal, compare};
 use crate::membership::{begins_with, contains, ends_in, is_within};
 use crate::messages::{mismatch, unexpected_after, unexpected_kind};
-use expr_functions::operator::{Operator, UnaryOperator};
+use expr_tree::operator::{Operator, UnaryOperator};
 use expr_value::{Result, Value};
 use std::alloc::Global;
 
-/// The result of an operator that evaluates both operands.
-///
-/// # Errors
-///
-/// Returns `ExprError` if the operator isn't defined for the kinds of the operands, for a remainder by 0, and for a
-/// DateTime or duration between DateTimes that is out of range.
+/// What an operator that asks both sides gives on their values.
 #[inline(never)]
 #[tactic(auto, unfolding(crate::specs::Operators::operator_answer))]
 pub fn apply(alloc: Global, operator: Operator, left: &Value, right: &Value) -> Result<Value>
@@ -39,8 +34,8 @@ pub fn apply(alloc: Global, operator: Operator, left: &Value, right: &Value) -> 
     }
 }
 
-/// The result of an operator that returns a boolean. `None` if it isn't defined for the kinds of the operands, and for
-/// any other operator.
+/// What an operator that answers yes or no says of two values, if it says something of their kinds. Any other operator says
+/// nothing.
 #[inline(never)]
 #[tactic(auto, unfolding(crate::specs::Operators::verdict))]
 pub fn judge(operator: Operator, left: &Value, right: &Value) -> Option<bool>
@@ -62,11 +57,7 @@ pub fn judge(operator: Operator, left: &Value, right: &Value) -> Option<bool>
     }
 }
 
-/// The result of a unary operator. The negative of the least integer is itself.
-///
-/// # Errors
-///
-/// Returns `ExprError` if the operator isn't defined for the kind of the operand.
+/// What an operator before its operand gives on its value.
 pub fn prefix(alloc: Global, operator: UnaryOperator, value: &Value) -> Result<Value>
     ensures answer { ReturnsExactly result (unary_answer operator value.now) }
     ensures alloc_free { ReturnsAllocFree result (unary_answer operator value.now) }
@@ -81,11 +72,7 @@ pub fn prefix(alloc: Global, operator: UnaryOperator, value: &Value) -> Result<V
     }
 }
 
-/// Returns a boolean as it is.
-///
-/// # Errors
-///
-/// Returns `ExprError` for any other kind.
+/// A boolean as it is; any other value is refused.
 pub fn as_truth(alloc: Global, value: &Value) -> Result<Value>
     ensures answer { ReturnsExactly result (truth value.now) }
     ensures alloc_free { ReturnsAllocFree result (truth value.now) }
@@ -96,11 +83,7 @@ pub fn as_truth(alloc: Global, value: &Value) -> Result<Value>
     }
 }
 
-/// Whether a condition is true.
-///
-/// # Errors
-///
-/// Returns `ExprError` if it isn't a boolean.
+/// Whether a condition holds; what is no boolean is refused.
 pub fn as_condition(alloc: Global, value: &Value) -> Result<bool>
     ensures holds { IfOk result (λ b. truth value.now ≡ truth_answer b) }
     ensures refusal { RefusesWith result (λ k. truth value.now ≡ Err k) }

@@ -8,15 +8,11 @@ ghost use Rattle.expr_error.specs.ErrorKind.{OnlyMemory};
 
 use crate::messages::{not_indexed, refuse, unexpected_kind};
 use bstr::ByteSlice;
-use expr_arguments::{CowValue, item};
+use expr_cow::{CowValue, item};
 use expr_value::{Error, Items, Result, Text, Value};
 use std::alloc::{AllocError, Global};
 
-/// The array of the integers from `first` to `last`, both included. It is empty if `first` is greater.
-///
-/// # Errors
-///
-/// Returns `ExprError` if they aren't both integers.
+/// The array of the integers from the first to the last, both of them too.
 pub fn range(alloc: Global, first: &Value, last: &Value) -> Result<Value>
     ensures { ReturnsExactly result (range_answer first.now last.now) }
 {
@@ -26,7 +22,7 @@ pub fn range(alloc: Global, first: &Value, last: &Value) -> Result<Value>
     }
 }
 
-/// The array of the integers from `first` to `last`, both included. It is empty if `first` is greater.
+/// The same of two integers.
 #[inline(never)]
 pub fn range_between(alloc: Global, first: i64, last: i64) -> Result<Value>
     ensures { ReturnsExactly result (range_answer (value.Integer first) (value.Integer last)) }
@@ -53,12 +49,7 @@ fn count_up(alloc: Global, first: i64, last: i64) -> Result<Vec<Value>>
     Ok(integers)
 }
 
-/// The part of a value at a key, or nil if there is none. A negative index counts from the end.
-///
-/// # Errors
-///
-/// Returns `ExprError` if the value can't be indexed by such a key and `optional` is false. If `optional` is true, the
-/// result is nil.
+/// What a value has at a key: nil where it has nothing, and, if the index is optional, where it has no such keys.
 pub fn index<'v>(
     alloc: Global,
     value: &'v Value,
@@ -82,7 +73,7 @@ pub fn index<'v>(
     }
 }
 
-/// The value that was found, borrowed, or nil.
+/// What was found, or nil.
 fn lent_or_nil<'v>(found: Option<&'v Value>) -> CowValue<'v>
     ensures { Ok result ≡ or_nil (option_copied found.entry) }
 {
@@ -92,7 +83,7 @@ fn lent_or_nil<'v>(found: Option<&'v Value>) -> CowValue<'v>
     }
 }
 
-/// Moves out the item at an index, from 0. A negative index counts from the end. `None` if there is no such item.
+/// The item at a place of a list that is given, from the end if the place is negative.
 pub fn take_item<T: Drop>(items: Items<T>, place: i64) -> Option<T>
     ensures { result ≡ item_from items place }
 {
@@ -109,11 +100,7 @@ pub fn take_item<T: Drop>(items: Items<T>, place: i64) -> Option<T>
     }
 }
 
-/// A bound of a slice, which must be an integer.
-///
-/// # Errors
-///
-/// Returns `ExprError` for other kinds.
+/// A bound of a slice, which is an integer.
 pub fn slice_bound(alloc: Global, value: &Value) -> Result<i64>
     ensures { ReturnsExactly result (checked_bound value.now) }
 {
@@ -123,12 +110,7 @@ pub fn slice_bound(alloc: Global, value: &Value) -> Result<i64>
     }
 }
 
-/// Cuts an owned array, string or bytes to the slice between two bounds. A missing bound is the start or the end, and a
-/// negative one counts from the end. Bounds of a string count bytes, and a part of a character becomes U+FFFD.
-///
-/// # Errors
-///
-/// Returns `ExprError` for other kinds.
+/// The items, bytes or text between two bounds of a value that is given, which is cut.
 pub fn slice(alloc: Global, value: Value, start: Option<i64>, stop: Option<i64>) -> Result<Value>
     ensures { ReturnsExactly result (slice_answer value start stop) }
 {
@@ -139,11 +121,7 @@ pub fn slice(alloc: Global, value: Value, start: Option<i64>, stop: Option<i64>)
     }
 }
 
-/// Copies the slice between two bounds of an array, string or bytes, as [`slice`] does.
-///
-/// # Errors
-///
-/// Returns `ExprError` for other kinds.
+/// The items, bytes or text between two bounds of a value that is lent, of which that part alone is copied.
 pub fn slice_lent(
     alloc: Global,
     value: &Value,
@@ -191,7 +169,7 @@ fn cut_text(
     part.to_str_lossy(alloc)?.into_owned(alloc)
 }
 
-/// The items between two bounds.
+/// What stands between two bounds.
 fn slice_between<T>(items: &[T], start: Option<i64>, stop: Option<i64>) -> &[T]
     ensures { result.now ≡ part start stop items.now }
 {
@@ -199,7 +177,7 @@ fn slice_between<T>(items: &[T], start: Option<i64>, stop: Option<i64>) -> &[T]
     &items[..stop][start..]
 }
 
-/// Start and end of a slice of `count` items.
+/// Where a slice of so many items starts and ends.
 fn bounds(count: usize, start: Option<i64>, stop: Option<i64>) -> (usize, usize)
     ensures start { result.0 ≡ start_at count start stop }
     ensures stop { result.1 ≡ stop_at count stop }
@@ -217,8 +195,7 @@ fn bounds(count: usize, start: Option<i64>, stop: Option<i64>) -> (usize, usize)
     (start.min(stop), stop)
 }
 
-/// Index of a bound among `count` items. A negative bound counts from the end, and a bound outside is moved to the
-/// nearest end.
+/// Where a bound stands among so many items: from the end if it is negative, and never outside.
 fn bound_index(count: usize, at: i64) -> usize
     ensures at { result ≡ bound_at count at }
     ensures within { result ≤ count }

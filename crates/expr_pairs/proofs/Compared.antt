@@ -4,7 +4,7 @@ use Rattle.std.specs.List.{position_or_len}
 use Rattle.std.proofs.lemmas.List.{at_drop_more, at_drop_all}
 
 module _ {K : Type 0} (passes : K → Bool) (ks : List K) where
-  -- no key before an index passes: the first that passes comes later
+  -- the keys before an index pass none: the first that passes stands behind them
   abbrev pub NonePassesBefore : ℕ → Type 0
   NonePassesBefore i = position_or_len passes ks ≡ i + position_or_len passes (drop i ks)
 

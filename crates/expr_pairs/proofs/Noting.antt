@@ -7,10 +7,10 @@ use Rattle.std.specs.Ordering.{is_eq, nat_cmp}
 use Rattle.std.specs.BTreeMap.{BTreeMap, is_at}
 use Rattle.std.specs.Map.{lookup}
 use Rattle.std.proofs.lemmas.Option.{none-some, same_Some}
-use Rattle.expr_pairs.specs.Places.{AreNoted, AreTaken, IsNoted, IsUnderFree, place_at, slot_of_hash, slots}
+use Rattle.expr_pairs.specs.Places.{AreNoted, AreTaken, IsNoted, IsUnderFree, place_at, slot_of, slots}
 use Rattle.expr_pairs.proofs.Positions.{no_place}
 
--- a slot has a key that doesn't pass
+-- a slot has another key than the one that is sought
 pub record IsPassed {K : Type 0} (passes : K → Bool) (keys : List K) (places : BTreeMap ℕ ℕ) (slot : ℕ) : Type 0 where
   pub place : ℕ
   pub key : K
@@ -18,23 +18,26 @@ pub record IsPassed {K : Type 0} (passes : K → Bool) (keys : List K) (places :
   pub there : slice_get keys place ≡ Some key
   pub fails : passes key ≡ false
 
--- the first slots of a hash have keys that don't pass
+-- the first slots of a hash have other keys
 abbrev pub ArePassed : {K : Type 0} → (K → Bool) → List K → BTreeMap ℕ ℕ → ℕ → ℕ → Type 0
-ArePassed passes keys places hash n = (rank : ℕ) → rank < n → IsPassed passes keys places (slot_of_hash hash rank)
+ArePassed passes keys places hash n = (rank : ℕ) → rank < n → IsPassed passes keys places (slot_of hash rank)
 
 module _ {K : Type 0} (passes : K → Bool) (keys : List K) (places : BTreeMap ℕ ℕ) (hash : ℕ) where
-  pub passed_more : (n : ℕ) → ArePassed passes keys places hash n → IsPassed passes keys places (slot_of_hash hash n) → ArePassed passes keys places hash (n + 1)
+  pub passed_none : ArePassed passes keys places hash 0
+  passed_none rank l = absurd (omega (arith, l))
+
+  pub passed_more : (n : ℕ) → ArePassed passes keys places hash n → IsPassed passes keys places (slot_of hash n) → ArePassed passes keys places hash (n + 1)
   passed_more n before here rank l =
       elim (dec_lt rank n) [
         | yes less ↦ before rank less
-        | no not_less ↦ subst (λ r. IsPassed passes keys places (slot_of_hash hash r)) (omega (arith, l, not_less)) here
+        | no not_less ↦ subst (λ r. IsPassed passes keys places (slot_of hash r)) (omega (arith, l, not_less)) here
       ]
 
   pub passed_taken : (n : ℕ) → ArePassed passes keys places hash n → AreTaken places hash n
   passed_taken n before rank l = ap is_some (before rank l).noted
 
-  module _ (n : ℕ) (few : n < slots) (before : ArePassed passes keys places hash n) (free : place_at places (slot_of_hash hash n) ≡ None) where
-    -- a key that passes would be in a slot that was looked at
+  module _ (n : ℕ) (few : n < slots) (before : ArePassed passes keys places hash n) (free : place_at places (slot_of hash n) ≡ None) where
+    -- a key that passes would stand under a slot that was looked at
     nowhere : (i : ℕ) (k : K) → slice_get keys i ≡ Some k → passes k ≡ true → IsNoted places hash i → ⊥
     nowhere i k at passing noted =
         elim (dec_lt n noted.rank) [
@@ -49,7 +52,7 @@ module _ {K : Type 0} (passes : K → Bool) (keys : List K) (places : BTreeMap �
                   true≢false (sym passing ∙ ap passes (sym key) ∙ b.fails)
               | no not_more ↦
                   let rank : noted.rank ≡ n = omega (arith, not_less, not_more) in
-                  none-some i (sym free ∙ ap (λ r. place_at places (slot_of_hash hash r)) (sym rank) ∙ here)
+                  none-some i (sym free ∙ ap (λ r. place_at places (slot_of hash r)) (sym rank) ∙ here)
             ]
           ]
         ]
@@ -63,7 +66,7 @@ module _ {K : Type 0} (passes : K → Bool) (keys : List K) (places : BTreeMap �
         by i k at true e = absurd (nowhere i k at e (subst (λ h. IsNoted places h i) (sym (alike k e)) (noted.each i k at)))
 
 module _ {K : Type 0} (xs : List K) (y : K) where
-  -- an index in a list with one more item is one of the list, or the last
+  -- a place in a list with one more is one of the list, or the last
   place_in : (i : ℕ) (k : K) → slice_get (xs ++ y ∷ []) i ≡ Some k → (slice_get xs i ≡ Some k) ⊎ ((i ≡ length xs) × (k ≡ y))
   place_in i k at = by xs i at
     where
@@ -106,7 +109,7 @@ module _ {K : Type 0} (key_hash : K → ℕ) (keys : List K) (k : K) where
       here = elim n.here [ inl e ↦ inl e | inr here ↦ inr (here_too _ i free here) ];
     }
 
-    -- a key that is entered in its first free slot
+    -- a key that goes under its first free slot
     pub noted_under : AreNoted key_hash keys old → IsUnderFree old (key_hash k) slot → place_at new slot ≡ Some (length keys) → AreNoted key_hash (keys ++ k ∷ []) new
     noted_under noted under put = record {
       each = λ i l at. elim (place_in keys k i l at) [
@@ -130,14 +133,14 @@ module _ {K : Type 0} (key_hash : K → ℕ) (keys : List K) (k : K) where
     within = λ q i at. omega (arith, noted.within q i at, last_within);
   }
 
--- no keys, and nothing entered
+-- no keys, and nothing noted
 pub noted_none : {K : Type 0} (key_hash : K → ℕ) (places : BTreeMap ℕ ℕ) → places.entries ≡ [] → AreNoted key_hash [] places
 noted_none key_hash places empty = record {
   each = λ i k at. absurd (none-some k at);
   within = λ slot i at. absurd (none-some i (sym (ap (lookup (is_at (nat_cmp slot))) empty) ∙ at));
 }
 
--- the same keys and the same slots
+-- the same keys and the same notes
 module _ {K : Type 0} (key_hash : K → ℕ) (keys same_keys : List K) (places same_places : BTreeMap ℕ ℕ) (e : same_keys ≡ keys) (f : same_places.entries ≡ places.entries) where
   same_at : (slot : ℕ) → place_at same_places slot ≡ place_at places slot
   same_at slot = ap (lookup (is_at (nat_cmp slot))) f

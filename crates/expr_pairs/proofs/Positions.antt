@@ -1,4 +1,4 @@
--- The index of a key among distinct keys.
+-- The place of a key among distinct keys.
 use Rattle.std.proofs.Common.{◌≡◌, ℕ, suc, ◌+◌, ◌<◌, ◌⊎◌, inl, inr, Bool, true, false, cond, not, nat_lt, ◌||◌, List, [], ◌∷◌, ◌++◌, length, take, get_or, slice_get, position, Some, None, refl, sym, ap, subst, ◌∙◌, arith, lt-ltb, le-ltb, length-append}
 use Rattle.std.specs.Cmp.{IsEquivalence}
 use Rattle.std.specs.List.{IsDistinct, list_any, position_or_len}
@@ -18,7 +18,7 @@ module _ {K : Type 0} (passes : K → Bool) where
   end_of [] h = refl
   end_of (x ∷ xs) h = ap (λ b. cond (not b) (1 + position_or_len passes xs) 0) (h 0 x refl) ∙ omega (arith, end_of xs (λ i. h (suc i)))
 
-  -- if no key passes there is no index
+  -- where no key passes there is no place
   pub no_place : (ks : List K) → ((i : ℕ) (k : K) → slice_get ks i ≡ Some k → passes k ≡ false) → position passes ks ≡ None
   no_place ks h = placed ks (length ks) false (end_of ks h) (le-ltb _ _ (omega arith))
 
@@ -55,7 +55,7 @@ module _ {K : Type 0} (passes : K → Bool) where
         | inr s ↦ absurd (none-some _ (sym e ∙ placed ks _ true refl (lt-ltb _ _ s.0)))
       ]
 
-  -- what the index of a key says
+  -- what the place of a key says
   pub record Found (ks : List K) (i : ℕ) : Type 0 where
     pub index : position_or_len passes ks ≡ i
     pub any : list_any passes ks ≡ true
@@ -96,7 +96,7 @@ module _ {K : Type 0} (eq : K → K → Bool) (o : IsEquivalence eq) where
   pub distinct_until : (ks : List K) (i : ℕ) (k : K) → IsDistinct eq ks → i < length ks → k ≡ get_or ks i k → IsDistinct eq (take i ks ++ k ∷ [])
   distinct_until ks i k d within at = subst (IsDistinct eq) (take_more ks i k within ∙ ap (λ x. take i ks ++ x ∷ []) (sym at)) (distinct-take o (i + 1) ks d)
 
-  -- where a key is once it was inserted
+  -- where a key stands once it was put
   pub record IsStored (ks : List K) (k : K) (i : ℕ) : Type 0 where
     pub stored : (x : K) × (slice_get (insert_key eq ks k) i ≡ Some x) × (eq k x ≡ true)
     pub within : i < length (insert_key eq ks k)

@@ -1,10 +1,10 @@
-//! Linear search for a key.
+//! A key among few, found by comparing.
 ghost use Rattle.std.specs.Prelude.{◌≡◌, position};
 
 use indexmap::Equivalent;
 use std::hash::Hash;
 
-/// Index of the first key that equals the query, found by comparing one after the other.
+/// The index of the first key for which a query stands, found by comparing.
 pub(crate) fn index_among<K: Eq + Hash, Q: Equivalent<K>>(keys: &[K], key: Q) -> Option<usize>
     ensures { result ≡ position (Q.equivalent key) keys.now }
 {

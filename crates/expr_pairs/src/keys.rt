@@ -1,8 +1,7 @@
-//! Distinct keys in the order of insertion.
-ghost use Rattle.std.specs.Prelude.{◌≡◌, ◌<◌, ◌≤◌, [], length, not, position, vec_capacity, IfOk, OnErr, OnOk};
+//! Distinct keys in the order in which they came.
+ghost use Rattle.std.specs.Prelude.{◌≡◌, ◌<◌, ◌≤◌, Some, [], length, not, position, slice_get, true, vec_capacity, IfOk, OnErr, OnOk};
 ghost use Rattle.std.specs.List.{IsDistinct, list_any, position_or_len};
 ghost use Rattle.indexmap.specs.IndexSet.{insert_key};
-ghost use Rattle.expr_pairs.specs.Places.{IsKeyAt};
 
 use crate::few::index_among;
 use crate::noted::{NotedKeys, places_of};
@@ -12,16 +11,16 @@ use std::hash::Hash;
 use std::marker::Model;
 use std::mem::replace;
 
-/// The most keys that are searched one by one, which costs less than a hash.
+/// Up to how many keys a query is compared with each, which costs less than hashing it.
 const FEW: usize = 8;
 
-/// The most keys that are found by a hash table. Whoever chooses the keys can make each look-up compare them all.
+/// Up to how many keys a hash table finds them. Whoever chooses the keys can have each look-up compare with all of them.
 const TABLE: usize = 32;
 
-/// Distinct keys in the order of insertion, which contracts see as a list.
+/// Distinct keys in the order in which they came, which contracts see as a list.
 ///
-/// The keys may be untrusted. Whatever they are, a look-up among many costs a hash, a search among sorted numbers and
-/// one comparison.
+/// A stranger may choose the keys: however they are chosen, finding one among many costs as much as hashing it, a search
+/// among sorted numbers and a comparison.
 #[derive(Drop)]
 pub struct Keys<K: Eq + Hash> {
     index: Index<K>,
@@ -48,7 +47,7 @@ impl<K: Eq + Hash> Model for Keys<K> {
 }
 
 impl<K: Eq + Hash> Keys<K> {
-    /// A list without keys.
+    /// No keys.
     pub fn new(alloc: Global) -> Keys<K>
         ensures { result ≡ [] }
     {
@@ -57,7 +56,7 @@ impl<K: Eq + Hash> Keys<K> {
         }
     }
 
-    /// Number of keys.
+    /// How many keys there are.
     pub fn len(&self) -> usize
         ensures len { result ≡ length self.now }
         ensures distinct { IsDistinct K.eq self.now }
@@ -65,7 +64,7 @@ impl<K: Eq + Hash> Keys<K> {
         self.as_slice().len()
     }
 
-    /// The keys, in the order of insertion.
+    /// The keys, in their order.
     pub fn as_slice(&self) -> &[K]
         ensures keys { result.now ≡ self.now }
         ensures distinct { IsDistinct K.eq self.now }
@@ -76,8 +75,7 @@ impl<K: Eq + Hash> Keys<K> {
         }
     }
 
-    /// Index of the key that equals the query, or `None`. Few keys are compared one by one. Among more, the key is
-    /// found by its hash.
+    /// The index of the key for which a query stands: found by comparing among few keys, else by hashing.
     pub fn index_of<Q: Equivalent<K>>(&self, key: Q) -> Option<usize>
         ensures { result ≡ position (Q.equivalent key) self.now }
     {
@@ -88,7 +86,7 @@ impl<K: Eq + Hash> Keys<K> {
         index_among(keys, key)
     }
 
-    /// Index of the key that equals the query, found by its hash. It is a function of its own so that a look-up among
+    /// The index of the key for which a query stands, found by hashing. It is a function of its own so that a look-up among
     /// few keys saves no registers for it.
     #[inline(never)]
     fn index_by_hash<Q: Equivalent<K>>(&self, key: Q) -> Option<usize>
@@ -102,7 +100,7 @@ impl<K: Eq + Hash> Keys<K> {
 }
 
 impl<K: Eq + Hash + Drop> Keys<K> {
-    /// A list without keys, with room for `capacity`.
+    /// No keys, with room for some.
     pub fn with_capacity(alloc: Global, capacity: usize) -> Result<Keys<K>, AllocError>
         ensures { IfOk result (λ k. k ≡ []) }
     {
@@ -118,13 +116,13 @@ impl<K: Eq + Hash + Drop> Keys<K> {
         })
     }
 
-    /// Adds a key at the end unless it is there already. Returns its index and whether it is new. If an allocation
-    /// fails, the keys stay the same.
+    /// Puts a key last, unless it is there, and gives its index and whether it is new. Where a growth is refused the keys
+    /// stay as they were.
     pub fn insert_full(&mut self, key: K) -> Result<(usize, bool), AllocError>
         ensures index { IfOk result (λ r. r.0 ≡ position_or_len (K.eq key) self.old) }
         ensures added { IfOk result (λ r. r.1 ≡ not (list_any (K.eq key) self.old)) }
         ensures keys { OnOk result (self.new ≡ insert_key K.eq self.old key) }
-        ensures stored { IfOk result (λ r. IsKeyAt K.eq self.new key r.0) }
+        ensures stored { IfOk result (λ r. (k : K) × (slice_get self.new r.0 ≡ Some k) × (K.eq key k ≡ true)) }
         ensures within { IfOk result (λ r. r.0 < length self.new) }
         ensures distinct { OnOk result (IsDistinct K.eq self.new) }
         ensures err { OnErr result (self.new ≡ self.old) }
@@ -136,7 +134,7 @@ impl<K: Eq + Hash + Drop> Keys<K> {
         }
     }
 
-    /// Replaces the hash table by [`NotedKeys`] once it has as many keys as it may have.
+    /// Notes the places of keys that were found by a table, once it has as many as it may.
     fn note_many(&mut self) -> Result<(), AllocError>
         ensures { self.new ≡ self.old }
     {
@@ -158,7 +156,7 @@ impl<K: Eq + Hash + Drop> Keys<K> {
 }
 
 impl<K: Eq + Hash + Clone + Drop> Keys<K> {
-    /// Copies the keys. Nothing is hashed.
+    /// Copies of the keys. Nothing is hashed.
     pub fn copied(&self) -> Result<Keys<K>, AllocError>
         requires exact { (k l : K) → K.is_clone k l → l ≡ k }
         ensures { IfOk result (λ k. k ≡ self.now) }
@@ -172,7 +170,7 @@ impl<K: Eq + Hash + Clone + Drop> Keys<K> {
 }
 
 impl<K: Eq + Hash + Drop> Keys<K> {
-    /// Moves the keys out into a vector.
+    /// The keys, moved out.
     pub fn into_vec(self, alloc: Global) -> Result<Vec<K>, AllocError>
         ensures keys { IfOk result (λ v. v.items ≡ self) }
         ensures distinct { IfOk result (λ v. IsDistinct K.eq v.items) }
@@ -188,7 +186,7 @@ impl<K: Eq + Hash + Drop> Keys<K> {
     }
 }
 
-/// Moves the keys of a table into a vector that has room for them.
+/// The keys of a table, moved into a list that has room for them.
 fn moved<K: Eq + Hash + Drop>(table: IndexSet<K>, room: Vec<K>) -> Vec<K>
     requires empty { room.items ≡ [] }
     requires room { length table.keys ≤ vec_capacity room }

@@ -1,8 +1,8 @@
-//! Many keys, found by their 64-bit hashes.
-ghost use Rattle.std.specs.Prelude.{◌≡◌, ◌<◌, [], ◌∷◌, ◌++◌, length, not, position, IfOk, OnErr, OnOk};
+//! Many keys, found by what is noted of them.
+ghost use Rattle.std.specs.Prelude.{◌≡◌, ◌<◌, [], ◌∷◌, ◌++◌, Some, length, not, position, slice_get, true, IfOk, OnErr, OnOk};
 ghost use Rattle.std.specs.List.{IsDistinct, list_any, position_or_len};
 ghost use Rattle.indexmap.specs.IndexSet.{insert_key};
-ghost use Rattle.expr_pairs.specs.Places.{AreNotedKeys, IsKeyAt};
+ghost use Rattle.expr_pairs.specs.Places.{AreNoted, key_hash};
 
 use crate::places::{Places, Spot, spot_of};
 use indexmap::Equivalent;
@@ -11,7 +11,7 @@ use std::collections::BTreeMap;
 use std::hash::Hash;
 use std::marker::Model;
 
-/// Distinct keys, with the index of each under its hash.
+/// Distinct keys with the place of each, noted under its hash.
 #[derive(Drop)]
 pub(crate) struct NotedKeys<K: Eq + Hash> {
     keys: Vec<K>,
@@ -22,7 +22,7 @@ impl<K: Eq + Hash> Model for NotedKeys<K> {
     ghost use Rattle.std.specs.Prelude.{List};
     ghost use Rattle.std.specs.Coded.{coded_list};
     ghost use Rattle.std.specs.List.{IsDistinct};
-    ghost use Rattle.expr_pairs.specs.Places.{AreNotedKeys};
+    ghost use Rattle.expr_pairs.specs.Places.{AreNoted, key_hash};
 
     ghost Value = { List K };
 
@@ -30,11 +30,11 @@ impl<K: Eq + Hash> Model for NotedKeys<K> {
 
     ghost view = { λ n. n.keys.items };
 
-    ghost invariant = { λ n. IsDistinct K.eq n.keys.items × AreNotedKeys K.hash_input n.keys.items n.places };
+    ghost invariant = { λ n. IsDistinct K.eq n.keys.items × AreNoted (λ k. key_hash (K.hash_input k)) n.keys.items n.places };
 }
 
 impl<K: Eq + Hash> NotedKeys<K> {
-    /// The keys, in the order of insertion.
+    /// The keys, in their order.
     pub(crate) fn as_slice(&self) -> &[K]
         ensures keys { result.now ≡ self.now }
         ensures distinct { IsDistinct K.eq self.now }
@@ -42,7 +42,7 @@ impl<K: Eq + Hash> NotedKeys<K> {
         self.keys.as_slice()
     }
 
-    /// Index of the key that equals the query, or `None`.
+    /// The index of the key for which a query stands.
     pub(crate) fn index_of<Q: Equivalent<K>>(&self, key: Q) -> Option<usize>
         ensures { result ≡ position (Q.equivalent key) self.now }
     {
@@ -54,16 +54,16 @@ impl<K: Eq + Hash> NotedKeys<K> {
 }
 
 impl<K: Eq + Hash> NotedKeys<K> {
-    /// Keys with their indices by hash.
+    /// Keys with their places.
     pub(crate) fn new(keys: Vec<K>, places: Places) -> NotedKeys<K>
         requires distinct { IsDistinct K.eq keys.items }
-        requires noted { AreNotedKeys K.hash_input keys.items places }
+        requires noted { AreNoted (λ k. key_hash (K.hash_input k)) keys.items places }
         ensures { result ≡ keys.items }
     {
         NotedKeys { keys, places }
     }
 
-    /// Moves the keys out.
+    /// The keys, moved out.
     pub(crate) fn into_vec(self) -> Vec<K>
         ensures { result.items ≡ self }
     {
@@ -73,7 +73,7 @@ impl<K: Eq + Hash> NotedKeys<K> {
 }
 
 impl<K: Eq + Hash + Clone + Drop> NotedKeys<K> {
-    /// Copies the keys. Nothing is hashed.
+    /// Copies of the keys. Nothing is hashed.
     pub(crate) fn copied(&self) -> Result<NotedKeys<K>, AllocError>
         requires exact { (k l : K) → K.is_clone k l → l ≡ k }
         ensures { IfOk result (λ n. n ≡ self.now) }
@@ -85,7 +85,7 @@ impl<K: Eq + Hash + Clone + Drop> NotedKeys<K> {
 }
 
 impl<K: Eq + Hash + Drop> NotedKeys<K> {
-    /// A list without keys, with room for `capacity`.
+    /// No keys, with room for some.
     pub(crate) fn with_capacity(alloc: Global, capacity: usize) -> Result<NotedKeys<K>, AllocError>
         ensures { IfOk result (λ n. n ≡ []) }
     {
@@ -95,14 +95,14 @@ impl<K: Eq + Hash + Drop> NotedKeys<K> {
         })
     }
 
-    /// Adds a key at the end unless it is there already. Returns its index and whether it is new. If an allocation
-    /// fails, the keys stay the same.
+    /// Puts a key last, unless it is there, and gives its index and whether it is new. Where a growth is refused the keys
+    /// stay as they were.
     pub(crate) fn insert_full(&mut self, key: K) -> Result<(usize, bool), AllocError>
         ensures index { IfOk result (λ r. r.0 ≡ position_or_len (K.eq key) self.old) }
         ensures added { IfOk result (λ r. r.1 ≡ not (list_any (K.eq key) self.old)) }
         ensures keys { OnOk result (self.new ≡ insert_key K.eq self.old key) }
         ensures err { OnErr result (self.new ≡ self.old) }
-        ensures stored { IfOk result (λ r. IsKeyAt K.eq self.new key r.0) }
+        ensures stored { IfOk result (λ r. (k : K) × (slice_get self.new r.0 ≡ Some k) × (K.eq key k ≡ true)) }
         ensures within { IfOk result (λ r. r.0 < length self.new) }
         ensures distinct { OnOk result (IsDistinct K.eq self.new) }
     {
@@ -123,10 +123,10 @@ impl<K: Eq + Hash + Drop> NotedKeys<K> {
     }
 }
 
-/// The indices of distinct keys, by hash.
+/// The places of distinct keys.
 pub(crate) fn places_of<K: Eq + Hash>(alloc: Global, keys: &[K]) -> Result<Places, AllocError>
     requires { IsDistinct K.eq keys.now }
-    ensures { IfOk result (AreNotedKeys K.hash_input keys.now) }
+    ensures { IfOk result (AreNoted (λ k. key_hash (K.hash_input k)) keys.now) }
 {
     let mut places = BTreeMap::new(alloc);
     for at in 0..keys.len() {
@@ -135,11 +135,11 @@ pub(crate) fn places_of<K: Eq + Hash>(alloc: Global, keys: &[K]) -> Result<Place
     Ok(places)
 }
 
-/// Enters the index of a key that follows the keys `before`.
+/// Notes the place of a key that comes behind others.
 fn note<K: Eq + Hash>(before: &[K], places: &mut Places, key: &K) -> Result<(), AllocError>
     requires distinct { IsDistinct K.eq (before.now ++ key.now ∷ []) }
-    requires noted { AreNotedKeys K.hash_input before.now places.old }
-    ensures { OnOk result (AreNotedKeys K.hash_input (before.now ++ key.now ∷ []) places.new) }
+    requires noted { AreNoted (λ k. key_hash (K.hash_input k)) before.now places.old }
+    ensures { OnOk result (AreNoted (λ k. key_hash (K.hash_input k)) (before.now ++ key.now ∷ []) places.new) }
 {
     match spot_of(before, places, key) {
         Spot::Free(slot) => {

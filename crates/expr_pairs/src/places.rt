@@ -1,4 +1,4 @@
-//! Indices of keys, by 64-bit hashes.
+//! Where keys are noted, by hashes of 64 bits.
 ghost use Rattle.std.specs.Prelude.{◌≡◌, position};
 ghost use Rattle.std.specs.List.{IsDistinct};
 ghost use Rattle.expr_pairs.specs.Places.{AreNoted, IsSpot, key_hash};
@@ -8,28 +8,28 @@ use indexmap::Equivalent;
 use std::collections::BTreeMap;
 use std::hash::{DefaultHasher, Hash, Hasher};
 
-/// The index of each key, by slot.
+/// The places of keys by their slots.
 ///
-/// A hash table uses only a few bits of a hash. Whoever knows the hash function finds strings that agree in these bits
-/// at once. Here a slot is a whole hash. An attacker who wants two keys in one slot has to try some 2^32, and for 16
-/// keys far more. The hash is SipHash-1-3, because strings with one hash of std's `FoldHasher` are known.
+/// A hash table uses a few bits of a hash, and texts that agree in these are found at once by whoever knows the hash. Here a
+/// slot is a whole hash, so that a stranger who wants two keys under one has some 2^32 to try, and for 16 far more. The
+/// hash is SipHash-1-3, since there are texts at hand that have one hash of std's `FoldHasher`.
 pub(crate) type Places = BTreeMap<u64, usize>;
 
-/// Number of slots of a key: its hash and the numbers after it.
+/// How many slots a key has: its hash and the numbers behind it.
 const SLOTS: u64 = 16;
 
-/// Where a key is, or where it can be entered.
+/// Where a key stands, or where it is to be noted.
 #[derive(Clone, Copy)]
 pub(crate) enum Spot {
     /// The index of the key.
     At(usize),
-    /// The key is missing. This is its first free slot.
+    /// The key is missing, and this is its first free slot.
     Free(u64),
-    /// The key is missing and all its slots are taken. Such a key is entered nowhere.
+    /// The key is missing, and its slots are all taken. Such a key is noted nowhere.
     Crowded,
 }
 
-/// The hash of a key.
+/// The hash under which a key is noted.
 fn key_hash<Q: Hash>(key: &Q) -> u64
     ensures { result ≡ key_hash (Q.hash_input key.now) }
 {
@@ -38,7 +38,7 @@ fn key_hash<Q: Hash>(key: &Q) -> u64
     state.finish()
 }
 
-/// The spot of the key that equals the query.
+/// Where the key stands for which a query stands, among keys that are noted.
 pub(crate) fn spot_of<K: Eq + Hash, Q: Equivalent<K>>(keys: &[K], places: &Places, key: Q) -> Spot
     requires noted { AreNoted (λ k. key_hash (K.hash_input k)) keys.now places.now }
     requires distinct { IsDistinct K.eq keys.now }

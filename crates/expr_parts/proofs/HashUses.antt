@@ -1,4 +1,4 @@
--- The promoted argument is the one that is taken out at its index.
+-- What is promoted is what is taken out at its place.
 use Rattle.std.proofs.Common.{◌≡◌, ℕ, zero, suc, ◌+◌, ◌-◌, ◌<◌, Bool, true, false, ◌||◌, cond, nat_lt, List, [], ◌∷◌, length, Option, Some, None, if◌then◌else◌, refl, sym, ap, ◌∙◌, arith}
 use Rattle.std.specs.List.{count_by, remove}
 use Rattle.std.specs.Prelude.{is_some}
@@ -61,7 +61,7 @@ promoted_is key ts =
     (λ i. if reduces asking then reducer_is ts i else (if is_some asking then last_is ts i else without_argument None ts))
     ∙ without_argument-if (reduces asking) (is_some asking) _ _ ts
 
--- a # is free in the promoted argument
+-- a hash name is free in what is promoted
 free_if : (ts : List Term) (i j : ℕ) (b : Bool) → b ≡ is_free_at ts i → place_if b i ≡ Some j → is_free_at ts j ≡ true
 free_if ts i j true e s = ap (is_free_at ts) (sym (same_Some i j s)) ∙ sym e
 free_if ts i j false e s = absurd (none-some j s)
@@ -81,7 +81,7 @@ free_within [] i e = absurd (false≢true e)
 free_within (t ∷ ts) zero e = omega arith
 free_within (t ∷ ts) (suc i) e = omega (arith, free_within ts i e)
 
--- a # is free in some of them if the number of those is not 0
+-- a hash name is free in one of them if it is in some
 counted : (t : Term) (ts : List Term) → count_by has_free_hash (t ∷ ts) ≡ cond (has_free_hash t) 1 0 + count_by has_free_hash ts
 counted t ts = sum_by-cons (λ u. cond (has_free_hash u) 1 0) t ts
 
@@ -93,7 +93,7 @@ any_counted : (ts : List Term) → any_free_hash (terms_of ts) ≡ nat_lt 0 (cou
 any_counted [] = refl
 any_counted (t ∷ ts) = one_more (has_free_hash t) (count_by has_free_hash ts) (any_free_hash (terms_of ts)) (any_counted ts) ∙ ap (nat_lt 0) (sym (counted t ts))
 
--- one less after one was taken out
+-- one less where one was taken out
 one_less : (ts : List Term) (i : ℕ) → is_free_at ts i ≡ true → count_by has_free_hash ts ≡ suc (count_by has_free_hash (remove ts i))
 one_less [] i e = absurd (false≢true e)
 one_less (t ∷ ts) zero e = let more : 1 + count_by has_free_hash ts ≡ suc (count_by has_free_hash ts) = omega arith in counted t ts ∙ ap (λ b. cond b 1 0 + count_by has_free_hash ts) e ∙ more
@@ -106,7 +106,7 @@ shifted m (suc n) e = lt-ltb 0 (suc n) (omega arith) ∙ sym (lt-ltb 1 m (omega 
 rest_counted : (ts : List Term) (i : ℕ) → is_free_at ts i ≡ true → any_free_hash (terms_of (remove ts i)) ≡ nat_lt 1 (count_by has_free_hash ts)
 rest_counted ts i e = any_counted (remove ts i) ∙ shifted (count_by has_free_hash ts) (count_by has_free_hash (remove ts i)) (one_less ts i e)
 
--- a # is free in some of them, by the counts that were kept
+-- the same of marks that were kept
 pub any_marked : (m : HashUses) (ts : List Term) → m ≡ hash_uses_of ts → nat_lt 0 m.free ≡ any_free_hash (terms_of ts)
 any_marked m ts e = ap (λ (q : HashUses). nat_lt 0 q.free) e ∙ sym (any_counted ts)
 
@@ -121,7 +121,7 @@ pub found_free : (key : List ℕ) (ts : List Term) (m : HashUses) (count : ℕ) 
     → is_free_at ts place ≡ true
 found_free key ts m count found place e f g h = promoted_free key ts place (found_is key ts m count found (Some place) e f g h)
 
--- the call, by the index that was found
+-- the call, by the place that was found
 pub call_found : (key : List ℕ) (ts : List Term) (m : HashUses) (count : ℕ) (found place : Option ℕ) → m ≡ hash_uses_of ts → count ≡ length ts → found ≡ promoted_place key m count → found ≡ place
     → call key (terms_of (without_argument place ts).arguments) (without_argument place ts).program ≡ call_of key ts no_predicate
 call_found key ts m count found place e f g h =

@@ -1,4 +1,4 @@
--- What the operations of parts in memory keep.
+-- What is kept beside the operations of parts that stand in memory.
 use Rattle.std.proofs.Common.{◌≡◌, ℕ, zero, suc, List, [], ◌∷◌, Global, String, ap}
 use Rattle.std.specs.List.{All, remove}
 use Rattle.std.proofs.lemmas.List.Elements.{All-cons, All-head, All-nil, All-same, All-tail}

@@ -1,4 +1,4 @@
--- The map of literal_pairs, one more at a time.
+-- The map of literals, one more at a time.
 use Rattle.std.proofs.Common.{◌≡◌, ℕ, List, [], ◌∷◌, ◌++◌, Some, None, option_map, sym, ap, ◌∙◌}
 use Rattle.std.proofs.lemmas.List.{append-nil}
 use Rattle.std.proofs.lemmas.List.Elements.{filter_map-append}
@@ -7,20 +7,20 @@ use Rattle.std.specs.List.{cons_option}
 use Rattle.expr_value.specs.declared.value.Value.{Value}
 use Rattle.expr_value.specs.Names.{put, put_all}
 use Rattle.expr_tree.specs.Term.{Term, LineTerms}
-use Rattle.expr_parts.specs.Maps.{literal_pairs, value_of}
+use Rattle.expr_parts.specs.Maps.{literals, value_of}
 
 -- a key whose value is a literal is put last
-pub put_literal : (ps : LineTerms) (p : List ℕ × Term) (v : Value) → value_of p.1 ≡ Some v → put p.0 v (put_all [] (literal_pairs ps)) ≡ put_all [] (literal_pairs (ps ++ p ∷ []))
+pub put_literal : (ps : LineTerms) (p : List ℕ × Term) (v : Value) → value_of p.1 ≡ Some v → put p.0 v (put_all [] (literals ps)) ≡ put_all [] (literals (ps ++ p ∷ []))
 put_literal ps p v e =
-    let more : literal_pairs (ps ++ p ∷ []) ≡ literal_pairs ps ++ (p.0, v) ∷ [] =
+    let more : literals (ps ++ p ∷ []) ≡ literals ps ++ (p.0, v) ∷ [] =
     filter_map-append (λ (q : List ℕ × Term). option_map (λ w. (q.0, w)) (value_of q.1)) ps (p ∷ [])
-    ∙ ap (λ o. literal_pairs ps ++ cons_option (option_map (λ w. (p.0, w)) o) []) e in
-    sym (ap (put_all []) more ∙ fold-append (λ (done : List (List ℕ × Value)) (q : List ℕ × Value). put q.0 q.1 done) [] (literal_pairs ps) ((p.0, v) ∷ []))
+    ∙ ap (λ o. literals ps ++ cons_option (option_map (λ w. (p.0, w)) o) []) e in
+    sym (ap (put_all []) more ∙ fold-append (λ (done : List (List ℕ × Value)) (q : List ℕ × Value). put q.0 q.1 done) [] (literals ps) ((p.0, v) ∷ []))
 
 -- another is passed over
-pub no_literal : (ps : LineTerms) (p : List ℕ × Term) → value_of p.1 ≡ None → put_all [] (literal_pairs ps) ≡ put_all [] (literal_pairs (ps ++ p ∷ []))
+pub no_literal : (ps : LineTerms) (p : List ℕ × Term) → value_of p.1 ≡ None → put_all [] (literals ps) ≡ put_all [] (literals (ps ++ p ∷ []))
 no_literal ps p e =
-    let same : literal_pairs (ps ++ p ∷ []) ≡ literal_pairs ps ++ [] =
+    let same : literals (ps ++ p ∷ []) ≡ literals ps ++ [] =
     filter_map-append (λ (q : List ℕ × Term). option_map (λ w. (q.0, w)) (value_of q.1)) ps (p ∷ [])
-    ∙ ap (λ o. literal_pairs ps ++ cons_option (option_map (λ w. (p.0, w)) o) []) e in
-    sym (ap (put_all []) (same ∙ append-nil (literal_pairs ps)))
+    ∙ ap (λ o. literals ps ++ cons_option (option_map (λ w. (p.0, w)) o) []) e in
+    sym (ap (put_all []) (same ∙ append-nil (literals ps)))

@@ -1,7 +1,7 @@
 -- What is free in parts.
 use Rattle.std.proofs.Common.{◌≡◌, ℕ, zero, suc, Bool, true, false, ◌||◌, List, [], ◌∷◌, map, refl, sym, ap, ◌∙◌}
 use Rattle.std.specs.List.{remove}
-use Rattle.expr_tree.specs.Term.{Term, Block, LineTerms, block_with, term_pairs}
+use Rattle.expr_tree.specs.Term.{Term, Block, LineTerms, block_with, pairs_of}
 use Rattle.expr_parts.specs.Parts.{WithHeight, BlockWithHeight}
 use Rattle.expr_parts.specs.Promotion.{has_free_hash, block_has_free_hash, lines_have_free_hash, pairs_have_free_hash}
 
@@ -13,7 +13,7 @@ pub block_free : (ls : LineTerms) (last : Term) → block_has_free_hash (block_w
 block_free [] last = refl
 block_free (l ∷ ls) last = ap (λ b. has_free_hash l.1 || b) (block_free ls last) ∙ sym (or_assoc (has_free_hash l.1) (lines_have_free_hash ls) (has_free_hash last))
 
-pub pairs_free : (ps : LineTerms) → pairs_have_free_hash (term_pairs ps) ≡ lines_have_free_hash ps
+pub pairs_free : (ps : LineTerms) → pairs_have_free_hash (pairs_of ps) ≡ lines_have_free_hash ps
 pairs_free [] = refl
 pairs_free (p ∷ ps) = ap (λ b. has_free_hash p.1 || b) (pairs_free ps)
 

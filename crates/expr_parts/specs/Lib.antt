@@ -1,9 +1,5 @@
 pub mod HashUses
 pub mod Kept
 pub mod Maps
-pub mod Measures
-pub mod Nodes
 pub mod Parts
-pub mod Programs
 pub mod Promotion
-pub mod ReadErrors

@@ -1,13 +1,12 @@
--- Expressions and their parts as they are read: the term of each, and the height of its tree. A tree is one higher than
--- the highest tree inside it.
+-- Expressions and their parts as they are read: the term of each, and the height of its tree. A tree counts one more than the highest tree inside it.
 use Rattle.std.specs.Prelude.{ℕ, suc, max, Bool, false, codes, List, [], ◌∷◌, ◌++◌, Option, Some, None, refl}
 use Rattle.std.specs.Coded.{Coded, code_by, coded×, coded_ℕ, coded_list}
 use Rattle.expr_value.specs.declared.value.Value.TheVariants as value
 use Rattle.expr_tree.specs.Codes.{coded_term, coded_block, coded_predicate}
 use Rattle.expr_tree.specs.Term.{Term, name, literal, list, range, unary, operation, postfix, choice, index, slice, coalesce, pipe, ternary, method, Bound, unbounded, bound, Predicate, no_predicate, predicate, Block, LineTerms, block_with}
 use Rattle.expr_tree.specs.TermOf.{terms_of}
-use Rattle.expr_functions.specs.declared.operator.Operator.{Operator}
-use Rattle.expr_functions.specs.declared.operator.UnaryOperator.{UnaryOperator}
+use Rattle.expr_tree.specs.declared.operator.Operator.{Operator}
+use Rattle.expr_tree.specs.declared.operator.UnaryOperator.{UnaryOperator}
 use Rattle.expr_parts.specs.Maps.{map_term}
 use Rattle.expr_parts.specs.Promotion.{call_of}
 
@@ -21,17 +20,17 @@ pub record BlockWithHeight : Type 0 where
   pub block : Block
   pub height : ℕ
 
--- lines as they are read. The height is that of the highest value, or 0 if there are none (so in the next two).
+-- lines as they are read; the height is that of the highest value, and 0 where there are none (so in the next two)
 pub record LinesWithHeight : Type 0 where
   pub lines : LineTerms
   pub height : ℕ
 
--- the pairs of a map literal as they are read, in the order of the source, with repeated keys
+-- the pairs of a map literal as they are read, in the order of the text, repeated keys included
 pub record PairsWithHeight : Type 0 where
   pub pairs : List (List ℕ × Term)
   pub height : ℕ
 
--- the arguments of a call, and the last predicate given in braces
+-- the arguments of a call, and the program that was last given in braces
 pub record ArgumentsWithHeight : Type 0 where
   pub terms : List Term
   pub program : Predicate
@@ -77,18 +76,18 @@ coalesce_of a b = record { term = postfix (coalesce b.term) a.term; height = suc
 abbrev pub conditional_of : WithHeight → BlockWithHeight → BlockWithHeight → WithHeight
 conditional_of c a b = record { term = choice c.term a.block b.block; height = suc (max (max c.height a.height) b.height) }
 
-abbrev pub index_node : WithHeight → WithHeight → Bool → WithHeight
-index_node l i optional = record { term = postfix (index i.term optional) l.term; height = suc (max l.height i.height) }
+abbrev pub index_of : WithHeight → WithHeight → Bool → WithHeight
+index_of l i optional = record { term = postfix (index i.term optional) l.term; height = suc (max l.height i.height) }
 
--- a member is an index by the spelling of its word
+-- a member is an index by the text of its word
 abbrev pub member_of : WithHeight → Bool → List ℕ → WithHeight
 member_of l optional w = record { term = postfix (index (literal (value.String w)) optional) l.term; height = suc l.height }
 
--- a field is a member of `#`
-abbrev pub hash_field : List ℕ → WithHeight
-hash_field w = leaf (postfix (index (literal (value.String w)) false) (name (codes "#")))
+-- a field of its own is a member of `#`
+abbrev pub field_of : List ℕ → WithHeight
+field_of w = leaf (postfix (index (literal (value.String w)) false) (name (codes "#")))
 
--- a bound that may be missing
+-- a bound that may be left out
 abbrev pub bound_with : Option WithHeight → Bound
 bound_with None = unbounded
 bound_with (Some m) = bound m.term
@@ -115,8 +114,8 @@ array_of g = record { term = list (terms_of g.terms); height = suc g.height }
 abbrev pub function_of : List ℕ → ArgumentsWithHeight → WithHeight
 function_of w g = record { term = call_of w g.terms g.program; height = suc g.height }
 
-abbrev pub map_node : PairsWithHeight → WithHeight
-map_node p = record { term = map_term p.pairs; height = suc p.height }
+abbrev pub map_of : PairsWithHeight → WithHeight
+map_of p = record { term = map_term p.pairs; height = suc p.height }
 
 -- Programs.
 abbrev pub block_of_lines : LinesWithHeight → WithHeight → BlockWithHeight
@@ -128,7 +127,7 @@ no_lines = record { lines = []; height = 0 }
 abbrev pub line_more : LinesWithHeight → List ℕ → WithHeight → LinesWithHeight
 line_more ls w m = record { lines = ls.lines ++ (w, m.term) ∷ []; height = max ls.height m.height }
 
--- Arguments. A predicate that was replaced still counts for the height.
+-- Arguments; a program that was given before still counts for the height.
 abbrev pub no_arguments : ArgumentsWithHeight
 no_arguments = record { terms = []; program = no_predicate; height = 0 }
 

@@ -1,4 +1,4 @@
--- Which argument of a call becomes its predicate, if none is given in braces.
+-- Which argument of a call is the program that it runs, where none is given in braces.
 use Rattle.std.specs.Prelude.{ℕ, Bool, true, false, ◌==◌, ◌||◌, List, [], ◌∷◌, Option, Some, is_some, if◌then◌else◌}
 use Rattle.std.specs.List.{list_any}
 use Rattle.expr_functions.specs.Functions.{higher_order_named}
@@ -7,15 +7,15 @@ use Rattle.expr_functions.specs.declared.functions.HigherOrderCall.TheVariants.{
 use Rattle.expr_tree.specs.Term.{Term, name, literal, list, mapping, range, call, unary, operation, postfix, choice, Postfix, index, slice, coalesce, pipe, ternary, method, Bound, unbounded, bound, Terms, no_terms, term, TermPairs, pairs_end, pair, Predicate, no_predicate, predicate, Block, answers, line, LineTerms}
 use Rattle.expr_tree.specs.TermOf.{terms_of}
 
--- whether a name begins with `#`
-abbrev pub begins_with_hash : List ℕ → Bool
-begins_with_hash [] = false
-begins_with_hash (b ∷ bs) = b == 35
+-- a hash name begins with `#`
+abbrev pub is_hash_name : List ℕ → Bool
+is_hash_name [] = false
+is_hash_name (b ∷ bs) = b == 35
 
--- whether a name with `#` is in the tree outside of predicates
+-- whether a hash name stands in the tree outside predicates
 abbrev mutual
   pub has_free_hash : Term → Bool
-  has_free_hash (name key) = begins_with_hash key
+  has_free_hash (name key) = is_hash_name key
   has_free_hash (literal v) = false
   has_free_hash (list ts) = any_free_hash ts
   has_free_hash (mapping ps) = pairs_have_free_hash ps
@@ -50,27 +50,27 @@ abbrev mutual
   block_has_free_hash (answers t) = has_free_hash t
   block_has_free_hash (line key t b) = has_free_hash t || block_has_free_hash b
 
--- whether a name with `#` is outside of predicates in the value of a line, or of a pair of a map literal
+-- whether a hash name stands outside predicates in the value of a line, or of a pair of a map literal
 abbrev pub lines_have_free_hash : LineTerms → Bool
 lines_have_free_hash ls = list_any (λ l. has_free_hash l.1) ls
 
--- whether it is the built-in that binds `#acc`
+-- whether it is the built-in that tells its predicate what it has made so far
 abbrev pub reduces : Option HigherOrderCall → Bool
 reduces (Some Reduce) = true
 reduces b = false
 
--- the arguments but one, and that one as the predicate of the call, if one is promoted
+-- the arguments but one, and that one as the program of the call, if one is promoted
 pub record Promotion : Type 0 where
   pub arguments : List Term
   pub program : Predicate
 
--- the last argument, if a # is free in it
+-- the last argument, if it has a free hash
 abbrev pub last_promotion : List Term → Promotion
 last_promotion [] = record { arguments = []; program = no_predicate }
 last_promotion (t ∷ []) = if has_free_hash t then record { arguments = []; program = predicate (answers t) } else record { arguments = t ∷ []; program = no_predicate }
 last_promotion (t ∷ u ∷ ts) = let rest = last_promotion (u ∷ ts) in record { arguments = t ∷ rest.arguments; program = rest.program }
 
--- argument 1 if a # is free in it, otherwise argument 0 if one is free there
+-- argument 1, if it has a free hash, else argument 0, if it has one
 abbrev pub reducer_promotion : List Term → Promotion
 reducer_promotion [] = record { arguments = []; program = no_predicate }
 reducer_promotion (t ∷ []) = if has_free_hash t then record { arguments = []; program = predicate (answers t) } else record { arguments = t ∷ []; program = no_predicate }
@@ -78,7 +78,7 @@ reducer_promotion (t ∷ u ∷ ts) =
     if has_free_hash u then record { arguments = t ∷ ts; program = predicate (answers u) }
     else (if has_free_hash t then record { arguments = u ∷ ts; program = predicate (answers t) } else record { arguments = t ∷ u ∷ ts; program = no_predicate })
 
--- by the built-in with the call's name that calls a predicate, if there is one
+-- by the built-in of the call's name that asks a predicate, if there is one
 abbrev pub promoted_by : Option HigherOrderCall → List Term → Promotion
 promoted_by b ts =
     if reduces b then reducer_promotion ts
@@ -87,7 +87,7 @@ promoted_by b ts =
 abbrev pub promotion_of : List ℕ → List Term → Promotion
 promotion_of key ts = promoted_by (higher_order_named key) ts
 
--- the call with these arguments, whose predicate is the given one or else the promoted one
+-- the call of these arguments, whose program is the one that is given or else the one that is promoted
 abbrev pub call_of : List ℕ → List Term → Predicate → Term
 call_of key ts (predicate b) = call key (terms_of ts) (predicate b)
 call_of key ts no_predicate = let p = promotion_of key ts in call key (terms_of p.arguments) p.program

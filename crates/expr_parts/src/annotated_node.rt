@@ -1,5 +1,4 @@
-//! Nodes made from their parts. Each carries whether it has a free `#`, so that promotion walks no tree, and the height
-//! of the tree that it was read from.
+//! Nodes made from parts. Beside each stands whether a hash name is free in it, so that promotion walks no tree, and the height of the tree that it was read from.
 ghost use Rattle.std.specs.Prelude.{◌≡◌, suc, IfOk, string_bytes};
 ghost use Rattle.std.specs.Option.{option_map};
 ghost use Rattle.expr_tree.specs.KeptPatterns.{bound_operations, operations, postfix_operations, right_of, node_patterns};
@@ -7,27 +6,26 @@ ghost use Rattle.expr_tree.specs.Term.{name, literal, postfix};
 ghost use Rattle.expr_tree.specs.TermOf.{term_of, postfix_term, bound_term};
 ghost use Rattle.expr_parts.specs.Kept.{IsKept, IsKeptOf, KeepPatterns};
 ghost use Rattle.expr_parts.specs.Promotion.{bound_has_free_hash, has_free_hash as hash_stands_free, postfix_has_free_hash};
-ghost use Rattle.expr_parts.specs.Parts.{bound_with, leaf, brackets_of, unary_of, range_of, operation_of, coalesce_of, conditional_of, index_node, member_of, hash_field, slice_of, pipe_of, ternary_of, method_of};
+ghost use Rattle.expr_parts.specs.Parts.{bound_with, leaf, brackets_of, unary_of, range_of, operation_of, coalesce_of, conditional_of, index_of, member_of, field_of, slice_of, pipe_of, ternary_of, method_of};
 ghost use Rattle.expr_parts.specs.Parts as parts;
 
 use crate::arguments::Arguments;
 use crate::program::AnnotatedProgram;
-use expr_functions::operator::{Operator, UnaryOperator};
 use expr_tree::node::{CompiledRegex, Node, Pattern, PostfixOperator, Unbuilt};
+use expr_tree::operator::{Operator, UnaryOperator};
 use expr_value::{Text, Value};
 use std::alloc::{AllocError, Global};
 use std::marker::Model;
 
-/// A node, whether a name with `#` is free in it, and the height of the tree that it was read from. Contracts see the
-/// node's tree and the height. The node is boxed, so that a part is moved in a few words and stays in its box when it
-/// becomes part of another.
+/// A node, whether a hash name is free in it, and the height of the tree that it was read from. Contracts see the node's tree and the height.
+/// It stands in memory of its own, so that a part is moved in a few words, and stays there where it becomes part of another.
 pub struct AnnotatedNode {
     node: Box<Node>,
     pub(crate) has_free_hash: bool,
     pub(crate) height: usize,
 }
 
-// Written by hand so that dropping one is a single step in proofs of callers.
+// Written out so that letting go of one is a single step in the proofs above.
 impl Drop for AnnotatedNode {
     fn drop(self) {
         let AnnotatedNode {
@@ -57,8 +55,7 @@ impl Model for AnnotatedNode {
         × KeepPatterns (operations p.node.value) };
 }
 
-// The height of a tree, from the greatest height inside it. Overflow is an error, though no memory holds the tokens of
-// so high a tree.
+// The height of a tree by that of the highest inside it. One that doesn't fit is refused, though no memory holds the tokens of so high a tree.
 pub(crate) fn height_above(height: usize) -> Result<usize, AllocError>
     ensures { IfOk result (λ h. h ≡ suc height) }
 {
@@ -73,7 +70,7 @@ impl AnnotatedNode {
         self.height
     }
 
-    // A boxed node with its annotations.
+    // A node in memory of its own, with what stands beside it.
     pub(crate) fn made(
         alloc: Global,
         node: Node,
@@ -98,7 +95,7 @@ impl AnnotatedNode {
         &self.node
     }
 
-    /// A name, with `#` if it has one.
+    /// A name or hash name.
     pub fn name(alloc: Global, ident: String) -> Result<AnnotatedNode, AllocError>
         ensures { IfOk result (λ p. p ≡ leaf (name (string_bytes ident))) }
     {
@@ -113,9 +110,13 @@ impl AnnotatedNode {
         AnnotatedNode::made(alloc, Node::Value(value), false, 1)
     }
 
-    /// `.name` alone: a member of the current item `#`.
+    /// A field of the item at hand: the member of `#`.
+    ///
+    /// # Errors
+    ///
+    /// `AllocError`, if a growth is refused.
     pub fn field(alloc: Global, name: Text) -> Result<AnnotatedNode, AllocError>
-        ensures { IfOk result (λ p. p ≡ hash_field name) }
+        ensures { IfOk result (λ p. p ≡ field_of name) }
     {
         let hash = String::from_str(alloc, "#")?;
         let idx = Box::new(alloc, Node::Value(Value::String(name)))?;
@@ -143,7 +144,7 @@ impl AnnotatedNode {
         })
     }
 
-    /// The integers from `first` to `last`, both included.
+    /// The integers from the first to the last.
     pub fn range(
         alloc: Global,
         first: AnnotatedNode,
@@ -171,7 +172,7 @@ impl AnnotatedNode {
         AnnotatedNode::made(alloc, Node::Unary { operator, node }, has_free_hash, height)
     }
 
-    /// Takes the node out.
+    /// The node, alone.
     pub fn into_node(self) -> Node
         ensures term { term_of result ≡ self.term }
         ensures patterns { KeepPatterns (operations result) }
@@ -184,7 +185,7 @@ impl AnnotatedNode {
         Box::into_inner(node)
     }
 
-    /// Takes the node out, in its box.
+    /// The node, alone, in its own memory.
     pub fn into_box(self) -> Box<Node>
         ensures term { term_of result.value ≡ self.term }
         ensures patterns { KeepPatterns (operations result.value) }
@@ -220,7 +221,7 @@ impl AnnotatedNode {
         AnnotatedNode::made(alloc, node, has_free_hash, height)
     }
 
-    /// A condition that chooses between two programs.
+    /// A choice between two programs.
     pub fn conditional(
         alloc: Global,
         condition: AnnotatedNode,
@@ -242,14 +243,14 @@ impl AnnotatedNode {
         AnnotatedNode::made(alloc, node, has_free_hash, height)
     }
 
-    /// An operand with an index.
+    /// An operand and its index.
     pub fn index(
         alloc: Global,
         operand: AnnotatedNode,
         key: AnnotatedNode,
         optional: bool,
     ) -> Result<AnnotatedNode, AllocError>
-        ensures { IfOk result (λ p. p ≡ index_node operand key optional) }
+        ensures { IfOk result (λ p. p ≡ index_of operand key optional) }
     {
         let in_key = key.has_free_hash;
         let height = height_above(operand.height().max(key.height()))?;
@@ -262,7 +263,7 @@ impl AnnotatedNode {
         )
     }
 
-    /// An operand with a member.
+    /// An operand and its member.
     pub fn member(
         alloc: Global,
         operand: AnnotatedNode,
@@ -281,7 +282,7 @@ impl AnnotatedNode {
         )
     }
 
-    /// A slice of an operand. Either bound may be missing.
+    /// An operand and the bounds of its slice, either of which may be left out.
     pub fn slice(
         alloc: Global,
         operand: AnnotatedNode,
@@ -303,7 +304,7 @@ impl AnnotatedNode {
         )
     }
 
-    /// An operand, and the node that replaces it if it is nil.
+    /// An operand, and what stands in for it where it is nil.
     pub fn coalesce(
         alloc: Global,
         operand: AnnotatedNode,
@@ -317,7 +318,7 @@ impl AnnotatedNode {
         operand.with_postfix(alloc, PostfixOperator::Default(other), in_other, height)
     }
 
-    /// An operand that is piped into a call.
+    /// An operand, passed to a call.
     pub fn pipe(
         alloc: Global,
         operand: AnnotatedNode,
@@ -331,7 +332,7 @@ impl AnnotatedNode {
         operand.with_postfix(alloc, PostfixOperator::Pipe(call), in_call, height)
     }
 
-    /// A condition with `?` and `:`.
+    /// A condition, and what it chooses from.
     pub fn ternary(
         alloc: Global,
         condition: AnnotatedNode,
@@ -352,7 +353,7 @@ impl AnnotatedNode {
         )
     }
 
-    /// A method call on a receiver.
+    /// A receiver and the call of its method.
     pub fn method(
         alloc: Global,
         receiver: AnnotatedNode,
@@ -372,7 +373,7 @@ impl AnnotatedNode {
         )
     }
 
-    // The node with a postfix operator, at this height.
+    // The node with what stands behind it, at a height.
     fn with_postfix(
         self,
         alloc: Global,
@@ -399,7 +400,7 @@ impl AnnotatedNode {
     }
 }
 
-// Whether a name with `#` is free in a bound of a slice.
+// Whether a hash name is free in a bound of a slice.
 fn is_free_in(bound: &Option<AnnotatedNode>) -> bool
     ensures { result ≡ bound_has_free_hash (bound_with bound.now) }
 {
@@ -418,7 +419,7 @@ fn bound_height(bound: &Option<AnnotatedNode>) -> usize
     }
 }
 
-// The string, if a node is a string literal.
+// The text of a node that is the literal of one.
 fn literal_text(node: &Node) -> Option<&str>
     ensures { option_map (λ t. t.now) result ≡ (node_patterns node.now).text }
 {
@@ -428,7 +429,7 @@ fn literal_text(node: &Node) -> Option<&str>
     }
 }
 
-// The pattern that an operator keeps of its right operand.
+// What is kept of the pattern on the right of an operator.
 fn kept_pattern(
     alloc: Global,
     operator: Operator,
@@ -445,7 +446,7 @@ fn kept_pattern(
     }
 }
 
-// The compiled pattern of a source, or why there is none.
+// The pattern of a text, or why there is none.
 fn pattern_of(alloc: Global, text: &str) -> Result<CompiledRegex, AllocError>
     ensures { IfOk result (IsKeptOf text.now) }
 {
@@ -457,7 +458,7 @@ fn pattern_of(alloc: Global, text: &str) -> Result<CompiledRegex, AllocError>
     }
 }
 
-// A bound of a slice, boxed.
+// A bound of a slice, in its own memory.
 fn box_of(bound: Option<AnnotatedNode>) -> Option<Box<Node>>
     ensures bound { bound_term result ≡ bound_with bound }
     ensures patterns { KeepPatterns (bound_operations result) }

@@ -1,4 +1,4 @@
-//! Arguments of a call or items of an array, added one by one, and the call or array of them.
+//! Arguments of a call or items of an array, one after another, and the call or array of them.
 ghost use Rattle.std.specs.Prelude.{◌≡◌, IfOk, OnOk, OnErr, map, string_bytes};
 ghost use Rattle.expr_tree.specs.Term.{call, predicate};
 ghost use Rattle.expr_tree.specs.KeptPatterns.{program_operations};
@@ -14,7 +14,7 @@ use expr_tree::node::{Node, Program};
 use std::alloc::{AllocError, Global};
 use std::marker::Model;
 
-/// The arguments of a call that have been read, and the last predicate given in braces.
+/// The arguments of a call as far as they have been read, and the program that was last given in braces.
 pub struct Arguments {
     nodes: Vec<Node>,
     marks: HashUses,
@@ -22,7 +22,7 @@ pub struct Arguments {
     height: usize,
 }
 
-// Written by hand so that dropping one is a single step in proofs of callers.
+// Written out so that letting go of one is a single step in the proofs above.
 impl Drop for Arguments {
     fn drop(self) {
         let Arguments {
@@ -84,7 +84,7 @@ impl Arguments {
         Ok(())
     }
 
-    /// Sets the predicate of the call. It replaces an earlier one, which still counts for the height.
+    /// Gives the call a program, in place of one given before, which still counts for the height.
     pub fn give(&mut self, program: AnnotatedProgram) -> Result<(), AllocError>
         ensures ok { OnOk result (self.new ≡ argument_program self.old program) }
         ensures err { OnErr result (self.new ≡ self.old) }
@@ -95,14 +95,14 @@ impl Arguments {
         Ok(())
     }
 
-    // Whether a name with `#` is free in any of them.
+    // Whether a hash name is free in one of them.
     pub(crate) fn has_free_hash(&self) -> bool
         ensures { result ≡ any_free_hash (terms_of self.now.terms) }
     {
         self.marks.free > 0
     }
 
-    // The greatest height of them.
+    // The height of the highest of them.
     pub(crate) fn height(&self) -> usize
         ensures { result ≡ self.now.height }
     {
@@ -132,7 +132,7 @@ impl Arguments {
         AnnotatedNode::made(alloc, Node::Array(self.into_nodes()), has_free_hash, height)
     }
 
-    /// The call of a function with these arguments, after promotion.
+    /// The call of a function, after promotion.
     pub fn call(self, ident: String) -> Result<AnnotatedNode, AllocError>
         ensures { IfOk result (λ p. p ≡ function_of (string_bytes ident) self) }
     {
@@ -166,7 +166,7 @@ impl Arguments {
     }
 }
 
-// The call with these arguments and this predicate, at this height.
+// The call with these arguments and this program, at a height.
 fn call_with(
     ident: String,
     args: Vec<Node>,

@@ -1,9 +1,9 @@
-//! The pairs of a map literal, added one by one, and the literal of them.
+//! The pairs of a map literal, one after another, and the literal of them.
 ghost use Rattle.std.specs.Prelude.{◌≡◌, [], IfOk, OnOk, OnErr, is_none, map};
 ghost use Rattle.expr_tree.specs.TermOf.{line_term, term_of};
 ghost use Rattle.expr_value.specs.Names.{put_all};
-ghost use Rattle.expr_parts.specs.Maps.{literal_pairs, value_of};
-ghost use Rattle.expr_parts.specs.Parts.{no_pairs, pair_more, map_node};
+ghost use Rattle.expr_parts.specs.Maps.{literals, value_of};
+ghost use Rattle.expr_parts.specs.Parts.{no_pairs, pair_more, map_of};
 
 use crate::annotated_node::{AnnotatedNode, height_above};
 use expr_tree::node::Node;
@@ -12,7 +12,7 @@ use std::alloc::{AllocError, Global};
 use std::marker::Model;
 use std::mem;
 
-/// The pairs of a map literal that have been read, with repeated keys.
+/// The pairs of a map literal as far as they have been read, repeated keys included.
 pub struct Entries {
     alloc: Global,
     pairs: Vec<(String, Node)>,
@@ -21,7 +21,7 @@ pub struct Entries {
     height: usize,
 }
 
-// Written by hand so that dropping one is a single step in proofs of callers.
+// Written out so that letting go of one is a single step in the proofs above.
 impl Drop for Entries {
     fn drop(self) {
         let Entries {
@@ -82,9 +82,13 @@ impl Entries {
         Ok(())
     }
 
-    /// The map of these pairs. It is a literal if each value is one.
+    /// The map literal of these pairs: a literal, where each value is one.
+    ///
+    /// # Errors
+    ///
+    /// `AllocError`, if a growth is refused.
     pub fn map(self) -> Result<AnnotatedNode, AllocError>
-        ensures { IfOk result (λ p. p ≡ map_node self) }
+        ensures { IfOk result (λ p. p ≡ map_of self) }
     {
         let Entries {
             alloc,
@@ -102,7 +106,7 @@ impl Entries {
     }
 }
 
-// Whether a node isn't a literal.
+// Whether a node is no literal.
 fn is_expression(node: &Node) -> bool
     ensures { result ≡ is_none (value_of (term_of node.now)) }
 {
@@ -121,9 +125,9 @@ fn into_value(mut node: Node) -> Option<Value>
     }
 }
 
-// The map of the keys whose values are literals. A repeated key keeps its position and takes its last value.
+// The map of the keys whose values are literals. A repeated key keeps its place and takes its later value.
 fn literal_map(alloc: Global, pairs: Vec<(String, Node)>) -> Result<ValueMap, AllocError>
-    ensures { IfOk result (λ m. m ≡ put_all [] (literal_pairs (map line_term pairs.items))) }
+    ensures { IfOk result (λ m. m ≡ put_all [] (literals (map line_term pairs.items))) }
 {
     let mut map = ValueMap::new(alloc);
     for (key, node) in pairs {

@@ -1,4 +1,4 @@
-//! Programs made from their lines, added one by one, and from the expression at the end.
+//! Programs made from their lines, one after another, and from what they answer.
 ghost use Rattle.std.specs.Prelude.{◌≡◌, IfOk, OnOk, OnErr, string_bytes};
 ghost use Rattle.expr_tree.specs.KeptPatterns.{program_operations};
 ghost use Rattle.expr_tree.specs.TermOf.{program_term};
@@ -10,15 +10,14 @@ use expr_tree::node::{Node, Program};
 use std::alloc::{AllocError, Global};
 use std::marker::Model;
 
-/// A program, whether a name with `#` is free in it, and the height of its highest tree. Contracts see its lines, its
-/// expression and the height.
+/// A program, whether a hash name is free in it, and the height of its highest tree. Contracts see its lines and what it answers, and the height.
 pub struct AnnotatedProgram {
     program: Box<Program>,
     pub(crate) has_free_hash: bool,
     height: usize,
 }
 
-// Written by hand so that dropping one is a single step in proofs of callers.
+// Written out so that letting go of one is a single step in the proofs above.
 impl Drop for AnnotatedProgram {
     fn drop(self) {
         let AnnotatedProgram {
@@ -49,7 +48,7 @@ impl Model for AnnotatedProgram {
 }
 
 impl AnnotatedProgram {
-    /// Takes the program out.
+    /// The program, alone.
     pub fn into_program(self) -> Program
         ensures block { program_term result ≡ self.block }
         ensures patterns { KeepPatterns (program_operations result) }
@@ -62,7 +61,7 @@ impl AnnotatedProgram {
         Box::into_inner(program)
     }
 
-    /// Takes the program out, boxed.
+    /// The program, alone, in its own memory.
     pub fn into_box(self) -> Box<Program>
         ensures block { program_term result.value ≡ self.block }
         ensures patterns { KeepPatterns (program_operations result.value) }
@@ -75,7 +74,7 @@ impl AnnotatedProgram {
         program
     }
 
-    /// The greatest number of trees one inside another.
+    /// How many trees stand one inside another at most.
     pub fn height(&self) -> usize
         ensures { result ≡ self.now.height }
     {
@@ -83,14 +82,14 @@ impl AnnotatedProgram {
     }
 }
 
-/// The lines of a program that have been read.
+/// The lines of a program, as far as they have been read.
 pub struct Lines {
     lines: Vec<(String, Node)>,
     has_free_hash: bool,
     height: usize,
 }
 
-// Written by hand so that dropping one is a single step in proofs of callers.
+// Written out so that letting go of one is a single step in the proofs above.
 impl Drop for Lines {
     fn drop(self) {
         let Lines {
@@ -131,7 +130,7 @@ impl Lines {
         }
     }
 
-    /// Adds a line, with its name and value.
+    /// Adds the line that names a value.
     pub fn push(&mut self, name: String, value: AnnotatedNode) -> Result<(), AllocError>
         ensures ok { OnOk result (self.new ≡ line_more self.old (string_bytes name) value) }
         ensures err { OnErr result (self.new ≡ self.old) }
@@ -144,7 +143,11 @@ impl Lines {
         Ok(())
     }
 
-    /// The program of these lines and this expression.
+    /// The program of these lines that answers a node.
+    ///
+    /// # Errors
+    ///
+    /// `AllocError`, if a growth is refused.
     pub fn finish(self, last: AnnotatedNode) -> Result<AnnotatedProgram, AllocError>
         ensures { IfOk result (λ p. p ≡ block_of_lines self last) }
     {

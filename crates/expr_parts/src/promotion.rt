@@ -1,4 +1,4 @@
-//! Promotion: which argument of a call becomes its predicate, from what is known of the arguments as they are read.
+//! Which argument of a call is promoted to its program, by what is kept of the arguments as they are read.
 ghost use Rattle.std.specs.Prelude.{◌≡◌, ◌+◌, ◌<◌, ◌^◌, ◌∷◌, ◌++◌, [], List, length};
 ghost use Rattle.expr_tree.specs.Term.{Term};
 ghost use Rattle.expr_parts.specs.Promotion.{has_free_hash};
@@ -8,8 +8,8 @@ ghost use Rattle.expr_parts.specs.HashUses as places;
 
 use expr_functions::HigherOrderCall;
 
-/// In how many arguments a `#` is free, and whether it is free in those that a call may promote. A missing argument has
-/// none.
+/// In how many arguments a hash name is free, and whether it is in those that a call may promote. One that is missing
+/// has none.
 #[derive(Clone, Copy)]
 pub(crate) struct HashUses {
     pub(crate) free: usize,
@@ -31,7 +31,7 @@ impl HashUses {
         }
     }
 
-    // Adds an argument that follows `count` others.
+    // Marks one more, which follows so many.
     pub(crate) fn add(&mut self, count: usize, is_free: bool)
         requires { self.old.free + 1 < 2 ^ 64 }
         ensures { (ts : List Term) (t : Term) → self.old ≡ hash_uses_of ts → count ≡ length ts
@@ -45,7 +45,7 @@ impl HashUses {
         };
     }
 
-    // Index of the argument that is promoted, or `None`. There are `count` arguments.
+    // Where the argument stands that is promoted, of so many.
     pub(crate) fn promoted_place(self, ident: &str, count: usize) -> Option<usize>
         ensures { result ≡ places.promoted_place ident.now self count }
     {
@@ -64,7 +64,7 @@ impl HashUses {
     }
 }
 
-// Whether the call is `reduce`, which promotes its second argument, or else its first.
+// Whether it is `reduce`, which takes its program as the second argument, or else as the first.
 fn reduces(call: Option<HigherOrderCall>) -> bool
     ensures { result ≡ promotion.reduces call }
 {

@@ -1,4 +1,4 @@
--- What the result of an automaton, or of a search in bytes, says about a string.
+-- What the answer of an automaton, or of a search in bytes, says of a text.
 use Rattle.std.proofs.Common.{◌≡◌, ℕ, ◌+◌, ◌<◌, ◌≤◌, Bool, List, length, All, true, false, Some, None, IsSome, is_some, option_map, IsUtf8, refl, sym, ap, ◌∙◌, subst, arith, true≢false, ⊎_elim}
 use Rattle.std.proofs.lemmas.Str.{IsCharBoundary-start}
 use Rattle.regex_hir.specs.Re.{Re, Trace, accept, attempt}
@@ -18,7 +18,7 @@ use Rattle.regex.proofs.SearchLemmas.{inside_char, leftmost_here, leftmost_none,
 use Rattle.regex.proofs.Utf8Lemmas.{find_str_of_filled, test_of_IsCharBoundary}
 use Rattle.expr_pattern.specs.declared.compiled.Compiled.{Compiled}
 
--- what a search of a whole string for any match says
+-- what a search of a whole text for any match says
 abbrev pub Ended : Bool → Compiled → List ℕ → End → Type 0
 Ended anchored it text =
     let nfa = it.program.dfa.nfa in
@@ -34,7 +34,7 @@ module _ (p : Program) (hay : List ℕ) where
       is_some (find_str (pattern_of p) hay 0) ≡ false
   not_found bytes none = ap is_some (leftmost_none (pattern_of p) hay true 0 (leftmost_no_end p hay bytes 0 (omega arith) none))
 
-  -- a match that isn't empty begins at a character
+  -- a match that isn't empty starts with a whole character
   pub found_filled : All (λ b. b < 256) hay → MatchesText (pattern_of p) → 0 < p.min_len →
       IsSome (end_from p.dfa.nfa hay (length hay) p.dfa.nfa.unanchored 0) → is_some (find_str (pattern_of p) hay 0) ≡ true
   found_filled bytes whole positive some =

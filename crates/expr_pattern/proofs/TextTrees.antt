@@ -1,4 +1,4 @@
--- What the parser returns for UTF-8 reads whole characters.
+-- What the parser returns for text reads whole characters.
 use Rattle.std.proofs.Common.{true, map, sym, ap, ◌∙◌, subst, true≢false, refl}
 use Rattle.regex_class.proofs.RangesLemmas.{in_ranges-nil}
 use Rattle.regex_hir.specs.Re.{Re}

@@ -1,4 +1,4 @@
-//! The compiled form of a pattern.
+//! What is compiled of a pattern's text.
 ghost use Rattle.std.specs.Prelude.{◌≡◌, ◌≢◌, ℕ, List, IfOk, IfErr, string_bytes};
 ghost use Rattle.regex.specs.Failures.{IsRightKind};
 ghost use Rattle.regex.specs.Patterns.{default_config};
@@ -13,10 +13,10 @@ use regex_meta::Program;
 use regex_syntax::{Config, ErrorKind, Parsed};
 use std::alloc::Global;
 
-/// The approximate limit on a compiled pattern, in bytes: the default of `regex`.
+/// About how many bytes a compiled pattern may take: as many as `regex` allows unless it is asked for another number.
 const SIZE_LIMIT: usize = 10 << 20;
 
-/// The source of a pattern and its compiled program. It never changes: what a search writes is kept elsewhere.
+/// A text, and the program of its pattern. It doesn't change: what a search writes to stands elsewhere.
 pub struct Compiled {
     pub(crate) source: String,
     pub(crate) program: Program,
@@ -24,7 +24,7 @@ pub struct Compiled {
     ghost whole_characters: { MatchesText (pattern_of program) },
 }
 
-// Written by hand so that a caller's proof sees one call and not the drop of each field.
+// Written out, so that a caller's proof sees one call and not the drop of each field.
 impl Drop for Compiled {
     fn drop(self) {
         let Compiled {
@@ -35,7 +35,7 @@ impl Drop for Compiled {
 }
 
 impl Compiled {
-    /// Compiles a pattern, with the default options of `regex`.
+    /// Compiles the pattern of a text, with the options that `regex` has by default.
     pub(crate) fn new(alloc: Global, text: &str) -> Result<Compiled, Error>
         ensures source { IfOk result (λ c. string_bytes c.source ≡ text.now) }
         ensures refused { IfErr result (IsRefusal default_config text.now) }
@@ -56,7 +56,7 @@ impl Compiled {
     }
 }
 
-/// The error of `regex` for an error of its parser.
+/// The error of `regex` for one of its parser.
 fn error_of_parser(error: regex_syntax::Error) -> Error
     ensures same { HandsOn error result }
     ensures kind { (config : _) (source : List ℕ) → IsRightKind config source result }

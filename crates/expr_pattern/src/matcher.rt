@@ -1,4 +1,4 @@
-//! Matchers, which search strings of any length and are made once for a pattern.
+//! What searches for a pattern in texts of any length, made once.
 ghost use Rattle.std.specs.Prelude.{◌≡◌, ◌≤◌, Some, length, is_some, IfOk, string_bytes};
 ghost use Rattle.regex.specs.Patterns.{find_str};
 ghost use Rattle.regex.specs.Utf8.{MatchesText};
@@ -11,7 +11,7 @@ use regex_meta::Searcher;
 use std::alloc::{AllocError, Global};
 use std::marker::Model;
 
-/// Searches strings for a pattern. Contracts see it as the source of the pattern.
+/// What searches for a pattern. Contracts see it as the pattern's text.
 #[derive(Drop)]
 pub struct PatternMatcher<'p> {
     compiled: &'p Compiled,
@@ -39,7 +39,7 @@ impl<'p> PatternMatcher<'p> {
         Ok(PatternMatcher { compiled, searcher })
     }
 
-    /// The source of the pattern.
+    /// The pattern's text.
     #[inline(always)]
     pub fn text(&self) -> &str
         ensures { result.now ≡ self.now }
@@ -47,7 +47,7 @@ impl<'p> PatternMatcher<'p> {
         self.compiled.source.as_str()
     }
 
-    /// Whether the pattern matches anywhere in a string.
+    /// Whether the pattern matches somewhere in a text.
     pub fn is_match(&mut self, text: &str) -> bool
         ensures answer { pattern_answer self.old text.now ≡ Some result }
         ensures same { self.new ≡ self.old }
@@ -56,7 +56,7 @@ impl<'p> PatternMatcher<'p> {
     }
 }
 
-/// Whether a search finds a match anywhere in a string.
+/// Whether a program finds something in a text.
 fn finds(searcher: &mut Searcher<'_>, text: &str) -> bool
     requires { MatchesText (pattern_of searcher.old.program.now) }
     ensures found { result ≡ is_some
@@ -64,15 +64,14 @@ fn finds(searcher: &mut Searcher<'_>, text: &str) -> bool
     ensures same { searcher.new.program.now ≡ searcher.old.program.now }
 {
     let hay = text.as_bytes();
-    // A match that isn't empty begins at a character.
+    // A match that is not empty starts with a whole character.
     if searcher.program.min_len > 0 {
         return searcher.is_match(hay, 0);
     }
     finds_between_characters(searcher, hay)
 }
 
-/// Whether a search finds a match, for a pattern that can match the empty string. A match may then begin inside a
-/// character, and such a match is ignored.
+/// The same where a match in bytes may start inside a character, and is passed over.
 fn finds_between_characters(searcher: &mut Searcher<'_>, hay: &[u8]) -> bool
     ensures found { result ≡ is_some
         (find_str (pattern_of searcher.old.program.now) hay.now 0) }
@@ -90,7 +89,7 @@ fn finds_between_characters(searcher: &mut Searcher<'_>, hay: &[u8]) -> bool
     }
 }
 
-/// Whether an offset is at the beginning of a character or at the end.
+/// Whether no character has bytes on both sides of this place.
 pub(crate) fn is_character_boundary(hay: &[u8], at: usize) -> bool
     ensures { result ≡ is_boundary hay.now at }
 {

@@ -1,16 +1,16 @@
-//! Room for one pattern that is built while code runs.
+//! Room for a pattern that is built while code runs.
 
 use crate::pattern::Pattern;
 use std::cell::OnceCell;
 use std::marker::Model;
 
-/// Room for one pattern. The pattern stays there once it is put in, so a matcher can borrow it while others are built.
+/// Room for one pattern, which stays there once it is put in, so that a matcher can lend from it while others are built.
 #[derive(Drop)]
 pub struct PatternRoom {
     pattern: OnceCell<Box<Pattern>>,
 }
 
-// Contracts see nothing of it: a pattern that is found there is checked for its source before it is used.
+// Clauses see nothing of it: a pattern that is found there is asked for its text before it is used.
 impl Model for PatternRoom {
     ghost use Rattle.std.specs.Prelude.{⊤};
 
@@ -20,7 +20,7 @@ impl Model for PatternRoom {
 }
 
 impl PatternRoom {
-    /// An empty room.
+    /// A room with no pattern in it.
     #[inline(always)]
     pub fn new() -> PatternRoom {
         PatternRoom {
@@ -28,7 +28,7 @@ impl PatternRoom {
         }
     }
 
-    /// The pattern in the room, or `None`.
+    /// The pattern that was put in.
     #[inline(always)]
     pub fn pattern(&self) -> Option<&Pattern> {
         match self.pattern.get() {
@@ -37,7 +37,7 @@ impl PatternRoom {
         }
     }
 
-    /// Puts a pattern in. Returns the pattern if the room is full.
+    /// Puts a pattern in, and gives it back where the room has one.
     pub fn put(&self, pattern: Box<Pattern>) -> Option<Box<Pattern>> {
         match self.pattern.set(pattern) {
             Ok(()) => None,

@@ -1,4 +1,4 @@
-//! Searches for a pattern: one that is kept with the pattern, and one for a single short string.
+//! Searches for a pattern: one that can be kept beside it, and one for a single short text.
 ghost use Rattle.std.specs.Prelude.{◌≡◌, Some, IfOk, IfSome, string_bytes};
 ghost use Rattle.regex_dfa.specs.Search.{IsForwardFor};
 ghost use Rattle.expr_pattern.specs.Meaning.{pattern_answer};
@@ -10,14 +10,14 @@ use regex_vm::Backtracker;
 use std::alloc::{AllocError, Global};
 use std::rc::Rc;
 
-/// The most pairs of an offset and a state that a search tries if it builds nothing.
+/// How many pairs of a place and a state of a pattern a search tries that builds nothing.
 const FEW: usize = 1 << 10;
 
-/// The most bytes of states that a search keeps.
+/// How many bytes of states a search may keep.
 const BUDGET: usize = 1 << 17;
 
-/// An automaton for a pattern, which builds its states as it searches. It shares the compiled pattern and so borrows
-/// nothing.
+/// An automaton of a pattern, whose states are built as texts are searched. It shares the compiled pattern, so that it lends
+/// from nothing.
 #[derive(Drop)]
 pub struct Search {
     compiled: Rc<Compiled>,
@@ -26,7 +26,7 @@ pub struct Search {
 }
 
 impl Search {
-    /// A search without states.
+    /// A search that has built no state.
     pub(crate) fn new(alloc: Global, compiled: &Rc<Compiled>) -> Result<Search, AllocError>
         ensures { IfOk result (λ s. s.compiled.value ≡ compiled.now.value) }
     {
@@ -35,14 +35,14 @@ impl Search {
         Ok(Search { compiled, forward })
     }
 
-    /// The source of the pattern.
+    /// The pattern's text.
     pub(crate) fn text(&self) -> &str
         ensures { result.now ≡ string_bytes self.now.compiled.value.source }
     {
         self.compiled.as_ref().source.as_str()
     }
 
-    /// Whether the pattern matches anywhere in a string, or `None` if the automaton can't decide.
+    /// Whether the pattern matches somewhere in a text, or none where the automaton can't tell.
     pub(crate) fn answer(&mut self, text: &str) -> Option<bool>
         ensures { IfSome result (λ b. pattern_answer
             (string_bytes self.old.compiled.value.source) text.now ≡ Some b) }
@@ -54,15 +54,14 @@ impl Search {
             .find_end(&program.dfa, hay, 0, hay.len(), false, true)
         {
             End::NoMatch => Some(false),
-            // A match that isn't empty begins at a character.
+            // A match that is not empty starts with a whole character.
             End::At(_) if program.min_len > 0 => Some(true),
             End::At(_) => self.answer_at_start(text),
             End::Idle(_) | End::GaveUp => None,
         }
     }
 
-    /// Whether the pattern matches at the start of a string, for a pattern that can match the empty string. Elsewhere
-    /// an empty match may lie inside a character.
+    /// The same where a match starts at the start of the text. An empty match elsewhere may lie inside a character.
     fn answer_at_start(&mut self, text: &str) -> Option<bool>
         ensures { IfSome result (λ b. pattern_answer
             (string_bytes self.old.compiled.value.source) text.now ≡ Some b) }
@@ -79,7 +78,7 @@ impl Search {
     }
 }
 
-/// Whether a pattern matches anywhere in a string, without building anything for later searches. `None` if that may
+/// Whether a pattern matches somewhere in a text, with nothing built that a later search could use, or none where that may
 /// take long.
 pub(crate) fn answer_once(alloc: Global, compiled: &Compiled, text: &str) -> Option<bool>
     ensures { IfSome result (λ b. pattern_answer (string_bytes compiled.now.source) text.now ≡ Some b) }

@@ -1,4 +1,4 @@
--- One result in a run of a predicate, and what follows it.
+-- One answer in a run of a predicate, and what follows it.
 use Rattle.std.proofs.Common.{◌≡◌, suc, List, [], ◌∷◌, ◌++◌, Bool, true, false, Result, Some, None, Ok, Err, MatchBool, cond, refl, sym, subst, arith}
 use Rattle.std.specs.List.{Contains}
 use Rattle.expr_error.specs.ErrorKind.{ErrorKind, evaluation}
@@ -7,10 +7,9 @@ use Rattle.expr_value.specs.Answers.{Answer, Then, ThenIfOk}
 use Rattle.expr_predicates.specs.Calls.{AllowsHigherOrder, FoldOver, fold_of_call}
 use Rattle.expr_functions.specs.declared.functions.HigherOrderCall.{HigherOrderCall}
 use Rattle.expr_predicates.specs.Runs.{FoldMayReturn, first_args, next_args}
-use Rattle.expr_context.specs.Told.{PredicateArgsView}
-use Rattle.expr_predicates.specs.Folds.{Fold, ItemAnswer, FoldOutcome, args_about, has_stopped, refuses_answer}
+use Rattle.expr_predicates.specs.Folds.{Fold, ItemAnswer, PredicateArgsView, FoldOutcome, args_about, has_stopped, refuses_answer}
 
--- the next call is about the first item that remains
+-- what is asked next is about the first item that is left
 pub record IsNext (t : Fold) (rs : List ItemAnswer) (left : List Value) (q : PredicateArgsView) : Type 0 where
   pub item : Value
   pub rest : List Value
@@ -30,14 +29,14 @@ pub next_is : (t : Fold) (rs : List ItemAnswer) (left : List Value) (q : Predica
 next_is t rs left q e = next_by t rs left q (has_stopped t rs) refl e
 
 module _ (t : Fold) (asks : PredicateArgsView → Answer → Type 0) (rs : List ItemAnswer) where
-  -- what the run may return from an item on, if it continues
+  -- what the run comes to from an item on, where it goes on
   abbrev Answered : Value → List Value → Answer → Type 0
   Answered x rest a = Then (asks (args_about t rs x)) (λ v b. MatchBool (refuses_answer t v) (b ≡ Err evaluation) (FoldMayReturn t asks rest (rs ++ (x, v) ∷ []) b)) a
 
   going_on : (x : Value) (rest : List Value) (a : Answer) → has_stopped t rs ≡ false → Answered x rest a → FoldMayReturn t asks (x ∷ rest) rs a
   going_on x rest a g p = subst (λ s. MatchBool s (FoldOutcome t rs a) (Answered x rest a)) (sym g) p
 
-  -- if the run continues, what may follow is what the result leads to
+  -- where the run goes on, what may follow is what the answer leads to
   follows : (x : Value) (rest : List Value) (b : Bool) (v : Value) (a : Answer) → has_stopped t rs ≡ false → asks (args_about t rs x) (Ok v) → refuses_answer t v ≡ b
       → MatchBool b (a ≡ Err evaluation) (FoldMayReturn t asks rest (rs ++ (x, v) ∷ []) a) → FoldMayReturn t asks (x ∷ rest) rs a
   follows x rest b v a g p r k =
@@ -64,16 +63,16 @@ module _ (t : Fold) (asks : PredicateArgsView → Answer → Type 0) (rs : List 
   FoldMayReturn-done [] e a p = p
   FoldMayReturn-done (x ∷ rest) e a p = done_by x rest (has_stopped t rs) a refl e p
 
--- if more calls are possible, more results are
-pub or_keeps : (b : Bool) (P Q Q' : Type 0) → (Q → Q') → MatchBool b P Q → MatchBool b P Q'
+-- more may be asked of, more may be answered
+or_keeps : (b : Bool) (P Q Q' : Type 0) → (Q → Q') → MatchBool b P Q → MatchBool b P Q'
 or_keeps true P Q Q' f p = p
 or_keeps false P Q Q' f p = f p
 
-pub after_keeps : (r r' : Answer → Type 0) (n n' : Value → Answer → Type 0) → ((a : Answer) → r a → r' a) → ((v : Value) (a : Answer) → n v a → n' v a) → (x : Answer) (a : Answer) → r x → ThenIfOk x n a → Then r' n' a
+after_keeps : (r r' : Answer → Type 0) (n n' : Value → Answer → Type 0) → ((a : Answer) → r a → r' a) → ((v : Value) (a : Answer) → n v a → n' v a) → (x : Answer) (a : Answer) → r x → ThenIfOk x n a → Then r' n' a
 after_keeps r r' n n' f g (Ok v) a p k = (Ok v, f (Ok v) p, g v a k)
 after_keeps r r' n n' f g (Err e) a p k = (Err e, f (Err e) p, k)
 
--- what is allowed for the items of a list, if it is allowed for those of a longer one
+-- what is allowed about the items of a list, where it is about those of a longer one
 module _ (t : Fold) (P : PredicateArgsView → Answer → Type 0) where
   abbrev pub AllAbout : List Value → Type 0
   AllAbout items = (rs : List ItemAnswer) (x : Value) → Contains items x → (a : Answer) → P (args_about t rs x) a

@@ -1,4 +1,4 @@
--- The state of a run at first.
+-- Where a run stands at first.
 use Rattle.std.proofs.Common.{◌≡◌, ◌+◌, List, [], Option, Result, Ok, sym, ap, subst, ◌∙◌}
 use Rattle.expr_value.specs.declared.value.Value.{Value}
 use Rattle.expr_predicates.specs.Calls.{fold_of}

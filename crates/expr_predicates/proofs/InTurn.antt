@@ -1,18 +1,17 @@
--- What a run may return is what some list of results leads to.
+-- What a run may come to is what some list of replies comes to.
 use Rattle.std.proofs.Common.{◌≡◌, List, [], ◌∷◌, ◌++◌, Bool, true, false, Ok, Err, MatchBool, refl, sym, subst, inl, inr}
 use Rattle.expr_error.specs.ErrorKind.{evaluation}
 use Rattle.expr_value.specs.declared.value.Value.{Value}
 use Rattle.expr_value.specs.Answers.{Answer, Then, ThenIfOk}
 use Rattle.expr_predicates.specs.AnswersInTurn.{Fails, AnswersInTurn}
 use Rattle.expr_predicates.specs.Runs.{FoldMayReturn}
-use Rattle.expr_context.specs.Told.{PredicateArgsView}
-use Rattle.expr_predicates.specs.Folds.{Fold, ItemAnswer, FoldOutcome, args_about, has_stopped, refuses_answer}
+use Rattle.expr_predicates.specs.Folds.{Fold, ItemAnswer, PredicateArgsView, FoldOutcome, args_about, has_stopped, refuses_answer}
 
 module _ (t : Fold) (asks : PredicateArgsView → Answer → Type 0) (answer : Answer) where
   abbrev pub Some_replies : List Value → List ItemAnswer → Type 0
   Some_replies items rs = (more : List ItemAnswer) × AnswersInTurn t asks rs items more answer
 
-  -- what follows one result
+  -- what follows one answer
   abbrev Follows : Value → List Value → List ItemAnswer → Value → Type 0
   Follows x items rs v = MatchBool (refuses_answer t v) (answer ≡ Err evaluation) (FoldMayReturn t asks items (rs ++ (x, v) ∷ []) answer)
 

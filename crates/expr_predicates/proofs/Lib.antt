@@ -3,7 +3,5 @@ pub mod Answered
 pub mod FoldStarts
 pub mod Grouped
 pub mod InTurn
-pub mod OneOrder
 pub mod Opposite
-pub mod Own
 pub mod Turns

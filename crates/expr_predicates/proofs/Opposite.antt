@@ -7,14 +7,13 @@ use Rattle.expr_value.specs.Answers.{Answer, ThenIfOk}
 use Rattle.expr_predicates.proofs.Answered.{about_first, about_rest}
 use Rattle.expr_predicates.specs.Allowed.{HasOneAnswer}
 use Rattle.expr_predicates.specs.Runs.{FoldMayReturn}
-use Rattle.expr_context.specs.Told.{PredicateArgsView}
-use Rattle.expr_predicates.specs.Folds.{ItemAnswer, any_holds, none_holds, holds}
+use Rattle.expr_predicates.specs.Folds.{ItemAnswer, PredicateArgsView, any_holds, none_holds, holds}
 
 module _ (asks : PredicateArgsView → Answer → Type 0) (x y : Value) where
   abbrev pub Opposite : Type 0
   Opposite = (t : Bool) × (x ≡ value.Bool t) × (y ≡ value.Bool (not t))
 
-  -- no other result is allowed besides this one
+  -- no other answer is allowed beside this one
   abbrev Single : PredicateArgsView → Answer → Type 0
   Single q a = (b : Answer) → asks q a → asks q b → a ≡ b
 

@@ -1,13 +1,12 @@
--- What a run keeps of the predicate's results.
+-- What a run keeps of its replies.
 use Rattle.std.specs.Prelude.{◌≡◌, ℕ, ◌+◌, ◌-◌, List, [], length, map, count_by, option_map, Option, Some, None, Result, Ok}
 use Rattle.std.specs.List.{filter, find, list_any, position_from}
 use Rattle.expr_error.specs.ErrorKind.{ErrorKind}
 use Rattle.expr_value.specs.declared.value.Value.{Value}
 use Rattle.expr_predicates.specs.Calls.{FoldOver}
 use Rattle.expr_predicates.specs.Remaining.{items_remaining}
-use Rattle.expr_predicates.specs.Sorting.{beside_keys}
-use Rattle.expr_context.specs.Told.{PredicateArgsView}
-use Rattle.expr_predicates.specs.Folds.{Fold, number, all_hold, any_holds, none_holds, one_holds, mapping, filtering, finding, finding_place, finding_last_place, counting, summing, reducing, grouping, sorting, ItemAnswer, holds, fails, acc_after, first_place, total, items_by_key}
+use Rattle.expr_sorting.specs.Sorting.{beside_keys}
+use Rattle.expr_predicates.specs.Folds.{Fold, PredicateArgsView, number, all_hold, any_holds, none_holds, one_holds, mapping, filtering, finding, finding_place, finding_last_place, counting, summing, reducing, grouping, sorting, ItemAnswer, holds, fails, acc_after, first_place, total, items_by_key}
 use Rattle.expr_predicates.specs.declared.run.Accumulator.{Accumulator}
 use Rattle.expr_predicates.specs.declared.run.Accumulator.TheVariants as accumulator
 use Rattle.expr_predicates.specs.declared.scalar_accumulator.ScalarAccumulator.{ScalarAccumulator}
@@ -16,7 +15,7 @@ use Rattle.expr_predicates.specs.declared.value_accumulator.ValueAccumulator.{Va
 use Rattle.expr_predicates.specs.declared.value_accumulator.ValueAccumulator.TheVariants as value_accumulator
 use Rattle.expr_predicates.specs.declared.run.PredicateRun.{PredicateRun}
 
--- what is kept is what the results so far say
+-- what is kept is what the replies so far say
 abbrev pub ScalarRepresents : ScalarAccumulator → Fold → List ItemAnswer → Type 0
 ScalarRepresents (scalar_accumulator.All failed) t rs = (t ≡ all_hold) × (failed ≡ list_any fails rs)
 ScalarRepresents (scalar_accumulator.Any found) t rs = (t ≡ any_holds) × (found ≡ list_any holds rs)
@@ -39,7 +38,7 @@ abbrev pub Represents : Accumulator → Fold → List ItemAnswer → Type 0
 Represents (accumulator.Scalar n) t rs = ScalarRepresents n t rs
 Represents (accumulator.Values k) t rs = ValuesRepresent k t rs
 
--- what is kept while an item is out: the accumulated value is out with it
+-- the same while an item is out: what has been made so far is out with it
 abbrev pub ValuesRepresentRest : ValueAccumulator → Fold → List ItemAnswer → Type 0
 ValuesRepresentRest (value_accumulator.Reduce acc) t rs = (init : Value) × (first : ℕ) × (t ≡ reducing init first)
 ValuesRepresentRest k t rs = ValuesRepresent k t rs
@@ -48,7 +47,7 @@ abbrev pub RepresentsRest : Accumulator → Fold → List ItemAnswer → Type 0
 RepresentsRest (accumulator.Scalar n) t rs = ScalarRepresents n t rs
 RepresentsRest (accumulator.Values k) t rs = ValuesRepresentRest k t rs
 
--- the index and the accumulated value for an item: `map` binds the index, `reduce` both
+-- what is told beside an item at a place: the place where items are mapped, and what has been made so far too where they are reduced
 abbrev pub index_arg : Accumulator → ℕ → Option Value
 index_arg (accumulator.Values (value_accumulator.Map values)) place = Some (number place)
 index_arg (accumulator.Values (value_accumulator.Reduce acc)) place = Some (number place)
@@ -58,35 +57,35 @@ abbrev pub acc_arg : Accumulator → Option Value
 acc_arg (accumulator.Values (value_accumulator.Reduce acc)) = Some acc
 acc_arg g = None
 
--- the state of a run after these results
+-- a run stands where these replies lead
 pub record RunRepresents (run : PredicateRun) (t : Fold) (rs : List ItemAnswer) : Type 0 where
   pub asked : run.asked ≡ first_place t + length rs
   pub gathered : Represents run.gathered t rs
 
--- a run waits for the result that follows these: an item is out
+-- a run waits for the answer that follows these replies: an item is out
 pub record Awaits (run : PredicateRun) (t : Fold) (rs : List ItemAnswer) : Type 0 where
   pub asked : run.asked ≡ first_place t + length rs + 1
   pub gathered : RepresentsRest run.gathered t rs
 
--- the remaining items, in the order of the calls
+-- the items that are left, in the order in which they are asked about
 abbrev pub remaining_items : PredicateRun → List Value
 remaining_items run = items_remaining run.left
 
--- number of remaining items
+-- how many they are
 abbrev pub remaining_count : PredicateRun → ℕ
 remaining_count run = length (remaining_items run)
 
--- a run is at its beginning, if this is what its built-in begins with
+-- a run stands at its beginning, where this is what its built-in begins with
 abbrev pub StartsWith : PredicateRun → Result FoldOver ErrorKind → Type 0
 StartsWith run start = (t : Fold) × (start ≡ Ok (record { fold = t; items = remaining_items run })) × RunRepresents run t []
 
--- what a run binds for the item that is out, until it is taken
+-- what a run tells beside the item that is out, until it is taken
 abbrev pub index_out : PredicateRun → Option Value
 index_out run = index_arg run.gathered (run.asked - 1)
 
 abbrev pub acc_out : PredicateRun → Option Value
 acc_out run = acc_arg run.gathered
 
--- the arguments of the predicate for that item
+-- what it asks about that item
 abbrev pub pending_args : PredicateRun → Value → PredicateArgsView
 pending_args run item = record { item = item; index = index_out run; acc = acc_out run }

@@ -7,4 +7,3 @@ pub mod Grouped
 pub mod Grouping
 pub mod Remaining
 pub mod Runs
-pub mod Sorting

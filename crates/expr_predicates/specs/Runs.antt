@@ -3,22 +3,21 @@ use Rattle.std.specs.Prelude.{◌≡◌, List, [], ◌∷◌, ◌++◌, Option, 
 use Rattle.expr_error.specs.ErrorKind.{evaluation}
 use Rattle.expr_value.specs.declared.value.Value.{Value}
 use Rattle.expr_value.specs.Answers.{Answer, Then}
-use Rattle.expr_context.specs.Told.{PredicateArgsView}
-use Rattle.expr_predicates.specs.Folds.{Fold, ItemAnswer, FoldOutcome, args_about, has_stopped, refuses_answer}
+use Rattle.expr_predicates.specs.Folds.{Fold, ItemAnswer, PredicateArgsView, FoldOutcome, args_about, has_stopped, refuses_answer}
 
--- What a run may return after these results, with these items remaining: one result for each of the first items. It
--- ends at the first error, the first result that is rejected, the first that stops it, or the last item.
+-- What a run may come to after these replies, with these items left: one answer for each item of a beginning. It ends at the first refusal, the first answer that is
+-- refused, the first that stops it, or the last item.
 abbrev pub FoldMayReturn : Fold → (PredicateArgsView → Answer → Type 0) → List Value → List ItemAnswer → Answer → Type 0
 FoldMayReturn t asks [] rs answer = FoldOutcome t rs answer
 FoldMayReturn t asks (x ∷ left) rs answer =
     MatchBool (has_stopped t rs) (FoldOutcome t rs answer)
     (Then (asks (args_about t rs x)) (λ v a. MatchBool (refuses_answer t v) (a ≡ Err evaluation) (FoldMayReturn t asks left (rs ++ (x, v) ∷ []) a)) answer)
 
--- if there is no predicate, each item is the result for itself
+-- where no predicate is given, an item is the answer about itself
 abbrev pub AnswersItself : PredicateArgsView → Answer → Type 0
 AnswersItself q answer = answer ≡ Ok q.item
 
--- the next arguments of the predicate
+-- what is asked next
 abbrev pub first_args : Fold → List ItemAnswer → List Value → Option PredicateArgsView
 first_args t rs [] = None
 first_args t rs (x ∷ left) = Some (args_about t rs x)

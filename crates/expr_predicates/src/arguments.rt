@@ -1,22 +1,22 @@
-//! The direction of `sortBy` and `sort`, and the built-ins that need no predicate.
+//! The direction among the arguments of a call that asks a predicate, and which call needs none.
 ghost use Rattle.std.specs.Prelude.{◌≡◌};
 ghost use Rattle.expr_value.specs.Answers.{ReturnsExactly};
 ghost use Rattle.expr_value.specs.Values.{string_of};
 ghost use Rattle.expr_predicates.specs.Calls.{direction_named, direction_of, runs_alone};
 
-use expr_arguments::CowValue;
+use expr_cow::CowValue;
 use expr_functions::HigherOrderCall;
 use expr_value::{Result, Value, refusal};
 use std::alloc::Global;
 
-/// Whether a built-in needs no predicate. Without one, each item is the predicate's result for itself.
+/// Whether a built-in needs no predicate, and takes each item as the answer about itself where none is given.
 pub(crate) fn runs_alone(call: HigherOrderCall) -> bool
     ensures { result ≡ runs_alone call }
 {
     matches!(call, HigherOrderCall::Count | HigherOrderCall::Sum)
 }
 
-/// Whether an order is descending: `"asc"` or `"desc"`. Any other value gives `ExprError`.
+/// Whether an order is downward.
 pub(crate) fn direction(alloc: Global, order: &Value) -> Result<bool>
     ensures { ReturnsExactly result (direction_named (string_of order.now)) }
 {
@@ -27,7 +27,7 @@ pub(crate) fn direction(alloc: Global, order: &Value) -> Result<bool>
     }
 }
 
-/// Whether an order is descending. It is ascending if it is missing.
+/// Whether an order is downward, which it isn't where none is given.
 pub(crate) fn is_downward(alloc: Global, order: Option<CowValue<'_>>) -> Result<bool>
     ensures { ReturnsExactly result (direction_of order.entry) }
 {

@@ -1,4 +1,4 @@
-//! Grouping items by key.
+//! Items by their keys.
 ghost use Rattle.std.specs.Prelude.{◌≡◌, ◌<◌, ◌++◌, ◌∷◌, [], List, IfOk, map, set, get_or, vec_len, length, ◌+◌, if◌then◌else◌};
 ghost use Rattle.expr_value.specs.declared.key.Key.{Key as AKey};
 ghost use Rattle.expr_value.specs.declared.value.Value.{Value as AValue};
@@ -10,7 +10,7 @@ use expr_pairs::Keys;
 use expr_value::{Items, Key, KeyedMap, Result, Value};
 use std::alloc::Global;
 
-/// Keys as first seen, and the items of each key at its index.
+/// Keys as first seen, and the items of each at its index.
 #[derive(Drop)]
 struct Groups {
     keys: Keys<Key>,
@@ -21,7 +21,7 @@ struct Groups {
 impl Groups {
     ghost use Rattle.expr_predicates.specs.Grouped.{IsGrouping};
 
-    /// No groups.
+    /// No items.
     fn new(alloc: Global) -> Groups
         ensures { IsGrouping result [] }
     {
@@ -31,7 +31,7 @@ impl Groups {
         }
     }
 
-    /// Adds an item to the group of its key.
+    /// One more item, with those of its key.
     fn with(self, alloc: Global, key: Key, item: Value) -> Result<Groups>
         ensures ok { IfOk result (λ g. (ps : List (AKey × AValue)) → IsGrouping self ps
             → IsGrouping g (ps ++ (key, item) ∷ [])) }
@@ -44,7 +44,7 @@ impl Groups {
         Ok(Groups { keys, items })
     }
 
-    /// The map of the keys, each with the array of its items.
+    /// The keys, each with the array of its items.
     fn into_map(self, alloc: Global) -> Result<KeyedMap>
         ensures ok { IfOk result (λ m. (ps : List (AKey × AValue)) → IsGrouping self ps → m ≡ groups_of ps) }
         ensures err { OnlyMemory result }
@@ -59,7 +59,7 @@ impl Groups {
     }
 }
 
-/// Adds an empty list if `more` is true.
+/// Lists of items, with one more, if it is to be.
 fn with_list(alloc: Global, mut lists: Vec<Vec<Value>>, more: bool) -> Result<Vec<Vec<Value>>>
     ensures lists { IfOk result (λ l. item_lists l.items
         ≡ item_lists lists.items ++ (if more then [] ∷ [] else [])) }
@@ -72,7 +72,7 @@ fn with_list(alloc: Global, mut lists: Vec<Vec<Value>>, more: bool) -> Result<Ve
     Ok(lists)
 }
 
-/// Adds an item to the list at an index.
+/// Lists of items, with one more item in one of them.
 fn with_item(mut lists: Vec<Vec<Value>>, index: usize, item: Value) -> Result<Vec<Vec<Value>>>
     requires { index < vec_len lists }
     ensures len { IfOk result (λ l. vec_len l ≡ vec_len lists) }

@@ -1,24 +1,25 @@
-//! The items for which the predicate is still to be called.
+//! The items of an array that are left to ask about.
 ghost use Rattle.std.specs.Prelude.{◌≡◌, ◌∷◌, [], MatchOption, reverse};
 ghost use Rattle.expr_arguments.specs.Arrays.{array_items};
 ghost use Rattle.expr_predicates.specs.Remaining.{items_remaining};
 
-use expr_arguments::{Array, CowValue};
+use expr_arguments::Array;
+use expr_cow::CowValue;
 use expr_value::Value;
 
-/// The items that remain, owned or borrowed.
+/// The items that are left, as they are held.
 #[derive(Drop)]
 pub(crate) enum Remaining<'s> {
-    /// Owned by the run, in reverse: the next item is the last.
+    /// The run's own; the next one is the last.
     Owned(Vec<Value>),
-    /// Borrowed. The next item is the first.
+    /// Lent, to be asked about from the front.
     Front(&'s [Value]),
-    /// Borrowed. The next item is the last.
+    /// Lent, to be asked about from the back.
     Back(&'s [Value]),
 }
 
 impl<'s> Remaining<'s> {
-    /// The items of an array, from first to last.
+    /// The items of an array, from the first to the last.
     pub(crate) fn forward(array: Array<'s>) -> Remaining<'s>
         ensures { items_remaining result ≡ array_items array.entry }
     {
@@ -32,7 +33,7 @@ impl<'s> Remaining<'s> {
         }
     }
 
-    /// The items of an array, from last to first.
+    /// The items of an array, from the last to the first.
     pub(crate) fn backward(array: Array<'s>) -> Remaining<'s>
         ensures { items_remaining result ≡ reverse (array_items array.entry) }
     {
@@ -42,7 +43,7 @@ impl<'s> Remaining<'s> {
         }
     }
 
-    /// Moves out the next item.
+    /// The next item, by value.
     #[inline(always)]
     pub(crate) fn pop(&mut self) -> Option<CowValue<'s>>
         ensures { MatchOption result ((items_remaining self.old ≡ []) × (items_remaining self.new ≡ []))

@@ -9,14 +9,15 @@ ghost use Rattle.expr_predicates.specs.Remaining.{items_remaining};
 use crate::arguments::{direction, is_downward, runs_alone};
 use crate::remaining::Remaining;
 use crate::scalar_accumulator::ScalarAccumulator;
-use crate::sorting::sort_items;
 use crate::value_accumulator::ValueAccumulator;
-use expr_arguments::{Array, CowValue, array_and_more, count_items, into_items};
+use expr_arguments::{Array, array_and_more, count_items, into_items};
+use expr_cow::CowValue;
 use expr_functions::HigherOrderCall;
+use expr_sorting::sort_items;
 use expr_value::{Items, Result, Value, refusal};
 use std::alloc::Global;
 
-/// What is kept of the results so far.
+/// What is kept of the answers so far.
 #[derive(Drop)]
 enum Accumulator {
     Scalar(ScalarAccumulator),
@@ -27,7 +28,7 @@ impl Accumulator {
     ghost use Rattle.expr_predicates.specs.Folds.{Fold, ItemAnswer, FoldOutcome, first_place, front_fold, refuses_answer, has_stopped};
     ghost use Rattle.expr_predicates.specs.Accumulators.{Represents, RepresentsRest, acc_arg, index_arg};
 
-    /// The accumulator before any result, for a built-in on an array alone that goes from first to last.
+    /// What is kept before any answer, for a built-in that asks about the items of an array alone, from the front.
     fn at_start(alloc: Global, call: HigherOrderCall) -> Option<Accumulator>
         ensures begun { IfSome result (λ a. IsSomeAnd (front_fold call) (λ t. Represents a t [])) }
         ensures none { result ≡ None → front_fold call ≡ None }
@@ -39,7 +40,7 @@ impl Accumulator {
         Some(Accumulator::Values(kept))
     }
 
-    /// Whether no more results are needed.
+    /// Whether no more is to be asked.
     #[inline(always)]
     fn has_stopped(&self) -> bool
         ensures { (t : Fold) (rs : List ItemAnswer) → Represents self.now t rs → result ≡ has_stopped t rs }
@@ -50,7 +51,7 @@ impl Accumulator {
         }
     }
 
-    /// The index of the item, from 0, if the built-in binds `#index`.
+    /// What is told beside the item at a place: the place, where the built-in binds `#index`.
     #[inline(always)]
     fn index(&self, place: usize) -> Option<Value>
         ensures { result ≡ index_arg self.now place }
@@ -63,7 +64,7 @@ impl Accumulator {
         }
     }
 
-    /// Moves out the accumulated value, if the built-in binds `#acc`, and leaves nil.
+    /// What has been made so far, where the built-in binds `#acc`; nil is left of it.
     #[inline(always)]
     fn take_acc(&mut self) -> Option<Value>
         ensures acc { result ≡ acc_arg self.old }
@@ -80,7 +81,7 @@ impl Accumulator {
         }
     }
 
-    /// Adds a result, for the item at an index.
+    /// One more answer, about the item at a place.
     #[inline(always)]
     fn take(&mut self, alloc: Global, place: usize, item: CowValue<'_>, answer: Value) -> Result<()>
         requires { place + 1 < 2 ^ 64 }
@@ -96,7 +97,7 @@ impl Accumulator {
         }
     }
 
-    /// Adds the item at an index, as the predicate's result for itself.
+    /// The item at a place, as the answer about itself.
     fn take_itself(&mut self, alloc: Global, place: usize, item: CowValue<'_>) -> Result<()>
         requires { place + 1 < 2 ^ 64 }
         ensures gathered { IfOk result (λ _. (t : Fold) (rs : List ItemAnswer) → RepresentsRest self.old t rs
@@ -115,7 +116,7 @@ impl Accumulator {
         }
     }
 
-    /// The value of the call.
+    /// What the answers come to.
     fn outcome(self, alloc: Global) -> Result<Value>
         ensures { (t : Fold) (rs : List ItemAnswer) → Represents self t rs
             → Returns result (FoldOutcome t rs) }
@@ -127,18 +128,18 @@ impl Accumulator {
     }
 }
 
-/// A call of a built-in between two results of its predicate. It runs no predicate: it hands out an item, takes it back
-/// with the result, and returns a value once it needs no more. Items of a borrowed array are copied only if they are
+/// A built-in between two answers of its predicate. It runs no predicate: it hands out what is asked next, takes it back
+/// with the answer, and gives its value once no more is asked. Items that are lent to it are copied only where they are
 /// kept.
 pub struct PredicateRun<'s> {
     left: Remaining<'s>,
-    /// Number of items that were handed out.
+    /// How many items have been handed out.
     asked: usize,
     gathered: Accumulator,
     ghost fits: { asked + length (items_remaining left) < 2 ^ 64 },
 }
 
-// Written by hand so that dropping one is a single step in proofs of callers.
+// Written out so that letting go of one is a single step in the proofs above.
 impl<'s> Drop for PredicateRun<'s> {
     #[inline(always)]
     fn drop(self) {
@@ -157,13 +158,10 @@ impl<'s> PredicateRun<'s> {
     ghost use Rattle.expr_predicates.specs.Runs.{FoldMayReturn, AnswersItself, next_args};
     ghost use Rattle.expr_predicates.specs.Folds.{Fold, ItemAnswer, FoldOutcome, front_fold, refuses_answer};
 
-    /// Begins a call with these arguments: an array, and optionally an initial value for `reduce` or a direction for
-    /// `sortBy`. A borrowed array isn't copied.
-    ///
-    /// # Errors
-    ///
-    /// Returns [`ExprError`](expr_value::Error::ExprError) if the arguments don't fit, if there is no predicate and the
-    /// built-in needs one, or if `reduce` has neither items nor an initial value.
+    /// A built-in on its arguments, with or without a predicate: an array, and for `reduce` what it begins with or for
+    /// `sortBy` its direction. An array that is lent stays where it stands. Other arguments, no predicate where one is
+    /// needed, and `reduce` of no items with nothing to begin with are refused with
+    /// [`Error::ExprError`](expr_value::Error::ExprError).
     pub fn begin(
         alloc: Global,
         call: HigherOrderCall,
@@ -183,7 +181,7 @@ impl<'s> PredicateRun<'s> {
         }
     }
 
-    /// Begins a built-in on an array alone.
+    /// A built-in on an array alone.
     fn over_array(
         alloc: Global,
         call: HigherOrderCall,
@@ -209,7 +207,7 @@ impl<'s> PredicateRun<'s> {
         }
     }
 
-    /// Begins a built-in on an array alone that goes from first to last.
+    /// A built-in that asks about the items of an array alone, from the front.
     fn from_front(
         alloc: Global,
         call: HigherOrderCall,
@@ -226,7 +224,7 @@ impl<'s> PredicateRun<'s> {
         }
     }
 
-    /// Begins a built-in on an array and one more argument.
+    /// A built-in on an array and one more argument.
     fn over_array_with(
         alloc: Global,
         call: HigherOrderCall,
@@ -257,7 +255,7 @@ impl<'s> PredicateRun<'s> {
         }
     }
 
-    /// A run from the first item to the last.
+    /// A run that asks about the items from the front.
     fn forward(array: Array<'s>, gathered: Accumulator) -> PredicateRun<'s>
         ensures left { remaining_items result ≡ array_items array.entry }
         ensures asked { result.asked ≡ 0 }
@@ -270,7 +268,7 @@ impl<'s> PredicateRun<'s> {
         }
     }
 
-    /// A run from the last item to the first.
+    /// A run that asks about the items from the back.
     fn backward(array: Array<'s>, gathered: Accumulator) -> PredicateRun<'s>
         ensures left { remaining_items result ≡ reverse (array_items array.entry) }
         ensures asked { result.asked ≡ 0 }
@@ -283,7 +281,7 @@ impl<'s> PredicateRun<'s> {
         }
     }
 
-    /// A run of `reduce` whose initial value is the first item. That is copied if the array is borrowed.
+    /// A run that begins with the first item as what has been made so far, which is copied where it is lent.
     fn from_first(alloc: Global, array: Array<'s>) -> Result<PredicateRun<'s>>
         ensures begun { IfOk result (λ r. StartsWith r (reduce_from_first (array_items array.entry))) }
         ensures refused { RefusesWith result (λ k. reduce_from_first (array_items array.entry) ≡ Err k) }
@@ -302,9 +300,8 @@ impl<'s> PredicateRun<'s> {
         }
     }
 
-    /// Hands out the next item, or `None` if no more results are needed. [`index`](PredicateRun::index) and
-    /// [`take_acc`](PredicateRun::take_acc) give `#index` and `#acc` for it, until its result is passed to
-    /// [`answer`](PredicateRun::answer).
+    /// The item that is asked about next, by value, or none where no more is. What is told beside it is had by
+    /// [`index`](PredicateRun::index) and [`take_acc`](PredicateRun::take_acc), before the answer.
     #[inline(always)]
     pub fn next_item(&mut self) -> Option<CowValue<'s>>
         ensures question { (t : Fold) (rs : List ItemAnswer) → RunRepresents self.old t rs
@@ -323,7 +320,7 @@ impl<'s> PredicateRun<'s> {
         Some(item)
     }
 
-    /// Index, from 0, of the item that is out, if the built-in binds `#index`.
+    /// The place in the array, from 0, of the item that is out, where the built-in binds `#index`.
     #[inline(always)]
     pub fn index(&self) -> Option<Value>
         ensures { result ≡ index_out self.now }
@@ -331,7 +328,7 @@ impl<'s> PredicateRun<'s> {
         self.gathered.index(self.asked.saturating_sub(1))
     }
 
-    /// Moves out the accumulated value, if the built-in binds `#acc`. It can be taken once for each item.
+    /// What has been made so far, by value, where the built-in binds `#acc`. It is told once of an item.
     #[inline(always)]
     pub fn take_acc(&mut self) -> Option<Value>
         ensures acc { result ≡ acc_out self.old }
@@ -342,12 +339,9 @@ impl<'s> PredicateRun<'s> {
         self.gathered.take_acc()
     }
 
-    /// Takes back the item that was handed out, with the predicate's result for it.
-    ///
-    /// # Errors
-    ///
-    /// Returns [`ExprError`](expr_value::Error::ExprError) if the result is no boolean for `count`, no integer for
-    /// `sum` or no scalar for `groupBy`. The run is lost then.
+    /// Takes an item back that was handed out, with the answer about it. An answer that is no boolean for `count`, no
+    /// integer for `sum` or no scalar for `groupBy` is refused with [`Error::ExprError`](expr_value::Error::ExprError),
+    /// and nothing is left of the run.
     #[inline(always)]
     pub fn answer(&mut self, alloc: Global, item: CowValue<'_>, answer: Value) -> Result<()>
         ensures value { IfOk result (λ _. (t : Fold) (rs : List ItemAnswer) → Awaits self.old t rs
@@ -361,7 +355,7 @@ impl<'s> PredicateRun<'s> {
         self.gathered.take(alloc, place, item, answer)
     }
 
-    /// Takes back the item that was handed out, as the predicate's result for itself.
+    /// Takes an item back that was handed out, as the answer about itself.
     fn answer_itself(&mut self, alloc: Global, item: CowValue<'_>) -> Result<()>
         ensures value { IfOk result (λ _. (t : Fold) (rs : List ItemAnswer) → Awaits self.old t rs
             → (refuses_answer t item.entry ≡ false) × (remaining_items self.new ≡ remaining_items self.old)
@@ -374,13 +368,8 @@ impl<'s> PredicateRun<'s> {
         self.gathered.take_itself(alloc, place, item)
     }
 
-    /// The value of the call if each item is the predicate's result for itself, as in `count` and `sum` without a
-    /// predicate.
-    ///
-    /// # Errors
-    ///
-    /// Returns [`ExprError`](expr_value::Error::ExprError) if an item can't be such a result, as in
-    /// [`answer`](PredicateRun::answer).
+    /// What the run comes to where each item is the answer about itself, as for `count` and `sum` without a predicate. An
+    /// item that is refused as an answer is refused with [`Error::ExprError`](expr_value::Error::ExprError).
     pub fn complete(self, alloc: Global) -> Result<Value>
         ensures { (t : Fold) → RunRepresents self.entry t []
             → Returns result (FoldMayReturn t AnswersItself (remaining_items self.entry) []) }
@@ -392,12 +381,8 @@ impl<'s> PredicateRun<'s> {
         run.finish(alloc)
     }
 
-    /// The value of the call, once no more results are needed.
-    ///
-    /// # Errors
-    ///
-    /// Returns [`ExprError`](expr_value::Error::ExprError) if the keys of `sortBy` are neither all integers nor all
-    /// strings.
+    /// What the answers come to, once no more is asked. Keys of `sortBy` that are neither all integers nor all texts are
+    /// refused with [`Error::ExprError`](expr_value::Error::ExprError).
     pub fn finish(self, alloc: Global) -> Result<Value>
         ensures { (t : Fold) (rs : List ItemAnswer) → RunRepresents self.entry t rs
             → Returns result (FoldOutcome t rs) }
@@ -411,13 +396,9 @@ impl<'s> PredicateRun<'s> {
     }
 }
 
-/// `sort`: the items of an array in ascending order, or with `"desc"` in descending order. No predicate is called.
-/// Items are copied only if the array is borrowed.
-///
-/// # Errors
-///
-/// Returns [`ExprError`](expr_value::Error::ExprError) if the items are neither all integers nor all strings, or if the
-/// arguments don't fit.
+/// The items of an array in their order, upward or, with `"desc"`, downward, each being its own key. No predicate is
+/// asked, and items are copied only where the array is lent. Items that are neither all integers nor all texts, and other
+/// arguments, are refused with [`Error::ExprError`](expr_value::Error::ExprError).
 pub fn sort(alloc: Global, args: Items<CowValue<'_>>) -> Result<Value>
     ensures { Returns result (SortsItems args.entry) }
 {

@@ -1,4 +1,4 @@
-//! Accumulators of built-ins that keep neither items nor results.
+//! What is kept of the answers where neither an item nor an answer is.
 ghost use Rattle.std.specs.Prelude.{◌≡◌, ◌+◌, ◌-◌, ◌<◌, ◌^◌, ◌∷◌, ◌++◌, [], List, length, IfOk, IfSome, IsSomeAnd, Ok, Some, None, true, false, not, unwrap_or, if◌then◌else◌};
 ghost use Rattle.std.specs.Option.{option_map, option_or};
 ghost use Rattle.expr_value.specs.Values.{truth_of};
@@ -10,19 +10,19 @@ use expr_functions::HigherOrderCall;
 use expr_value::{Error, Result, Value, refusal};
 use std::alloc::Global;
 
-/// What is kept of the results so far.
+/// What is kept of the answers so far.
 #[derive(Clone, Copy)]
 pub(crate) enum ScalarAccumulator {
-    /// Whether some result was false.
+    /// Whether some answer was false.
     All(bool),
-    /// Whether some result was true.
+    /// Whether some answer was true.
     Any(bool),
     NoneOf(bool),
-    /// How many results were true.
+    /// How many answers were true.
     One(usize),
-    /// Index of the first item whose result was true.
+    /// How many were asked about before the first item whose answer was true.
     FindIndex(Option<usize>),
-    /// Number of items, and the index, counted from the back, of the first item found whose result was true.
+    /// The same, from the back of so many items.
     FindLastIndex(usize, Option<usize>),
     Count(usize),
     Sum(i64),
@@ -32,7 +32,7 @@ impl ScalarAccumulator {
     ghost use Rattle.expr_predicates.specs.Folds.{Fold, ItemAnswer, FoldOutcome, first_place, refuses_answer, has_stopped, scalar_fold};
     ghost use Rattle.expr_predicates.specs.Accumulators.{ScalarRepresents};
 
-    /// The accumulator before any result, for a built-in that keeps no more than these variants.
+    /// What is kept before any answer, for a built-in that keeps no more.
     pub(crate) fn at_start(call: HigherOrderCall) -> Option<ScalarAccumulator>
         ensures begun { IfSome result (λ a. IsSomeAnd (scalar_fold call) (λ t. ScalarRepresents a t [])) }
         ensures none { result ≡ None → scalar_fold call ≡ None }
@@ -49,7 +49,7 @@ impl ScalarAccumulator {
         }
     }
 
-    /// Whether no more results are needed.
+    /// Whether no more is to be asked.
     pub(crate) fn has_stopped(&self) -> bool
         ensures { (t : Fold) (rs : List ItemAnswer) → ScalarRepresents self.now t rs
             → result ≡ has_stopped t rs }
@@ -65,7 +65,7 @@ impl ScalarAccumulator {
         }
     }
 
-    /// Adds a result for an item that follows `asked` others. Returns whether the result was accepted.
+    /// One more answer, about an item that stands behind so many others, where it is taken.
     #[inline(always)]
     fn note(&mut self, asked: usize, answer: &Value) -> bool
         requires { asked + 1 < 2 ^ 64 }
@@ -119,7 +119,7 @@ impl ScalarAccumulator {
         }
     }
 
-    /// The error for a result that isn't accepted.
+    /// The refusal of an answer that isn't taken.
     #[inline(never)]
     fn refusal(&self, alloc: Global) -> Error
         ensures { IsOfKind result evaluation }
@@ -130,7 +130,7 @@ impl ScalarAccumulator {
         }
     }
 
-    /// Adds a result for an item that follows `asked` others.
+    /// One more answer, about an item that stands behind so many others.
     #[inline(always)]
     pub(crate) fn take(&mut self, alloc: Global, asked: usize, answer: &Value) -> Result<()>
         requires { asked + 1 < 2 ^ 64 }
@@ -150,7 +150,7 @@ impl ScalarAccumulator {
         }
     }
 
-    /// The value of the call.
+    /// What the answers come to.
     pub(crate) fn outcome(self) -> Value
         ensures { (t : Fold) (rs : List ItemAnswer) → ScalarRepresents self t rs
             → FoldOutcome t rs (Ok result) }
@@ -168,28 +168,28 @@ impl ScalarAccumulator {
     }
 }
 
-/// Whether a result is `true`.
+/// Whether an answer is `true`.
 pub(crate) fn is_true(answer: &Value) -> bool
     ensures { result ≡ unwrap_or (truth_of answer.now) false }
 {
     answer.as_bool().unwrap_or(false)
 }
 
-/// Whether a result is `false`.
+/// Whether an answer is `false`.
 fn is_false(answer: &Value) -> bool
     ensures { result ≡ not (unwrap_or (truth_of answer.now) true) }
 {
     !answer.as_bool().unwrap_or(true)
 }
 
-/// Adds 1 if `more` is true.
+/// One more, if it counts.
 fn count_if(count: usize, more: bool) -> usize
     ensures { count + 1 < 2 ^ 64 → result ≡ count + (if more then 1 else 0) }
 {
     if more { count.saturating_add(1) } else { count }
 }
 
-/// What was found before, or else `here` if it is what is searched.
+/// What was found, or else this, if it is what is sought.
 pub(crate) fn found_if<T: Drop>(found: Option<T>, is_sought: bool, here: T) -> Option<T>
     ensures { result ≡ option_or found (if is_sought then Some here else None) }
 {
@@ -199,7 +199,7 @@ pub(crate) fn found_if<T: Drop>(found: Option<T>, is_sought: bool, here: T) -> O
     }
 }
 
-/// An index as a value, or -1.
+/// A place that was found, or -1.
 fn place(found: Option<usize>) -> Value
     ensures { result ≡ place_or_none found }
 {
@@ -209,7 +209,7 @@ fn place(found: Option<usize>) -> Value
     }
 }
 
-/// An index that was counted from the back of `count` items, as a value, or -1.
+/// The same, where items are counted from the back of so many.
 fn place_from_back(count: usize, found: Option<usize>) -> Value
     ensures { result ≡ place_or_none (option_map (λ n. count - 1 - n) found) }
 {

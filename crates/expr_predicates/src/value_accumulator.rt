@@ -1,35 +1,34 @@
-//! Accumulators of built-ins that keep items or results.
+//! What is kept of the answers where items or answers are.
 ghost use Rattle.std.specs.Prelude.{◌≡◌, ◌∷◌, ◌++◌, [], List, IfOk, IfSome, IsSomeAnd, OnOk, Some, None, true, false, if◌then◌else◌};
 ghost use Rattle.std.specs.Option.{option_or};
 ghost use Rattle.expr_value.specs.Answers.{Returns};
 ghost use Rattle.expr_value.specs.Values.{key_of};
 ghost use Rattle.expr_error.specs.ErrorKind.{evaluation, OnlyMemory, RefusesWith};
 ghost use Rattle.expr_value.specs.declared.key.Key.{Key as key};
-ghost use Rattle.expr_predicates.specs.Sorting.{sort_key};
+ghost use Rattle.expr_sorting.specs.Sorting.{sort_key};
 
 use crate::grouping::group_by_key;
 use crate::scalar_accumulator::is_true;
-use crate::sorting::sort_by_keys;
-use expr_arguments::{Cow, CowValue};
+use expr_cow::{Cow, CowValue};
 use expr_functions::HigherOrderCall;
+use expr_sorting::sort_by_keys;
 use expr_value::{Items, Key, Result, Value, refusal};
 use std::alloc::{AllocError, Global};
 
-/// What is kept of the items and results so far.
+/// What is kept of the items and answers so far.
 #[derive(Drop)]
 pub(crate) enum ValueAccumulator {
-    /// The results.
+    /// The answers.
     Map(Vec<Value>),
-    /// The items whose result was true.
+    /// The items whose answer was true.
     Filter(Vec<Value>),
-    /// The first item whose result was true.
+    /// The first item whose answer was true.
     Find(Option<Value>),
-    /// The last result, or the initial value. Nil while it is moved out.
+    /// The last answer, or what they begin with; nil while it is out.
     Reduce(Value),
-    /// The items with their keys.
+    /// The items beside their keys.
     GroupBy(Vec<(Key, Value)>),
-    /// The items with their keys, and whether the order is descending. A result that can't be a key is found at the
-    /// end.
+    /// The items beside their keys, and whether they are to go downward. An answer that is no key is checked at the end.
     SortBy(bool, Vec<(Key, Value)>),
 }
 
@@ -37,7 +36,7 @@ impl ValueAccumulator {
     ghost use Rattle.expr_predicates.specs.Folds.{Fold, ItemAnswer, FoldOutcome, refuses_answer, has_stopped, values_fold};
     ghost use Rattle.expr_predicates.specs.Accumulators.{ValuesRepresent, ValuesRepresentRest};
 
-    /// The accumulator before any result, for a built-in that keeps items or results.
+    /// What is kept before any answer, for a built-in that keeps items or answers.
     pub(crate) fn at_start(alloc: Global, call: HigherOrderCall) -> Option<ValueAccumulator>
         ensures begun { IfSome result (λ a. IsSomeAnd (values_fold call) (λ t. ValuesRepresent a t [])) }
         ensures none { result ≡ None → values_fold call ≡ None }
@@ -52,7 +51,7 @@ impl ValueAccumulator {
         }
     }
 
-    /// Whether no more results are needed.
+    /// Whether no more is to be asked.
     pub(crate) fn has_stopped(&self) -> bool
         ensures { (t : Fold) (rs : List ItemAnswer) → ValuesRepresent self.now t rs
             → result ≡ has_stopped t rs }
@@ -63,7 +62,7 @@ impl ValueAccumulator {
         }
     }
 
-    /// Adds a result, for this item. A borrowed item is copied if it is kept.
+    /// One more answer, about this item. An item that is lent is copied where it is kept.
     #[inline(always)]
     pub(crate) fn take(&mut self, alloc: Global, item: CowValue<'_>, answer: Value) -> Result<()>
         ensures kept { IfOk result (λ _. (t : Fold) (rs : List ItemAnswer) → ValuesRepresentRest self.old t rs
@@ -94,7 +93,7 @@ impl ValueAccumulator {
         }
     }
 
-    /// The value of the call.
+    /// What the answers come to.
     pub(crate) fn outcome(self, alloc: Global) -> Result<Value>
         ensures { (t : Fold) (rs : List ItemAnswer) → ValuesRepresent self t rs
             → Returns result (FoldOutcome t rs) }
@@ -110,9 +109,9 @@ impl ValueAccumulator {
     }
 }
 
-// The functions below are called rarely. They are separate so that a step pays only for the locals of its own built-in.
+// Each of these that is called seldom stands alone, so that a turn pays for the locals of its own built-in.
 
-/// Keeps an item if `is_kept` is true.
+/// An item kept, if it is to be.
 #[inline(always)]
 fn keep_if(
     kept: &mut Vec<Value>,
@@ -128,7 +127,7 @@ fn keep_if(
     }
 }
 
-/// Keeps an item.
+/// An item kept.
 #[inline(always)]
 fn keep_item(kept: &mut Vec<Value>, item: CowValue<'_>) -> std::result::Result<(), AllocError>
     ensures { OnOk result (kept.new.items ≡ kept.old.items ++ item.entry ∷ []) }
@@ -139,7 +138,7 @@ fn keep_item(kept: &mut Vec<Value>, item: CowValue<'_>) -> std::result::Result<(
     }
 }
 
-/// Keeps a copy of an item.
+/// A copy of an item kept.
 #[inline(never)]
 fn keep_copy(kept: &mut Vec<Value>, item: &Value) -> std::result::Result<(), AllocError>
     ensures { OnOk result (kept.new.items ≡ kept.old.items ++ item.now ∷ []) }
@@ -147,7 +146,7 @@ fn keep_copy(kept: &mut Vec<Value>, item: &Value) -> std::result::Result<(), All
     put_last(kept, item.clone()?)
 }
 
-/// Adds a value at the end.
+/// A value kept.
 #[inline(always)]
 fn put_last(kept: &mut Vec<Value>, value: Value) -> std::result::Result<(), AllocError>
     ensures { OnOk result (kept.new.items ≡ kept.old.items ++ value ∷ []) }
@@ -159,7 +158,7 @@ fn put_last(kept: &mut Vec<Value>, value: Value) -> std::result::Result<(), Allo
     Ok(())
 }
 
-/// Keeps an item if it is what is searched and none was found before.
+/// What was found, or else this item, if it is what is sought.
 #[inline(never)]
 fn find_if(
     found: &mut Option<Value>,
@@ -174,7 +173,7 @@ fn find_if(
     Ok(())
 }
 
-/// The value of an item, copied if it is borrowed.
+/// The value of an item, copied where it is lent.
 fn own_value(item: CowValue<'_>) -> std::result::Result<Value, AllocError>
     ensures { IfOk result (λ v. v ≡ item.entry) }
 {
@@ -184,7 +183,7 @@ fn own_value(item: CowValue<'_>) -> std::result::Result<Value, AllocError>
     }
 }
 
-/// Adds an item with its key, which is a scalar.
+/// One more item beside its key, which is a scalar.
 #[inline(never)]
 fn put_beside(
     alloc: Global,
@@ -203,7 +202,7 @@ fn put_beside(
     Ok(())
 }
 
-/// Adds an item with its key, which is nil if the result is no scalar.
+/// One more item beside its key, which is nil where the answer is no scalar.
 #[inline(never)]
 fn put_by(pairs: &mut Vec<(Key, Value)>, answer: Value, item: CowValue<'_>) -> Result<()>
     ensures ok { IfOk result (λ _. pairs.new.items ≡ pairs.old.items ++ (sort_key answer, item.entry) ∷ []) }

@@ -1,4 +1,4 @@
-//! The program `expr`: evaluates its first argument, with the names that the other arguments bind.
+//! The program `expr`: evaluates its first word, under the names that the others bind.
 #![tactic(auto)]
 
 use expr_serve::serve::{refuse_usage, serve};

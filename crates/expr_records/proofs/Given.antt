@@ -1,4 +1,4 @@
--- What is known of a value that a call returned, or of its error.
+-- What is known of a value that a call gave, or refused to give.
 use Rattle.std.proofs.Common.{◌≡◌, ◌≢◌, refl, sym, ap, subst, ◌∙◌, Result, Ok, Err}
 use Rattle.std.specs.Prelude.{Option, None, Some, option_and_then, option_map}
 use Rattle.std.proofs.lemmas.Option.{same_Some}
@@ -31,7 +31,7 @@ pub none_before : {A B : Type 0} (f : A → Option B) (o : Option A) → option_
 none_before f None e = refl
 none_before f (Some a) e = absurd (cc)
 
--- an error that a `?` passes on, of a call that may have it
+-- a refusal that a `?` passes on, of a call that is allowed to refuse so
 pub refused_passed : {A B : Type 0} (r : Result A Error) (e : Error) (R : Result B ErrorKind → Type 0)
     → IsErrAnd r (λ x. x ≡ e) → (error_kind e ≢ memory → R (Err (error_kind e))) → RefusesWith r (λ k. R (Err k))
 refused_passed (Ok v) e R is p = absurd is

@@ -1,3 +1,3 @@
 pub mod Given
 pub mod LineLemmas
-pub mod RecordFilterLemmas
+pub mod SieveLemmas

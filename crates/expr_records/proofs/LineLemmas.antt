@@ -4,21 +4,21 @@ use Rattle.std.proofs.lemmas.List.{take_more}
 use Rattle.std.specs.Prelude.{Option}
 use Rattle.std.specs.Io.KnownBytes.{Consumes, IsAtEnd}
 use Rattle.memchr.specs.Find.{Passes, is_byte}
-use Rattle.expr_records.specs.LineBuffers.{BufferHolds}
+use Rattle.expr_records.specs.LineBuffers.{Holds}
 use Rattle.expr_records.specs.Lines.{lines_of, onto_first, TakesLine}
-use Rattle.expr_records.specs.LineSteps.{HasNoFeed, IsNextLine, TakesBytes}
+use Rattle.expr_records.specs.LineSteps.{HasNoFeed, IsNextLine, Takes}
 use Rattle.expr_records.specs.declared.lines.LineStep.TheVariants.{Part, Interrupted, LineFeed, End}
 use Rattle.std.proofs.KnownBytes.{Consumes-trans}
 use Rattle.expr_records.specs.declared.line_buffer.LineBuffer.{LineBuffer}
 
--- a line with its line feed, and what follows it
+-- a line with its line feed, and what stands behind it
 first_line_of : (line rest : List ℕ) → HasNoFeed line → lines_of (line ++ 10 ∷ rest) ≡ line ∷ lines_of rest
 first_line_of [] rest h = refl
 first_line_of (b ∷ bs) rest h =
     ap (λ t. cond t ([] ∷ lines_of (bs ++ 10 ∷ rest)) (onto_first b (lines_of (bs ++ 10 ∷ rest)))) (ne_eqb b 10 h.0)
     ∙ ap (onto_first b) (first_line_of bs rest h.1)
 
--- a line without one, which nothing follows
+-- a line without one, behind which nothing stands
 last_line_of : (line : List ℕ) → HasNoFeed line → 0 < length line → lines_of line ≡ line ∷ []
 last_line_of [] h some = absurd (omega arith)
 last_line_of (b ∷ []) h some = ap (λ t. cond t ([] ∷ []) ((b ∷ []) ∷ [])) (ne_eqb b 10 h.0)
@@ -68,14 +68,14 @@ pub record Reading (old now : Option (List ℕ)) (line : LineBuffer) (is_begun :
   pub bytes : List ℕ
   pub no_feed : HasNoFeed bytes
   pub consumed : Consumes old now bytes
-  pub held : BufferHolds line bytes
+  pub held : Holds line bytes
   pub begun : IsBegun is_begun bytes
 
 -- two looks, one after the other
 read_on : (a b c : Option (List ℕ)) (xs ys end : List ℕ) → Consumes a b xs → Consumes b c (ys ++ end) → Consumes a c ((xs ++ ys) ++ end)
 read_on a b c xs ys end p q = subst (Consumes a c) (sym (append_assoc xs ys end)) (Consumes-trans a b c xs (ys ++ end) p q)
 
-pub reads_part : (old mid new : Option (List ℕ)) (before after : LineBuffer) (begun : Bool) → Reading old mid before begun → TakesBytes Part mid new before after → Reading old new after true
+pub reads_part : (old mid new : Option (List ℕ)) (before after : LineBuffer) (begun : Bool) → Reading old mid before begun → Takes Part mid new before after → Reading old new after true
 reads_part old mid new before after begun r t = record {
   bytes = r.bytes ++ t.bytes;
   no_feed = no_feed_append r.bytes t.bytes r.no_feed t.no_feed;
@@ -84,29 +84,29 @@ reads_part old mid new before after begun r t = record {
   begun = omega (arith, t.comes, length-append r.bytes t.bytes);
 }
 
-pub reads_none : (old mid new : Option (List ℕ)) (before after : LineBuffer) (begun : Bool) → Reading old mid before begun → TakesBytes Interrupted mid new before after → Reading old new after begun
+pub reads_none : (old mid new : Option (List ℕ)) (before after : LineBuffer) (begun : Bool) → Reading old mid before begun → Takes Interrupted mid new before after → Reading old new after begun
 reads_none old mid new before after begun r t =
     let same : r.bytes ++ t.bytes ≡ r.bytes = ap (λ l. r.bytes ++ l) t.comes ∙ append-nil r.bytes in
     record {
       bytes = r.bytes;
       no_feed = r.no_feed;
       consumed = subst (Consumes old new) (append-nil (r.bytes ++ t.bytes) ∙ same) (read_on old mid new r.bytes t.bytes [] r.consumed t.consumed);
-      held = subst (BufferHolds after) same (t.held r.bytes r.held);
+      held = subst (Holds after) same (t.held r.bytes r.held);
       begun = r.begun;
     }
 
-pub reads_feed : (old mid new : Option (List ℕ)) (before after : LineBuffer) (begun : Bool) → Reading old mid before begun → TakesBytes LineFeed mid new before after → IsNextLine true old new after
+pub reads_feed : (old mid new : Option (List ℕ)) (before after : LineBuffer) (begun : Bool) → Reading old mid before begun → Takes LineFeed mid new before after → IsNextLine true old new after
 reads_feed old mid new before after begun r t = (
   r.bytes ++ t.bytes,
   t.held r.bytes r.held,
   takes_whole (r.bytes ++ t.bytes) old new (no_feed_append r.bytes t.bytes r.no_feed t.no_feed) (read_on old mid new r.bytes t.bytes (10 ∷ []) r.consumed t.consumed),
 )
 
-pub reads_end : (old mid new : Option (List ℕ)) (before after : LineBuffer) (begun : Bool) → Reading old mid before begun → TakesBytes End mid new before after → IsNextLine begun old new after
+pub reads_end : (old mid new : Option (List ℕ)) (before after : LineBuffer) (begun : Bool) → Reading old mid before begun → Takes End mid new before after → IsNextLine begun old new after
 reads_end old mid new before after true r t =
     let same : r.bytes ++ t.bytes ≡ r.bytes = ap (λ l. r.bytes ++ l) t.comes.0 ∙ append-nil r.bytes in (
       r.bytes,
-      subst (BufferHolds after) same (t.held r.bytes r.held),
+      subst (Holds after) same (t.held r.bytes r.held),
       takes_last r.bytes old mid new r.no_feed r.begun r.consumed t.comes.1 (subst (Consumes mid new) (ap (λ l. l ++ []) t.comes.0) t.consumed),
     )
 reads_end old mid new before after false r t = ends_at_once r.bytes old mid r.begun r.consumed t.comes.1

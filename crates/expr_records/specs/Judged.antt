@@ -1,8 +1,8 @@
--- The outcomes of a line for an expression.
+-- What a line may come to by an expression.
 use Rattle.std.specs.Prelude.{◌≡◌, ◌≢◌, ℕ, Bool, true, false, not, List, Option, None, Some, Ok, Err, option_map, ◌⊎◌}
-use Rattle.expr_context.specs.Contexts.{NamedValues}
+use Rattle.expr.specs.Contexts.{NamedValues}
 use Rattle.expr_encoding.specs.Writing.{json_text}
-use Rattle.expr_records.specs.Lines.{is_blank_line, line_text}
+use Rattle.expr_records.specs.Lines.{is_blank, text_of}
 use Rattle.expr_records.specs.Records.{IsRecord, MayRefuseText}
 use Rattle.expr_records.specs.declared.outcome.LineOutcome.{LineOutcome}
 use Rattle.expr_records.specs.declared.outcome.LineOutcome.TheVariants.{Blank, Dropped, Kept, Counted, Rewritten, Refused}
@@ -16,22 +16,22 @@ use Rattle.expr_value.specs.Values.{truth_of}
 use Rattle.expr_error.specs.declared.error.Error.{Error}
 use Rattle.expr_value.specs.declared.value.Value.{Value}
 
--- whether two booleans are equal
+-- whether a truth is the one that is sought
 abbrev pub same : Bool → Bool → Bool
 same true truth = truth
 same false truth = not truth
 
--- whether a value is the boolean that is sought, if it is a boolean
+-- whether an answer is the truth that is sought, if it is a truth at all
 abbrev pub is_sought : Bool → Value → Option Bool
 is_sought wanted v = option_map (same wanted) (truth_of v)
 
--- the outcome of a record that is selected, isn't, or can't be decided
+-- what a record comes to that is sought, isn't, or can't be told of
 abbrev pub outcome_by : LineOutcome → Option Bool → LineOutcome
 outcome_by found (Some true) = found
 outcome_by found (Some false) = Dropped
 outcome_by found None = Refused NotBoolean
 
--- the value has no JSON
+-- the answer has no JSON
 abbrev pub IsUnwritable : Value → Refusal → Type 0
 IsUnwritable v TooLong = ⊥
 IsUnwritable v NoMemory = ⊥
@@ -42,7 +42,7 @@ IsUnwritable v (Expression error) = ⊥
 IsUnwritable v NotBoolean = ⊥
 IsUnwritable v (NotWritable error) = error_kind error ≢ memory → json_text v ≡ None
 
--- the JSON of the value, or the error
+-- the answer's JSON, or its refusal
 abbrev pub IsRewritten : Value → LineOutcome → Type 0
 IsRewritten v Blank = ⊥
 IsRewritten v Dropped = ⊥
@@ -51,29 +51,29 @@ IsRewritten v Counted = ⊥
 IsRewritten v (Rewritten text) = json_text v ≡ Some text
 IsRewritten v (Refused refusal) = IsUnwritable v refusal
 
--- the outcome of a record, by the value of the expression
+-- what a record comes to, by its answer
 abbrev pub IsOutcomeOf : Purpose → Value → LineOutcome → Type 0
 IsOutcomeOf (Keep wanted) v outcome = outcome ≡ outcome_by Kept (is_sought wanted v)
 IsOutcomeOf (Count wanted) v outcome = outcome ≡ outcome_by Counted (is_sought wanted v)
 IsOutcomeOf Rewrite v outcome = IsRewritten v outcome
 
--- the outcome of a record: by a value that the expression may return, or by its error
+-- what a record comes to: by an answer that the expression may give, or by its refusal
 abbrev pub ComesOfRecord : Purpose → (Answer → Type 0) → LineOutcome → Type 0
 ComesOfRecord purpose allowed outcome =
     ((v : Value) × allowed (Ok v) × IsOutcomeOf purpose v outcome)
     ⊎ ((error : Error) × (outcome ≡ Refused (Expression error)) × (error_kind error ≢ memory → allowed (Err (error_kind error))))
 
--- the outcome of a string: that of its record, or the error of one that is no record
+-- what a text comes to: what its record does, or the refusal of one that is no record
 abbrev pub ComesOfText : Purpose → (NamedValues → Answer → Type 0) → List ℕ → LineOutcome → Type 0
 ComesOfText purpose allowed text outcome =
     ((members : NamedValues) × IsRecord text members × ComesOfRecord purpose (allowed members) outcome)
     ⊎ ((refusal : Refusal) × (outcome ≡ Refused refusal) × MayRefuseText text refusal)
 
--- the outcome of a line, given whether it is blank
+-- what a line comes to, where it is known whether it is blank
 abbrev pub ComesBy : Bool → Purpose → (NamedValues → Answer → Type 0) → List ℕ → LineOutcome → Type 0
 ComesBy true purpose allowed text outcome = outcome ≡ Blank
 ComesBy false purpose allowed text outcome = ComesOfText purpose allowed text outcome
 
--- the outcomes of a line, given what the expression may return for a record
+-- what a line may come to, given what the expression may answer of a record
 abbrev pub MayCome : Purpose → (NamedValues → Answer → Type 0) → List ℕ → LineOutcome → Type 0
-MayCome purpose allowed line outcome = ComesBy (is_blank_line line) purpose allowed (line_text line) outcome
+MayCome purpose allowed line outcome = ComesBy (is_blank line) purpose allowed (text_of line) outcome

@@ -6,4 +6,4 @@ pub mod Lines
 pub mod Outcomes
 pub mod RecordCode
 pub mod Records
-pub mod Filtered
+pub mod Sifted

@@ -1,9 +1,9 @@
--- What is written for lines, and how they count.
+-- What is written of lines, and how they count.
 use Rattle.std.specs.Prelude.{ℕ, ◌-◌, ◌^◌, min, Bool, true, false, List, [], ◌∷◌, ◌++◌, if◌then◌else◌}
 use Rattle.expr_records.specs.declared.outcome.LineOutcome.{LineOutcome}
 use Rattle.expr_records.specs.declared.outcome.LineOutcome.TheVariants.{Blank, Dropped, Kept, Counted, Rewritten, Refused}
 
--- what is written for a line: the line as it is, or the JSON that replaces it, and a line feed
+-- what is written of a line: the line as it is, or the JSON that it becomes, and a line feed
 abbrev pub line_output : List ℕ → LineOutcome → List ℕ
 line_output line Blank = []
 line_output line Dropped = []

@@ -1,6 +1,6 @@
--- Records, and the names that they define.
+-- Records, and the names that they lend.
 use Rattle.std.specs.Prelude.{◌≡◌, ◌≢◌, ℕ, List, Option, None, Some, IsUtf8, option_and_then}
-use Rattle.expr_context.specs.Contexts.{NamedValues}
+use Rattle.expr.specs.Contexts.{NamedValues}
 use Rattle.expr_encoding.specs.Reading.{json_value}
 use Rattle.expr_records.specs.declared.outcome.Refusal.{Refusal}
 use Rattle.expr_records.specs.declared.outcome.Refusal.TheVariants.{TooLong, NoMemory, NotText, NotJson, NotObject, Expression, NotBoolean, NotWritable}
@@ -10,25 +10,25 @@ use Rattle.expr_value.specs.Names.{find}
 use Rattle.expr_value.specs.Values.{map_of}
 use Rattle.expr_value.specs.declared.value.Value.{Value}
 
--- the first of two values, or else the second
+-- the first of two values that is there
 abbrev pub or_else : Option Value → Option Value → Option Value
 or_else (Some v) other = Some v
 or_else None other = other
 
--- The members of a record are names, unless a value has the name already. `$env` is the record.
+-- A record lends its members under their names, unless a value stands under the name already. `$env` is the record.
 abbrev pub record_context : NamedValues → NamedValues → ContextView
 record_context names members = record { value_of = λ name. or_else (find name names) (find name members); map = members }
 
--- the members of the object in a string of JSON, if there is one
+-- the members of the object that a text of JSON holds, where it holds one
 abbrev pub members_of : List ℕ → Option NamedValues
 members_of text = option_and_then map_of (json_value text)
 
--- a string of JSON, in UTF-8, which is an object with these members
+-- a text of JSON, in UTF-8, that holds an object with these members
 pub record IsRecord (text : List ℕ) (members : NamedValues) : Type 0 where
   pub utf8 : IsUtf8 text
   pub object : members_of text ≡ Some members
 
--- why a string is not a record
+-- why a text is no record
 abbrev pub MayRefuseText : List ℕ → Refusal → Type 0
 MayRefuseText text TooLong = ⊥
 MayRefuseText text NoMemory = ⊥

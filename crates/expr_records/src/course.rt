@@ -1,22 +1,22 @@
-//! The work on several streams: its state, what is written at the end, and the status.
+//! How the work on several streams goes on, what is written behind all of them, and the status that it ends with.
 ghost use Rattle.std.specs.Prelude.{◌≡◌, OnOk};
 ghost use Rattle.std.specs.Io.KnownBytes.{Appends};
-ghost use Rattle.expr_records.specs.Courses.{closing_text, course_after, is_last_stream, status_after};
+ghost use Rattle.expr_records.specs.Courses.{closing_text, course_after, is_last, status_after};
 
 use crate::query::Purpose;
-use crate::record_filter::StreamEnd;
+use crate::sieve::StreamEnd;
 use crate::tally::Tally;
 use std::io::{self, ErrorKind, Write};
 
-/// The status if something can't be read or written.
+/// The status where something can't be read or written.
 pub const FAILED: u8 = 4;
 
 /// How the work went, over the streams so far.
 #[derive(Clone, Copy, Debug, PartialEq, Eq)]
 pub enum Course {
-    /// All was read and written, or the work stopped at a record with an error.
+    /// All was read and written, or a refused record ended the work.
     Done,
-    /// A stream couldn't be read to its end.
+    /// A stream couldn't be read, or not to its end.
     Unread,
     /// Nobody reads the output any more.
     Unheard,
@@ -25,9 +25,9 @@ pub enum Course {
 }
 
 impl StreamEnd {
-    /// Whether this ending of a stream is the last: no further stream is read.
+    /// Whether no further stream is read behind one that ended so.
     pub fn is_last(&self) -> bool
-        ensures { result ≡ is_last_stream self.now }
+        ensures { result ≡ is_last self.now }
     {
         match self {
             StreamEnd::Whole | StreamEnd::Unread(_) => false,
@@ -37,7 +37,7 @@ impl StreamEnd {
 }
 
 impl Course {
-    /// The state after one more stream, or after the end of the output, with this ending.
+    /// The course behind one more stream, or behind the end of the output, that ended so.
     pub fn after(self, end: &StreamEnd) -> Course
         ensures { result ≡ course_after self end.now }
     {
@@ -51,8 +51,8 @@ impl Course {
         }
     }
 
-    /// The status of the program. It is the status of the records if they were read and written, or if nobody
-    /// reads the output any more. Otherwise it is 4.
+    /// The status that the program ends with: that of the records where they were read and written, or nobody reads the
+    /// output any more; else 4.
     pub fn status(self, tally: &Tally, seeks: bool) -> u8
         ensures { result ≡ status_after self tally.now seeks }
     {
@@ -63,12 +63,7 @@ impl Course {
     }
 }
 
-/// Writes what comes after all records, and flushes. If records are counted, that is the number of those kept
-/// and a line feed.
-///
-/// # Errors
-///
-/// Returns the error of the writer.
+/// Writes what stands behind all records, and flushes: where they are counted, the number of those kept and a line feed.
 pub fn finish<W: Write>(out: &mut W, purpose: Purpose, tally: &Tally) -> io::Result<()>
     ensures { OnOk result (Appends (W.contents out.old) (W.contents out.new)
         (closing_text purpose tally.now.kept)) }

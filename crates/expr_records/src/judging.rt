@@ -1,26 +1,26 @@
-//! The outcome of a line for an expression.
+//! What a line comes to by an expression.
 ghost use Rattle.std.specs.Prelude.{◌≡◌, ℕ, List};
-ghost use Rattle.expr_lowering.specs.OwnedCodes.{owned_blocks};
+ghost use Rattle.expr.specs.KeptCodes.{kept_blocks};
 ghost use Rattle.expr_records.specs.RecordCode.{IsCodeOf, may_answer};
 ghost use Rattle.expr_records.specs.Judged.{ComesOfRecord, IsOutcomeOf, is_sought, same};
 
 use crate::outcome::{LineOutcome, Refusal};
 use crate::query::{Purpose, Query};
 use crate::record::{is_blank, record_of, text_of};
-use crate::record_filter::Judge;
+use crate::sieve::Judge;
+use expr::Value;
 use expr_encoding::{JsonReader, Members, to_json};
 use expr_meaning::Functions;
-use expr_value::Value;
 use std::alloc::Global;
 
-/// Whether two booleans are equal.
+/// Whether a truth is the one that is sought.
 fn same(wanted: bool, truth: bool) -> bool
     ensures { result ≡ same wanted truth }
 {
     if wanted { truth } else { !truth }
 }
 
-/// Whether a value is the boolean that is sought. Returns None if it is no boolean.
+/// Whether an answer is the truth that is sought, if it is a truth at all.
 fn is_sought(wanted: bool, answer: &Value) -> Option<bool>
     ensures { result ≡ is_sought wanted answer.now }
 {
@@ -30,7 +30,7 @@ fn is_sought(wanted: bool, answer: &Value) -> Option<bool>
     }
 }
 
-/// The outcome of a record for which the expression returned this value.
+/// What a record comes to whose answer is this.
 fn outcome_of(alloc: Global, purpose: Purpose, answer: &Value) -> LineOutcome
     ensures { IsOutcomeOf purpose answer.now result }
 {
@@ -52,13 +52,13 @@ fn outcome_of(alloc: Global, purpose: Purpose, answer: &Value) -> LineOutcome
     }
 }
 
-/// The outcome of a record.
+/// What a record comes to.
 fn record_outcome<H: Functions>(
     alloc: Global,
     query: &mut Query<H>,
     members: Members<'_>,
 ) -> LineOutcome
-    ensures comes { (text : List ℕ) → IsCodeOf text (owned_blocks query.old.machine.code.now)
+    ensures comes { (text : List ℕ) → IsCodeOf text (kept_blocks query.old.machine.code.now)
         → ComesOfRecord query.old.purpose
         (may_answer (H.host query.old.host.now) query.old.names.now text members.entry) result }
     ensures same { query.new ≡ query.old }
@@ -71,15 +71,14 @@ fn record_outcome<H: Functions>(
 
 impl<'h, H: Functions> Judge for Query<'h, H> {
     ghost use Rattle.std.specs.Prelude.{List, ℕ};
-    ghost use Rattle.expr_lowering.specs.OwnedCodes.{owned_blocks};
+    ghost use Rattle.expr.specs.KeptCodes.{kept_blocks};
     ghost use Rattle.expr_records.specs.RecordCode.{IsCodeOf, may_answer};
     ghost use Rattle.expr_records.specs.Judged.{MayCome};
 
-    ghost judged = { λ q line outcome. (text : List ℕ) → IsCodeOf text (owned_blocks q.machine.code.now)
+    ghost judged = { λ q line outcome. (text : List ℕ) → IsCodeOf text (kept_blocks q.machine.code.now)
         → MayCome q.purpose (may_answer (H.host q.host.now) q.names.now text) line outcome };
 
-    /// Skips a byte order mark at the start of the line. A line of only spaces, tabs and carriage returns has
-    /// no record.
+    /// A mark at the line's front is passed over, and a line of spaces, tabs and carriage returns alone has no record.
     fn judge(&mut self, alloc: Global, reader: &mut JsonReader, line: &[u8]) -> LineOutcome {
         let text = text_of(line);
         if is_blank(text) {

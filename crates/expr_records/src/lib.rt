@@ -1,4 +1,4 @@
-//! Records, one JSON object a line, that an expression filters, counts or rewrites.
+//! Records, one JSON object a line, kept, counted or rewritten by an expression.
 #![tactic(auto)]
 
 mod course;
@@ -9,7 +9,7 @@ mod names;
 mod outcome;
 mod query;
 mod record;
-mod record_filter;
+mod sieve;
 mod tally;
 
 pub use course::{Course, FAILED, finish};
@@ -20,5 +20,5 @@ pub use names::bind;
 pub use outcome::{LineOutcome, Refusal};
 pub use query::{Purpose, Query, code_of_text};
 pub use record::{Record, record_of};
-pub use record_filter::{Judge, RecordFilter, StreamEnd};
+pub use sieve::{Judge, Sieve, StreamEnd};
 pub use tally::Tally;

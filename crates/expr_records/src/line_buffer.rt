@@ -1,21 +1,21 @@
 //! The bytes of a line as they are read.
 ghost use Rattle.std.specs.Prelude.{◌≡◌, ◌++◌, [], ℕ, List};
-ghost use Rattle.expr_records.specs.LineBuffers.{BufferHolds};
+ghost use Rattle.expr_records.specs.LineBuffers.{Holds};
 
 use std::alloc::Global;
 
-/// What a buffer holds of the bytes of a line.
+/// How the bytes that came of a line are held.
 #[derive(Clone, Copy, Debug, PartialEq, Eq)]
 pub enum LineState {
-    /// All of them.
+    /// All of them are there.
     Fits,
-    /// None: there are more of them than the bound.
+    /// There are more of them than the bound, and they are let go.
     TooLong,
-    /// None: an allocation for them failed.
+    /// A growth was refused for them, and they are let go.
     NoMemory,
 }
 
-/// A line as far as it was read, of at most a bound in bytes. Its memory is used again for the next line.
+/// A line as far as it was read, no longer than a bound in bytes. Its memory is used again for the next one.
 #[derive(Drop)]
 pub struct LineBuffer {
     pub bytes: Vec<u8>,
@@ -24,9 +24,9 @@ pub struct LineBuffer {
 }
 
 impl LineBuffer {
-    /// Creates an empty buffer. It allocates no memory.
+    /// No bytes yet. It takes no memory.
     pub fn new(alloc: Global, bound: usize) -> LineBuffer
-        ensures empty { BufferHolds result [] }
+        ensures empty { Holds result [] }
         ensures bound { result.bound ≡ bound }
     {
         LineBuffer {
@@ -36,19 +36,18 @@ impl LineBuffer {
         }
     }
 
-    /// Clears the buffer for the next line.
+    /// Lets go of what is held, for the next line.
     pub fn clear(&mut self)
-        ensures empty { BufferHolds self.new [] }
+        ensures empty { Holds self.new [] }
         ensures bound { self.new.bound ≡ self.old.bound }
     {
         self.bytes.clear();
         self.state = LineState::Fits;
     }
 
-    /// Adds bytes to the line.
+    /// Adds bytes to those that came.
     pub fn add(&mut self, part: &[u8])
-        ensures added { (bytes : List ℕ) → BufferHolds self.old bytes
-            → BufferHolds self.new (bytes ++ part.now) }
+        ensures added { (bytes : List ℕ) → Holds self.old bytes → Holds self.new (bytes ++ part.now) }
         ensures bound { self.new.bound ≡ self.old.bound }
     {
         if self.state != LineState::Fits {

@@ -1,28 +1,28 @@
-//! The lines of a stream, one at a time.
+//! Lines of a stream, one at a time.
 ghost use Rattle.std.specs.Prelude.{◌≡◌, ℕ, List, [], ◌∷◌, ◌++◌, IfOk, MatchOption};
-ghost use Rattle.expr_records.specs.LineSteps.{TakesBytes, IsNextLine};
+ghost use Rattle.expr_records.specs.LineSteps.{Takes, IsNextLine};
 
 use crate::line_buffer::LineBuffer;
 use memchr::memchr;
 use std::io::{self, BufRead, ErrorKind};
 
-/// What one read from a stream gave.
+/// What one look at a stream came to.
 #[derive(Clone, Copy, Debug, PartialEq, Eq)]
 enum LineStep {
     /// Bytes of the line.
     Part,
-    /// None, because a signal came.
+    /// None since a signal came.
     Interrupted,
     /// The rest of the line, and its line feed.
     LineFeed,
-    /// The end of the stream.
+    /// The stream has ended.
     End,
 }
 
-/// Takes the bytes that are ready, up to the first line feed and including it.
+/// Takes the bytes that stand ready, up to the first line feed and with it.
 fn take_ready<R: BufRead>(reader: &mut R, held: &mut LineBuffer) -> io::Result<LineStep>
     ensures taken { IfOk result
-        (λ taken. TakesBytes taken (R.remaining reader.old) (R.remaining reader.new) held.old held.new) }
+        (λ taken. Takes taken (R.remaining reader.old) (R.remaining reader.new) held.old held.new) }
     ensures bound { held.new.bound ≡ held.old.bound }
 {
     let ready = match reader.fill_buf() {
@@ -54,12 +54,12 @@ fn take_ready<R: BufRead>(reader: &mut R, held: &mut LineBuffer) -> io::Result<L
     }
 }
 
-/// Reads the next line, without its line feed, and returns whether there was one. A line that is longer than
-/// the bound, or for which an allocation fails, is still read to its end.
+/// Reads the next line, without its line feed, and answers whether there was one. A line that is longer than the bound,
+/// or for which a growth is refused, is read to its end all the same.
 ///
 /// # Errors
 ///
-/// Returns the error of the reader. It tries an interrupted read again.
+/// What the reader fails with; an interrupted read is tried again.
 pub fn next_line<R: BufRead>(reader: &mut R, held: &mut LineBuffer) -> io::Result<bool>
     ensures next { IfOk result
         (λ more. IsNextLine more (R.remaining reader.old) (R.remaining reader.new) held.new) }

@@ -1,4 +1,4 @@
-//! Names that come before those of the records.
+//! Names that stand before those of the records.
 ghost use Rattle.std.specs.Prelude.{◌≡◌, ◌≢◌, Ok, Err, OnErr, OnOk};
 ghost use Rattle.expr_records.specs.RecordCode.{may_name};
 ghost use Rattle.expr_value.specs.Answers.{Returns};
@@ -7,14 +7,12 @@ ghost use Rattle.expr_value.specs.Names.{put};
 ghost use Rattle.expr_value.specs.declared.value.Value.{Value};
 
 use crate::query::HEIGHT;
-use expr_context::Context;
+use expr::{Context, Result, Value, compile_within};
 use expr_machine::Machine;
 use expr_meaning::Functions;
-use expr_syntax::compile_within;
-use expr_value::{Result, Value};
 use std::alloc::Global;
 
-/// Evaluates code without any names.
+/// The value of a code, which is evaluated among no names.
 fn value_of<H: Functions>(alloc: Global, host: &H, code: &str) -> Result<Value>
     ensures { Returns result (may_name (H.host host.now) code.now) }
 {
@@ -27,12 +25,11 @@ fn value_of<H: Functions>(alloc: Global, host: &H, code: &str) -> Result<Value>
     machine.answer_program(&program)
 }
 
-/// Evaluates code without any names, and puts the value under a name. On an error the names stay as they
-/// were.
+/// Puts the value of a code under a name. The code is evaluated among no names.
 ///
 /// # Errors
 ///
-/// Returns the errors of compiling and evaluating the code, and `MemoryError` if an allocation fails.
+/// What the code's text or its evaluation refuses, or `MemoryError`. The names are as they were.
 pub fn bind<H: Functions>(
     alloc: Global,
     host: &H,

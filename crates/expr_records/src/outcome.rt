@@ -1,50 +1,50 @@
-//! The outcome of a line.
+//! What a line comes to.
 ghost use Rattle.std.specs.Prelude.{◌≡◌};
 ghost use Rattle.expr_records.specs.Outcomes.{is_kept, is_refused};
 
-use expr_value::{Error, Text};
+use expr::{Error, Text};
 use std::fmt;
 
-/// Why a record failed. It prints as the kind of the error and its message.
+/// Why a record is refused. Its text is the kind, and what there is to say of it.
 #[derive(Debug, Drop)]
 pub enum Refusal {
     /// The line is longer than the bound.
     TooLong,
-    /// An allocation for the line failed.
+    /// A growth was refused for the line.
     NoMemory,
     /// The line is not UTF-8.
     NotText,
-    /// The line is not JSON, or it has a number that isn't whole or doesn't fit in 64 bits.
+    /// It is no text of JSON, or has a number that isn't whole or doesn't fit 64 bits.
     NotJson(Error),
-    /// The JSON of the line is not an object.
+    /// Its JSON is no object.
     NotObject,
-    /// The expression fails.
+    /// The expression refuses.
     Expression(Error),
-    /// The value of the expression is not a boolean.
+    /// The expression's answer is not a boolean.
     NotBoolean,
-    /// The value of the expression can't be written as JSON.
+    /// The expression's answer has no JSON.
     NotWritable(Error),
 }
 
-/// The outcome of a line.
+/// What a line comes to.
 #[derive(Drop)]
 pub enum LineOutcome {
-    /// The line has no record.
+    /// There is no record in it.
     Blank,
-    /// The expression says not to keep the record.
+    /// The expression says that it isn't kept.
     Dropped,
-    /// The record is kept as it is.
+    /// It is kept, as it is.
     Kept,
-    /// The record is counted.
+    /// It is counted.
     Counted,
-    /// The record becomes this: the JSON of the expression's value.
+    /// What it becomes: the answer's JSON.
     Rewritten(Text),
-    /// The record has an error.
+    /// Its record is refused.
     Refused(Refusal),
 }
 
 impl LineOutcome {
-    /// Whether the record is kept, counted or rewritten.
+    /// Whether it counts as kept: it is kept, counted or rewritten.
     pub fn is_kept(&self) -> bool
         ensures { result ≡ is_kept self.now }
     {
@@ -54,7 +54,7 @@ impl LineOutcome {
         }
     }
 
-    /// Whether the record has an error.
+    /// Whether its record is refused.
     pub fn is_refused(&self) -> bool
         ensures { result ≡ is_refused self.now }
     {
@@ -77,7 +77,7 @@ impl fmt::Display for Refusal {
     }
 }
 
-/// Writes an error of the expression, its kind first.
+/// Writes a refusal of the expression, its kind first.
 fn write_refusal<W: fmt::Write>(f: &mut fmt::Formatter<W>, error: &Error) -> fmt::Result {
     match error {
         Error::MemoryError => write!(f, "memory: {error}"),

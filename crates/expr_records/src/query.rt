@@ -1,36 +1,32 @@
-//! An expression that is ready to run on records.
+//! An expression that is ready to be asked about records.
 ghost use Rattle.std.specs.Prelude.{◌≡◌, ◌≢◌, ◌↔◌, ℕ, List, Err, IfOk, IsTrue};
-ghost use Rattle.expr_lowering.specs.OwnedCodes.{owned_blocks};
-ghost use Rattle.expr_eval.specs.Texts.{IsRefusedWithin};
+ghost use Rattle.expr.specs.KeptCodes.{kept_blocks};
+ghost use Rattle.expr.specs.Texts.{IsRefusedWithin};
 ghost use Rattle.expr_records.specs.RecordCode.{IsCodeOf, may_answer};
 ghost use Rattle.expr_syntax.specs.Texts.{IsPlaced};
 ghost use Rattle.expr_value.specs.Answers.{Returns};
 ghost use Rattle.expr_error.specs.ErrorKind.{RefusesWith};
 
 use crate::record::Record;
-use expr_context::Context;
+use expr::laws::execution_answers_programs;
+use expr::{Code, Context, KeptCode, KeptMachine, Pattern, Result, Value, compile_within};
 use expr_encoding::Members;
-use expr_lowering::{Code, OwnedCode};
-use expr_machine::ReusableMachine;
-use expr_meaning::{Functions, execution_answers_programs};
-use expr_syntax::compile_within;
-use expr_tree::node::Pattern;
-use expr_value::{Result, Value};
+use expr_meaning::Functions;
 use std::alloc::Global;
 
-/// What to do with the records.
+/// What is done with the records.
 #[derive(Clone, Copy, Debug, PartialEq, Eq)]
 pub enum Purpose {
-    /// Keep those for which the expression returns this boolean.
+    /// Those for which the expression answers so are kept.
     Keep(bool),
-    /// Count those for which the expression returns this boolean.
+    /// Those for which the expression answers so are counted.
     Count(bool),
-    /// Replace each by the value of the expression.
+    /// Each becomes the expression's answer.
     Rewrite,
 }
 
 impl Purpose {
-    /// Whether the query selects some of the records.
+    /// Whether some of the records are sought.
     pub fn seeks(self) -> bool
         ensures { IsTrue result ↔ (self ≢ Purpose.Rewrite) }
     {
@@ -41,16 +37,16 @@ impl Purpose {
     }
 }
 
-/// The greatest height of an expression's tree: evaluation takes stack in proportion to it.
+/// The greatest height of an expression's tree: evaluation takes stack by depth.
 pub const HEIGHT: usize = 500;
 
-/// Compiles an expression to code that owns its parts.
+/// The code of an expression's text.
 ///
 /// # Errors
 ///
-/// Returns the errors of [`compile_within`] for a greatest height of 500.
-pub fn code_of_text(alloc: Global, text: &str) -> Result<OwnedCode>
-    ensures code { IfOk result (λ code. IsCodeOf text.now (owned_blocks code)) }
+/// What [`compile_within`] refuses of a text whose tree may be no higher than 500.
+pub fn code_of_text(alloc: Global, text: &str) -> Result<KeptCode>
+    ensures code { IfOk result (λ code. IsCodeOf text.now (kept_blocks code)) }
     ensures refused { RefusesWith result
         (λ k. IsRefusedWithin 500 text.now (Err k)) }
     ensures place { IsPlaced text.now result }
@@ -60,25 +56,25 @@ pub fn code_of_text(alloc: Global, text: &str) -> Result<OwnedCode>
     Ok(code)
 }
 
-/// The code of an expression, with one machine for all records, the host and the names.
+/// An expression's code, in one machine for all records, and what it is asked in.
 #[derive(Drop)]
 pub struct Query<'h, H> {
-    /// The host's additions to the language.
+    /// What the host has added to the language.
     pub host: &'h H,
-    /// The names that come before those of each record.
+    /// The names that stand before those of each record.
     pub names: &'h Context,
-    pub machine: ReusableMachine<'h, Box<Value>, Box<String>, Box<Pattern>>,
+    pub machine: KeptMachine<'h, Box<Value>, Box<String>, Box<Pattern>>,
     pub purpose: Purpose,
 }
 
 impl<'h, H: Functions> Query<'h, H> {
-    /// Creates the query of an expression's code.
+    /// The query of an expression's code.
     pub fn new(
         alloc: Global,
         host: &'h H,
         names: &'h Context,
         purpose: Purpose,
-        code: &'h OwnedCode,
+        code: &'h KeptCode,
     ) -> Query<'h, H>
         ensures code { result.machine.code.now ≡ code.now }
         ensures names { result.names.now ≡ names.now }
@@ -88,19 +84,18 @@ impl<'h, H: Functions> Query<'h, H> {
         Query {
             host,
             names,
-            machine: ReusableMachine::new(alloc, code),
+            machine: KeptMachine::new(alloc, code),
             purpose,
         }
     }
 
-    /// Evaluates the expression on a record and returns its value.
+    /// What the expression answers of a record.
     ///
     /// # Errors
     ///
-    /// Returns the first error in the order of evaluation: `ExprError`, or `MemoryError` if an allocation
-    /// fails.
+    /// The first refusal in the order of evaluation: `ExprError`, or `MemoryError` where a growth is refused.
     pub fn answer(&mut self, members: Members<'_>) -> Result<Value>
-        ensures answer { (text : List ℕ) → IsCodeOf text (owned_blocks self.old.machine.code.now)
+        ensures answer { (text : List ℕ) → IsCodeOf text (kept_blocks self.old.machine.code.now)
             → Returns result (may_answer (H.host self.old.host.now) self.old.names.now text members.entry) }
         ensures same { self.new ≡ self.old }
     {

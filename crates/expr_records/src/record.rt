@@ -1,19 +1,18 @@
-//! Records: JSON objects whose members are names for the expression.
+//! Records: JSON objects, whose members are lent as names.
 ghost use Rattle.std.specs.Prelude.{◌≡◌, IfOk, IfErr, Some};
 ghost use Rattle.std.specs.List.{list_all};
-ghost use Rattle.expr_records.specs.Lines.{is_space, line_text};
+ghost use Rattle.expr_records.specs.Lines.{is_space, text_of};
 ghost use Rattle.expr_records.specs.Records.{IsRecord, MayRefuseText, members_of};
 
 use crate::outcome::Refusal;
-use expr_context::{Context, ContextProvider};
+use expr::{Context, ContextProvider, Result, Value};
 use expr_encoding::{JsonReader, Members};
-use expr_value::{Result, Value};
 use std::alloc::Global;
 
-/// The byte order mark that some systems put at the start of a UTF-8 file.
+/// The mark by which some systems say that a file is UTF-8.
 const MARK: &[u8] = b"\xEF\xBB\xBF";
 
-/// The members of a record, and the names that come before them. `$env` is the record alone.
+/// The members of a record, and the names that stand before them. `$env` shows the record alone.
 #[derive(Drop)]
 pub struct Record<'t, 'n> {
     pub members: Members<'t>,
@@ -37,9 +36,9 @@ impl<'t, 'n> ContextProvider for Record<'t, 'n> {
     }
 }
 
-/// A line without the byte order mark at its start.
+/// A line without the mark at its front.
 pub fn text_of(line: &[u8]) -> &[u8]
-    ensures { result.now ≡ line_text line.now }
+    ensures { result.now ≡ text_of line.now }
 {
     match line.strip_prefix(MARK) {
         Some(rest) => rest,
@@ -47,7 +46,7 @@ pub fn text_of(line: &[u8]) -> &[u8]
     }
 }
 
-/// Whether there are only spaces, tabs and carriage returns.
+/// Whether there is nothing but spaces, tabs and carriage returns.
 pub fn is_blank(text: &[u8]) -> bool
     ensures { result ≡ list_all is_space text.now }
 {
@@ -55,7 +54,7 @@ pub fn is_blank(text: &[u8]) -> bool
         .all(|byte| matches!(*byte, b' ' | b'\t' | b'\r'))
 }
 
-/// The members of the object that a string of JSON holds.
+/// The members of the object that a text of JSON holds.
 fn object_of<'t>(
     alloc: Global,
     reader: &'t mut JsonReader,
@@ -71,11 +70,11 @@ fn object_of<'t>(
     }
 }
 
-/// The members of the JSON object in these bytes. They must be UTF-8, and all numbers must be whole.
+/// The members of the object that a text of JSON in UTF-8 holds, its numbers all whole.
 ///
 /// # Errors
 ///
-/// Returns why the bytes are not a record.
+/// Why the text is no record.
 pub fn record_of<'t>(
     alloc: Global,
     reader: &'t mut JsonReader,

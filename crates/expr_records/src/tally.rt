@@ -1,19 +1,19 @@
-//! How many records had which outcome.
+//! How many records came to what.
 ghost use Rattle.std.specs.Prelude.{◌≡◌, ◌+◌, ◌^◌, ◌<◌};
 ghost use Rattle.expr_records.specs.Outcomes.{saturated_count, one_if, is_kept, is_refused};
 
 use crate::outcome::LineOutcome;
 
-/// How many records had which outcome. Each count stops at 2^64 - 1.
+/// How many records came to what, up to 2^64 - 1 of each.
 #[derive(Clone, Copy, Debug, PartialEq, Eq)]
 pub struct Tally {
-    /// The number of records kept, counted or rewritten.
+    /// Those kept, counted or rewritten.
     pub kept: u64,
     pub refused: u64,
     pub ghost small: { (kept < 2 ^ 64) × (refused < 2 ^ 64) },
 }
 
-/// 1 if this holds, else 0.
+/// 1 if something holds, else 0.
 fn one_if(holds: bool) -> u64
     ensures { result ≡ one_if holds }
 {
@@ -21,9 +21,9 @@ fn one_if(holds: bool) -> u64
 }
 
 impl Tally {
-    ghost use Rattle.expr_records.specs.Courses.{exit_status};
+    ghost use Rattle.expr_records.specs.Courses.{status_of};
 
-    /// Creates a tally of no records.
+    /// Nothing came yet.
     pub fn new() -> Tally
         ensures kept { result.kept ≡ 0 }
         ensures refused { result.refused ≡ 0 }
@@ -34,7 +34,7 @@ impl Tally {
         }
     }
 
-    /// Counts the outcome of a line.
+    /// Counts what a line came to.
     pub fn add(&mut self, outcome: &LineOutcome)
         ensures kept { self.new.kept ≡ saturated_count (self.old.kept + one_if (is_kept outcome.now)) }
         ensures refused { self.new.refused
@@ -44,10 +44,10 @@ impl Tally {
         self.refused = self.refused.saturating_add(one_if(outcome.is_refused()));
     }
 
-    /// The status of a run that read and wrote everything. It is 3 if a record had an error. It is 1 if no
-    /// record was kept though the query selects. Otherwise it is 0.
+    /// The status of a run that read and wrote all that it was to: 3 where a record was refused, 1 where none was kept
+    /// though one was sought, else 0.
     pub fn status(&self, seeks: bool) -> u8
-        ensures { result ≡ exit_status self.now seeks }
+        ensures { result ≡ status_of self.now seeks }
     {
         if self.refused > 0 {
             3

@@ -1,4 +1,4 @@
-//! The command line of the program `expr`: its arguments, its output and its status.
+//! What the program `expr` does with its words and its streams.
 #![tactic(auto)]
 
 pub mod serve;

@@ -1,9 +1,9 @@
-//! The command line of the program `expr`: its arguments, its output and its status.
+//! What the program does with its words and its streams.
 ghost use Rattle.std.specs.Prelude.{◌≡◌, ◌≤◌, ◌↔◌, ◌⊎◌, [], ◌∷◌, ◌++◌, false, map, string_bytes, Ok, Err, OnOk};
 ghost use Rattle.std.specs.Io.KnownBytes.{Appends};
 ghost use Rattle.std.specs.List.{list_all};
 ghost use Rattle.expr_serve.specs.Served.{MayAnswerUnder, MayBind, MayPrint, MayServe};
-ghost use Rattle.expr_serve.specs.Words.{code_of, is_binding, is_call, bound_name, word_for};
+ghost use Rattle.expr_serve.specs.Words.{code_of, is_binding, is_call, name_of, word_for};
 ghost use Rattle.expr_value.specs.Answers.{Returns};
 ghost use Rattle.expr_error.specs.ErrorKind.{error_kind, RefusesWith};
 ghost use Rattle.expr_value.specs.Names.{put};
@@ -14,9 +14,9 @@ use expr::{Context, Error, Result, Value, compile_within, run};
 use std::alloc::Global;
 use std::io::Write;
 
-/// The NAME and the CODE of an argument NAME=CODE. The first `=` divides them.
+/// The NAME and the CODE of a word NAME=CODE, which is cut at its first `=`.
 fn parts(word: &str) -> (&str, &str)
-    ensures name { result.0.now ≡ bound_name word.now }
+    ensures name { result.0.now ≡ name_of word.now }
     ensures code { result.1.now ≡ code_of word.now }
 {
     match word.split_once('=') {
@@ -25,7 +25,7 @@ fn parts(word: &str) -> (&str, &str)
     }
 }
 
-/// Whether an argument is a binding NAME=CODE: it has an `=`, and a NAME before it.
+/// Whether a word is a binding NAME=CODE: it has an `=`, and a NAME before it.
 fn is_binding(word: &str) -> bool
     ensures { result ≡ is_binding word.now }
 {
@@ -35,7 +35,7 @@ fn is_binding(word: &str) -> bool
     }
 }
 
-/// Whether all of these arguments are bindings.
+/// Whether each of some words is a binding.
 fn are_bindings(words: &[String]) -> bool
     ensures { result ≡ list_all is_binding (map string_bytes words.now) }
 {
@@ -47,11 +47,10 @@ fn are_bindings(words: &[String]) -> bool
     true
 }
 
-/// The greatest height of an expression's tree. Reading and lowering take stack in proportion to it.
+/// The greatest height of a code's tree: reading and lowering take stack by it.
 const HEIGHT: usize = 500;
 
-/// Evaluates code under some names. A tree above the greatest height is an error of the kind of a literal
-/// that is too large.
+/// The value of a code under some names. A tree that is higher than is allowed is refused as a literal is that can't be held.
 fn value_under(alloc: Global, code: &str, names: &Context) -> Result<Value>
     ensures { Returns result (MayAnswerUnder names.now code.now) }
 {
@@ -59,10 +58,10 @@ fn value_under(alloc: Global, code: &str, names: &Context) -> Result<Value>
     run(alloc, &program, names)
 }
 
-/// Evaluates the code of a binding in an empty context and puts the value under its name.
+/// Puts the value of a binding under its name. Its code is evaluated in an empty context.
 fn bind(alloc: Global, word: &str, context: &mut Context) -> Result<()>
     ensures bound { OnOk result ((v : Value) × MayAnswerUnder [] (code_of word.now) (Ok v)
-        × context.new ≡ put (bound_name word.now) v context.old) }
+        × context.new ≡ put (name_of word.now) v context.old) }
     ensures refused { RefusesWith result
         (λ k. MayAnswerUnder [] (code_of word.now) (Err k)) }
 {
@@ -71,7 +70,7 @@ fn bind(alloc: Global, word: &str, context: &mut Context) -> Result<()>
     context.insert(String::from_str(alloc, name)?, value)
 }
 
-/// The context that these bindings make, from left to right.
+/// The names that bindings give values to, from left to right.
 fn context_of(alloc: Global, bindings: &[String]) -> Result<Context>
     ensures { Returns result (MayBind (map string_bytes bindings.now) []) }
 {
@@ -82,7 +81,7 @@ fn context_of(alloc: Global, bindings: &[String]) -> Result<Context>
     Ok(context)
 }
 
-/// Evaluates code in the context that the bindings make.
+/// The value of a code, under the names that bindings give values to.
 fn answer(alloc: Global, code: &str, bindings: &[String]) -> Result<Value>
     ensures { Returns result (MayServe code.now (map string_bytes bindings.now)) }
 {
@@ -90,7 +89,7 @@ fn answer(alloc: Global, code: &str, bindings: &[String]) -> Result<Value>
     value_under(alloc, code, &context)
 }
 
-/// The word for a kind of error.
+/// The word for a kind of refusal.
 fn word_of(error: &Error) -> &'static str
     ensures { result.now ≡ word_for (error_kind error.now) }
 {
@@ -103,7 +102,7 @@ fn word_of(error: &Error) -> &'static str
     }
 }
 
-/// Reports how the program is called, and returns the status 2. A failing `err` changes nothing.
+/// Says how the program is called, and answers the status 2. A failing `err` changes nothing.
 pub fn refuse_usage<E: Write>(err: &mut E) -> u8
     ensures { result ≡ 2 }
 {
@@ -111,7 +110,7 @@ pub fn refuse_usage<E: Write>(err: &mut E) -> u8
     2
 }
 
-/// Reports the word for an error, and returns the status 1. A failing `err` changes nothing.
+/// Says the word for a refusal, and answers the status 1. A failing `err` changes nothing.
 fn refuse<E: Write>(err: &mut E, error: &Error) -> u8
     ensures { result ≡ 1 }
 {
@@ -120,7 +119,7 @@ fn refuse<E: Write>(err: &mut E, error: &Error) -> u8
     1
 }
 
-/// Prints a value on a line of its own. Returns 0, or 1 if `out` fails.
+/// Prints a value on a line of its own, and answers 0, or 1 if that fails.
 fn print<O: Write>(out: &mut O, value: &Value) -> u8
     ensures status { result ≤ 1 }
     ensures printed { result ≡ 0 → Appends (O.contents out.old) (O.contents out.new)
@@ -133,25 +132,16 @@ fn print<O: Write>(out: &mut O, value: &Value) -> u8
     }
 }
 
-/// Runs the program on the arguments `CODE [NAME=CODE]...` and returns its status.
+/// Serves the words `CODE [NAME=CODE]...` and answers the program's status.
 ///
-/// Each binding is cut at its first `=`. Without arguments, or if a binding has no `=` or an empty NAME, it
-/// writes `usage` to `err` and returns 2. Otherwise it evaluates the bindings from left to right, each in an
-/// empty context. A repeated NAME takes the later value. Then it evaluates CODE in the context of the
-/// bindings, writes the value's `Display` to `out`, and returns 0.
+/// Each binding is cut at its first `=`. No word, a binding without `=` or an empty NAME: `usage` on `err`, status 2.
+/// Else the bindings are evaluated from left to right, each in an empty context (a repeated NAME takes the later value),
+/// then CODE in the context of the bindings. Its value's `Display` goes to `out`, status 0. The first refusal is one word
+/// on `err`, status 1: `syntax`, `literal` (an integer of 2^63 or more, or a tree higher than 500), `evaluation`, `pattern`
+/// or `memory` (an allocation failed). Nothing else is limited.
 ///
-/// At the first error it writes one word to `err` and returns 1:
-///
-/// - `syntax`: the code doesn't match the grammar
-/// - `literal`: an integer of 2^63 or more, or a tree higher than 500
-/// - `evaluation`: the evaluation failed
-/// - `pattern`: a regular expression is not valid
-/// - `memory`: an allocation failed
-///
-/// There are no other limits.
-///
-/// It writes to `out`, and flushes it, only if there is a value to print. If `out` fails, it returns 1 and
-/// writes nothing to `err`. What `out` took before that stays. A failing `err` changes no status.
+/// `out` is written to, and flushed, where there is a value to print and nowhere else. Where it fails, the status is 1,
+/// nothing is said on `err`, and what it took before stays written. A failing `err` changes no status.
 pub fn serve<O: Write, E: Write>(alloc: Global, words: &[String], out: &mut O, err: &mut E) -> u8
     ensures status { result ≤ 2 }
     ensures usage { result ≡ 2 ↔ is_call (map string_bytes words.now) ≡ false }

@@ -1,9 +1,9 @@
-//! A value on a stack or in a slot, as contracts see it.
+//! What contracts see of a value on a stack or in a slot.
 
 use expr_value::Value;
 
-/// A value on a stack or in a slot, as contracts see it: the value itself, or its index in the kept list of
-/// the machine.
+/// What contracts see of a value on a stack or in a slot: the value, or the place in the machine's own list where
+/// it stands.
 #[derive(Drop)]
 pub enum Cell {
     Value(Value),

@@ -1,4 +1,4 @@
-//! What the machine works on: a stack of values for each block, and the slots.
+//! What a machine for flat code works on: a stack of values for each block, and a memory of slots.
 #![tactic(auto)]
 
 mod acts;

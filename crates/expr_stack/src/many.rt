@@ -1,6 +1,6 @@
-//! Many top values at a time, the deepest of them first.
+//! Many top values at once, the deepest of them first.
 ghost use Rattle.std.specs.Prelude.{◌≡◌, ◌≤◌, [], Ok, IfOk, drop, length, reverse, take, vec_len};
-ghost use Rattle.expr_operators.specs.OnOperands.{zip_names};
+ghost use Rattle.expr_code.specs.Machine.{zip_names};
 ghost use Rattle.expr_stack.specs.Cells.{cell_values};
 ghost use Rattle.expr_stack.specs.Pushes.{Pushes, OnMany};
 ghost use Rattle.expr_error.specs.ErrorKind.{OnlyMemory};
@@ -8,16 +8,12 @@ ghost use Rattle.expr_value.specs.Names.{put_all};
 ghost use Rattle.expr_value.specs.declared.value.Value as value;
 
 use crate::stack::Stack;
-use expr_arguments::CowValue;
+use expr_cow::CowValue;
 use expr_value::{Items, Result, Text, Value, ValueMap};
 use std::alloc::{Allocator, Global};
 
 impl<'s, A: Allocator + Copy> Stack<'s, A> {
-    /// Pops this many values to read them. Those in the kept list are borrowed from it.
-    ///
-    /// # Errors
-    ///
-    /// Returns `MemoryError` if an allocation fails.
+    /// So many top values taken off, to be read; those in places are lent from there.
     #[inline(never)]
     pub fn pop_many<'k>(
         &mut self,
@@ -40,11 +36,7 @@ impl<'s, A: Allocator + Copy> Stack<'s, A> {
         Ok(values)
     }
 
-    /// Pops this many values to hold them for longer than the kept list. Those in that list are copied.
-    ///
-    /// # Errors
-    ///
-    /// Returns `MemoryError` if an allocation fails.
+    /// So many top values taken off, held for longer than the places stand: those in places are copied.
     #[inline(never)]
     pub fn take_many(
         &mut self,
@@ -65,11 +57,7 @@ impl<'s, A: Allocator + Copy> Stack<'s, A> {
         Ok(values)
     }
 
-    /// Pops this many values to own them. Borrowed values and those in the kept list are copied.
-    ///
-    /// # Errors
-    ///
-    /// Returns `MemoryError` if an allocation fails.
+    /// So many top values taken off, to be kept: those that are lent or in places are copied.
     #[inline(never)]
     pub fn take_values(&mut self, alloc: Global, kept: &[Value], count: usize) -> Result<Vec<Value>>
         requires { count ≤ length self.old }
@@ -88,11 +76,7 @@ impl<'s, A: Allocator + Copy> Stack<'s, A> {
         Ok(values)
     }
 
-    /// Replaces this many top values by an array of them.
-    ///
-    /// # Errors
-    ///
-    /// Returns `MemoryError` if an allocation fails.
+    /// Puts the array of so many top values in their place.
     #[inline(never)]
     pub fn collect(&mut self, alloc: Global, kept: &[Value], count: usize) -> Result<()>
         requires { count ≤ length self.old }
@@ -104,12 +88,8 @@ impl<'s, A: Allocator + Copy> Stack<'s, A> {
         Ok(())
     }
 
-    /// Replaces the top values, one for each key, by a map of them. A repeated key keeps its first position
-    /// and takes the later value.
-    ///
-    /// # Errors
-    ///
-    /// Returns `MemoryError` if an allocation fails.
+    /// Puts the map of as many top values as there are keys, each under its key, in their place. A repeated key
+    /// keeps its first place and has the later value.
     #[inline(never)]
     pub fn gather(&mut self, alloc: Global, kept: &[Value], keys: Vec<Text>) -> Result<()>
         requires { vec_len keys ≤ length self.old }
@@ -125,10 +105,6 @@ impl<'s, A: Allocator + Copy> Stack<'s, A> {
 }
 
 /// The map of these values, each under its key.
-///
-/// # Errors
-///
-/// Returns `MemoryError` if an allocation fails.
 pub fn map_under(alloc: Global, keys: Vec<Text>, values: Vec<Value>) -> Result<ValueMap>
     ensures ok { IfOk result (λ map. map ≡ put_all [] (zip_names keys.items values.items)) }
     ensures refusal { OnlyMemory result }

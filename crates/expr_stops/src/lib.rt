@@ -1,4 +1,4 @@
-//! Functions that a host runs itself: a run stops at a call of one, and continues with the host's reply.
+//! Functions that a host answers itself: a run stops at a call of one, and goes on with the host's answer.
 #![tactic(auto)]
 
 mod limited;
@@ -13,4 +13,4 @@ pub use limited::execute_in;
 pub use names::StopNames;
 pub use replay::Stop;
 pub use replies::{CallReply, Reply};
-pub use stops::{RunStatus, Stops};
+pub use stops::{Stops, Turn};

@@ -1,6 +1,6 @@
-//! Runs of code, within limits or without.
+//! Code within limits, or where there are none.
 ghost use Rattle.std.specs.Prelude.{◌≡◌, None};
-ghost use Rattle.expr_limits.specs.Outcomes.{ReturnsOutcome};
+ghost use Rattle.expr_limited.specs.Outcomes.{ReturnsOutcome};
 ghost use Rattle.expr_lowering.specs.Blocks.{CodeKeeps, blocks_of};
 ghost use Rattle.expr_machine.specs.Texts.{text_of};
 ghost use Rattle.expr_meaning.specs.Refusals.{NeverRefusesWith};
@@ -10,20 +10,20 @@ ghost use Rattle.expr_meaning.specs.World.{world_of};
 
 use expr_context::ContextProvider;
 use expr_limited::execute_limited;
-use expr_limits::{Limits, Outcome};
 use expr_lowering::{Code, Pointer};
 use expr_machine::Machine;
 use expr_meaning::Functions;
+use expr_meter::{Limits, Outcome};
 use expr_pattern::Pattern;
 use expr_value::{Result, Value};
 use std::alloc::Global;
 
-/// Executes code in a host, with the names of a provider, within limits or without.
+/// What code answers in a host within limits, or where there are none, among the names of a provider.
 ///
 /// # Errors
 ///
-/// Returns the first error of an instruction: `ExprError`, or `MemoryError` if an allocation fails. Passing a
-/// limit is not an error: it returns [`Outcome::Stopped`].
+/// The first refusal of an instruction: `ExprError`, or `MemoryError` where a growth is refused. That a limit is passed is
+/// no error, but [`Outcome::Stopped`].
 pub fn execute_in<
     H: Functions,
     P: ContextProvider + Drop,

@@ -1,4 +1,4 @@
-//! The names of the functions that a host runs itself.
+//! The names of functions that a host answers itself.
 ghost use Rattle.std.specs.Prelude.{◌≡◌, ℕ, List, OnErr, OnOk, bytes_eq, false, if◌then◌else◌, true};
 ghost use Rattle.expr_stops.specs.Stops.{is_named};
 ghost use Rattle.expr_error.specs.ErrorKind.{OnlyMemory};
@@ -7,15 +7,15 @@ use expr_value::Result;
 use indexmap::IndexSet;
 use std::alloc::Global;
 
-/// The names of the functions that a host runs itself. A call of such a name goes to the host. These names
-/// come before the functions of an environment and before the built-ins.
+/// The names of functions that a host answers itself. A call of such a name goes to the host, before functions that an
+/// environment has added and before built-ins.
 #[derive(Drop)]
 pub struct StopNames {
     names: IndexSet<String>,
 }
 
 impl StopNames {
-    /// Creates an empty set of names. It allocates no memory.
+    /// No names. It takes no memory.
     pub fn new(alloc: Global) -> StopNames
         ensures { (key : List ℕ) → is_named result key ≡ false }
     {
@@ -24,12 +24,11 @@ impl StopNames {
         }
     }
 
-    /// Registers a name. A name that is registered already changes nothing. On an error the names stay as
-    /// they were.
+    /// Registers a name, if it isn't yet. Where a growth is refused the names stay as they were.
     ///
     /// # Errors
     ///
-    /// Returns `MemoryError` if an allocation fails.
+    /// `MemoryError` alone.
     pub fn add(&mut self, alloc: Global, name: &str) -> Result<()>
         ensures added { OnOk result ((key : List ℕ) → is_named self.new key
             ≡ (if bytes_eq name.now key then true else is_named self.old key)) }

@@ -1,4 +1,4 @@
-//! A host that replays the replies of earlier calls.
+//! A host that answers calls from what was answered before.
 ghost use Rattle.std.specs.Prelude.{◌≡◌};
 
 use crate::names::StopNames;
@@ -7,16 +7,16 @@ use expr_meaning::{ExprCall, Functions};
 use expr_value::{DateTimeValue, Error, Result, TimezoneValue, Value};
 use std::cell::Cell;
 
-/// A call at which a run stopped, and its number among the run's calls of registered names, from 0.
+/// A call that a run stopped at, and its place among the run's calls of registered names, from 0.
 #[derive(Drop)]
 pub struct Stop {
     pub call: ExprCall,
     pub place: usize,
 }
 
-/// A host that adds functions and takes their results from a list. The first call gets the first reply, and
-/// so on, as long as each call has the name of the recorded call and equal arguments. At a call without such
-/// a reply the run gets `MemoryError`, and the call is recorded.
+/// A host to which functions are added that are answered from a list: the first call of one by the first answer, and so on,
+/// as long as each is a call of the same name on equal arguments. At a call that has no such answer the run is refused
+/// memory, and the call is kept.
 #[derive(Drop)]
 pub struct Replay<'a, H> {
     pub host: &'a H,
@@ -27,7 +27,7 @@ pub struct Replay<'a, H> {
 }
 
 impl<'a, H: Functions> Replay<'a, H> {
-    /// Creates a host for one run.
+    /// A host for one run.
     pub fn new(host: &'a H, names: &'a StopNames, given: &'a [CallReply]) -> Replay<'a, H>
         ensures host { result.host.now ≡ host.now }
         ensures names { result.names.now ≡ names.now }
@@ -42,12 +42,12 @@ impl<'a, H: Functions> Replay<'a, H> {
         }
     }
 
-    /// Takes the first call that had no reply.
+    /// The first call that had no answer, which is kept no longer.
     pub fn take_stop(&self) -> Option<Stop> {
         self.stop.replace(None)
     }
 
-    /// Records a call, unless an earlier one is recorded.
+    /// Keeps a call, unless an earlier one is kept.
     fn stop_at(&self, stop: Stop) {
         let first = self.stop.replace(None).unwrap_or(stop);
         self.stop.set(Some(first));

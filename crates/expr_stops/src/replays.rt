@@ -1,6 +1,6 @@
-//! One run that replays the host's replies.
+//! One run in a host that answers from replies.
 ghost use Rattle.std.specs.Prelude.{◌≡◌, None};
-ghost use Rattle.expr_limits.specs.Outcomes.{ReturnsOutcome};
+ghost use Rattle.expr_limited.specs.Outcomes.{ReturnsOutcome};
 ghost use Rattle.expr_lowering.specs.Blocks.{CodeKeeps, blocks_of};
 ghost use Rattle.expr_lowering.specs.Kept.{ProgramKeeps};
 ghost use Rattle.expr_machine.specs.Texts.{text_of};
@@ -16,23 +16,23 @@ use crate::names::StopNames;
 use crate::replay::{Replay, Stop};
 use crate::replies::CallReply;
 use expr_context::ContextProvider;
-use expr_limits::{Limits, Outcome};
 use expr_lowering::{Code, Pointer};
 use expr_machine::Machine;
 use expr_meaning::Functions;
+use expr_meter::{Limits, Outcome};
 use expr_pattern::Pattern;
 use expr_tree::node::Program;
 use expr_value::{Result, Value};
 use std::alloc::Global;
 
-/// The end of one run: its result, or the limit that it would have passed, and the call at which it stopped.
+/// What one run came to: its answer, or the limit that it would have passed, and the call that it stopped at.
 #[derive(Drop)]
 pub struct RunOutcome {
     pub went: Result<Outcome<Value>>,
     pub stop: Option<Stop>,
 }
 
-/// Runs a program with these replies.
+/// Runs a program on replies.
 pub fn play<'a, H: Functions>(
     alloc: Global,
     host: &'a H,
@@ -56,7 +56,7 @@ pub fn play<'a, H: Functions>(
     RunOutcome { went, stop }
 }
 
-/// Executes code with these replies, within limits or without.
+/// Runs code on replies, within limits or where there are none.
 pub fn play_code<
     'a,
     H: Functions,
@@ -85,7 +85,7 @@ pub fn play_code<
     RunOutcome { went, stop }
 }
 
-/// Runs a program in a host and a context.
+/// What a program answers in a host and a context.
 fn run_in<H: Functions>(
     alloc: Global,
     host: &H,

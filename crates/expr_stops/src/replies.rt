@@ -1,4 +1,4 @@
-//! The host's replies to calls of its functions.
+//! What a host answered to calls of its functions.
 ghost use Rattle.std.specs.Prelude.{◌≡◌, string_bytes};
 ghost use Rattle.expr_stops.specs.Stops.{answer_of, is_to};
 ghost use Rattle.expr_value.specs.Answers.{ReturnsExactly};
@@ -6,20 +6,20 @@ ghost use Rattle.expr_value.specs.Answers.{ReturnsExactly};
 use expr_meaning::ExprCall;
 use expr_value::{Error, Result, Value};
 
-/// A host's reply to a call of its function.
+/// What a host answers to a call of its function.
 #[derive(Drop)]
 pub enum Reply {
     Value(Value),
-    /// The function fails, with this message.
+    /// The function refuses, with this text.
     Refusal(String),
 }
 
 impl Reply {
-    /// The reply as the result of the call.
+    /// The reply as the call's result.
     ///
     /// # Errors
     ///
-    /// Returns `ExprError` with the message if the function failed, and `MemoryError` if an allocation fails.
+    /// `ExprError` where the host refuses, or `MemoryError`.
     pub fn result(&self) -> Result<Value>
         ensures { ReturnsExactly result (answer_of self.now) }
     {
@@ -30,7 +30,7 @@ impl Reply {
     }
 }
 
-/// A call of a host's function, and the host's reply.
+/// A call of a host's function, and what the host answered to it.
 #[derive(Drop)]
 pub struct CallReply {
     pub call: ExprCall,
@@ -38,7 +38,7 @@ pub struct CallReply {
 }
 
 impl CallReply {
-    /// Whether the reply belongs to this call: the names are the same, and the arguments are equal.
+    /// Whether it was given to such a call: of the same name, on arguments that are equal to these.
     pub fn is_to(&self, call: &ExprCall) -> bool
         ensures { result ≡ is_to self.now (string_bytes call.now.ident) call.now.args.items }
     {

@@ -1,7 +1,7 @@
-//! Runs that stop at the host's functions.
+//! Runs that stop at a host's functions.
 ghost use Rattle.std.specs.Prelude.{◌≡◌, [], ℕ, Bool, List, None, OnErr, OnOk};
 ghost use Rattle.std.specs.Option.{option_copied};
-ghost use Rattle.expr_meaning.specs.CodeRuns.{CodeAnswers};
+ghost use Rattle.expr_code.specs.Machine.{CodeAnswers};
 ghost use Rattle.expr_lowering.specs.Blocks.{CodeKeeps, blocks_of};
 ghost use Rattle.expr_lowering.specs.Kept.{ProgramKeeps};
 ghost use Rattle.expr_machine.specs.Texts.{text_of};
@@ -20,45 +20,45 @@ use crate::replay::Stop;
 use crate::replays::{RunOutcome, play, play_code};
 use crate::replies::{CallReply, Reply};
 use expr_context::ContextProvider;
-use expr_limits::{Limit, Limits, Outcome};
 use expr_lowering::{Code, Pointer};
 use expr_meaning::Functions;
+use expr_meter::{Limit, Limits, Outcome};
 use expr_pattern::Pattern;
 use expr_tree::node::Program;
 use expr_value::{Error, Result, Value, refusal};
 use std::alloc::Global;
 
-/// How a run went.
+/// How a run went that may stop.
 #[derive(Drop)]
-pub enum RunStatus {
-    /// The run ended, with this result of the program.
+pub enum Turn {
+    /// It came to its end: the program's answer.
     Ended(Result<Value>),
-    /// The run stopped at a call of a host's function that needs a reply: [`Stops::waiting_call`].
+    /// It stopped at a call of the host's that waits for a reply: [`Stops::waiting_call`].
     Asks,
-    /// The run came to this call, and the reply of its number belongs to another call.
+    /// It stopped at a call of the host's that isn't the one to which the reply at its place was given.
     Differs(Stop),
-    /// The run would have passed this limit.
+    /// It would have passed this limit.
     Stopped(Limit),
 }
 
-impl RunStatus {
-    /// The outcome of a run that stopped at no call.
-    pub fn of(went: Result<Outcome<Value>>) -> RunStatus
+impl Turn {
+    /// How a run went that stopped at no call.
+    pub fn of(went: Result<Outcome<Value>>) -> Turn
         ensures went { IsAsItWent went result }
         ensures stops { (named : List ℕ → Bool) (given : List CallReply) → StopsWell named given result None }
     {
         match went {
-            Ok(Outcome::Answered(value)) => RunStatus::Ended(Ok(value)),
-            Ok(Outcome::Stopped(limit)) => RunStatus::Stopped(limit),
-            Err(error) => RunStatus::Ended(Err(error)),
+            Ok(Outcome::Answered(value)) => Turn::Ended(Ok(value)),
+            Ok(Outcome::Stopped(limit)) => Turn::Stopped(limit),
+            Err(error) => Turn::Ended(Err(error)),
         }
     }
 }
 
-/// A program's run that stops at the host's functions. It holds the host's replies, in the order of the
-/// calls, and the call that waits for a reply.
+/// A program's run that stops at the host's functions: what the host has answered, in the order of the calls, and the call
+/// that waits for an answer.
 ///
-/// A run starts again after each reply. So a program that makes n calls runs n + 1 times.
+/// A run begins anew after each answer, so that a program that makes n calls is run n + 1 times.
 #[derive(Drop)]
 pub struct Stops {
     alloc: Global,
@@ -67,7 +67,7 @@ pub struct Stops {
 }
 
 impl Stops {
-    /// Creates a run at its start. It allocates no memory.
+    /// A run at its beginning. It takes no memory.
     pub fn new(alloc: Global) -> Stops
         ensures given { replies_of result ≡ [] }
         ensures asked { waiting_call_of result ≡ None }
@@ -86,17 +86,17 @@ impl Stops {
         names: &StopNames,
         program: &Program,
         ctx: &dyn ContextProvider,
-    ) -> RunStatus
-        // The result is one that the program's meaning allows if these names return the host's replies. There
-        // are no limits, so the run stops at none.
+    ) -> Turn
+        // An answer is one that the program's meaning allows where these names answer what the host answered. There are no
+        // limits, so that it stops at none.
         ensures ended { EndsTurn result (ComesTo (AllowsBlock
             (world_of (host_replying (H.host host.now) (is_named names.now) (replies_of self.old))
             (context ctx.now)) (program_term program.now))) }
-        // The result is allowed in each context that has the same values under the program's names.
+        // The answer is allowed in each context that agrees with this one at the program's names.
         ensures independent { EndsTurn result (ComesTo (AllowedWhereAgreed
             (world_of (host_replying (H.host host.now) (is_named names.now) (replies_of self.old))
             (context ctx.now)) (program_term program.now))) }
-        // If each `matches` keeps the pattern of the string on its right, none is built.
+        // Where each `matches` keeps the pattern of the text on its right, none is built.
         ensures pattern { NeverRefusesWith (H.host host.now) bad_pattern → ProgramKeeps program.now
             → IfEnded result (λ r. RefusesNoPattern r) }
         ensures stops { StopsWell (is_named names.now) (replies_of self.old) result
@@ -107,8 +107,8 @@ impl Stops {
         self.turn(names, played)
     }
 
-    /// Executes code up to its next call of a registered name, with the names of a provider of any type,
-    /// within limits or without. Each call of this function has the whole of the limits.
+    /// Runs code up to its next call of a registered name, among the names of a provider of any type, within limits or
+    /// where there are none. Each turn has all that the limits allow.
     pub fn execute<
         H: Functions,
         P: ContextProvider + Drop,
@@ -122,13 +122,13 @@ impl Stops {
         code: &Code<L, N, K>,
         provider: P,
         limits: Option<Limits>,
-    ) -> RunStatus
-        // It ends, or stops at a limit, as a counted run of the code within these limits does. Without limits
-        // nothing is counted.
+    ) -> Turn
+        // It ends or stops at a limit as a run of the code does that counts within these limits, or as one that counts
+        // nothing where there are none.
         ensures ends { EndsTurn result (CodeComes limits
             (world_of (host_replying (H.host host.now) (is_named names.now) (replies_of self.old))
             (P.context provider)) (blocks_of L.held (text_of N.held) code.now)) }
-        // The result is one that the code may give without limits.
+        // An answer is one that the code may give where there are no limits.
         ensures ended { IfEnded result (λ r. Returns r (CodeAnswers
             (world_of (host_replying (H.host host.now) (is_named names.now) (replies_of self.old))
             (P.context provider)) (blocks_of L.held (text_of N.held) code.now))) }
@@ -142,8 +142,8 @@ impl Stops {
         self.turn(names, played)
     }
 
-    /// The outcome of this run. Notes the call that waits, if there is one.
-    fn turn(&mut self, names: &StopNames, played: RunOutcome) -> RunStatus
+    /// How a run went that came to this.
+    fn turn(&mut self, names: &StopNames, played: RunOutcome) -> Turn
         ensures went { IsAsItWent played.went result }
         ensures stops { StopsWell (is_named names.now) (replies_of self.old) result
             (waiting_call_of self.new) }
@@ -152,41 +152,40 @@ impl Stops {
         self.asked = None;
         let RunOutcome { went, stop } = played;
         let Some(stop) = stop else {
-            return RunStatus::of(went);
+            return Turn::of(went);
         };
         if !names.has(&stop.call.ident) {
-            return RunStatus::of(went);
+            return Turn::of(went);
         }
         if stop.place == self.given.len() {
             self.asked = Some(stop);
-            return RunStatus::Asks;
+            return Turn::Asks;
         }
         match self.given.get(stop.place) {
-            Some(given) if !given.is_to(&stop.call) => RunStatus::Differs(stop),
-            _ => RunStatus::of(went),
+            Some(given) if !given.is_to(&stop.call) => Turn::Differs(stop),
+            _ => Turn::of(went),
         }
     }
 
-    /// The call that waits for a reply.
+    /// The call that waits for an answer.
     pub fn waiting_call(&self) -> Option<&Stop>
         ensures { option_copied result ≡ waiting_call_of self.now }
     {
         self.asked.as_ref()
     }
 
-    /// The host's replies, in the order of the calls.
+    /// What the host has answered, in the order of the calls.
     pub fn replies(&self) -> &[CallReply]
         ensures { result.now ≡ replies_of self.now }
     {
         &self.given
     }
 
-    /// Replies with a value to the call that waits.
+    /// Answers the call that waits with a value.
     ///
     /// # Errors
     ///
-    /// Returns `ExprError` if no call waits, and `MemoryError` if an allocation fails. The run stays where it
-    /// was.
+    /// `ExprError` where no call waits, or `MemoryError`; the run stays where it was.
     pub fn answer(&mut self, value: Value) -> Result<()>
         ensures given { OnOk result (IsReplied self.old self.new (Reply.Value value)) }
         ensures err { OnErr result (IsSame self.old self.new) }
@@ -195,12 +194,11 @@ impl Stops {
         self.reply(Reply::Value(value))
     }
 
-    /// Replies with an error of this message to the call that waits.
+    /// Answers the call that waits with a refusal, as a function that refuses does.
     ///
     /// # Errors
     ///
-    /// Returns `ExprError` if no call waits, and `MemoryError` if an allocation fails. The run stays where it
-    /// was.
+    /// `ExprError` where no call waits, or `MemoryError`; the run stays where it was.
     pub fn refuse(&mut self, text: &str) -> Result<()>
         ensures given { OnOk result (IsRepliedRefusal self.old self.new text.now) }
         ensures err { OnErr result (IsSame self.old self.new) }
@@ -210,7 +208,7 @@ impl Stops {
         self.reply(Reply::Refusal(text))
     }
 
-    /// Adds a reply to the call that waits.
+    /// Puts a reply to the call that waits behind those that were given.
     fn reply(&mut self, reply: Reply) -> Result<()>
         ensures given { OnOk result (IsReplied self.old self.new reply) }
         ensures err { OnErr result (IsSame self.old self.new) }
@@ -231,7 +229,7 @@ impl Stops {
         }
     }
 
-    /// Drops all replies and the call that waits, so that the next run starts from the beginning.
+    /// Lets go of all answers and of the call that waits, so that the next run is at its beginning.
     pub fn forget(&mut self)
         ensures given { replies_of self.new ≡ [] }
         ensures asked { waiting_call_of self.new ≡ None }

@@ -1,23 +1,23 @@
--- What the results of the parser say about a source.
+-- What the answers of the parser say of a text.
 use Rattle.std.proofs.Common.{◌≡◌, ℕ, ◌<◌, ◌≤◌, List, Some, None, Ok, Err, ◌⊎◌, inl, inr, length, get_or, Result, sym, ap, ◌∙◌, subst, arith, IsUtf8}
 use Rattle.std.proofs.lemmas.Option.{slice_get_cases}
 use Rattle.std.specs.Result.{IsErrAnd}
 use Rattle.std.specs.Str.{IsCharBoundary}
 use Rattle.std.proofs.lemmas.Str.{IsCharBoundary-end}
 use Rattle.std.specs.Prelude.{slice_get}
-use Rattle.expr_tokens.proofs.Boundaries.{begun_boundary}
+use Rattle.expr_token.proofs.Boundaries.{begun_boundary}
 use Rattle.expr_error.specs.declared.error.Error.{Error}
 use Rattle.expr_error.specs.declared.error.Error.TheVariants.{PestError, ParseError, ExprError, RegexError, MemoryError}
-use Rattle.expr_tokens.specs.Grammar.{TreeProgram, LiteralsFit}
-use Rattle.expr_tokens.specs.Height.{program_height}
+use Rattle.expr_grammar.specs.Grammar.{TreeProgram, LiteralsFit}
+use Rattle.expr_grammar.specs.Height.{program_height}
 use Rattle.expr_parts.specs.Parts.{BlockWithHeight}
-use Rattle.expr_parts.specs.Measures.{program_with_height}
-use Rattle.expr_syntax.specs.Trees.{FaultPlace, AtToken, AtEnd, AtUnreadable, HasLargeLiteral, IsMeasureOf}
+use Rattle.expr_frames.specs.Measures.{program_with_height}
+use Rattle.expr_parser.specs.Texts.{FaultPlace, AtToken, AtEnd, AtUnreadable, HasLargeLiteral, IsMeasureOf}
 use Rattle.expr_syntax.specs.Texts.{FitsWithin, IsAnswerFor, IsAnswerWithin, IsBeyond, IsCompiled, IsCompiledWithin, IsRead, IsReadFor, IsParseRefusal, IsPlaced}
 use Rattle.expr_tree.specs.TermOf.{program_term}
 use Rattle.expr_tree.specs.declared.node.Program.{Program}
 
--- an error about a literal says that there is one that is too large
+-- the refusal of a literal says that there is one that is too large
 pub IsReadFor-literal : (t : TreeProgram) (e : Error) → IsParseRefusal e → ¬ LiteralsFit t → IsReadFor t (Err e)
 IsReadFor-literal t (PestError place) r h = absurd r
 IsReadFor-literal t (ParseError message) r h = h
@@ -25,15 +25,15 @@ IsReadFor-literal t (ExprError message) r h = absurd r
 IsReadFor-literal t (RegexError error) r h = absurd r
 IsReadFor-literal t MemoryError r h = tt
 
--- and has no offset
+-- and has no place
 pub refusal_boundary : {A : Type 0} (text : List ℕ) (e : Error) → IsParseRefusal e → (place : ℕ) → ◌≡◌ {A = Result A Error} (Err e) (Err (PestError place)) → IsCharBoundary text place
 refusal_boundary text e refused place same = let is : e ≡ PestError place = cc in absurd (subst IsParseRefusal is refused)
 
--- a source with a literal that is too large has no tree that fits, whatever the bound is
+-- a text with a literal that is too large has no tree that fits, whatever the bound
 literal_beyond : (text : List ℕ) (height : ℕ) → HasLargeLiteral text → IsBeyond text height
 literal_beyond text height h = record { tree = h.tree; is_tree = h.is_tree; beyond = λ f. h.literals f.0 }
 
--- an error of reading is passed on
+-- a refusal to read is passed on
 pub IsCompiled-err : (text : List ℕ) (e : Error) → IsRead text (Err e) → (r : Result Program Error) → IsErrAnd r (λ x. x ≡ e) → IsCompiled text r
 IsCompiled-err text e read (Ok p) h = absurd h
 IsCompiled-err text e read (Err x) h = subst (λ y. IsCompiled text (Err y)) (sym h) (same e read)
@@ -78,7 +78,7 @@ IsAnswerWithin-err t height e read (Err x) h = subst (λ y. IsAnswerWithin t hei
     same (RegexError error) q = q
     same MemoryError q = q
 
--- what was read of a source is its program
+-- what was read of a text is its program
 module _ (m : BlockWithHeight) (p : Program) (is : program_term p ≡ m.block) where
   pub IsCompiled-ok : (text : List ℕ) → IsMeasureOf text m → IsCompiled text (Ok p)
   IsCompiled-ok text read = record { tree = read.tree; is_tree = read.is_tree; literals = read.literals; same = is ∙ ap (λ (n : BlockWithHeight). n.block) read.same }
@@ -86,7 +86,7 @@ module _ (m : BlockWithHeight) (p : Program) (is : program_term p ≡ m.block) w
   pub IsAnswerFor-ok : (t : TreeProgram) → (m ≡ program_with_height t) × LiteralsFit t → IsAnswerFor t (Ok p)
   IsAnswerFor-ok t (same, fit) = (is ∙ ap (λ (n : BlockWithHeight). n.block) same, fit)
 
-  -- if its tree is no higher than a bound
+  -- where its tree is no higher than a bound
   module _ (height : ℕ) (low : m.height ≤ height) where
     as_low : (t : TreeProgram) → m ≡ program_with_height t → program_height t ≤ height
     as_low t same = subst (λ n. n ≤ height) (ap (λ (n : BlockWithHeight). n.height) same) low
@@ -102,11 +102,11 @@ module _ (m : BlockWithHeight) (p : Program) (is : program_term p ≡ m.block) w
     pub IsAnswerWithin-ok : (t : TreeProgram) → (m ≡ program_with_height t) × LiteralsFit t → IsAnswerWithin t height (Ok p)
     IsAnswerWithin-ok t (same, fit) = (is ∙ ap (λ (n : BlockWithHeight). n.block) same, (fit, as_low t same))
 
--- a program is no error with an offset
+-- no program is a refusal with a place
 pub program_boundary : (text : List ℕ) (p : Program) (place : ℕ) → ◌≡◌ {A = Result Program Error} (Ok p) (Err (PestError place)) → IsCharBoundary text place
 program_boundary text p place is = let no : ⊥ = cc in absurd no
 
--- A tree that is higher than a bound is an error, or there is no memory for the error.
+-- A tree that is higher than a bound is refused, or memory for saying so.
 module _ (height : ℕ) (m : BlockWithHeight) (high : height < m.height) where
   fits_not : (t : TreeProgram) → m ≡ program_with_height t → FitsWithin t height → ⊥
   fits_not t same f =
@@ -135,7 +135,7 @@ refusal_placed text (ExprError message) r = absurd r
 refusal_placed text (RegexError error) r = absurd r
 refusal_placed text MemoryError r = tt
 
--- a fault is at the beginning of a character or at the end of the source
+-- a fault stands at the beginning of a character or at the end of the text
 fault_boundary : (text : List ℕ) (place : ℕ) → IsUtf8 text → FaultPlace text place → IsCharBoundary text place
 fault_boundary text place utf8 (AtToken upto tokens starts k begins is some none) = at (slice_get_cases starts k).1
   where

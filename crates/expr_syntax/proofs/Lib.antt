@@ -1,11 +1,6 @@
 mod Compiled
 mod Matches
 pub mod Passed
-pub mod PassedBounds
-mod Prefixes
 pub mod Printed
-mod Reach
 mod Refused
-mod Runs
 mod Weighing
-mod Whole

@@ -1,20 +1,20 @@
--- A source without the bytes `matches` has no literal pattern.
+-- A text in which the bytes `matches` stand nowhere has no literal pattern.
 use Rattle.std.proofs.Common.{◌≡◌, ℕ, Bool, true, false, List, [], ◌∷◌, ◌++◌, codes, refl, sym, ap, ◌∙◌, subst, arith, append_assoc, append-nil, zero-add, IsTrue}
 use Rattle.std.proofs.lemmas.Bool.{false≢true}
 use Rattle.std.specs.Prelude.{MatchBool}
 use Rattle.std.specs.Str.Iter.{HasSubslice}
 use Rattle.expr_syntax.specs.Bounds.{IsLight, patterns_weight, is_behind_matches, weight_from}
-use Rattle.expr_tokens.specs.Reading.{Piece, Blank, Line, Block, TokenPiece, piece_text, pieces_text, IsPieceBefore, ArePieces, tokens_of}
-use Rattle.expr_tokens.specs.Tokens.{IsSpelling}
-use Rattle.expr_tokens.specs.declared.reserved.Reserved.TheVariants as reserved
-use Rattle.expr_tokens.specs.declared.sign.Sign.TheVariants as sign
-use Rattle.expr_tokens.specs.declared.token.Token.{Token}
-use Rattle.expr_tokens.specs.declared.token.Token.TheVariants as token
+use Rattle.expr_token.specs.Reading.{Piece, Blank, Line, Block, TokenPiece, piece_text, pieces_text, IsPieceBefore, ArePieces, tokens_of}
+use Rattle.expr_token.specs.Tokens.{IsSpelling}
+use Rattle.expr_token.specs.declared.reserved.Reserved.TheVariants as reserved
+use Rattle.expr_token.specs.declared.sign.Sign.TheVariants as sign
+use Rattle.expr_token.specs.declared.token.Token.{Token}
+use Rattle.expr_token.specs.declared.token.Token.TheVariants as token
 
 abbrev Lacks : List ℕ → Type 0
 Lacks text = HasSubslice text (codes "matches") → ⊥
 
--- nothing comes right after `matches` if the token before isn't it
+-- nothing stands behind `matches` where the token before isn't it
 none_behind : (t : Token) → (t ≡ token.Reserved reserved.Matches → ⊥) → is_behind_matches t false ≡ false
 none_behind (token.Reserved reserved.Matches) other = absurd (other refl)
 none_behind (token.Sign sign.ParenOpen) other = refl
@@ -23,7 +23,7 @@ none_behind t other = refl
 written_so : (t : Token) (s : List ℕ) → t ≡ token.Reserved reserved.Matches → IsSpelling t s → s ≡ codes "matches"
 written_so t s is spells = subst (λ u. IsSpelling u s) is spells
 
--- one piece of such a source, between a prefix and the other pieces
+-- one piece of such a text, behind a front of it and before the others
 light_piece : (text front tail : List ℕ) (p : Piece) (ps : List Piece) → Lacks text → text ≡ front ++ (piece_text p ++ tail) → IsPieceBefore p tail → weight_from false (tokens_of ps) ≡ 0 → weight_from false (tokens_of (p ∷ ps)) ≡ 0
 light_piece text front tail (Blank b) ps lacks e fits more = more
 light_piece text front tail (Line comment) ps lacks e fits more = more
@@ -46,7 +46,7 @@ light_without text patterns lacks ts r =
     let same : patterns_weight ts ≡ 0 = ap patterns_weight (sym r.1.in_order) ∙ none in
     omega (arith, same)
 
--- the code returns this
+-- so it is told
 pub told : (b : Bool) (text : List ℕ) → (HasSubslice text (codes "matches") → IsTrue b) → MatchBool b (Unit {0}) (HasSubslice text (codes "matches") → ⊥)
 told true text stands = tt
 told false text stands = λ has. false≢true (stands has)

@@ -1,4 +1,4 @@
--- An error that is passed on keeps its offset, whatever would have been returned.
+-- A refusal that is passed on keeps its place, whatever would have been given.
 use Rattle.std.proofs.Common.{◌≡◌, ℕ, List, Result, Ok, Err, IfOk, sym, ◌∙◌, subst, ap}
 use Rattle.std.specs.Result.{IsErrAnd}
 use Rattle.std.specs.Str.{IsCharBoundary}
@@ -23,7 +23,7 @@ module _ (A B : Type 0) (text : List ℕ) where
   boundary_kept e p (Ok v) h place is = absurd h
   boundary_kept e p (Err x) h place is = p place (let same : x ≡ PestError place = cc in ap Err (sym h ∙ same))
 
--- an error returns nothing
+-- a refusal gives nothing
 pub gives_nothing : {A : Type 0} (P : A → Type 0) (e : Error) (r : Result A Error) → IsErrAnd r (λ x. x ≡ e) → IfOk r P
 gives_nothing P e (Ok v) h = absurd h
 gives_nothing P e (Err x) h = tt

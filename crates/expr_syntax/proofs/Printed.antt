@@ -1,28 +1,28 @@
--- The tree of a readable value in print.
+-- The tree of the printed text of a readable value.
 use Rattle.std.proofs.Common.{◌≡◌, ℕ, ℤ, pos, negsuc, suc, ◌^◌, nat_lt, Bool, true, false, ◌&&◌, IsTrue, List, [], ◌∷◌, ◌++◌, map, flat_map, Option, Some, None, refl, sym, ap, ◌∙◌, subst, append_assoc, append-nil}
 use Rattle.std.specs.List.{list_all, AllByRecursion}
 use Rattle.std.proofs.lemmas.Bool.{and_parts, cond-true, false≢true}
-use Rattle.expr_tokens.proofs.Printed.{printed_reads}
-use Rattle.expr_tokens.proofs.Such.{Such, values_of, pairs_of, bare, with_each, by_layers, readable_at}
-use Rattle.expr_tokens.proofs.Words.{reserved_sound}
-use Rattle.expr_tokens.specs.Lexer.{reserved_of, word_token}
-use Rattle.expr_tokens.specs.Printed.{is_above_least, readable_layer, is_readable, integer_tokens, truth_token, pair_tokens, tokens_layer, printed_tokens}
-use Rattle.expr_tokens.specs.Tokens.{integer, is_word}
-use Rattle.expr_tokens.specs.declared.reserved.Reserved.{Reserved}
-use Rattle.expr_tokens.specs.declared.sign.Sign.TheVariants as sign
-use Rattle.expr_tokens.specs.declared.token.Token.{Token}
-use Rattle.expr_tokens.specs.declared.token.Token.TheVariants as token
+use Rattle.expr_printed.proofs.Printed.{printed_reads}
+use Rattle.expr_printed.proofs.Such.{Such, values_of, pairs_of, bare, with_each, by_layers, readable_at}
+use Rattle.expr_token.proofs.Words.{reserved_sound}
+use Rattle.expr_token.specs.Lexer.{reserved_of, word_token}
+use Rattle.expr_printed.specs.Printed.{is_above_least, readable_layer, is_readable, integer_tokens, truth_token, pair_tokens, tokens_layer, printed_tokens}
+use Rattle.expr_token.specs.Tokens.{integer, is_word}
+use Rattle.expr_token.specs.declared.reserved.Reserved.{Reserved}
+use Rattle.expr_token.specs.declared.sign.Sign.TheVariants as sign
+use Rattle.expr_token.specs.declared.token.Token.{Token}
+use Rattle.expr_token.specs.declared.token.Token.TheVariants as token
 use Rattle.expr_parts.specs.Maps.{map_term}
 use Rattle.expr_tree.specs.Term.{Term, literal, list, unary, answers}
 use Rattle.expr_tree.specs.TermOf.{terms_of}
-use Rattle.expr_functions.specs.declared.operator.UnaryOperator.TheVariants as prefixed
+use Rattle.expr_tree.specs.declared.operator.UnaryOperator.TheVariants as prefixed
 use Rattle.expr_value.specs.Values.{text_of}
 use Rattle.expr_value.specs.declared.value.Value.{Value, roll-Value, map-Value, fold-roll-Value}
 use Rattle.expr_value.specs.declared.value.Value.TheOpen.{Value-F}
 use Rattle.expr_value.specs.declared.value.Value.TheVariants as value
-use Rattle.expr_tokens.specs.declared.operator_sign.PrefixSign.TheVariants as prefix
-use Rattle.expr_tokens.specs.Grammar.{Usual, ReservedWord, True, False, Nil, Integer, Quoted, Key, WordKey, Tree, Literal, Array, Map, Prefix, NoItems, SomeItems, Row, One, More, NoEntries, SomeEntries, EntryRow, OneEntry, MoreEntries, Program, NoLines, key_token, tokens_of, row_tokens, entry_row_tokens, TreeFits, RowFits, EntryRowFits, IntegerFits}
-use Rattle.expr_parts.specs.Programs.{entry_name, tree_term, row_terms, entry_row_pairs}
+use Rattle.expr_grammar.specs.declared.sign.PrefixSign.TheVariants as prefix
+use Rattle.expr_grammar.specs.Grammar.{Usual, ReservedWord, True, False, Nil, Integer, Quoted, Key, WordKey, Tree, Literal, Array, Map, Prefix, NoItems, SomeItems, Row, One, More, NoEntries, SomeEntries, EntryRow, OneEntry, MoreEntries, Program, NoLines, key_token, tokens_of, row_tokens, entry_row_tokens, TreeFits, RowFits, EntryRowFits, IntegerFits}
+use Rattle.expr_frames.specs.Programs.{key_text, tree_term, row_terms, entry_row_pairs}
 use Rattle.expr_syntax.specs.Printed.{integer_term, term_layer, printed_term}
 use Rattle.expr_syntax.specs.Texts.{IsProgramOf}
 
@@ -130,7 +130,7 @@ items_spelled (e ∷ es) h =
 record Keyed (w : List ℕ) : Type 0 where
   pub key : Key
   pub spells : key_token key ≡ word_token w
-  pub says : entry_name key ≡ w
+  pub says : key_text key ≡ w
   pub fits : IntegerFits (word_token w)
 
 abbrev token_by : List ℕ → Option Reserved → Token

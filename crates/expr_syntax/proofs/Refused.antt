@@ -1,6 +1,6 @@
--- An error of reading is passed on, whatever the bounds are.
+-- A refusal to read is passed on, whatever the bounds.
 use Rattle.std.proofs.Common.{ℕ, Err}
-use Rattle.expr_tokens.specs.Grammar.{TreeProgram}
+use Rattle.expr_grammar.specs.Grammar.{TreeProgram}
 use Rattle.expr_syntax.specs.Bounds.{IsAnswerBounded}
 use Rattle.expr_syntax.specs.Texts.{IsReadFor}
 use Rattle.expr_error.specs.declared.error.Error.{Error}

@@ -1,15 +1,15 @@
--- How far the literal patterns of a source were weighed, and what is left.
+-- How far the literal patterns of a text were weighed, and what is left.
 use Rattle.std.proofs.Common.{◌≡◌, ℕ, ◌+◌, ◌<◌, Bool, false, List, [], ◌∷◌, ◌++◌, length, drop, refl, sym, ap, ◌∙◌, arith, append_assoc, append-nil}
 use Rattle.expr_syntax.specs.Bounds.{IsHeavier, IsLight, patterns_weight, is_behind_matches, token_weight, weight_from}
-use Rattle.expr_tokens.specs.Reading.{Begins, NoPiece, ReadsAt}
-use Rattle.expr_tokens.specs.Steps.{GoesOn, IsTokenWithin}
-use Rattle.expr_tokens.specs.declared.reading.NextToken.{NextToken}
-use Rattle.expr_tokens.specs.declared.reading.NextToken.TheVariants as next_token
-use Rattle.expr_tokens.specs.declared.token.Token.{Token}
-use Rattle.expr_tokens.proofs.Lexing.{one_reading}
-use Rattle.expr_tokens.proofs.Readings.{begun_none, begun_refused}
+use Rattle.expr_token.specs.Reading.{Begins, NoPiece, ReadsAt}
+use Rattle.expr_token.specs.Steps.{GoesOn, IsTokenWithin}
+use Rattle.expr_token.specs.declared.reading.NextToken.{NextToken}
+use Rattle.expr_token.specs.declared.reading.NextToken.TheVariants as next_token
+use Rattle.expr_token.specs.declared.token.Token.{Token}
+use Rattle.expr_token.proofs.Lexing.{one_reading}
+use Rattle.expr_token.proofs.Readings.{begun_none, begun_refused}
 
--- the source up to an offset was read as tokens, after which this much is left, whatever tokens follow
+-- the text up to a place was read as tokens, behind which so much is left, whatever tokens follow
 pub record WeighedTo (text : List ℕ) (patterns at left : ℕ) (behind : Bool) : Type 0 where
   pub tokens : List Token
   pub starts : List ℕ

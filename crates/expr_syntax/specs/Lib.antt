@@ -1,10 +1,4 @@
 pub mod Bounds
-pub mod CompiledLimited
-pub mod LineColumns
-pub mod Parsed
 pub mod Printed
 pub mod Promises
-pub mod Reading
-pub mod Refused
 pub mod Texts
-pub mod Trees

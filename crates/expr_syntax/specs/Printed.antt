@@ -1,19 +1,19 @@
--- The program of a readable value in print.
+-- The program of the printed text of a readable value.
 use Rattle.std.specs.Prelude.{ℤ, pos, negsuc, suc}
 use Rattle.expr_parts.specs.Maps.{map_term}
 use Rattle.expr_tree.specs.Term.{Term, literal, list, unary, no_terms}
 use Rattle.expr_tree.specs.TermOf.{terms_of}
-use Rattle.expr_functions.specs.declared.operator.UnaryOperator.TheVariants as prefixed
+use Rattle.expr_tree.specs.declared.operator.UnaryOperator.TheVariants as prefixed
 use Rattle.expr_value.specs.declared.value.Value.{Value, fold-Value}
 use Rattle.expr_value.specs.declared.value.Value.TheOpen.{Value-F}
 use Rattle.expr_value.specs.declared.value.Value.TheVariants as value
 
--- a negative integer is a unary minus and a literal
+-- a negative integer is a prefix and its literal
 abbrev pub integer_term : ℤ → Term
 integer_term (pos n) = literal (value.Integer (pos n))
 integer_term (negsuc n) = unary prefixed.Negative (literal (value.Integer (pos (suc n))))
 
--- one layer, given the programs of the values inside
+-- one layer, of which the programs of the values inside are known
 abbrev pub term_layer : Value-F Term → Term
 term_layer (Value-F.Integer n) = integer_term n
 term_layer (Value-F.Bool b) = literal (value.Bool b)

@@ -1,7 +1,7 @@
--- What compiling promises, said once for all calls that compile.
+-- What reading a text's program promises: said once for each call that reads one.
 use Rattle.std.specs.Prelude.{◌≡◌, ℕ, IfOk, List, Result, Err}
 use Rattle.std.specs.Str.{IsCharBoundary}
-use Rattle.expr_tokens.specs.Grammar.{TreeProgram}
+use Rattle.expr_grammar.specs.Grammar.{TreeProgram}
 use Rattle.expr_parts.specs.Kept.{KeepPatterns}
 use Rattle.expr_syntax.specs.Texts.{IsAnswerFor, IsAnswerWithin, IsCompiled, IsCompiledWithin, IsPlaced, IsTreeOf}
 use Rattle.expr_tree.specs.KeptPatterns.{program_operations}
@@ -9,23 +9,22 @@ use Rattle.expr_tree.specs.declared.node.Program.{Program}
 use Rattle.expr_error.specs.declared.error.Error.{Error}
 use Rattle.expr_error.specs.declared.error.Error.TheVariants.{PestError}
 
--- what compiling a source may return
+-- what compiling a text comes to
 pub record CompilesText (text : List ℕ) (result : Result Program Error) : Type 0 where
-  -- a program is the program of a tree of the source, and a syntax error means that there is no tree
+  -- each answer says of the text what it means: a program that of a tree, a syntax fault that there is none
   pub answer : IsCompiled text result
-  -- if the source has a tree, only that tree's result is possible
+  -- where the text has a tree, no other answer is given but that tree's
   pub only : (t : TreeProgram) → IsTreeOf text t → IsAnswerFor t result
-  -- a syntax error is at the first fault: some program begins with the tokens before it, and none goes on with the next
+  -- a syntax fault's place is that of the first: some program begins with the tokens before it, and none goes on there
   pub place : IsPlaced text result
-  -- a character begins at the offset, or the source ends there
+  -- the text may be cut at that place: a character begins there, or the text ends
   pub boundary : (place : ℕ) → result ≡ Err (PestError place) → IsCharBoundary text place
-  -- each literal on the right of `matches` keeps its compiled pattern, if it is a pattern and not too big
+  -- each literal on the right of `matches` has its pattern kept beside it, if it is one that isn't too big
   pub patterns : IfOk result (λ program. KeepPatterns (program_operations program))
 
--- what compiling a source may return if its tree is bounded in height
+-- the same where the text's tree may be no higher than a bound
 pub record CompilesTextWithin (text : List ℕ) (height : ℕ) (result : Result Program Error) : Type 0 where
-  -- a program is the program of a tree within the bound. A syntax error means that there is no tree, whatever the bound
-  -- is.
+  -- a program is that of a tree within the bound; a syntax fault says that there is no tree, whatever the bound
   pub answer : IsCompiledWithin text height result
   pub only : (t : TreeProgram) → IsTreeOf text t → IsAnswerWithin t height result
   pub place : IsPlaced text result

@@ -1,29 +1,29 @@
--- The program of a source, and what `compile` may return.
+-- The program of a text, and the answers of `compile`.
 use Rattle.std.specs.Prelude.{◌≡◌, ℕ, ◌≤◌, List, length, Result, Ok, Err}
 use Rattle.expr_tree.specs.Term.{Block}
 use Rattle.expr_tree.specs.TermOf.{program_term}
 use Rattle.expr_tree.specs.declared.node.Program.{Program}
 use Rattle.expr_error.specs.declared.error.Error.{Error}
 use Rattle.expr_error.specs.declared.error.Error.TheVariants.{PestError, ParseError, ExprError, RegexError, MemoryError}
-use Rattle.expr_tokens.specs.Grammar.{TreeProgram, LiteralsFit}
+use Rattle.expr_grammar.specs.Grammar.{TreeProgram, LiteralsFit}
 use Rattle.expr_parts.specs.Parts.{BlockWithHeight}
-use Rattle.expr_parts.specs.Measures.{program_with_height}
-use Rattle.expr_parts.specs.Programs.{program_of}
-use Rattle.expr_tokens.specs.Height.{program_height}
-pub use Rattle.expr_syntax.specs.Trees.{FaultPlace, HasLargeLiteral, HasNoTree, IsMeasureOf, IsTreeOf}
+use Rattle.expr_frames.specs.Measures.{program_with_height}
+use Rattle.expr_frames.specs.Programs.{program_of}
+use Rattle.expr_grammar.specs.Height.{program_height}
+pub use Rattle.expr_parser.specs.Texts.{FaultPlace, HasLargeLiteral, HasNoTree, IsMeasureOf, IsTreeOf}
 
--- Two trees of a source are the same tree.
+-- Two trees of a text are one.
 abbrev pub OneTreeOfText : Type 0
 OneTreeOfText = (text : List ℕ) (t u : TreeProgram) → IsTreeOf text t → IsTreeOf text u → t ≡ u
 
--- the program of a tree of the source whose integer literals are below 2^63
+-- the program of a tree of the text whose integer literals are below 2^63
 pub record IsProgramOf (text : List ℕ) (b : Block) : Type 0 where
   pub tree : TreeProgram
   pub is_tree : IsTreeOf text tree
   pub literals : LiteralsFit tree
   pub same : b ≡ program_of tree
 
--- what each result says about the source
+-- what each answer says of the text
 abbrev pub IsCompiled : List ℕ → Result Program Error → Type 0
 IsCompiled text (Ok p) = IsProgramOf text (program_term p)
 IsCompiled text (Err (PestError place)) = HasNoTree text
@@ -32,7 +32,7 @@ IsCompiled text (Err (ExprError message)) = ⊥
 IsCompiled text (Err (RegexError error)) = ⊥
 IsCompiled text (Err MemoryError) = Unit {0}
 
--- the results for a source that has the tree t
+-- the answers for a text that has the tree t
 abbrev pub IsAnswerFor : TreeProgram → Result Program Error → Type 0
 IsAnswerFor t (Ok p) = (program_term p ≡ program_of t) × LiteralsFit t
 IsAnswerFor t (Err (PestError place)) = ⊥
@@ -41,18 +41,18 @@ IsAnswerFor t (Err (ExprError message)) = ⊥
 IsAnswerFor t (Err (RegexError error)) = ⊥
 IsAnswerFor t (Err MemoryError) = Unit {0}
 
--- With a bound on height: a tree may be no higher.
+-- A bound on height: the same, but that a tree program may be no higher.
 abbrev pub FitsWithin : TreeProgram → ℕ → Type 0
 FitsWithin t height = LiteralsFit t × (program_height t ≤ height)
 
--- the program of a tree of the source that fits the bound
+-- the program of a tree of the text that fits the bound
 pub record IsProgramWithin (text : List ℕ) (height : ℕ) (b : Block) : Type 0 where
   pub tree : TreeProgram
   pub is_tree : IsTreeOf text tree
   pub within : FitsWithin tree height
   pub same : b ≡ program_of tree
 
--- the source has a tree, and it doesn't fit the bound
+-- the text has a tree, and it doesn't fit the bound
 pub record IsBeyond (text : List ℕ) (height : ℕ) : Type 0 where
   pub tree : TreeProgram
   pub is_tree : IsTreeOf text tree
@@ -74,7 +74,7 @@ IsAnswerWithin t height (Err (ExprError message)) = ⊥
 IsAnswerWithin t height (Err (RegexError error)) = ⊥
 IsAnswerWithin t height (Err MemoryError) = Unit {0}
 
--- What is read of a source, before the bound is applied.
+-- What is read of a text, before it is known whether a bound is asked for.
 abbrev pub IsRead : List ℕ → Result BlockWithHeight Error → Type 0
 IsRead text (Ok m) = IsMeasureOf text m
 IsRead text (Err (PestError place)) = HasNoTree text
@@ -99,7 +99,7 @@ IsPlaced text (Err (ExprError message)) = Unit {0}
 IsPlaced text (Err (RegexError error)) = Unit {0}
 IsPlaced text (Err MemoryError) = Unit {0}
 
--- an error about what can't be held, or out of memory
+-- what can't be held is refused, or memory for saying so
 abbrev pub IsParseRefusal : Error → Type 0
 IsParseRefusal (PestError place) = ⊥
 IsParseRefusal (ParseError message) = Unit {0}

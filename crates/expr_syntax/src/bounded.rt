@@ -1,8 +1,8 @@
-//! Compiling within bounds on the height of the tree and on the literal patterns.
+//! From a text to its program, within bounds on its tree and on its literal patterns.
 ghost use Rattle.std.specs.Prelude.{◌≡◌, ◌+◌, ◌<◌, ℕ, Err, IfOk, MatchBool, MatchOption, option_map, codes};
 ghost use Rattle.std.specs.Str.{IsCharBoundary};
 ghost use Rattle.std.specs.Str.Iter.{HasSubslice};
-ghost use Rattle.expr_tokens.specs.Grammar.{TreeProgram};
+ghost use Rattle.expr_grammar.specs.Grammar.{TreeProgram};
 ghost use Rattle.expr_parts.specs.Kept.{KeepPatterns};
 ghost use Rattle.expr_syntax.specs.Bounds.{IsAnswerBounded, IsCompiledBounded, IsHeavier, IsLight, OnProgram, literal_text, is_behind_matches as behind, token_weight};
 ghost use Rattle.expr_syntax.specs.Texts.{IsPlaced, IsTreeOf};
@@ -11,45 +11,45 @@ ghost use Rattle.expr_error.specs.declared.error.Error.{Error as declared};
 ghost use Rattle.expr_error.specs.ErrorKind.{OnlyMemory};
 
 use crate::text::read_program;
-use expr_limits::weigh_pattern;
-use expr_tokens::{NextToken, Reserved, Sign, Token, next_token};
+use expr_sizes::weigh_pattern;
+use expr_token::{NextToken, Reserved, Sign, Token, next_token};
 use expr_tree::node::Program;
 use expr_value::{Result, Text};
 use std::alloc::Global;
 
-/// What an expression is compiled to within bounds.
+/// What comes of a text within bounds.
 #[derive(Drop)]
 pub enum BoundedProgram {
     /// Its program.
     Program(Program),
-    /// Its syntax tree is too high.
+    /// Its tree is higher than is allowed.
     TooHigh,
-    /// Its literal patterns weigh too much.
+    /// Its literal patterns weigh more than is allowed.
     TooHeavy,
 }
 
-/// Compiles an expression within bounds. Its syntax tree may be as high as `height`, as
-/// [`compile_within`](crate::compile_within) measures it. Its literal patterns together may weigh as much as
-/// `patterns`, by [`weigh_pattern`]. These are the strings right after `matches`, with only opening brackets between.
-/// They are weighed before any is compiled.
+/// The program of a text whose tree is no higher than a bound, as [`compile_within`](crate::compile_within) measures it, and
+/// whose literal patterns weigh no more together than another: those texts that stand right behind `matches`, with opening
+/// brackets between, by [`weigh_pattern`]. They are weighed before any is built.
 ///
 /// # Errors
 ///
-/// Returns the errors of [`compile`](crate::compile).
+/// Those of [`compile`](crate::compile).
 pub fn compile_bounded(
     alloc: Global,
     code: &str,
     height: usize,
     patterns: u64,
 ) -> Result<BoundedProgram>
-    // A program is the program of a tree within the bounds. An error means what it means without bounds.
+    // Each answer says of the text what it means: a program that of a tree within the bounds, and a refusal what it does
+    // where there is no bound.
     ensures answer { IsCompiledBounded code.now height patterns result }
-    // If the expression has a tree, only that tree's result is possible.
+    // Where the text has a tree, no other answer is given but that tree's.
     ensures only { (t : TreeProgram) → IsTreeOf code.now t → IsAnswerBounded t height result }
-    // A syntax error is at the first fault, between two characters.
+    // A syntax fault is at the text's first fault, where the text may be cut.
     ensures place { IsPlaced code.now result }
     ensures boundary { (place : ℕ) → result ≡ Err (declared.PestError place) → IsCharBoundary code.now place }
-    // Each literal to the right of `matches` keeps its compiled pattern, if it is a pattern and not too big.
+    // Each literal on the right of `matches` has its pattern kept beside it, if it is one that isn't too big.
     ensures patterns { IfOk result (λ b. OnProgram b (λ p. KeepPatterns (program_operations p))) }
 {
     if !is_light(alloc, code, patterns)? {
@@ -62,8 +62,8 @@ pub fn compile_bounded(
     Ok(BoundedProgram::Program(program.into_program()))
 }
 
-/// Whether the literal patterns weigh at most `patterns` together. The tokens are read only if the source contains the
-/// word `matches`.
+/// Whether the literal patterns of a text weigh no more together than this. A text in which the bytes `matches` stand
+/// nowhere has none, so that its tokens aren't read.
 fn is_light(alloc: Global, code: &str, patterns: u64) -> Result<bool>
     ensures answer { IfOk result (λ is.
         MatchBool is (IsLight code.now patterns) (IsHeavier code.now patterns)) }
@@ -87,15 +87,14 @@ fn is_light(alloc: Global, code: &str, patterns: u64) -> Result<bool>
     Ok(true)
 }
 
-/// Whether the source may contain `matches`. Most expressions have no `m`, which is found faster.
+/// Whether the bytes `matches` may stand in a text: most texts have no `m`, which is found faster.
 fn has_matches(code: &str) -> bool
     ensures { MatchBool result (Unit {0}) (HasSubslice code.now (codes "matches") → ⊥) }
 {
     code.as_bytes().contains(&b'm') && code.contains("matches")
 }
 
-/// The weight that is left after a token, which weighs something if it is a literal pattern. `None` if it weighs more
-/// than is left.
+/// What is left of a weight after a token, if it weighs no more: it does where it is a literal pattern.
 fn remaining_weight(token: Token, is_behind: bool, left: u64) -> Option<u64>
     ensures { MatchOption result (left < token_weight is_behind token)
         (λ rest. token_weight is_behind token + rest ≡ left) }
@@ -109,7 +108,7 @@ fn remaining_weight(token: Token, is_behind: bool, left: u64) -> Option<u64>
     }
 }
 
-/// The content of a string literal.
+/// The text of a literal.
 fn text_of(token: &Token) -> Option<&Text>
     ensures { option_map (λ t. t.now) result ≡ literal_text token.now }
 {
@@ -120,7 +119,7 @@ fn text_of(token: &Token) -> Option<&Text>
     }
 }
 
-/// Whether the next token comes right after `matches`.
+/// Whether what follows a token stands right behind `matches`.
 fn is_behind_matches(token: &Token, is_behind: bool) -> bool
     ensures { result ≡ behind token.now is_behind }
 {

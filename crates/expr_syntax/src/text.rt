@@ -1,25 +1,25 @@
-//! Compiling an expression.
+//! From a text to its program.
 ghost use Rattle.std.specs.Prelude.{◌≡◌, ℕ, Err};
-ghost use Rattle.expr_tokens.specs.Grammar.{TreeProgram};
+ghost use Rattle.expr_grammar.specs.Grammar.{TreeProgram};
 ghost use Rattle.expr_syntax.specs.Promises.{CompilesText, CompilesTextWithin};
 ghost use Rattle.expr_syntax.specs.Texts.{IsParseRefusal, IsPlaced, IsRead, IsReadFor, IsTreeOf};
 ghost use Rattle.std.specs.Str.{IsCharBoundary};
 ghost use Rattle.expr_error.specs.declared.error.Error.{Error};
 
-use crate::parser::{ParseError, parse};
+use expr_parser::parser::{ParseError, parse};
 use expr_parts::AnnotatedProgram;
 use expr_tree::node::Program;
 use expr_value::{Error, Result};
 use std::alloc::Global;
 
-/// Compiles an expression.
+/// The program of a text.
 ///
 /// # Errors
 ///
-/// Returns `PestError` if the source has no tree in the grammar, with the byte offset of the first fault. That is the
-/// first token with which no program goes on, or else the first bytes that are no token, or else the end of the source.
-/// Returns `ParseError` if there is a tree, but an integer literal in it is 2^63 or more. Returns `MemoryError` if an
-/// allocation fails.
+/// `PestError` where the text has no tree in the grammar, with the place in bytes of its first fault: the first byte of
+/// the first token with which no program can go on, or, where a program can go on with each token, of what is no token,
+/// or else the text's end. `ParseError` where it has a tree, but an integer literal is 2^63 or more. `MemoryError` where
+/// a growth is refused.
 pub fn compile(alloc: Global, code: &str) -> Result<Program>
     ensures { CompilesText code.now result }
 {
@@ -27,13 +27,13 @@ pub fn compile(alloc: Global, code: &str) -> Result<Program>
     Ok(program.into_program())
 }
 
-/// Compiles an expression whose tree is at most `height` high. The height is the greatest number of trees one inside
-/// another, with brackets, lines and predicates. `1` has height 1, `(1)` and `-1` have 2, `1 + 2 * 3` has 3.
+/// The program of a text whose tree is no higher than the bound: the greatest number of trees one inside another,
+/// brackets, lines and predicates included. `1` is of height 1, `(1)` and `-1` of 2, `1 + 2 * 3` of 3.
 ///
 /// # Errors
 ///
-/// Returns the errors of [`compile`], and `ParseError` if the tree is higher. A source without a tree gives `PestError`
-/// whatever the bound is.
+/// Those of [`compile`], and `ParseError` where the text's tree is higher. A text without a tree is a `PestError`
+/// whatever the bound.
 pub fn compile_within(alloc: Global, code: &str, height: usize) -> Result<Program>
     ensures { CompilesTextWithin code.now height result }
 {
@@ -45,7 +45,7 @@ pub fn compile_within(alloc: Global, code: &str, height: usize) -> Result<Progra
     Ok(program.into_program())
 }
 
-// Reads the program of a source, and the height of its tree.
+// The program of a text, and the height of its tree.
 pub(crate) fn read_program(alloc: Global, code: &str) -> Result<AnnotatedProgram>
     ensures answer { IsRead code.now result }
     ensures only { (t : TreeProgram) → IsTreeOf code.now t → IsReadFor t result }
@@ -60,7 +60,7 @@ pub(crate) fn read_program(alloc: Global, code: &str) -> Result<AnnotatedProgram
     }
 }
 
-// The error for a source that has a tree.
+// The refusal of a text that has a tree.
 fn refusal(alloc: Global, message: &str) -> Error
     ensures { IsParseRefusal result }
 {

@@ -18,7 +18,7 @@ one_by_day d e year day =
     let first : days_from_civil d.year 1 1 ≡ days_from_civil e.year 1 1 = ap (λ y. days_from_civil y 1 1) year in
     same_date d e (omega (arith, signed_arith, epoch_day-ordinal d, epoch_day-ordinal e))
 
--- the day of the year of a date
+-- the place of a date in its year
 pub ordinal_in_year : (d : Date) → (1 ≤ ordinal d) × (ordinal d ≤ days_in_year d.year) × (ordinal d ≤ 366)
 ordinal_in_year d =
     let last : ordinal d ≤ days_in_year d.year = day_of_year_bound d.year d.month d.day (d.year_in, d.month_in, d.day_in) in

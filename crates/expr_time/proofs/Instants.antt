@@ -1,5 +1,5 @@
--- What is read of a DateTime's stamp is its instant.
-use Rattle.std.proofs.Common.{◌≡◌, inl, inr, ℕ, zero, suc, ◌<◌, refl, sym, ap, ◌∙◌, arith, Some, ℤ, pos, negsuc, ◌+ℤ◌, ◌*ℤ◌, unsigned_abs, List}
+-- What is read of a moment's stamp is its instant.
+use Rattle.std.proofs.Common.{◌≡◌, inl, inr, ℕ, zero, suc, ◌<◌, refl, sym, ap, ◌∙◌, arith, Some, ℤ, pos, negsuc, ◌+ℤ◌, ◌*ℤ◌, ◌≤ℤ◌, unsigned_abs, List}
 use Rattle.std.specs.Prelude.{Option, Ok, false}
 use Rattle.std.proofs.Math.Path.{subst}
 use Rattle.jiff_core.proofs.SignedLemmas.{signed_arith}
@@ -8,7 +8,6 @@ use Rattle.jiff.proofs.Family.{civil_nanos-parts, epoch_day_same}
 use Rattle.jiff.specs.Types.{DateTime, Offset}
 use Rattle.jiff.specs.Words.{IsOffsetSeconds, ambiguous_at, epoch_day, nanos_of_seconds, offset_at, time_nanos}
 unfoldable use Rattle.jiff.specs.Words.{civil_nanos}
-use Rattle.expr_datetime.proofs.Days.{above}
 use Rattle.expr_datetime.specs.Calendar.{Clock, Day, date_shown, plain_clock, plain_day, time_shown}
 use Rattle.expr_value.specs.Answers.{Answer}
 use Rattle.expr_datetime.specs.Times.{instant, local_nanos, offset_of, utc, zone_offset}
@@ -18,19 +17,23 @@ use Rattle.expr_datetime.specs.declared.moment.MomentZone.TheVariants.{Fixed, Na
 use Rattle.expr_value.specs.declared.value.Value as value
 use Rattle.expr_datetime.specs.declared.zone.TimezoneValue.{TimezoneValue}
 use Rattle.expr_layout.specs.declared.found.KnownFields.{KnownFields}
-use Rattle.expr_time.specs.Civil.{ByForm, MomentMayReturn, MomentMayReturnIf, IsOrZero, IsCivil, ReadBy, answer_in, place_of_offset}
+use Rattle.expr_time.specs.Civil.{ByForm, MomentMayReturn, MomentMayReturnIf, IsOrZero, IsCivil, ReadBy, answer_in, place_at}
 use Rattle.expr_moment.specs.Fields.{date_at, time_at}
 use Rattle.expr_layout.specs.Layouts.{printed_text}
 use Rattle.expr_layout.specs.declared.token.LayoutToken.{LayoutToken}
 use Rattle.expr_moment.specs.Zones.{moment_or_refusal, picked_in}
 use Rattle.expr_datetime.specs.ShiftedMoments.{moment_in}
-use Rattle.expr_time.specs.Stamps.{CanStamp, ReadsAlone, StampReadsBack, SaysInstant, stamp_layout}
+use Rattle.expr_time.specs.Stamps.{CanStamp, ReadsAlone, ReadsBack, SaysInstant, stamp_layout}
 use Rattle.expr_layout.proofs.OneLayout.{layout_one}
 use Rattle.expr_time.proofs.Placed.{others_are_fixed}
 use Rattle.expr_moment.proofs.InZone.{civil_shown}
 use Rattle.expr_moment.proofs.Shown.{date_is_shown, time_is_shown}
 use Rattle.expr_time.proofs.StampTokens.{stamp_is}
 use Rattle.expr_time.proofs.Stamped.{Shows, form_read, fraction_known, known, stamp, stamp_read}
+
+above : (z : ℤ) → pos 0 ≤ℤ z → z ≡ pos (unsigned_abs z)
+above (pos n) h = refl
+above (negsuc n) h = absurd (omega (arith, signed_arith, h))
 
 -- what the clock shows
 abbrev year_of : DateTime → ℕ
@@ -100,9 +103,9 @@ civil_one dt e off year ((_, ((y, found, is), month, day, _, _)), (hour, minute,
     let nanos : time_nanos e.time ≡ time_nanos dt.time = omega (arith, hour, minute, second, parts_of_second) in
     civil_nanos-parts e ∙ (λ i. days i *ℤ pos 86_400_000_000_000 +ℤ pos (nanos i)) ∙ sym (civil_nanos-parts dt)
 
--- the zone of an offset, and the instant that is picked in it
+-- the place of an offset, and the instant that is picked in it
 abbrev Picks : DateTimeValue → DateTime → ℤ → Type 0
-Picks t e off = (place : MomentZone) × (place_of_offset off ≡ Some place) × (instant t ≡ picked_in place e) × (zone_offset place (instant t) ≡ off)
+Picks t e off = (place : MomentZone) × (place_at off ≡ Some place) × (instant t ≡ picked_in place e) × (zone_offset place (instant t) ≡ off)
 
 abbrev IsLocal : DateTimeValue → DateTime → ℤ → Type 0
 IsLocal t e off = civil_nanos e ≡ instant t +ℤ nanos_of_seconds off
@@ -121,7 +124,7 @@ picks t e (pos zero) h local = in_utc t e local
 picks t e (pos (suc n)) h local = in_fixed t e (pos (suc n)) (omega (arith, signed_arith, h), omega (arith, signed_arith, h)) (λ z. absurd (omega (arith, signed_arith, z))) local
 picks t e (negsuc n) h local = in_fixed t e (negsuc n) (omega (arith, signed_arith, h), omega (arith, signed_arith, h)) (λ z. absurd (cc)) local
 
-answered : (t : DateTimeValue) (e : DateTime) (off : ℤ) → IsLocal t e off → (p : Picks t e off) → answer_in (place_of_offset off) e ≡ Ok (value.DateTime (moment_in t p.0))
+answered : (t : DateTimeValue) (e : DateTime) (off : ℤ) → IsLocal t e off → (p : Picks t e off) → answer_in (place_at off) e ≡ Ok (value.DateTime (moment_in t p.0))
 answered t e off local p =
     let shown : local_nanos (moment_in t p.0) ≡ civil_nanos e = ap (λ (s : ℤ). instant t +ℤ nanos_of_seconds s) p.3 ∙ sym local in
     ap (λ (place : Option MomentZone). answer_in place e) p.1 ∙ ap (λ (u : Option DateTimeValue). moment_or_refusal u) (sym (civil_shown p.0 e (moment_in t p.0) p.2 refl shown))
@@ -139,7 +142,7 @@ stamp_says t dt zone answer e is reads =
     let found = stamp_read t (year_of dt) dt.date.month dt.date.day dt.time.hour dt.time.minute dt.time.second dt.time.subsec_nanosecond (offset_of t) (shows t dt e is) in
     says t dt zone answer e is (subst (λ (o : Option KnownFields). MomentMayReturnIf o zone answer) found reads)
 
-pub reads_back : (t : DateTimeValue) (dt : DateTime) → civil_nanos dt ≡ local_nanos t → (zone : TimezoneValue) (text : List ℕ) (answer : Answer) → StampReadsBack t zone text answer
+pub reads_back : (t : DateTimeValue) (dt : DateTime) → civil_nanos dt ≡ local_nanos t → (zone : TimezoneValue) (text : List ℕ) (answer : Answer) → ReadsBack t zone text answer
 reads_back t dt e zone text answer is prints reads =
     let printing : prints.0 ≡ stamp = layout_one prints.0 stamp false stamp_layout prints.1 stamp_is in
     let reading : reads.0 ≡ stamp = layout_one reads.0 stamp false stamp_layout reads.1 stamp_is in

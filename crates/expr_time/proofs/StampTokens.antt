@@ -1,4 +1,4 @@
--- A stamp has the tokens of its layout.
+-- A stamp goes by its layout.
 use Rattle.std.proofs.Common.{refl, [], codes}
 use Rattle.std.specs.Prelude.{false}
 use Rattle.std.specs.Char.{encode_utf8}

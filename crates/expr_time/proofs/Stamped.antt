@@ -1,4 +1,4 @@
--- Tokens read what they print.
+-- What tokens print of a moment is what they read.
 use Rattle.std.proofs.Common.{◌≡◌, inl, inr, ℕ, zero, suc, ◌+◌, ◌-◌, ◌*◌, ◌/◌, ◌%◌, ◌^◌, ◌<◌, ◌≤◌, ◌==◌, ◌&&◌, not, cond, Bool, true, refl, sym, ap, ◌∙◌, arith, List, [], ◌∷◌, ◌++◌, codes, Some, None, append_assoc, ℤ, pos, negsuc, neg_ℤ, unsigned_abs}
 use Rattle.std.specs.Prelude.{Option}
 use Rattle.std.specs.Option.{option_and_then, option_map}
@@ -12,7 +12,6 @@ use Rattle.std.proofs.lemmas.Int.{ints}
 use Rattle.std.proofs.lemmas.List.{append-nil}
 use Rattle.std.proofs.lemmas.Bool.{cases_order, lt-ltb, le-ltb}
 use Rattle.std.proofs.lemmas.Fmt.{decimal_digit, decimal_step}
-use Rattle.expr_datetime.proofs.Powers.{positive}
 use Rattle.expr_datetime.specs.Digits.{digits, fraction_digits}
 use Rattle.expr_datetime.specs.Moments.{year_text}
 use Rattle.expr_datetime.specs.Times.{offset_of}
@@ -28,13 +27,13 @@ use Rattle.expr_layout.specs.declared.token.LayoutToken.{LayoutToken}
 use Rattle.expr_layout.specs.declared.token.LayoutToken.TheVariants as layout_token
 use Rattle.expr_time.specs.Civil.{both_form, by_form, date_form, stamp_form, time_form}
 use Rattle.expr_moment.specs.Fields.{date_at, time_at}
-use Rattle.expr_layout.specs.KnownFields.{FindingAndRest, NumberAndRest, number_below, digit_at, found_as, found_at, found_number, four_digits, with_next_unit, hours_at, if_digit, if_more, with_units, is_digit, with_finding, nothing_behind, offset_at, one_more, or_same, parts_at, parts_behind, read_all, spelled_at, two_digits, no_fields, up_to_two, with_next_digit, zulu_at}
-use Rattle.expr_layout.specs.Layouts.{after_name, either, field_number, padded_number, pad_text, printed_text, short_places, signed_offset, spelled_offset, token_text, zulu}
+use Rattle.expr_layout.specs.KnownFields.{FindingAndRest, NumberAndRest, number_below, digit_at, found_as, found_at, found_number, four_digits, with_next_unit, hours_at, if_digit, if_more, in_units, is_digit, with_finding, nothing_behind, offset_at, one_more, or_same, parts_at, parts_behind, read_all, spelled_at, two_digits, no_fields, up_to_two, with_digit, zulu_at}
+use Rattle.expr_layout.specs.Layouts.{after_name, either, number_of, padded_number, pad_text, printed_text, short_places, signed_offset, offset_text, token_text, zulu}
 use Rattle.expr_layout.proofs.Findings.{parts_end, parts_more}
 use Rattle.expr_layout.proofs.Tokens.{after_append}
 use Rattle.expr_moment.proofs.InZone.{not_equal}
 
--- a digit at the front
+-- a digit at the head of a text
 digit_first : (d : ℕ) (rest : List ℕ) → d < 10 → digit_at ((48 + d) ∷ rest) ≡ Some (d, rest)
 digit_first d rest h =
     let is : is_digit (48 + d) ≡ true = λ i. not (le-ltb (48 + d) 48 (omega arith) i) && lt-ltb (48 + d) 58 (omega arith) i in
@@ -42,7 +41,7 @@ digit_first d rest h =
     ap (λ b. cond {A = NumberAndRest} b (Some (48 + d - 48, rest)) None) is ∙ ap (λ (n : ℕ). Some (n, rest)) same
 
 digit_next : (n d : ℕ) (rest : List ℕ) → d < 10 → one_more (n, (48 + d) ∷ rest) ≡ Some (n * 10 + d, rest)
-digit_next n d rest h = ap (with_next_digit n) (digit_first d rest h)
+digit_next n d rest h = ap (with_digit n) (digit_first d rest h)
 
 -- two digits of a number
 abbrev two : ℕ → List ℕ → List ℕ
@@ -103,6 +102,10 @@ place : ℕ → ℕ
 place zero = 0
 place (suc n) = 10 ^ n
 
+positive : (n : ℕ) → 0 < 10 ^ n
+positive zero = omega arith
+positive (suc n) = omega (arith, pow-suc 10 n, positive n)
+
 next_place : (n : ℕ) → 10 ^ n / 10 ≡ place n
 unfolding place
 next_place zero = omega arith
@@ -139,7 +142,7 @@ pub fraction_finding : ℕ → Finding
 fraction_finding zero = finding.Nothing
 fraction_finding (suc n) = finding.Nanosecond (suc n)
 
--- what follows a fraction: neither a digit nor a point, and no small `z`
+-- what stands behind a fraction: neither a digit nor a point, and no small `z`
 abbrev EndsFraction : List ℕ → Type 0
 EndsFraction rest = (digit_at rest ≡ None) × (after_name (encode_utf8 46) rest ≡ None) × (after_name (codes "z") rest ≡ None)
 
@@ -173,25 +176,25 @@ fraction_read (suc m) rest h ends =
     ∙ after_append (encode_utf8 46) (fraction_digits 9 (suc m) ++ rest) in
     ap (parts_behind text) behind ∙ parts_found m text rest h ends
 
--- an offset in minutes
+-- an offset of whole minutes
 abbrev clock : ℕ → List ℕ
 clock n = two (n / 3600) (58 ∷ two (n / 60 % 60) [])
 
-spelled_is : (n : ℕ) → n < 86400 → spelled_offset spelling.ColonMinutes n ≡ clock n
-unfolding Rattle.expr_layout.specs.Layouts.spelled_offset
+spelled_is : (n : ℕ) → n < 86400 → offset_text spelling.ColonMinutes n ≡ clock n
+unfolding Rattle.expr_layout.specs.Layouts.offset_text
 spelled_is n h =
     λ i. (digits_two (n / 3600) (omega arith) i ++ codes ":") ++ digits_two (n / 60 % 60) (omega arith) i
 
 hours_read : (n : ℕ) (rest : List ℕ) → n < 24 → hours_at (two n rest) ≡ Some (0 + n * 3600, rest)
 hours_read n rest h =
-    ap (λ (o : NumberAndRest). with_units 0 3600 (number_below 24 o)) (two_read n rest (omega arith)) ∙ ap (λ (b : Bool). with_units 0 3600 (cond b (Some (n, rest)) None)) (lt-ltb n 24 h)
+    ap (λ (o : NumberAndRest). in_units 0 3600 (number_below 24 o)) (two_read n rest (omega arith)) ∙ ap (λ (b : Bool). in_units 0 3600 (cond b (Some (n, rest)) None)) (lt-ltb n 24 h)
 
 minutes_read : (sum n : ℕ) (rest : List ℕ) → n < 60 → with_next_unit (codes ":") 60 (sum, 58 ∷ two n rest) ≡ Some (sum + n * 60, rest)
 unfolding Rattle.expr_layout.specs.Layouts.after_name
 minutes_read sum n rest h =
-    ap (λ (o : NumberAndRest). with_units sum 60 (number_below 60 o)) (two_read n rest (omega arith)) ∙ ap (λ (b : Bool). with_units sum 60 (cond b (Some (n, rest)) None)) (lt-ltb n 60 h)
+    ap (λ (o : NumberAndRest). in_units sum 60 (number_below 60 o)) (two_read n rest (omega arith)) ∙ ap (λ (b : Bool). in_units sum 60 (cond b (Some (n, rest)) None)) (lt-ltb n 60 h)
 
-spelled_read : (n : ℕ) → n < 86400 → n % 60 ≡ 0 → spelled_at spelling.ColonMinutes (spelled_offset spelling.ColonMinutes n) ≡ Some (n, [])
+spelled_read : (n : ℕ) → n < 86400 → n % 60 ≡ 0 → spelled_at spelling.ColonMinutes (offset_text spelling.ColonMinutes n) ≡ Some (n, [])
 spelled_read n h whole =
     let same : 0 + n / 3600 * 3600 + n / 60 % 60 * 60 ≡ n = omega (arith, whole) in
     ap (spelled_at spelling.ColonMinutes) (spelled_is n h)
@@ -201,18 +204,18 @@ spelled_read n h whole =
 abbrev zulu_read_of : List ℕ → FindingAndRest
 zulu_read_of text = either (zulu_at text) (offset_at spelling.ColonMinutes text)
 
--- a string is read as an offset to its end, and ends a fraction
+-- a text is read as an offset to its end, and ends a fraction
 abbrev IsReadAsOffset : ℤ → List ℕ → Type 0
 IsReadAsOffset off text = (zulu_read_of text ≡ Some (finding.Offset off, [])) × EndsFraction text
 
 other_offset : (off : ℤ) → ¬ (off ≡ pos 0) → zulu spelling.ColonMinutes off ≡ signed_offset spelling.ColonMinutes off
 other_offset off other = ap (λ (b : Bool). cond b (codes "Z") (signed_offset spelling.ColonMinutes off)) (not_equal off (pos 0) other)
 
-ahead_is_read : (n : ℕ) → suc n < 86400 → suc n % 60 ≡ 0 → IsReadAsOffset (pos (suc n)) (43 ∷ spelled_offset spelling.ColonMinutes (suc n))
+ahead_is_read : (n : ℕ) → suc n < 86400 → suc n % 60 ≡ 0 → IsReadAsOffset (pos (suc n)) (43 ∷ offset_text spelling.ColonMinutes (suc n))
 unfolding Rattle.expr_layout.specs.Layouts.after_name encode_utf8
 ahead_is_read n h whole = (ap (found_as (λ m. finding.Offset (pos m))) (spelled_read (suc n) h whole), (refl, refl, refl))
 
-behind_is_read : (n : ℕ) → suc n < 86400 → suc n % 60 ≡ 0 → IsReadAsOffset (negsuc n) (45 ∷ spelled_offset spelling.ColonMinutes (suc n))
+behind_is_read : (n : ℕ) → suc n < 86400 → suc n % 60 ≡ 0 → IsReadAsOffset (negsuc n) (45 ∷ offset_text spelling.ColonMinutes (suc n))
 unfolding Rattle.expr_layout.specs.Layouts.after_name encode_utf8
 behind_is_read n h whole = (ap (found_as (λ m. finding.Offset (neg_ℤ (pos m)))) (spelled_read (suc n) h whole), (refl, refl, refl))
 
@@ -223,11 +226,11 @@ none_is_read = (refl, (refl, refl, refl))
 some_seconds : (n : ℕ) → ¬ (pos (suc n) ≡ pos 0)
 some_seconds n e = absurd (omega (arith, ints, e))
 
-ahead_sign : (n : ℕ) → signed_offset spelling.ColonMinutes (pos n) ≡ 43 ∷ spelled_offset spelling.ColonMinutes n
+ahead_sign : (n : ℕ) → signed_offset spelling.ColonMinutes (pos n) ≡ 43 ∷ offset_text spelling.ColonMinutes n
 unfolding Rattle.expr_layout.specs.Layouts.signed_offset
-ahead_sign n = ap (λ (b : Bool). cond b (codes "-") (codes "+") ++ spelled_offset spelling.ColonMinutes n) (le-ltb n 0 (omega arith))
+ahead_sign n = ap (λ (b : Bool). cond b (codes "-") (codes "+") ++ offset_text spelling.ColonMinutes n) (le-ltb n 0 (omega arith))
 
-behind_sign : (n : ℕ) → signed_offset spelling.ColonMinutes (negsuc n) ≡ 45 ∷ spelled_offset spelling.ColonMinutes (suc n)
+behind_sign : (n : ℕ) → signed_offset spelling.ColonMinutes (negsuc n) ≡ 45 ∷ offset_text spelling.ColonMinutes (suc n)
 unfolding Rattle.expr_layout.specs.Layouts.signed_offset
 behind_sign n = refl
 
@@ -243,7 +246,7 @@ year_found u y rest e h =
     ap (λ (z : ℤ). found_as finding.Year (four_digits (year_text z ++ rest))) e
     ∙ ap (λ (b : Bool). found_as finding.Year (four_digits ((cond b (codes "-") [] ++ digits 4 y) ++ rest))) (le-ltb y 0 (omega arith)) ∙ ap (found_as finding.Year) (four_read y rest h)
 
-number_found : (u : DateTimeValue) (f : Field) (n : ℕ) (rest : List ℕ) → field_number f u ≡ n → n < 100
+number_found : (u : DateTimeValue) (f : Field) (n : ℕ) (rest : List ℕ) → number_of f u ≡ n → n < 100
     → found_at (layout_token.Number f pad.Zero) (token_text u (layout_token.Number f pad.Zero) ++ rest) ≡ Some (found_number f n, rest)
 unfolding Rattle.expr_layout.specs.KnownFields.found_at Rattle.expr_layout.specs.Layouts.token_text
 number_found u f n rest e h =
@@ -300,7 +303,7 @@ unfolding fraction_finding fraction_known
 noted_fraction y m d h i s zero = refl
 noted_fraction y m d h i s (suc n) = refl
 
--- the local fields of a DateTime
+-- the fields of a moment by its clock
 pub record Shows (u : DateTimeValue) (y m d h i s n : ℕ) (off : ℤ) : Type 0 where
   pub year : (date_at u).year ≡ pos y
   pub month : (date_at u).month ≡ m
@@ -399,7 +402,7 @@ stamp_read u y m d h i s n off is =
     ∙ step (layout_token.Zulu spelling.ColonMinutes) [] k7 k8 (finding.Offset off) (printed_text u s12) [] (offset_found u off read) refl
 
 -- the tokens of the form that is read without a layout find the same
-two_found : (u : DateTimeValue) (f : Field) (n : ℕ) (rest : List ℕ) → field_number f u ≡ n → n < 100
+two_found : (u : DateTimeValue) (f : Field) (n : ℕ) (rest : List ℕ) → number_of f u ≡ n → n < 100
     → found_at (layout_token.TwoDigits f) (token_text u (layout_token.Number f pad.Zero) ++ rest) ≡ Some (found_number f n, rest)
 unfolding Rattle.expr_layout.specs.KnownFields.found_at Rattle.expr_layout.specs.Layouts.token_text
 two_found u f n rest e h =

@@ -1,11 +1,11 @@
--- What the built-ins on time may return for their arguments, given the program's time zones and its DateTime for `now`.
+-- What the calls of times may answer on their arguments, with a host's zones and its moment.
 use Rattle.std.specs.Prelude.{◌≡◌, ℕ, List, Option}
 use Rattle.expr_value.specs.Answers.{Answer}
 use Rattle.expr_datetime.specs.declared.moment.DateTimeValue.{DateTimeValue}
 use Rattle.expr_value.specs.declared.value.Value.{Value}
 use Rattle.expr_datetime.specs.declared.zone.TimezoneValue.{TimezoneValue}
 use Rattle.expr_time.specs.Civil.{AllowsDate}
-use Rattle.expr_time.specs.LengthMethods as methods
+use Rattle.expr_duration.specs.Methods as methods
 use Rattle.expr_time.specs.Zones.{now_answer, timezone_answer}
 use Rattle.expr_functions.specs.declared.functions.TimeCall.{TimeCall}
 use Rattle.expr_functions.specs.declared.functions.TimeCall.TheVariants as is

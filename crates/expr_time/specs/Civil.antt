@@ -1,4 +1,4 @@
--- Which DateTime is read, from what is known of it.
+-- Which moment is read, by what is known of it.
 use Rattle.std.specs.Prelude.{◌≡◌, ◌⊎◌, ℕ, ℤ, pos, neg_ℤ, ◌+◌, ◌*◌, ◌%◌, ◌≤◌, List, [], ◌∷◌, Bool, true, false, ◌&&◌, ◌||◌, is_some, MatchBool, MatchOption, Option, None, Some, Err, if◌then◌else◌}
 use Rattle.std.specs.Ordering.{int_eq}
 use Rattle.jiff.specs.Types.{Date, DateTime, Time}
@@ -25,17 +25,17 @@ use Rattle.expr_layout.specs.declared.token.Pad.TheVariants as pad
 use Rattle.expr_layout.specs.declared.token.LayoutToken.{LayoutToken}
 use Rattle.expr_layout.specs.declared.token.LayoutToken.TheVariants as layout_token
 
--- a number is the known one, if one is known
+-- a number is what is known, if anything is
 abbrev pub Agrees : Option ℕ → ℕ → Type 0
 Agrees None n = Unit {0}
 Agrees (Some m) n = n ≡ m
 
--- a number is the known one, or else 0
+-- a number is what is known, or else 0
 abbrev pub IsOrZero : Option ℕ → ℕ → Type 0
 IsOrZero None n = n ≡ 0
 IsOrZero (Some m) n = n ≡ m
 
--- whether anything of a date is known
+-- whether a date is asked for
 abbrev pub has_date : KnownFields → Bool
 has_date f = is_some f.year || is_some f.month || is_some f.day || is_some f.year_day
 
@@ -43,16 +43,16 @@ has_date f = is_some f.year || is_some f.month || is_some f.day || is_some f.yea
 abbrev pub names_date : KnownFields → Bool
 names_date f = is_some f.year && ((is_some f.month && is_some f.day) || is_some f.year_day)
 
--- a date has the known parts
+-- a date has the parts that are known of it
 abbrev pub HasParts : KnownFields → Date → Type 0
 HasParts f d =
     ((y : ℕ) × (f.year ≡ Some y) × (d.year ≡ pos y)) × Agrees f.month d.month × Agrees f.day d.day × Agrees f.year_day (ordinal d) × Agrees f.weekday ((weekday_of d + 1) % 7)
 
--- the date that is read. If nothing of a date is known, it is 1 January of the year 0.
+-- the date that is read; without one it is 1 January of the year 0
 abbrev pub IsDated : KnownFields → Date → Type 0
 IsDated f d = MatchBool (has_date f) ((names_date f ≡ true) × HasParts f d) ((d.year ≡ pos 0) × (d.month ≡ 1) × (d.day ≡ 1))
 
--- the hour on a 12-hour clock is one of 24 hours if no half of the day is known
+-- an hour of half a day is one of the whole day where no half is read
 abbrev pub IsHour : Option ℕ → ℕ → ℕ → Type 0
 IsHour None shown hour = hour ≡ shown
 IsHour (Some half) shown hour = (1 ≤ shown) × (shown ≤ 12) × (hour ≡ shown % 12 + half * 12)
@@ -74,23 +74,23 @@ abbrev pub if_in_offset : (s : ℤ) → IsOffsetSeconds s ⊎ (¬ (IsOffsetSecon
 if_in_offset s (inl h) = Some (Fixed (record { seconds = s; in_range = h }))
 if_in_offset s (inr beyond) = None
 
--- the zone of an offset: UTC for zero, and a fixed offset for another one in range
-abbrev pub place_of_offset : ℤ → Option MomentZone
-place_of_offset seconds = if int_eq seconds (pos 0) then Some (Named utc) else if_in_offset seconds (in_offset seconds)
+-- the place of an offset that is read: UTC for none, and a fixed one for another that is in range
+abbrev pub place_at : ℤ → Option MomentZone
+place_at seconds = if int_eq seconds (pos 0) then Some (Named utc) else if_in_offset seconds (in_offset seconds)
 
--- the zone of a time: that of the offset if one is read, otherwise the given one
+-- the place of a time: that of the offset, if one is read, and else the zone that is given
 abbrev pub place_read : Option ℤ → TimezoneValue → Option MomentZone
 place_read None zone = Some (Named zone)
-place_read (Some seconds) zone = place_of_offset seconds
+place_read (Some seconds) zone = place_at seconds
 
--- the DateTime of a local time in a zone, or an error if there is none, or no such zone
+-- what a civil time answers in a place: its moment, and a refusal where there is none or no such place
 abbrev pub answer_in : Option MomentZone → DateTime → Answer
 answer_in place dt = answer_on place (λ p. moment_or_refusal (at_civil p dt))
 
 abbrev pub IsCivil : KnownFields → DateTime → Type 0
 IsCivil f dt = IsDated f dt.date × IsTimed f dt.time
 
--- the result of what is known: the DateTime of its local time in its zone, or an error if there is none
+-- what is answered by what is known: the moment of its civil time in its place, and a refusal where there is none
 abbrev pub MomentMayReturn : KnownFields → TimezoneValue → Answer → Type 0
 MomentMayReturn f zone answer =
     ((dt : DateTime) × IsCivil f dt × (answer_in (place_read f.offset zone) dt ≡ answer))
@@ -100,11 +100,11 @@ abbrev pub MomentMayReturnIf : Option KnownFields → TimezoneValue → Answer �
 MomentMayReturnIf None zone answer = Err evaluation ≡ answer
 MomentMayReturnIf (Some f) zone answer = MomentMayReturn f zone answer
 
--- the result for a string that is read by tokens
+-- what a text answers that is read by tokens
 abbrev pub ReadBy : List LayoutToken → List ℕ → TimezoneValue → Answer → Type 0
 ReadBy tokens text = MomentMayReturnIf (read_all tokens no_fields text)
 
--- the forms that are read without a layout: a stamp with an offset, a date, a time of day, and a date and a time of day
+-- the forms of texts that are read without a layout: a stamp with an offset, a date, a time of day, and a date and a time of day
 abbrev pub time_form : List LayoutToken
 time_form = layout_token.Number field.Hour pad.Zero ∷ layout_token.Literal 58 ∷ layout_token.Number field.Minute pad.Zero ∷ layout_token.Literal 58 ∷ layout_token.Number field.Second pad.Zero ∷ []
 
@@ -122,19 +122,19 @@ stamp_form =
     ∷ layout_token.TwoDigits field.Hour ∷ layout_token.Literal 58 ∷ layout_token.TwoDigits field.Minute ∷ layout_token.Literal 58 ∷ layout_token.TwoDigits field.Second
     ∷ layout_token.ShortFraction 46 9 ∷ layout_token.StampOffset ∷ []
 
--- the first of these forms that reads the whole string
+-- the first of these forms that reads the whole text
 abbrev pub by_form : List ℕ → Option KnownFields
 by_form text =
     either (read_all stamp_form no_fields text) (either (read_all date_form no_fields text) (either (read_all time_form no_fields text) (read_all both_form no_fields text)))
 
--- the result for a string without a layout, and with one
+-- what a text answers without a layout, and by one
 abbrev pub ByForm : List ℕ → TimezoneValue → Answer → Type 0
 ByForm text = MomentMayReturnIf (by_form text)
 
 abbrev pub ByLayout : List ℕ → List ℕ → TimezoneValue → Answer → Type 0
 ByLayout text layout zone answer = (tokens : List LayoutToken) × IsLayout false layout tokens × ReadBy tokens text zone answer
 
--- the arguments of `date`: a time zone, a string, a layout and a zone's name, of which only the string is required
+-- the arguments of `date`: a zone, a text, a layout and a zone's name, of which only the text must be there
 abbrev pub Dates : Option TimezoneValue → (TimezoneValue → Answer → Type 0) → Answer → Type 0
 Dates None reads answer = Err evaluation ≡ answer
 Dates (Some zone) reads answer = reads zone answer
@@ -151,7 +151,7 @@ abbrev pub DatesNamed : (List ℕ → Option TimezoneValue) → Option (List ℕ
 DatesNamed zones text layout None answer = Err evaluation ≡ answer
 DatesNamed zones text layout (Some name) answer = Dates (zone_named zones name) (λ zone. DatesLayout zone text layout) answer
 
--- one argument, two, and three, of which the first may be a time zone
+-- one argument, two, and three, of which the first may be a zone
 abbrev pub DatesTwo : Option TimezoneValue → Value → Value → Answer → Type 0
 DatesTwo None a b = DatesLayout utc (string_of a) (string_of b)
 DatesTwo (Some zone) a b = DatesText zone (string_of b)
@@ -160,7 +160,7 @@ abbrev pub DatesThree : (List ℕ → Option TimezoneValue) → Option TimezoneV
 DatesThree zones None a b c = DatesNamed zones (string_of a) (string_of b) (string_of c)
 DatesThree zones (Some zone) a b c = DatesLayout zone (string_of b) (string_of c)
 
--- what the built-in `date` may return
+-- what the built-in `date` may answer
 abbrev pub AllowsDate : (List ℕ → Option TimezoneValue) → List Value → Answer → Type 0
 AllowsDate zones [] answer = Err evaluation ≡ answer
 AllowsDate zones (a ∷ []) answer = DatesText utc (string_of a) answer

@@ -1,4 +1,4 @@
--- What the methods of DateTimes may return.
+-- What the methods of moments answer.
 use Rattle.std.specs.Prelude.{◌≡◌, ℕ, ℤ, pos, neg_ℤ, ◌+ℤ◌, ◌-ℤ◌, int_lt, int_le, int_div, List, Option, None, Some, Ok, Err, codes, if◌then◌else◌}
 use Rattle.std.specs.Int.{int_rem_euclid}
 use Rattle.std.specs.Ordering.{int_eq}
@@ -13,7 +13,7 @@ use Rattle.expr_value.specs.declared.value.Value as value
 use Rattle.expr_value.specs.declared.value.Value.{Value}
 use Rattle.expr_datetime.specs.declared.zone.TimezoneValue.{TimezoneValue}
 use Rattle.expr_moment.specs.Dates.{AddsDate}
-use Rattle.expr_moment.specs.Fields.{between, field_name, field_value, zero_instant}
+use Rattle.expr_moment.specs.Fields.{between, field_name, field_of, zero_instant}
 use Rattle.expr_layout.specs.Layouts.{Formats}
 use Rattle.expr_arguments.specs.Arguments.{answer_on, without_arguments, one_duration, one_text}
 use Rattle.expr_arguments.specs.Times.{one_moment, one_zone, three_integers}
@@ -23,31 +23,31 @@ use Rattle.expr_time.specs.declared.moments.DateTimeMethod.TheVariants as is
 use Rattle.expr_time.specs.declared.moments.TextMethod.{TextMethod}
 use Rattle.expr_time.specs.declared.moments.TextMethod.TheVariants as named
 
--- compares the instants of two DateTimes
+-- which of two moments is the later one
 abbrev pub comparison : DateTimeValue → DateTimeValue → ℤ
 comparison t u = if int_lt (instant t) (instant u) then neg_ℤ (pos 1) else (if int_eq (instant t) (instant u) then pos 0 else pos 1)
 
--- rounded down to a multiple of a step since Go's zero time, if the step is above zero
+-- the last multiple of a step since the zero instant that is no later, where the step is above zero
 abbrev pub instant_truncated : ℤ → ℤ → ℤ
 instant_truncated n step = if int_le step (pos 0) then n else n -ℤ int_rem_euclid (n -ℤ zero_instant) step
 
--- the nearest multiple, with halves rounded up: the last multiple that is at most half a step later
+-- the nearest multiple, halves going up: the last one that is at most half a step later
 abbrev pub instant_rounded : ℤ → ℤ → ℤ
 instant_rounded n step = if int_le step (pos 0) then n else instant_truncated (n +ℤ int_div step (pos 2)) step
 
--- the time zone of a DateTime, or an error if it has none
+-- the zone of a moment, or a refusal where it has none
 abbrev pub location_answer : List Value → Option TimezoneValue → Answer
 location_answer arguments None = Err evaluation
 location_answer arguments (Some zone) = without_arguments arguments (value.Timezone zone)
 
--- what `AddDate` returns for its three numbers
+-- what `AddDate` answers on its three numbers
 abbrev pub AddsDates : DateTimeValue → Option (ℤ × ℤ × ℤ) → Answer → Type 0
 AddsDates t None answer = Err evaluation ≡ answer
 AddsDates t (Some amounts) answer = AddsDate t amounts.0 amounts.1 amounts.2 answer
 
--- what a method of a DateTime may return
+-- what a method of a moment may answer
 abbrev pub AnsweredAt : DateTimeMethod → DateTimeValue → List Value → Answer → Type 0
-AnsweredAt (is.Field field) t arguments answer = without_arguments arguments (field_value field t) ≡ answer
+AnsweredAt (is.Field field) t arguments answer = without_arguments arguments (field_of field t) ≡ answer
 AnsweredAt is.String t arguments answer = without_arguments arguments (value.String (moment_string t)) ≡ answer
 AnsweredAt is.Location t arguments answer = location_answer arguments (location_of t) ≡ answer
 AnsweredAt is.Utc t arguments answer = without_arguments arguments (value.DateTime (moment_in t (Named utc))) ≡ answer
@@ -81,7 +81,7 @@ moment_method is.Compare = codes "Compare"
 moment_method is.AddDate = codes "AddDate"
 moment_method is.Format = codes "Format"
 
--- the methods of time zones, months and weekdays: printed as the built-in `string` prints them
+-- the methods of zones, months and days of the week: their text as the built-in `string` gives it
 abbrev pub name_method : TextMethod → List ℕ
 name_method named.String = codes "String"
 

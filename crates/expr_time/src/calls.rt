@@ -1,23 +1,19 @@
-//! Built-ins on time.
+//! The calls of times.
 ghost use Rattle.std.specs.Option.{option_copied};
 ghost use Rattle.expr_value.specs.Answers.{Returns};
 ghost use Rattle.expr_time.specs.Calls.{TimeCallMayReturn};
 
 use crate::date::date;
-use crate::length_method::duration;
 use crate::zones::{Zones, now, timezone};
-use expr_arguments::CowValue;
+use expr_cow::CowValue;
+use expr_duration::duration;
 use expr_functions::TimeCall;
 use expr_value::{DateTimeValue, Result, Value};
 use std::alloc::Global;
 
-/// Calls a built-in on time with these arguments, in the time zones that the program has added and with the DateTime
-/// that it has set for `now`.
-///
-/// # Errors
-///
-/// Returns [`ExprError`](expr_value::Error::ExprError) if the built-in doesn't take this number or these kinds of
-/// arguments, or has no result for them.
+/// What a call of times gives on these arguments, with the zones that a host has added and the moment that it takes for now.
+/// Other numbers and kinds of arguments than it takes, and what has no such answer, are refused with
+/// [`expr_value::Error::ExprError`].
 pub fn call_time<Z: Zones>(
     alloc: Global,
     call: TimeCall,

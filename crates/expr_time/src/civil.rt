@@ -1,4 +1,4 @@
-//! Local times from what a layout found.
+//! Civil times by what is known of them.
 ghost use Rattle.std.specs.Prelude.{◌≡◌, ℕ, pos, Some, ◌<◌, true, MatchBool, MatchOption};
 ghost use Rattle.jiff.specs.Types.{Date, DateTime, Time};
 ghost use Rattle.jiff.specs.Words.{ordinal};
@@ -8,7 +8,7 @@ use expr_layout::KnownFields;
 use jiff::civil::{Date, DateTime, Time};
 use jiff_core::civil::days_in_month;
 
-/// The local date and time of what is known, if there is exactly one.
+/// The civil time of what is known, if there is one.
 pub(crate) fn civil_of(found: &KnownFields) -> Option<DateTime>
     ensures { MatchOption result ((dt : DateTime) → ¬ (IsCivil found.now dt)) (IsCivil found.now) }
 {
@@ -21,7 +21,7 @@ pub(crate) fn civil_of(found: &KnownFields) -> Option<DateTime>
     }
 }
 
-// The date of what is known, or 1 January of the year 0 if nothing of a date is known.
+// The date of what is known, and 1 January of the year 0 where nothing of a date is.
 fn date_of(found: &KnownFields) -> Option<Date>
     ensures { MatchOption result ((d : Date) → ¬ (IsDated found.now d)) (IsDated found.now) }
 {
@@ -57,7 +57,7 @@ fn has_date(found: &KnownFields) -> bool
     found.year.is_some() || found.month.is_some() || found.day.is_some() || found.year_day.is_some()
 }
 
-// The only date that can have the known parts.
+// The one date that can have the parts that are known.
 fn named_date(found: &KnownFields) -> Option<Date>
     ensures { MatchOption result ((d : Date) → names_date found.now ≡ true → ¬ (HasParts found.now d))
         (λ named. (names_date found.now ≡ true) × ((d : Date) → HasParts found.now d → d ≡ named)) }
@@ -116,7 +116,7 @@ fn date_by_day(year: u32, day: u32) -> Option<Date>
     }
 }
 
-// Whether a date has the known parts.
+// Whether a date has the parts that are known of it.
 fn has_parts(found: &KnownFields, date: Date) -> bool
     ensures { MatchBool result (HasParts found.now date) (¬ (HasParts found.now date)) }
 {
@@ -193,7 +193,7 @@ fn hour_of(found: &KnownFields) -> Option<u32>
     }
 }
 
-// The hour on a 24-hour clock, from the shown hour and the half of the day if it is known.
+// The hour of the whole day, by its half where that is known.
 fn whole_hour(half: Option<u32>, shown: u32) -> Option<u32>
     ensures { MatchOption result ((h : ℕ) → h < 24 → ¬ (IsHour half shown h))
         (λ hour. IsHour half shown hour × (hour < 24)) }

@@ -3,14 +3,15 @@ ghost use Rattle.std.specs.Prelude.{◌≡◌, Some};
 ghost use Rattle.expr_value.specs.Answers.{Returns, ReturnsExactly};
 ghost use Rattle.expr_value.specs.Values.{string_of};
 ghost use Rattle.expr_datetime.specs.declared.moment.MomentZone.TheVariants.{Named};
-ghost use Rattle.expr_time.specs.Civil.{AllowsDate, ByLayout, DatesLayout, DatesText, DatesThree, DatesTwo, MomentMayReturn, MomentMayReturnIf, answer_in, both_form, by_form, date_form, place_of_offset, stamp_form, time_form};
+ghost use Rattle.expr_time.specs.Civil.{AllowsDate, ByLayout, DatesLayout, DatesText, DatesThree, DatesTwo, MomentMayReturn, MomentMayReturnIf, answer_in, both_form, by_form, date_form, place_at, stamp_form, time_form};
 ghost use Rattle.expr_layout.specs.KnownFields.{read_all, no_fields};
 ghost use Rattle.expr_layout.specs.Layouts.{either};
 ghost use Rattle.expr_arguments.specs.Times.{timezone_of};
 
 use crate::civil::civil_of;
 use crate::zones::{Zones, zone_named};
-use expr_arguments::{CowValue, timezone_in};
+use expr_arguments::timezone_in;
+use expr_cow::CowValue;
 use expr_datetime::utc;
 use expr_layout::{Field, KnownFields, LayoutToken, Pad, read_all, tokens_of};
 use expr_moment::{civil_at_offset, civil_in_zone, moment_or_refusal};
@@ -19,13 +20,9 @@ use jiff::civil::DateTime;
 use jiff::tz::Offset;
 use std::alloc::Global;
 
-/// `date`: reads a DateTime from a string. The arguments are an optional time zone, the string, an optional layout, and
-/// an optional name of a time zone.
-///
-/// # Errors
-///
-/// Returns [`ExprError`](expr_value::Error::ExprError) for other arguments, for a string that can't be read, and for an
-/// unknown time zone.
+/// The built-in `date`: a moment that a text says, in a zone that may stand before it, by a layout that may stand behind
+/// it, or in a zone whose name stands behind that. Other arguments, texts that do not say a moment and unknown zones are
+/// refused with [`expr_value::Error::ExprError`].
 pub(crate) fn date<Z: Zones>(alloc: Global, zones: &Z, arguments: &[CowValue<'_>]) -> Result<Value>
     ensures { Returns result (AllowsDate (Z.zones zones.now) arguments.now) }
 {
@@ -123,7 +120,7 @@ fn moment(alloc: Global, found: &KnownFields, zone: &TimezoneValue) -> Result<Va
 }
 
 fn at_offset(alloc: Global, seconds: i32, civil: DateTime) -> Result<Value>
-    ensures { ReturnsExactly result (answer_in (place_of_offset seconds) civil) }
+    ensures { ReturnsExactly result (answer_in (place_at seconds) civil) }
 {
     if seconds == 0 {
         let zone = utc(alloc)?;
@@ -142,7 +139,7 @@ fn in_zone(alloc: Global, zone: &TimezoneValue, civil: DateTime) -> Result<Value
     moment_or_refusal(alloc, found)
 }
 
-// What the first form that reads the whole string finds.
+// What the first form that reads the whole text finds.
 fn by_form(text: &str) -> Option<KnownFields>
     ensures { result ≡ by_form text.now }
 {

@@ -1,4 +1,4 @@
-//! Methods of DateTimes, time zones, months and weekdays.
+//! Methods of moments, of zones, of months and of days of the week.
 ghost use Rattle.std.specs.Prelude.{◌≡◌, ◌≢◌, int_lt, Some, None, Ok, IfOk, MatchOption, string_bytes};
 ghost use Rattle.std.specs.Ordering.{int_eq};
 ghost use Rattle.jiff.specs.Words.{IsTimestampNanos, IsWithin};
@@ -15,9 +15,8 @@ ghost use Rattle.expr_time.specs.Moments.{AddsDates, AnsweredAt, comparison, ins
 ghost use Rattle.expr_moment.specs.Zones.{moment_or_refusal, location_of};
 ghost use Rattle.expr_error.specs.ErrorKind.{OnlyMemory};
 
-use expr_arguments::{
-    CowValue, one_duration, one_moment, one_zone, three_integers, without_arguments,
-};
+use expr_arguments::{one_duration, one_moment, one_zone, three_integers, without_arguments};
+use expr_cow::CowValue;
 use expr_datetime::{show_stamp_of, utc};
 use expr_layout::format;
 use expr_moment::{
@@ -30,10 +29,10 @@ use std::alloc::Global;
 use std::fmt;
 use std::fmt::{Formatter, Write};
 
-/// A method of DateTimes. Each variant has the language's own name.
+/// A method of moments, under the language's own name for it.
 #[derive(Clone, Copy, Debug, PartialEq, Eq)]
 pub enum DateTimeMethod {
-    /// A field of the DateTime.
+    /// What its clock shows, or a number of it.
     Field(DateTimeField),
     String,
     Location,
@@ -52,7 +51,7 @@ pub enum DateTimeMethod {
 }
 
 impl DateTimeMethod {
-    /// The method with this name, or `None`.
+    /// The method of a name.
     pub fn from_name(name: &str) -> Option<DateTimeMethod>
         ensures { MatchOption result ((m : DateTimeMethod) → moment_method m ≢ name.now)
             (λ m. moment_method m ≡ name.now) }
@@ -79,12 +78,8 @@ impl DateTimeMethod {
         }
     }
 
-    /// Calls the method on a DateTime.
-    ///
-    /// # Errors
-    ///
-    /// Returns [`ExprError`](expr_value::Error::ExprError) if the method doesn't take this number or these kinds of
-    /// arguments, or if it has no result for them, for example one out of range.
+    /// What the method answers of a moment. Other numbers and kinds of arguments than it takes, and what has no answer in
+    /// range, are refused with [`expr_value::Error::ExprError`].
     pub fn call(
         self,
         alloc: Global,
@@ -117,14 +112,14 @@ impl DateTimeMethod {
     }
 }
 
-/// A method of time zones, months and weekdays. Each variant has the language's own name.
+/// A method of zones, months and days of the week, under the language's own name for it.
 #[derive(Clone, Copy, Debug, PartialEq, Eq)]
 pub enum TextMethod {
     String,
 }
 
 impl TextMethod {
-    /// The method with this name, or `None`.
+    /// The method of a name.
     pub fn from_name(name: &str) -> Option<TextMethod>
         ensures { MatchOption result ((m : TextMethod) → name_method m ≢ name.now)
             (λ m. name_method m ≡ name.now) }
@@ -135,11 +130,8 @@ impl TextMethod {
         }
     }
 
-    /// Calls the method on a time zone, a month or a weekday. It prints the receiver as the built-in `string` does.
-    ///
-    /// # Errors
-    ///
-    /// Returns [`ExprError`](expr_value::Error::ExprError) if there is an argument.
+    /// What the method answers of a zone, a month or a day of the week: its text as the built-in `string` gives it. Any
+    /// arguments are refused with [`expr_value::Error::ExprError`].
     pub fn call(self, alloc: Global, receiver: &Value, arguments: &[CowValue<'_>]) -> Result<Value>
         ensures { ReturnsExactly result (name_answer self receiver.now arguments.now) }
     {
@@ -168,7 +160,7 @@ fn stamp_of(alloc: Global, moment: &DateTimeValue) -> Result<String>
     Ok(text.to_string(alloc)?)
 }
 
-// A DateTime that is printed as `String` prints it, with its zone.
+// A moment, printed as a stamp with its place.
 #[derive(Drop)]
 struct Stamp<'a> {
     moment: &'a DateTimeValue,
@@ -343,7 +335,7 @@ fn compare(alloc: Global, moment: &DateTimeValue, arguments: &[CowValue<'_>]) ->
     Ok(Value::Integer(comparison(moment, other)))
 }
 
-// -1, 0 or 1, as `moment` is before, at or after `other`.
+// -1, 0 or 1.
 fn comparison(moment: &DateTimeValue, other: &DateTimeValue) -> i64
     ensures { result ≡ comparison moment.now other.now }
 {
@@ -360,7 +352,7 @@ fn comparison(moment: &DateTimeValue, other: &DateTimeValue) -> i64
     1
 }
 
-// Rounds to the nearest multiple of `step` since Go's zero time, if `step` is above zero. Halves are rounded up.
+// The nearest multiple of a step since the zero instant, halves going up, where the step is above zero.
 fn instant_rounded(nanoseconds: i128, step: i64) -> i128
     requires { IsTimestampNanos nanoseconds }
     ensures { result ≡ instant_rounded nanoseconds step }
@@ -371,7 +363,7 @@ fn instant_rounded(nanoseconds: i128, step: i64) -> i128
     instant_truncated(nanoseconds + (step / 2) as i128, step)
 }
 
-// Rounds down to a multiple of `step` since Go's zero time, if `step` is above zero.
+// The last multiple of a step since the zero instant that is no later, where the step is above zero.
 fn instant_truncated(nanoseconds: i128, step: i64) -> i128
     requires { IsWithin 1_000_000_000_000_000_000_000 nanoseconds }
     ensures { result ≡ instant_truncated nanoseconds step }

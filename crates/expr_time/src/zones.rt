@@ -1,4 +1,4 @@
-//! Time zones by name, and the built-ins `timezone` and `now`.
+//! Zones by name, and the built-ins that answer a zone or the present moment.
 ghost use Rattle.std.specs.Prelude.{◌≡◌, IfOk};
 ghost use Rattle.std.specs.Option.{option_copied};
 ghost use Rattle.expr_value.specs.Answers.{ReturnsExactly};
@@ -6,25 +6,26 @@ ghost use Rattle.expr_time.specs.Zones.{now_answer, timezone_answer, zone_named}
 ghost use Rattle.expr_error.specs.ErrorKind.{OnlyMemory};
 
 use crate::moments::in_utc;
-use expr_arguments::{CowValue, one_text};
+use expr_arguments::one_text;
+use expr_cow::CowValue;
 use expr_datetime::utc;
 use expr_value::{DateTimeValue, Result, TimezoneValue, Value, refusal};
 use std::alloc::Global;
 
-/// The time zones that a program has added, by name.
+/// The zones that a host has added, by their names.
 pub trait Zones {
     ghost use Rattle.std.specs.Prelude.{ℕ, List, Option};
     ghost use Rattle.expr_datetime.specs.declared.zone.TimezoneValue.{TimezoneValue as Zone};
 
-    /// Which time zones there are.
+    /// Which zones there are.
     ghost zones: { Self → List ℕ → Option Zone };
 
-    /// The time zone with this name, or `None`.
+    /// The zone that was added under a name.
     fn zone(&self, name: &str) -> Option<&TimezoneValue>
         ensures { option_copied result ≡ zones self.now name.now };
 }
 
-/// No time zones but UTC, which is always there.
+/// No added zones: UTC alone, which is always there.
 #[derive(Clone, Copy, Debug)]
 pub struct UtcAlone;
 
@@ -38,7 +39,7 @@ impl Zones for UtcAlone {
     }
 }
 
-/// The time zone with this name: UTC or an added one.
+/// The zone of a name: UTC, or one that was added.
 pub(crate) fn zone_named<Z: Zones>(
     alloc: Global,
     zones: &Z,
@@ -56,7 +57,7 @@ pub(crate) fn zone_named<Z: Zones>(
     }
 }
 
-/// `timezone`: UTC, or an added time zone, by name.
+/// The built-in `timezone`: UTC, or the zone that was added under a name.
 pub(crate) fn timezone<Z: Zones>(
     alloc: Global,
     zones: &Z,
@@ -74,7 +75,7 @@ pub(crate) fn timezone<Z: Zones>(
     }
 }
 
-/// `now`: a DateTime in UTC, if the program has set one.
+/// The built-in `now`: a moment in UTC, where the host has set one.
 pub(crate) fn now(
     alloc: Global,
     moment: Option<&DateTimeValue>,

@@ -2,8 +2,7 @@
 use Rattle.std.proofs.Common.{◌≡◌, ℕ, ◌||◌, List, ◌++◌, bytes_eq, ap, ◌∙◌}
 use Rattle.std.specs.List.{list_any, Contains}
 use Rattle.std.proofs.lemmas.List.Folds.{list_any-append}
-use Rattle.expr_context.specs.Context.{ContextView, hash}
-use Rattle.expr_tree.specs.Context.{Agree, AgreeFor}
+use Rattle.expr_tree.specs.Context.{ContextView, hash, Agree, AgreeFor}
 use Rattle.expr_tree.specs.Names.{env, AreNamesOf, block_operands}
 use Rattle.expr_tree.specs.Term.{Block}
 use Rattle.expr_tree.proofs.Gathered.{or_true}
@@ -23,7 +22,7 @@ module _ (one other : ContextView) (xs ys : List (List ℕ)) where
   pub Agree-right : Agree one other (xs ++ ys) → Agree one other ys
   Agree-right p = record { at_hash = p.at_hash; at_names = λ n h. p.at_names n (Contains-right xs ys n h); at_env = λ h. p.at_env (Contains-right xs ys env h) }
 
--- to agree for a program is to agree at its names, at `#` and, if it uses `$env`, at the map
+-- to agree for a program is to agree at its names, at `#` and, where it uses `$env`, at the map
 pub AgreeFor-from_names : (one other : ContextView) (b : Block) (names : List (List ℕ)) → AreNamesOf names b → one.value_of hash ≡ other.value_of hash
     → ((n : List ℕ) → Contains names n → one.value_of n ≡ other.value_of n) → (Contains (block_operands b) env → one.map ≡ other.map) → AgreeFor one other b
 AgreeFor-from_names one other b names are at_hash at_names at_env = record { at_hash = at_hash; at_names = λ n h other_name. at_names n ((are.exact n).1 (h, other_name)); at_env = at_env }

@@ -1,4 +1,4 @@
--- What the operations of each form of node keep, by its parts.
+-- What stands beside the operations of each form of node, by its parts.
 use Rattle.std.proofs.Common.{◌≡◌, Bool, List, [], ◌∷◌, ◌++◌, map, Option, Vec, Box, Global, String, ap, ◌∙◌, rules}
 use Rattle.std.specs.List.{All, flat_map}
 use Rattle.std.proofs.lemmas.List.Elements.{All-append, All-cons, All-head, All-nil, All-same, All-tail}
@@ -12,8 +12,8 @@ use Rattle.expr_tree.specs.declared.node.CompiledRegex.{CompiledRegex}
 use Rattle.expr_tree.specs.declared.node.PostfixOperator.{PostfixOperator}
 use Rattle.expr_tree.specs.declared.node.PostfixOperator.TheVariants as behind
 use Rattle.expr_tree.specs.declared.node.Program.{Program, fold-roll-Program}
-use Rattle.expr_functions.specs.declared.operator.Operator.{Operator}
-use Rattle.expr_functions.specs.declared.operator.UnaryOperator.{UnaryOperator}
+use Rattle.expr_tree.specs.declared.operator.Operator.{Operator}
+use Rattle.expr_tree.specs.declared.operator.UnaryOperator.{UnaryOperator}
 
 pub beside-Ident : (s : String Global) → operations (node.Ident s) ≡ []
 beside-Ident s = search (rules, the_lemmas)
@@ -88,7 +88,7 @@ beside-program lines expr =
     fold-roll-Program NodePatterns (List KeptPattern) (List KeptPattern) node_beside postfix_beside program_beside (record { lines = lines; expr = expr })
     ∙ ap (λ bs. bs ++ operations expr) (lines-node_patterns lines.items)
 
--- What holds of what each part keeps holds of the node.
+-- What holds of what stands beside the operations of each part holds of the whole.
 pub all_flat : {X Y : Type 0} (P : Y → Type 0) (f : X → List Y) (xs : List X) → All (λ x. All P (f x)) xs → All P (flat_map f xs)
 all_flat P f [] h = All-nil P
 all_flat P f (x ∷ xs) h = All-append P (f x) (flat_map f xs) (All-head (λ y. All P (f y)) x xs h) (all_flat P f xs (All-tail (λ y. All P (f y)) x xs h))

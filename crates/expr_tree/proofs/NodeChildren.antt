@@ -3,7 +3,7 @@ use Rattle.std.proofs.Common.{◌≡◌, ◌+◌, ℕ, List, [], ◌∷◌, ◌+
 use Rattle.std.proofs.lemmas.List.{append-nil}
 use Rattle.expr_tree.specs.Children.{term_list, children, pairs_children, block_children, predicate_children, bound_children, postfix_children, own_name}
 use Rattle.expr_tree.specs.Names.{operands, all_operands, postfix_operands, bound_operands, pairs_operands, predicate_operands, block_operands}
-use Rattle.expr_tree.specs.Term.{Term, name, literal, list, mapping, range, call, unary, operation, postfix, choice, Postfix, index, slice, coalesce, pipe, ternary, method, Bound, unbounded, bound, Terms, no_terms, term, TermPairs, pairs_end, pair, Predicate, no_predicate, predicate, Block, answers, line, block_with, term_pairs}
+use Rattle.expr_tree.specs.Term.{Term, name, literal, list, mapping, range, call, unary, operation, postfix, choice, Postfix, index, slice, coalesce, pipe, ternary, method, Bound, unbounded, bound, Terms, no_terms, term, TermPairs, pairs_end, pair, Predicate, no_predicate, predicate, Block, answers, line, block_with, pairs_of}
 use Rattle.expr_tree.specs.Weight.{weight, terms_weight, postfix_weight, bound_weight, pairs_weight, predicate_weight, block_weight}
 use Rattle.expr_tree.specs.LentChildren.{program_children}
 use Rattle.expr_tree.specs.TermOf.{term_of, line_term, terms_of}
@@ -123,6 +123,6 @@ with_lines (l ∷ ls) last = ap (λ ts. term_of l.1 ∷ ts) (with_lines ls last)
 pub children-program : (p : Program) → program_children p ≡ map (λ l. term_of l.1) p.lines.items ++ term_of p.expr ∷ []
 children-program p = ap block_children (term_of-parts p) ∙ with_lines p.lines.items (term_of p.expr)
 
-pub pairs-same : (ps : List (String Global × Node)) → map (λ p. term_of p.1) ps ≡ pairs_children (term_pairs (map line_term ps))
+pub pairs-same : (ps : List (String Global × Node)) → map (λ p. term_of p.1) ps ≡ pairs_children (pairs_of (map line_term ps))
 pairs-same [] = refl
 pairs-same (p ∷ ps) = ap (λ ts. term_of p.1 ∷ ts) (pairs-same ps)

@@ -1,4 +1,4 @@
--- The tree of a program in memory.
+-- What a program in memory stands for.
 use Rattle.std.proofs.Common.{◌≡◌, List, [], ◌∷◌, map, Vec, Global, String, string_bytes, refl, ap, ◌∙◌}
 use Rattle.expr_tree.specs.Term.{Term, Postfix, Block, line, block_with}
 use Rattle.expr_tree.specs.TermOf.{term_of, program_term, node_step, postfix_step, program_step, block_of, line_term}

@@ -1,5 +1,5 @@
--- Sorted names: one more, and which are among them.
-use Rattle.std.proofs.Common.{◌≡◌, ℕ, Bool, true, false, ◌||◌, List, [], ◌∷◌, map, Global, String, string_bytes, bytes_eq, if◌then◌else◌, refl, sym, ap, ◌∙◌, Result, Ok, Err, IfOk}
+-- Rising names: one more, and which are among them.
+use Rattle.std.proofs.Common.{◌≡◌, ℕ, Bool, true, false, ◌||◌, List, [], ◌∷◌, map, Global, String, string_bytes, bytes_eq, if◌then◌else◌, refl, sym, ap, ◌∙◌}
 use Rattle.std.specs.BTreeMap.{is_at}
 use Rattle.std.specs.BTreeSet.{insert_key}
 use Rattle.std.specs.Cmp.Lexicographic.{slice_cmp, nat_list_cmp_total, nat_list_eq_equiv}
@@ -15,13 +15,13 @@ use Rattle.std.proofs.lemmas.Map.Views.{list_any-from_Contains, Contains-from_an
 use Rattle.std.proofs.lemmas.Slice.Eq.{bytes_eq-Decides}
 use Rattle.expr_tree.specs.Names.{env, with_name, with_names}
 
-abbrev pub Bytes : Type 0
+abbrev Bytes : Type 0
 Bytes = List ℕ
 
-abbrev pub cmp : Bytes → Bytes → Ordering
+abbrev cmp : Bytes → Bytes → Ordering
 cmp = slice_cmp nat_cmp
 
-abbrev pub has : Bytes → List Bytes → Bool
+abbrev has : Bytes → List Bytes → Bool
 has n xs = list_any (bytes_eq n) xs
 
 abbrev found : Bytes → List Bytes → Bool
@@ -91,8 +91,7 @@ or_shift true false c = refl
 or_shift false true c = refl
 or_shift false false c = refl
 
--- one more name
-pub has-insert : (q n : Bytes) (xs : List Bytes) → has q (insert_key cmp xs n) ≡ (bytes_eq q n || has q xs)
+has-insert : (q n : Bytes) (xs : List Bytes) → has q (insert_key cmp xs n) ≡ (bytes_eq q n || has q xs)
 has-insert q n [] = refl
 has-insert q n (x ∷ xs) = by (cmp n x) refl (has-insert q n xs)
   where
@@ -133,8 +132,3 @@ Contains-from_has q xs e = Contains-from_any (λ x y. (bytes_eq-Decides x y).0) 
 
 pub has-from_Contains : (q : Bytes) (xs : List Bytes) → Contains xs q → has q xs ≡ true
 has-from_Contains q xs h = list_any-from_Contains nat_list_eq_equiv q xs h
-
--- what is so of a result, if it is one
-pub IfOk-under : {T E : Type 0} (r : Result T E) (P Q : T → Type 0) → ((x : T) → P x → Q x) → IfOk r P → IfOk r Q
-IfOk-under (Ok x) P Q f p = f x p
-IfOk-under (Err e) P Q f p = tt

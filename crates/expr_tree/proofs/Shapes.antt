@@ -1,7 +1,7 @@
 -- The tree of each form of node, by the trees of its parts.
 use Rattle.std.proofs.Common.{◌≡◌, Bool, List, [], ◌∷◌, map, Option, Vec, Box, Global, String, string_bytes, refl, ap, ◌∙◌, rules}
 use Rattle.expr_value.specs.declared.value.Value.{Value}
-use Rattle.expr_tree.specs.Term.{name, literal, list, mapping, range, call, unary, operation, postfix, choice, index, slice, ternary, method, pair, term_pairs}
+use Rattle.expr_tree.specs.Term.{name, literal, list, mapping, range, call, unary, operation, postfix, choice, index, slice, ternary, method, pair, pairs_of}
 use Rattle.expr_tree.specs.TermOf.{term_of, postfix_term, bound_term, predicate_term, program_term, line_term, mapping_of, terms_of}
 use Rattle.expr_tree.specs.declared.node.Node.{Node, the_lemmas}
 use Rattle.expr_tree.specs.declared.node.Node.TheVariants as node
@@ -9,8 +9,8 @@ use Rattle.expr_tree.specs.declared.node.CompiledRegex.{CompiledRegex}
 use Rattle.expr_tree.specs.declared.node.PostfixOperator.{PostfixOperator}
 use Rattle.expr_tree.specs.declared.node.PostfixOperator.TheVariants as behind
 use Rattle.expr_tree.specs.declared.node.Program.{Program}
-use Rattle.expr_functions.specs.declared.operator.Operator.{Operator}
-use Rattle.expr_functions.specs.declared.operator.UnaryOperator.{UnaryOperator}
+use Rattle.expr_tree.specs.declared.operator.Operator.{Operator}
+use Rattle.expr_tree.specs.declared.operator.UnaryOperator.{UnaryOperator}
 
 pub term_of-Ident : (s : String Global) → term_of (node.Ident s) ≡ name (string_bytes s)
 term_of-Ident s = search (rules, the_lemmas)
@@ -21,14 +21,14 @@ term_of-Value v = search (rules, the_lemmas)
 pub term_of-Array : (ns : Vec Node Global) → term_of (node.Array ns) ≡ list (terms_of (map term_of ns.items))
 term_of-Array ns = search (rules, the_lemmas)
 
-mapping_of-pairs : (ps : List (String Global × Node)) → mapping_of (map (λ p. (p.0, term_of p.1)) ps) ≡ term_pairs (map line_term ps)
+mapping_of-pairs : (ps : List (String Global × Node)) → mapping_of (map (λ p. (p.0, term_of p.1)) ps) ≡ pairs_of (map line_term ps)
 mapping_of-pairs [] = refl
 mapping_of-pairs (p ∷ ps) = ap (pair (string_bytes p.0) (term_of p.1)) (mapping_of-pairs ps)
 
 term_of-mapping : (ps : Vec (String Global × Node) Global) → term_of (node.Map ps) ≡ mapping (mapping_of (map (λ p. (p.0, term_of p.1)) ps.items))
 term_of-mapping ps = search (rules, the_lemmas)
 
-pub term_of-Map : (ps : Vec (String Global × Node) Global) → term_of (node.Map ps) ≡ mapping (term_pairs (map line_term ps.items))
+pub term_of-Map : (ps : Vec (String Global × Node) Global) → term_of (node.Map ps) ≡ mapping (pairs_of (map line_term ps.items))
 term_of-Map ps = term_of-mapping ps ∙ ap mapping (mapping_of-pairs ps.items)
 
 pub term_of-Range : (a b : Box Node Global) → term_of (node.Range a b) ≡ range (term_of a.value) (term_of b.value)

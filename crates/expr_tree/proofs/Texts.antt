@@ -1,4 +1,4 @@
--- The string of a node that is a string literal. No other node has one.
+-- The text of a node that is the literal of one, and that no other node has one.
 use Rattle.std.proofs.Common.{◌≡◌, List, None, sym, ap, ◌∙◌, subst, rules}
 use Rattle.expr_value.specs.Values.{string_of}
 use Rattle.expr_value.specs.declared.value.Value.{Value}

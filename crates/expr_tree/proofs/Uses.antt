@@ -1,4 +1,4 @@
--- Whether `$env` is in a tree and what a tree weighs, by its children.
+-- Whether `$env` stands in a tree and what a tree weighs, by the parts right inside it.
 use Rattle.std.proofs.Common.{◌≡◌, ℕ, zero, suc, ◌+◌, ◌<◌, ◌≤◌, Bool, true, false, ◌||◌, List, [], ◌∷◌, ◌++◌, map, length, get_or, Global, String, refl, sym, ap, ◌∙◌, arith}
 use Rattle.expr_tree.specs.Children.{children, block_children, own_name}
 use Rattle.expr_tree.specs.Names.{operands, block_operands, lines_operands, has_env}
@@ -62,7 +62,7 @@ parts-env t xs ys zs none e =
 pub block-env : (b : Block) → has_env (block_operands b) ≡ uses (block_children b)
 block-env b = ap has_env (operands-block b)
 
--- the value of `||`
+-- what `||` comes to
 pub or_then : (v a b : Bool) → a ≡ true → v ≡ true → v ≡ (a || b)
 or_then v a b p q = q ∙ ap (λ x. x || b) (sym p)
 

@@ -1,6 +1,6 @@
 -- How the weight of a tree is made up of its parts'.
 use Rattle.std.proofs.Common.{◌≡◌, ◌+◌, ℕ, List, [], ◌∷◌, ◌++◌, map, Option, Vec, Box, Global, String, arith, refl, ap, ◌∙◌}
-use Rattle.expr_tree.specs.Term.{Term, LineTerms, block_with, term_pairs}
+use Rattle.expr_tree.specs.Term.{Term, LineTerms, block_with, pairs_of}
 use Rattle.expr_tree.specs.Weight.{weight, terms_weight, predicate_weight, postfix_weight, block_weight, lines_weight, pairs_weight}
 use Rattle.expr_tree.specs.TermOf.{term_of, postfix_term, predicate_term, program_term, line_term, terms_of}
 use Rattle.expr_tree.specs.declared.node.Node.{Node}
@@ -8,8 +8,8 @@ use Rattle.expr_tree.specs.declared.node.Node.TheVariants as node
 use Rattle.expr_tree.specs.declared.node.CompiledRegex.{CompiledRegex}
 use Rattle.expr_tree.specs.declared.node.PostfixOperator.{PostfixOperator}
 use Rattle.expr_tree.specs.declared.node.Program.{Program}
-use Rattle.expr_functions.specs.declared.operator.Operator.{Operator}
-use Rattle.expr_functions.specs.declared.operator.UnaryOperator.{UnaryOperator}
+use Rattle.expr_tree.specs.declared.operator.Operator.{Operator}
+use Rattle.expr_tree.specs.declared.operator.UnaryOperator.{UnaryOperator}
 use Rattle.expr_tree.specs.declared.node.Node.TheViews.{roll-Program}
 use Rattle.expr_tree.proofs.Programs.{term_of-parts, term_of-program}
 use Rattle.expr_tree.proofs.Shapes.{term_of-Array, term_of-Map, term_of-Range, term_of-Func, term_of-Unary, term_of-Operation, term_of-Postfix, term_of-Conditional}
@@ -44,7 +44,7 @@ rolled-parts lines expr = ap block_weight (term_of-program lines expr) ∙ block
 pub weight-Array : (ns : Vec Node Global) → weight (term_of (node.Array ns)) ≡ 1 + items_weight ns.items
 weight-Array ns = ap weight (term_of-Array ns)
 
-pairs-weight : (ps : LineTerms) → pairs_weight (term_pairs ps) ≡ lines_weight ps
+pairs-weight : (ps : LineTerms) → pairs_weight (pairs_of ps) ≡ lines_weight ps
 pairs-weight [] = refl
 pairs-weight (p ∷ ps) = ap (λ n. weight p.1 + n) (pairs-weight ps)
 

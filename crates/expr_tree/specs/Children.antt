@@ -1,4 +1,4 @@
--- The children of a tree, from left to right.
+-- The trees right below a tree, from the left.
 use Rattle.std.specs.Prelude.{ℕ, List, [], ◌∷◌, ◌++◌}
 use Rattle.expr_tree.specs.Term.{Term, name, literal, list, mapping, range, call, unary, operation, postfix, choice, Postfix, index, slice, coalesce, pipe, ternary, method, Bound, unbounded, bound, Terms, no_terms, term, TermPairs, pairs_end, pair, Predicate, no_predicate, predicate, Block, answers, line}
 
@@ -42,7 +42,7 @@ children (operation o l r) = l ∷ r ∷ []
 children (postfix p t) = t ∷ postfix_children p
 children (choice c first second) = c ∷ (block_children first ++ block_children second)
 
--- the name, if the tree is a name
+-- the name that a tree is, if it is one
 abbrev pub own_name : Term → List (List ℕ)
 own_name (name key) = key ∷ []
 own_name (literal v) = []

@@ -1,17 +1,16 @@
--- Codes of trees, by which a proof tells them apart: a tree is the list of its symbols, with each part before the
--- whole.
+-- Codes of trees, by which a proof tells them apart: a tree is kept as the list of its symbols, each part before the whole.
 use Rattle.std.specs.Prelude.{◌≡◌, ◌==◌, ℕ, true, false, List, [], ◌∷◌, ◌⊎◌, refl, if◌then◌else◌}
 use Rattle.std.proofs.Common.{inl, inr, ap, ◌∙◌}
 use Rattle.std.specs.Coded.{Coded, code_by, coded×, coded⊎, coded_ℕ, coded_list}
 use Rattle.expr_value.specs.declared.value.Value.{Value}
 use Rattle.expr_value.specs.contracts.value.Value.{the_row as value_row}
-use Rattle.expr_functions.specs.declared.operator.Operator.{Operator}
-use Rattle.expr_functions.specs.declared.operator.UnaryOperator.{UnaryOperator}
-use Rattle.expr_functions.specs.contracts.operator.Operator.{the_row as operator_row}
-use Rattle.expr_functions.specs.contracts.operator.UnaryOperator.{the_row as unary_row}
+use Rattle.expr_tree.specs.declared.operator.Operator.{Operator}
+use Rattle.expr_tree.specs.declared.operator.UnaryOperator.{UnaryOperator}
+use Rattle.expr_tree.specs.contracts.operator.Operator.{the_row as operator_row}
+use Rattle.expr_tree.specs.contracts.operator.UnaryOperator.{the_row as unary_row}
 use Rattle.expr_tree.specs.Term.{Term, name, literal, list, mapping, range, call, unary, operation, postfix, choice, Postfix, index, slice, coalesce, pipe, ternary, method, Bound, unbounded, bound, Terms, no_terms, term, TermPairs, pairs_end, pair, Predicate, no_predicate, predicate, Block, answers, line}
 
--- a form by its number and name, or a form with its content
+-- a form by its number and its name, or a form with its payload
 abbrev pub Symbol : Type 0
 Symbol = (ℕ × List ℕ) ⊎ (Value ⊎ (UnaryOperator ⊎ Operator))
 
@@ -21,7 +20,7 @@ Symbols = List Symbol
 abbrev pub form : ℕ → Symbol
 form n = inl (n, [])
 
--- the symbols of a tree, followed by others
+-- the symbols of a tree, before others
 abbrev mutual
   pub term_symbols : Term → Symbols → Symbols
   term_symbols (name key) rest = inl (0, key) ∷ rest
@@ -94,7 +93,7 @@ earlier_term s = top (list no_terms) (without_top s.terms)
 abbrev pub last_block : Stacks → Block
 last_block s = top (answers (list no_terms)) s.blocks
 
--- a symbol replaces its parts by what it makes of them
+-- a symbol puts what it makes in the place of its parts
 abbrev pub with_symbol : ℕ → List ℕ → Stacks → Stacks
 with_symbol n key s =
     if n == 0 then record s { terms = name key ∷ s.terms }

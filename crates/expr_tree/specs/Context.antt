@@ -1,12 +1,11 @@
 -- Contexts that agree at the names of a program.
 use Rattle.std.specs.Prelude.{◌≡◌, ◌≢◌, ℕ, List}
 use Rattle.std.specs.List.{Contains}
-use Rattle.expr_context.specs.Context.{ContextView, hash}
+pub use Rattle.expr_context.specs.Context.{ContextView, override, hash}
 use Rattle.expr_tree.specs.Names.{env, block_operands}
 use Rattle.expr_tree.specs.Term.{Block}
 
--- two contexts agree at some operands if they give the same value, or none, at `#` and at each of them but `$env`, and
--- the same map if `$env` is among them
+-- two contexts agree at some operands if they give the same value, or both none, at `#` and at each of them but `$env`, and the same map where `$env` is among them
 pub record Agree (one other : ContextView) (operands : List (List ℕ)) : Type 0 where
   pub at_hash : one.value_of hash ≡ other.value_of hash
   pub at_names : (n : List ℕ) → Contains operands n → n ≢ env → one.value_of n ≡ other.value_of n

@@ -1,4 +1,4 @@
--- The children of a node in memory, as trees.
+-- What stands right inside a node in memory, as trees.
 use Rattle.std.specs.Prelude.{ℕ, List, [], ◌∷◌, ◌++◌, Option, Some, None, map}
 use Rattle.std.specs.Borrow.{Bor}
 use Rattle.expr_tree.specs.Children.{block_children}
@@ -34,6 +34,6 @@ name_inside (Items first items program) = []
 name_inside (Pairs pairs) = []
 name_inside (Choice condition consequent alternative) = []
 
--- the trees of borrowed nodes
+-- the trees that borrowed nodes stand for
 abbrev pub lent_terms : List (Bor Node) → List Term
 lent_terms ns = map (λ n. term_of n.now) ns

@@ -4,6 +4,7 @@ pub mod Context
 pub mod KeptPatterns
 pub mod LentChildren
 pub mod Names
+pub mod Shown
 pub mod Term
 pub mod TermOf
 pub mod Weight

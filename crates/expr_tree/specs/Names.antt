@@ -7,7 +7,7 @@ use Rattle.std.specs.Ordering.{nat_cmp}
 use Rattle.std.specs.BTreeSet.{insert_key}
 use Rattle.expr_tree.specs.Term.{Term, name, literal, list, mapping, range, call, unary, operation, postfix, choice, Postfix, index, slice, coalesce, pipe, ternary, method, Bound, unbounded, bound, Terms, no_terms, term, TermPairs, pairs_end, pair, Predicate, no_predicate, predicate, Block, answers, line, LineTerms}
 
--- the names that are operands, with or without `#`, in order
+-- the names and hash names that stand as operands, in order
 abbrev mutual
   pub operands : Term → List (List ℕ)
   operands (name key) = key ∷ []
@@ -61,16 +61,16 @@ env = codes "$env"
 abbrev pub has_env : List (List ℕ) → Bool
 has_env names = list_any (bytes_eq env) names
 
--- the names of a program: each operand but `$env`, once, in byte order
+-- the names of a program: each operand but `$env`, once, by rising bytes
 pub record AreNamesOf (names : List (List ℕ)) (b : Block) : Type 0 where
   pub ascending : IsStrictlySortedBy (slice_cmp nat_cmp) names
   pub exact : (n : List ℕ) → Contains names n ↔ (Contains (block_operands b) n × (n ≢ env))
 
--- adds a name to a sorted list, unless it is `$env`
+-- rising names with one more, `$env` left out
 abbrev pub with_name : List (List ℕ) → List ℕ → List (List ℕ)
 with_name names n = if bytes_eq n env then names else insert_key (slice_cmp nat_cmp) names n
 
--- adds several names
+-- and with some more
 abbrev pub with_names : List (List ℕ) → List (List ℕ) → List (List ℕ)
 with_names names [] = names
 with_names names (n ∷ ns) = with_names (with_name names n) ns

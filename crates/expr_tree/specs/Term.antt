@@ -1,8 +1,8 @@
--- The tree of a program as pure data, apart from the memory that it is kept in.
+-- The tree of a program as pure data, apart from the memory that holds it.
 use Rattle.std.specs.Prelude.{ℕ, Bool, List, [], ◌∷◌}
 use Rattle.expr_value.specs.declared.value.Value.{Value}
-use Rattle.expr_functions.specs.declared.operator.Operator.{Operator}
-use Rattle.expr_functions.specs.declared.operator.UnaryOperator.{UnaryOperator}
+use Rattle.expr_tree.specs.declared.operator.Operator.{Operator}
+use Rattle.expr_tree.specs.declared.operator.UnaryOperator.{UnaryOperator}
 
 mutual
   pub data Term : Type 0 where
@@ -17,7 +17,7 @@ mutual
     postfix : (p : Postfix) (t : Term) → Term
     choice : (c : Term) (first second : Block) → Term
 
-  -- an operator after its operand
+  -- what stands behind an operand
   pub data Postfix : Type 0 where
     index : (key : Term) (optional : Bool) → Postfix
     slice : (start stop : Bound) → Postfix
@@ -26,7 +26,7 @@ mutual
     ternary : (first second : Term) → Postfix
     method : (key : List ℕ) (ts : Terms) → Postfix
 
-  -- a bound of a slice, which may be missing
+  -- a bound of a slice, which may be left out
   pub data Bound : Type 0 where
     unbounded : Bound
     bound : (t : Term) → Bound
@@ -40,12 +40,12 @@ mutual
     pairs_end : TermPairs
     pair : (key : List ℕ) (t : Term) (ps : TermPairs) → TermPairs
 
-  -- the predicate of a call, if it has one
+  -- the program that a call is given, if it is given one
   pub data Predicate : Type 0 where
     no_predicate : Predicate
     predicate : (b : Block) → Predicate
 
-  -- a program: its lines and its expression
+  -- a program: its lines, and what it answers
   pub data Block : Type 0 where
     answers : (t : Term) → Block
     line : (key : List ℕ) (t : Term) (b : Block) → Block
@@ -54,12 +54,12 @@ mutual
 abbrev pub LineTerms : Type 0
 LineTerms = List (List ℕ × Term)
 
--- a program of lines and an expression
+-- a program of lines and what it answers
 abbrev pub block_with : LineTerms → Term → Block
 block_with [] last = answers last
 block_with (l ∷ ls) last = line l.0 l.1 (block_with ls last)
 
 -- the pairs of a map literal
-abbrev pub term_pairs : LineTerms → TermPairs
-term_pairs [] = pairs_end
-term_pairs (p ∷ ps) = pair p.0 p.1 (term_pairs ps)
+abbrev pub pairs_of : LineTerms → TermPairs
+pairs_of [] = pairs_end
+pairs_of (p ∷ ps) = pair p.0 p.1 (pairs_of ps)

@@ -1,4 +1,4 @@
--- The tree of a node in memory. Patterns that are kept are no part of it.
+-- The tree that a node in memory stands for. Kept patterns are no part of it.
 use Rattle.std.specs.Prelude.{ℕ, List, [], ◌∷◌, Option, Some, None, String, string_bytes}
 use Rattle.std.specs.declared.alloc.Global.{Global}
 use Rattle.std.specs.declared.boxed.Box.{Box}
@@ -28,7 +28,7 @@ abbrev pub bound_of : Option (Box Term Global) → Bound
 bound_of None = unbounded
 bound_of (Some t) = bound t.value
 
--- one level, given the trees of its parts
+-- one level, with each part already read as its tree
 abbrev pub node_step : Node-F Term Postfix Block → Term
 node_step (Node-F.Ident s) = name (string_bytes s)
 node_step (Node-F.Array ns) = list (terms_of ns.items)
@@ -70,7 +70,7 @@ bound_term (Some n) = bound (term_of n.value)
 abbrev pub line_term : String Global × Node → List ℕ × Term
 line_term l = (string_bytes l.0, term_of l.1)
 
--- the predicate of a call in memory
+-- the program of a call in memory
 abbrev pub predicate_term : Option (Box Program Global) → Predicate
 predicate_term None = no_predicate
 predicate_term (Some p) = predicate (program_term p.value)

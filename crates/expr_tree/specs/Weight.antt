@@ -1,4 +1,4 @@
--- Number of nodes of a tree.
+-- How many nodes a tree has.
 use Rattle.std.specs.Prelude.{ℕ, ◌+◌, [], ◌∷◌}
 use Rattle.expr_tree.specs.Term.{Term, name, literal, list, mapping, range, call, unary, operation, postfix, choice, Postfix, index, slice, coalesce, pipe, ternary, method, Bound, unbounded, bound, Terms, no_terms, term, TermPairs, pairs_end, pair, Predicate, no_predicate, predicate, Block, answers, line, LineTerms}
 

@@ -1,15 +1,13 @@
-//! Drops a tree with a loop, in the memory of the tree itself.
+//! Letting go of a tree by a loop, in the tree's own memory.
 //!
-//! A tree is a chain of nodes: each node links to the next by its first part, and its other parts hang from it. To
-//! shorten a chain, the other parts of its head are put in front of the first part, as chains of their own that end
-//! with a link to it. So no part is ever kept outside of the chain.
+//! Each tree is a chain: it leads on by its first part, and its other parts hang from it. To shorten a chain, its head's other parts are hung in front of the first part, as chains of their own that lead on to it. So no part is ever kept outside the chain.
 ghost use Rattle.std.specs.Prelude.{◌+◌, ◌<◌, ◌≤◌, ◌≡◌, IfOk, IfErr, IfSome, map};
 ghost use Rattle.expr_tree.specs.Weight.{weight, terms_weight, postfix_weight, bound_weight, block_weight, lines_weight};
 ghost use Rattle.expr_tree.specs.TermOf.{term_of, postfix_term, bound_term, program_term, line_term, terms_of};
 
 use crate::node::{Node, PostfixOperator, Program};
 
-// Does what `link` does, for an array of these items. The last item is its first part.
+// As `link`, of an array with these items. Of items the last is taken for the first part.
 pub(crate) fn linked_items(mut items: Vec<Node>, chain: Node) -> Result<(Node, Node), Node>
     ensures parts { IfOk result (λ r. weight (term_of r.0) + weight (term_of r.1)
         ≤ 1 + terms_weight (terms_of (map term_of items.items)) + weight (term_of chain)) }
@@ -29,7 +27,7 @@ pub(crate) fn linked_items(mut items: Vec<Node>, chain: Node) -> Result<(Node, N
     }
 }
 
-// Does what `shorten` does, for an array of these items.
+// As `shorten`, of an array with these items.
 pub(crate) fn shortened_items(mut items: Vec<Node>) -> Option<Node>
     ensures { IfSome result (λ n. weight (term_of n) ≤ terms_weight (terms_of (map term_of items.items))) }
 {
@@ -42,7 +40,7 @@ pub(crate) fn shortened_items(mut items: Vec<Node>) -> Option<Node>
     }
 }
 
-// Does what `link` does, for a map of these pairs.
+// As `link`, of a map with these pairs.
 pub(crate) fn linked_pairs(
     mut pairs: Vec<(String, Node)>,
     chain: Node,
@@ -65,7 +63,7 @@ pub(crate) fn linked_pairs(
     }
 }
 
-// Does what `shorten` does, for a map of these pairs.
+// As `shorten`, of a map with these pairs.
 pub(crate) fn shortened_pairs(mut pairs: Vec<(String, Node)>) -> Option<Node>
     ensures { IfSome result (λ n. weight (term_of n) < 1 + lines_weight (map line_term pairs.items)) }
 {

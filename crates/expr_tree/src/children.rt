@@ -1,4 +1,4 @@
-//! The children of a node, defined once for all walks over a tree.
+//! What stands right inside a node, said once for every walk of a tree.
 ghost use Rattle.std.specs.Prelude.{◌≡◌};
 ghost use Rattle.expr_tree.specs.Children.{children, own_name, bound_children};
 ghost use Rattle.expr_tree.specs.LentChildren.{children_inside, name_inside, maybe_child};
@@ -7,7 +7,7 @@ ghost use Rattle.expr_tree.specs.TermOf.{term_of, postfix_term, bound_term};
 
 use crate::node::{Node, PostfixOperator, Program};
 
-// A name, or the nodes and programs that a node consists of, from left to right.
+// A name, or the nodes and programs of which a node is made, from the left.
 #[derive(Drop)]
 pub(crate) enum Children<'a> {
     Name(&'a str),
@@ -51,7 +51,7 @@ pub(crate) fn children_of<'a>(node: &'a Node) -> Children<'a>
     }
 }
 
-// The children of an operand with a postfix operator.
+// Inside an operand with what stands behind it.
 fn postfix_children<'a>(operand: &'a Node, operator: &'a PostfixOperator) -> Children<'a>
     ensures name { name_inside result
         ≡ own_name (postfix (postfix_term operator.now) (term_of operand.now)) }

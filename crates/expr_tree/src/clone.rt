@@ -1,4 +1,4 @@
-//! Copies of trees. A copy keeps no patterns.
+//! Copies of trees. No copy keeps a pattern.
 ghost use Rattle.std.specs.Prelude.{◌≡◌, IfOk, map};
 ghost use Rattle.std.specs.List.{All};
 ghost use Rattle.expr_tree.specs.KeptPatterns.{KeepNone, NodeKeepsNone, bound_operations, postfix_operations, predicate_operations, program_operations};

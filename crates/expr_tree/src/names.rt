@@ -1,4 +1,4 @@
-//! The names that a program uses.
+//! The names of a program.
 ghost use Rattle.std.specs.Prelude.{◌≡◌, ◌↔◌, ◌++◌, [], IsTrue, IfOk, OnOk, map, string_bytes};
 ghost use Rattle.std.specs.List.{Contains};
 ghost use Rattle.std.specs.List.Sorted.{IsStrictlySortedBy};
@@ -18,8 +18,11 @@ use std::collections::BTreeSet;
 use std::marker::Model;
 
 impl Program {
-    /// Each name, with or without `#`, that is an operand anywhere in the program. Each is there once, in byte order,
-    /// and `$env` is left out.
+    /// Each name and hash name that stands as an operand anywhere in the program, once, in byte order. `$env` is left out.
+    ///
+    /// # Errors
+    ///
+    /// `MemoryError`, if a growth is refused.
     pub fn names(&self, alloc: Global) -> Result<Vec<String>>
         ensures ok { IfOk result (λ ns. AreNamesOf (map string_bytes ns.items) (program_term self.now)) }
         ensures err { OnlyMemory result }
@@ -27,7 +30,7 @@ impl Program {
         names_within(self, alloc, Vec::new(alloc))
     }
 
-    /// Whether `$env` is an operand anywhere in the program.
+    /// Whether `$env` stands as an operand anywhere in the program.
     pub fn uses_env(&self) -> bool
         ensures { IsTrue result ↔ Contains (block_operands (program_term self.now)) env }
     {
@@ -35,9 +38,8 @@ impl Program {
     }
 }
 
-// Collects the names in a program. `waiting` has room for the nodes that are still to be visited, and is empty. (It is
-// a parameter because the borrow checker accepts a list of references behind `&mut` only if its lifetime is a
-// parameter's.)
+// The names within a program; the list is for the nodes that wait, and is empty. (It is handed in, since the borrow check
+// takes a list of references under a `&mut` only where its lifetime is a parameter's.)
 fn names_within<'a>(
     program: &'a Program,
     alloc: Global,
@@ -55,7 +57,7 @@ fn names_within<'a>(
     Ok(names.into_vec()?)
 }
 
-// Distinct names in byte order.
+// Names in byte order, each once.
 #[derive(Drop)]
 struct Names {
     alloc: Global,
@@ -105,7 +107,7 @@ impl Names {
     }
 }
 
-// Adds the name that the node is, or puts the children of the node in the list of waiting nodes.
+// Adds the name that the node is, or puts what is right inside it among the nodes that wait.
 fn gather<'a>(
     node: &'a Node,
     names: &mut Names,

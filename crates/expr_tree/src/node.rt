@@ -1,4 +1,4 @@
-//! The nodes of a syntax tree.
+//! The nodes of a program.
 ghost use Rattle.std.specs.Prelude.{◌+◌, ◌<◌, ◌≤◌, ◌≡◌, IfOk, IfErr, IfSome};
 ghost use Rattle.std.specs.Option.{option_copied};
 ghost use Rattle.expr_tree.specs.KeptPatterns.{built_text};
@@ -9,7 +9,7 @@ use crate::chain::{
     hung_items, hung_lines, hung_postfix, hung_program, linked_items, linked_pairs,
     shortened_items, shortened_pairs,
 };
-use expr_functions::operator::{Operator, UnaryOperator};
+use crate::operator::{Operator, UnaryOperator};
 pub use expr_pattern::{Pattern, Unbuilt};
 use expr_value::Value;
 use std::mem;
@@ -17,18 +17,17 @@ use std::mem;
 /// An expression.
 #[cycle(tree)]
 pub enum Node {
-    /// A name, as it is written, with `#` if it has one.
+    /// A name or hash name, as it is written.
     Ident(String),
     /// The items of an array, in order.
     Array(Vec<Node>),
-    /// The keys of a map, each with its value, in the order of the source. Repeated keys are included. A map of
-    /// literals alone is a `Value`.
+    /// The keys of a map, each with its value, in the order of the text, repeated keys included. A map of literals alone is a `Value`.
     Map(Vec<(String, Node)>),
-    /// The integers from the first to the second, both included.
+    /// The integers from the first to the second, both in.
     Range(Box<Node>, Box<Node>),
     /// A literal.
     Value(Value),
-    /// A call of a function, with its arguments, and with its predicate if it has one.
+    /// A call of a function, with its arguments and the program that it runs, if it is given one.
     Func {
         ident: String,
         args: Vec<Node>,
@@ -39,20 +38,19 @@ pub enum Node {
         operator: UnaryOperator,
         node: Box<Node>,
     },
-    /// An operator between its operands. A compiled pattern is used by `matches` only if its source is the string on
-    /// the right, and is otherwise ignored.
+    /// An operator between its operands. A pattern that was built beforehand is of the text on the right of `matches`; one of any other text is passed over.
     Operation {
         operator: Operator,
         left: Box<Node>,
         right: Box<Node>,
         compiled_regex: CompiledRegex,
     },
-    /// An operand and the operator after it.
+    /// What stands behind its operand.
     Postfix {
         operator: PostfixOperator,
         node: Box<Node>,
     },
-    /// A condition that chooses between two programs.
+    /// A choice between two programs.
     Conditional {
         condition: Box<Node>,
         consequent: Box<Program>,
@@ -60,7 +58,7 @@ pub enum Node {
     },
 }
 
-// A tree is dropped with a loop that takes neither stack nor memory: see `chain`.
+// A tree is let go by a loop that takes neither stack nor memory: see `chain`.
 impl Drop for Node {
     fn drop(self) {
         let mut chain = self;
@@ -71,7 +69,7 @@ impl Drop for Node {
 }
 
 impl Node {
-    // The chain without its head, whose parts stay. `None` if the head has no parts.
+    // The chain without its head, whose parts stay; none, if the head has no parts.
     pub(crate) fn shorten(self) -> Option<Node>
         ensures { IfSome result (λ n. weight (term_of n) < weight (term_of self)) }
     {
@@ -110,8 +108,7 @@ impl Node {
         }
     }
 
-    // Puts this tree in front of a chain. The loop goes down by first parts to a node without parts. Each node on the
-    // way then links to the one above it.
+    // The tree in front of a chain. It is gone down by first parts to one that has none, and each on the way then leads on to the one above it.
     pub(crate) fn hang(self, chain: Node) -> Node
         ensures { weight (term_of result) < weight (term_of self) + weight (term_of chain) }
     {
@@ -128,8 +125,7 @@ impl Node {
         }
     }
 
-    // Returns the first part, and the node with the chain instead of it. A node without parts is dropped, and the chain
-    // comes back as the error.
+    // The first part, and the node with a chain in its place. A node without parts is let go, and the chain comes back.
     fn link(self, chain: Node) -> Result<(Node, Node), Node>
         ensures parts { IfOk result (λ r. weight (term_of r.0) + weight (term_of r.1)
             ≤ weight (term_of self) + weight (term_of chain)) }
@@ -199,17 +195,16 @@ impl Node {
 /// What an operation keeps of the pattern on its right. A copy keeps nothing.
 #[derive(Drop)]
 pub enum CompiledRegex {
-    /// Nothing. In a program that was compiled, the operator isn't `matches`, or its right side is no string literal,
-    /// or that literal isn't a regular expression or is nested too deeply.
+    /// Nothing. Where the operation was read of a text, its operator isn't `matches`, or no text literal stands on the right, or the one there is no pattern, or nests too deep.
     None,
-    /// The compiled pattern.
+    /// The pattern.
     Built(Box<Pattern>),
-    /// The string literal is a regular expression, but its compiled form exceeds the limit of `regex`.
+    /// Nothing but that the text literal is a pattern, and its compiled form passes the limit of `regex`.
     TooBig,
 }
 
 impl CompiledRegex {
-    /// The compiled pattern, or `None`.
+    /// The pattern, if it was built.
     pub fn pattern(&self) -> Option<&Pattern>
         ensures { option_copied result ≡ built_text self.now }
     {
@@ -220,16 +215,16 @@ impl CompiledRegex {
     }
 }
 
-/// An operator after its operand.
+/// What stands behind an operand.
 #[cycle(tree)]
 #[derive(Drop)]
 pub enum PostfixOperator {
-    /// `[idx]` or `.word`. If it is optional, `?.[idx]` or `?.word`.
+    /// `[idx]` or `.word`; `?.[idx]` or `?.word` where it is optional.
     Index {
         idx: Box<Node>,
         optional: bool,
     },
-    /// `[start:end]`. Either bound may be missing.
+    /// `[start:end]`, of which either bound may be left out.
     Range {
         start: Option<Box<Node>>,
         end: Option<Box<Node>>,
@@ -250,7 +245,7 @@ pub enum PostfixOperator {
     },
 }
 
-/// `let` lines, each with a name and its value, and the expression that uses them.
+/// Lines that each name a value, and the expression that they serve.
 #[cycle(tree)]
 #[derive(Drop)]
 pub struct Program {

@@ -1,10 +1,10 @@
 -- What is counted of values that are kept.
 use Rattle.std.proofs.Common.{◌≡◌, ℕ, List, [], ◌∷◌, Result, Ok, Err, refl, ◌∙◌, subst}
 use Rattle.std.specs.Result.{IsErrAnd}
-use Rattle.expr_limits.specs.Counting.{KeepsAll}
-use Rattle.expr_limits.specs.MeterView.{Charges, MeterView}
-use Rattle.expr_limits.specs.Rooms.{Holds, rooms, with_size}
-use Rattle.expr_limits.specs.Sizes.{depth, weight}
+use Rattle.expr_meter.specs.Counting.{KeepsAll}
+use Rattle.expr_meter.specs.MeterView.{Charges, MeterView}
+use Rattle.expr_meter.specs.Rooms.{Holds, rooms, with_size}
+use Rattle.expr_sizes.specs.Sizes.{depth, weight}
 use Rattle.expr_value.specs.declared.value.Value.{Value}
 
 -- these values are kept, where the size that is left was this before
@@ -28,7 +28,7 @@ module _ (size : ℕ) (was mid : MeterView) (same : mid.stopped ≡ was.stopped)
   pub first_kept : (A : Type 0) {E : Type 0} (is : MeterView) (v u : Value) (e : E) → Charges {A = A} {E = E} (Err e) (Holds (weight v) (depth v)) mid is → KeepsThese {A = A} {E = E} (v ∷ u ∷ []) size (Err e) was is
   first_kept A is v u e p = (p.0, p.1, (Err p.0, subst (λ m. Holds (weight v) (depth v) m (Err p.0)) room p.2, refl))
 
--- one error may replace another
+-- a refusal is as good as another
 pub kept_err : (B : Type 0) {A E F : Type 0} (P : E → Type 0) (vs : List Value) (size : ℕ) (was is : MeterView) (e : F) (r : Result A E) → IsErrAnd r P → KeepsThese {A = B} {E = F} vs size (Err e) was is → KeepsThese vs size r was is
 kept_err B P vs size was is e (Ok a) p k = absurd p
 kept_err B P vs size was is e (Err x) p k = k

@@ -1,20 +1,20 @@
-//! Counts the result of an instruction.
+//! What an instruction has left, counted after it.
 ghost use Rattle.std.specs.Prelude.{◌<◌, ◌∷◌, [], List, length};
 ghost use Rattle.expr_costs.specs.Costs.{op_leaves};
-ghost use Rattle.expr_code.specs.InMemory.{op_of};
+ghost use Rattle.expr_instructions.specs.InMemory.{op_of};
 ghost use Rattle.expr_machine.specs.Texts.{text_of};
 ghost use Rattle.expr_meaning.specs.Host.{no_host};
-ghost use Rattle.expr_meaning.specs.Counts.{either};
-ghost use Rattle.expr_limits.specs.MeterView.{Charges};
-ghost use Rattle.expr_limits.specs.Rooms.{Holds};
-ghost use Rattle.expr_limits.specs.Sizes.{depth, weight};
+ghost use Rattle.expr_meter.specs.Counts.{either};
+ghost use Rattle.expr_meter.specs.MeterView.{Charges};
+ghost use Rattle.expr_meter.specs.Rooms.{Holds};
+ghost use Rattle.expr_sizes.specs.Sizes.{depth, weight};
 ghost use Rattle.expr_stack.specs.Cells.{cell_values};
 ghost use Rattle.expr_turns.specs.Turns.{HasTop, IsCounted, IsFlat, CountsMadeBy, CountsMadeTop, SpansFlat};
 ghost use Rattle.expr_value.specs.declared.value.Value.{Value as declared};
 
 use expr_costs::length_of;
-use expr_limits::{Budget, Meter};
 use expr_lowering::{Instruction, Pointer};
+use expr_meter::{Budget, Meter};
 use expr_pattern::Pattern;
 use expr_stack::Stack;
 use expr_value::Value;
@@ -68,7 +68,7 @@ pub(crate) fn count_made(
     budget.count_made(top.get())
 }
 
-/// Counts the top, which is an array of scalars. Its length gives its weight.
+/// Counts the top, which is an array of scalars: its length tells what it holds.
 #[inline(never)]
 fn count_range(stack: &Stack<'_>, kept: &[Value], budget: &mut Budget) -> Result<(), AllocError>
     requires top { 0 < length stack.now }
@@ -80,11 +80,7 @@ fn count_range(stack: &Stack<'_>, kept: &[Value], budget: &mut Budget) -> Result
     budget.count_made_array(length_of(top.get()))
 }
 
-/// Counts an array of scalars that is kept. Its length gives its weight.
-///
-/// # Errors
-///
-/// Returns `AllocError` if a limit is passed. The budget then holds the limit.
+/// Keeps an array of scalars beside others: its length tells what it weighs.
 #[inline(always)]
 pub fn keep_flat(value: &Value, budget: &mut Budget) -> Result<(), AllocError>
     requires { IsFlat (value.now ∷ []) }
@@ -94,7 +90,7 @@ pub fn keep_flat(value: &Value, budget: &mut Budget) -> Result<(), AllocError>
     budget.keep_array(length_of(value))
 }
 
-/// Counts the top, if the stack owns it. A borrowed part doesn't count.
+/// Counts the top, if it is the stack's own and no part that another lends.
 #[inline(always)]
 fn count_copied(stack: &Stack<'_>, budget: &mut Budget) -> Result<(), AllocError>
     requires { 0 < length stack.now }

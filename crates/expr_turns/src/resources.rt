@@ -1,29 +1,25 @@
-//! The state of a run within limits.
+//! What a run within limits carries along.
 ghost use Rattle.std.specs.Prelude.{◌∷◌, [], if◌then◌else◌};
 ghost use Rattle.expr_costs.specs.Retention.{is_last, retained_by};
-ghost use Rattle.expr_limits.specs.Counting.{KeepsAll};
-ghost use Rattle.expr_limits.specs.MeterView.{Charges};
-ghost use Rattle.expr_limits.specs.Rooms.{rooms, with_size};
+ghost use Rattle.expr_meter.specs.Counting.{KeepsAll};
+ghost use Rattle.expr_meter.specs.MeterView.{Charges};
+ghost use Rattle.expr_meter.specs.Rooms.{rooms, with_size};
 
-use expr_arguments::CowValue;
 use expr_costs::Retention;
-use expr_limits::{Budget, Meter};
+use expr_cow::CowValue;
+use expr_meter::{Budget, Meter};
 use expr_pattern::Matchers;
 use expr_value::Value;
 use std::alloc::AllocError;
 
-/// The state of a run within limits: what was compiled for patterns, and what is left of its limits.
+/// What a run carries along: what was made for patterns, and what is left of its limits.
 #[derive(Drop)]
 pub struct RunResources<'c> {
     pub matchers: Matchers<'c>,
     pub budget: Budget,
 }
 
-/// Stops counting what was made for a result. Counts what a built-in keeps of the result and of its item.
-///
-/// # Errors
-///
-/// Returns `AllocError` if a limit is passed. The budget then holds the limit.
+/// Lets go of what was made for an answer, and counts what a built-in keeps of it and of its item.
 #[inline(always)]
 pub fn keep_reply(
     budget: &mut Budget,
@@ -51,7 +47,7 @@ pub fn keep_reply(
     }
 }
 
-/// Stops counting what was made since a mark. Counts a value if this holds, since it is kept.
+/// Lets go of what was held since a mark was taken, and counts a value that is kept if this holds.
 #[inline(always)]
 fn keep_if(budget: &mut Budget, mark: u64, holds: bool, value: &Value) -> Result<(), AllocError>
     ensures { Charges result (λ now r. KeepsAll rooms
@@ -65,7 +61,7 @@ fn keep_if(budget: &mut Budget, mark: u64, holds: bool, value: &Value) -> Result
     budget.keep(value)
 }
 
-/// Stops counting what was made since a mark. Counts an item and its result, which are kept.
+/// Lets go of what was held since a mark was taken, and counts an item and its answer, which are kept.
 #[inline(never)]
 fn keep_both(budget: &mut Budget, mark: u64, item: &Value, answer: &Value) -> Result<(), AllocError>
     ensures { Charges result (λ now r. KeepsAll rooms

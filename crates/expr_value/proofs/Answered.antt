@@ -5,7 +5,7 @@ use Rattle.expr_value.specs.Answers.{Then, Returns, ThenIfOk, ReturnsExactly}
 use Rattle.expr_error.specs.ErrorKind.{ErrorKind, error_kind, memory}
 use Rattle.expr_error.specs.declared.error.Error.{Error}
 
--- an error that a `?` passes on
+-- a refusal that a `?` passes on
 pub Returns-passed : {A : Type 0} (r : Result A Error) (e : Error) (R : Result A ErrorKind → Type 0)
     → IsErrAnd r (λ x. x ≡ e) → (error_kind e ≢ memory → R (Err (error_kind e))) → Returns r R
 Returns-passed (Ok v) e R is p = absurd is
@@ -16,7 +16,7 @@ pub Returns-under : {A : Type 0} (r : Result A Error) (P Q : Result A ErrorKind 
 Returns-under (Ok v) P Q f p = f (Ok v) p
 Returns-under (Err e) P Q f p = λ m. f (Err (error_kind e)) (p m)
 
--- a result that is allowed, if only that result is possible
+-- a result that is an answer, where that answer is allowed
 pub Returns-of-ReturnsExactly : {A : Type 0} (r : Result A Error) (a : Result A ErrorKind) (R : Result A ErrorKind → Type 0) → ReturnsExactly r a → R a → Returns r R
 Returns-of-ReturnsExactly (Ok v) a R is p = subst R is p
 Returns-of-ReturnsExactly (Err e) a R is p = λ m. subst R (is m) p
@@ -27,7 +27,7 @@ pub first_of-Then : {A B : Type 0} (first : Result A ErrorKind → Type 0) (next
 first_of-Then first next v (Ok w, p, q) = (w, p, q)
 first_of-Then first next v (Err k, p, q) = cc
 
--- each step keeps what it allows, if its parts do
+-- each step keeps what it allows, where its own parts do
 ThenIfOk-keeps : {A B : Type 0} (next next' : A → Result B ErrorKind → Type 0) → ((v : A) (r : Result B ErrorKind) → next v r → next' v r)
     → (x : Result A ErrorKind) (r : Result B ErrorKind) → ThenIfOk x next r → ThenIfOk x next' r
 ThenIfOk-keeps next next' n (Ok v) r p = n v r p
@@ -38,7 +38,7 @@ pub Then-keeps : {A B : Type 0} (first first' : Result A ErrorKind → Type 0) (
     → (r : Result B ErrorKind) → Then first next r → Then first' next' r
 Then-keeps first first' next next' f n r p = (p.0, f p.0 p.1, ThenIfOk-keeps next next' n p.0 r p.2)
 
--- if only the first step allows more results
+-- where the first step alone may answer more
 pub first-keeps : {A B : Type 0} (first first' : Result A ErrorKind → Type 0) (next : A → Result B ErrorKind → Type 0)
     → ((x : Result A ErrorKind) → first x → first' x) → (r : Result B ErrorKind) → Then first next r → Then first' next r
 first-keeps first first' next f r p = Then-keeps first first' next next f (λ v s q. q) r p

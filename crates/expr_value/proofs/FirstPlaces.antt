@@ -1,4 +1,4 @@
--- Putting pairs one after another: each key is at its first position, with its last value.
+-- What comes of putting pairs one after another: each key at its first place, with its last value.
 use Rattle.std.proofs.Common.{◌≡◌, Bool, true, false, cond, ◌&&◌, ◌||◌, List, [], ◌∷◌, ◌++◌, fold, reverse, Option, Some, None, refl, sym, ap, ◌∙◌, append-nil, append_assoc, if◌then◌else◌}
 use Rattle.std.specs.Prelude.{not}
 use Rattle.std.specs.Cmp.{IsEquivalence}
@@ -86,7 +86,7 @@ module _ {K : Type 0} (eq : K → K → Bool) (o : IsEquivalence eq) where
       by true b = refl
       by false b = refl
 
-  -- the first positions of the keys that differ from one
+  -- the first places of the keys that differ from one
   abbrev others : K → List K → List K
   others k ks = filter (λ l. not (eq k l)) (first_places eq ks)
 

@@ -1,4 +1,4 @@
--- Sorting makes a sorted list of the same items.
+-- What is put in order is in order, and the same.
 use Rattle.std.proofs.Common.{◌≡◌, ℕ, zero, suc, ◌+◌, ◌<◌, Bool, true, false, List, [], ◌∷◌, ◌++◌, length, fold, refl, sym, ap, ◌∙◌, subst, append-nil, add-one, arith, if◌then◌else◌}
 use Rattle.std.specs.Prelude.{slice_index_or}
 use Rattle.std.specs.Cmp.{IsTotalOrder}

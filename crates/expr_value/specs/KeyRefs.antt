@@ -1,4 +1,4 @@
--- The keys that borrowed keys are equal to.
+-- The keys for which sought ones stand.
 use Rattle.std.specs.Prelude.{◌≡◌, IsTrue}
 use Rattle.std.proofs.Common.{◌∙◌, refl}
 use Rattle.expr_value.specs.declared.key.Key.{Key}
@@ -21,7 +21,7 @@ key_of_ref (sought.Weekday number) = key.Weekday number
 key_of_ref (sought.DateTime moment) = key.DateTime moment.now
 key_of_ref (sought.Timezone zone) = key.Timezone zone.now
 
--- a borrowed key has the hash of its key
+-- a sought key is hashed as the key for which it stands
 hash_inputs_agree : (q : KeyRef) → sought_hash.ghosts.hash_input q ≡ key_hash.ghosts.hash_input (key_of_ref q)
 hash_inputs_agree sought.Nil = refl
 hash_inputs_agree (sought.Bool truth) = refl
@@ -33,6 +33,6 @@ hash_inputs_agree (sought.Weekday number) = refl
 hash_inputs_agree (sought.DateTime moment) = refl
 hash_inputs_agree (sought.Timezone zone) = refl
 
--- and of each key that equals it
+-- and as each key that is equal to it
 pub hashes_agree : (q : KeyRef) (k : Key) → IsTrue (key_eq (key_of_ref q) k) → sought_hash.ghosts.hash_input q ≡ key_hash.ghosts.hash_input k
 hashes_agree q k h = hash_inputs_agree q ∙ key_hash_laws.respects_eq-law (key_of_ref q) k h

@@ -1,8 +1,8 @@
-//! English names of months and weekdays.
+//! The names of months and of days of the week.
 ghost use Rattle.std.specs.Prelude.{◌≡◌};
 ghost use Rattle.expr_value.specs.Strings.{month_name, weekday_name};
 
-/// Name of a month, where 1 is January and 12 is December. Empty for any other number.
+/// The name of a month, from 1 for January on; no other number has one.
 pub fn month_name(number: u32) -> &'static str
     ensures { result.now ≡ month_name number }
 {
@@ -23,7 +23,7 @@ pub fn month_name(number: u32) -> &'static str
     }
 }
 
-/// Name of a weekday, where 0 is Sunday and 6 is Saturday. Empty for any other number.
+/// The name of a day of the week, from 0 for Sunday on; no other number has one.
 pub fn weekday_name(number: u32) -> &'static str
     ensures { result.now ≡ weekday_name number }
 {

@@ -1,4 +1,4 @@
-//! `Debug`, which prints the same as `Display`.
+//! Debug texts, which are the printed texts.
 use crate::display::{show_bytes, show_items, show_keyed, show_map};
 use crate::items::Items;
 use crate::key::Key;

@@ -1,4 +1,4 @@
-//! Borrowed keys, for look-ups.
+//! Keys as they are sought, which own nothing.
 ghost use Rattle.std.specs.Prelude.{◌≡◌, option_map};
 ghost use Rattle.expr_value.specs.KeyRefs.{key_of_ref};
 ghost use Rattle.expr_value.specs.Values.{key_of};
@@ -9,8 +9,8 @@ use expr_datetime::{DateTimeValue, TimezoneValue};
 use expr_error::Text;
 use indexmap::Equivalent;
 
-/// A key that borrows its string, so that a look-up allocates nothing. The variants are those of [`Key`], in the same
-/// order, so that both have the same hash.
+/// A key as it is sought, with its text lent, so that seeking takes no memory. The kinds are those of [`Key`], in its
+/// order, so that both are hashed alike.
 #[derive(Clone, Copy, PartialEq, Eq, Hash)]
 pub enum KeyRef<'a> {
     Nil,
@@ -25,7 +25,7 @@ pub enum KeyRef<'a> {
 }
 
 impl<'a> KeyRef<'a> {
-    /// The key that equals a scalar, or `None` for an array, bytes or a map.
+    /// The key that a scalar is. An array, bytes and maps are none.
     pub fn from_value(value: &'a Value) -> Option<KeyRef<'a>>
         ensures { option_map key_of_ref result ≡ key_of value.now }
     {

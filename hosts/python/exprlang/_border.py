@@ -2,7 +2,6 @@
 
 from __future__ import annotations
 
-# begin: numbers, by hosts/border.py --write
 _OK, _SYNTAX, _ASKS, _LIMITS = 0, 1, 8, 10
 _STATUS = [
     "ok",
@@ -15,29 +14,11 @@ _STATUS = [
     "misuse",
     "asks",
     "differs",
-    "nesting",
-    "patterns",
-    "steps",
-    "depth",
-    "size",
 ]
+_STATUS += ["height", "patterns", "steps", "depth", "size"]
 # fmt: off
 (_NIL, _BOOL, _INTEGER, _STRING, _BYTES, _DURATION, _DATETIME, _TIMEZONE, _MONTH, _WEEKDAY,
  _ARRAY, _MAP, _KEYED_MAP) = range(13)
 # fmt: on
-_WORDS = [
-    "nil",
-    "bool",
-    "integer",
-    "string",
-    "bytes",
-    "duration",
-    "datetime",
-    "timezone",
-    "month",
-    "weekday",
-    "array",
-    "map",
-    "map",
-]
-# end: numbers
+_WORDS = ["nil", "bool", "integer", "string", "bytes", "duration", "datetime", "timezone"]
+_WORDS += ["month", "weekday", "array", "map", "map"]

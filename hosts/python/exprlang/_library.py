@@ -27,7 +27,7 @@ class _Place(ctypes.Structure):
 class _Limits(ctypes.Structure):
     _fields_ = [
         ("struct_size", ctypes.c_size_t),
-        *[(name, ctypes.c_int64) for name in ("nesting", "patterns", "steps", "depth", "size")],
+        *[(name, ctypes.c_int64) for name in ("height", "patterns", "steps", "depth", "size")],
     ]
 
 

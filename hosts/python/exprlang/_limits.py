@@ -22,7 +22,7 @@ class Limits:
     exprlang.LimitError: ...
     """
 
-    nesting: int = 100
+    height: int = 100
     """How high the tree of an expression may be: the most trees one inside another."""
     patterns: int = 100_000
     """What the literal patterns of an expression may weigh together."""
@@ -87,5 +87,5 @@ def numbers_of(limits: AnyLimits) -> Numbers:
     limits = checked_limits(limits)
     if isinstance(limits, Unlimited):
         return None
-    bounds = limits.nesting, limits.patterns, limits.steps, limits.depth, limits.size
+    bounds = limits.height, limits.patterns, limits.steps, limits.depth, limits.size
     return (*bounds, limits.calls)

@@ -3,10 +3,8 @@
 #include <string.h>
 
 /* As expr_status, from 0; those of limits are the names of limits. */
-/* begin: statuses, by hosts/border.py --write */
 static const char *const STATUS[] = {"ok", "syntax", "literal", "evaluation", "pattern", "memory", "unknown", "misuse", "asks",
-                                     "differs", "nesting", "patterns", "steps", "depth", "size"};
-/* end: statuses */
+                                     "differs", "height", "patterns", "steps", "depth", "size"};
 
 static const char *status_word(expr_status status) {
     return (size_t)status < sizeof STATUS / sizeof *STATUS ? STATUS[status] : "unknown";
@@ -74,7 +72,7 @@ static engine *engine_opened(pool *pool) {
     made->at = at;
     made->number = ++pool->last_number;
     made->place = place;
-    made->within.limits = EXPR_LIMITS_UNTRUSTED;
+    made->within.limits = EXPR_LIMITS_FOR_STRANGERS;
     pool->table[place] = made;
     return made;
 }

@@ -227,16 +227,16 @@ METHOD(program_uses_env) {
 
 /* Reads limits: a tuple of six numbers, the last of which bounds calls, or None. */
 static int limits_read(program *it, PyObject *limits) {
-    long long nesting, patterns, steps, depth, size, calls;
-    it->within.limits = EXPR_LIMITS_UNTRUSTED;
+    long long height, patterns, steps, depth, size, calls;
+    it->within.limits = EXPR_LIMITS_FOR_STRANGERS;
     it->within.is_unlimited = limits == Py_None;
     if (it->within.is_unlimited) {
-        nesting = patterns = steps = depth = size = INT64_MAX;
+        height = patterns = steps = depth = size = INT64_MAX;
         calls = -1;
-    } else if (!PyArg_ParseTuple(limits, "LLLLLL", &nesting, &patterns, &steps, &depth, &size, &calls)) {
+    } else if (!PyArg_ParseTuple(limits, "LLLLLL", &height, &patterns, &steps, &depth, &size, &calls)) {
         return -1;
     }
-    it->within.limits.nesting = nesting;
+    it->within.limits.height = height;
     it->within.limits.patterns = patterns;
     it->within.limits.steps = steps;
     it->within.limits.depth = depth;

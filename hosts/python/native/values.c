@@ -5,10 +5,8 @@
 /* How many levels a value may have that is handed in, as _exchange.py has it too. */
 #define DEEPEST 1000
 
-/* begin: kinds, by hosts/border.py --write */
 static const char *const KINDS[] = {"nil", "bool", "integer", "string", "bytes", "duration", "datetime", "timezone", "month",
                                     "weekday", "array", "map", "map"};
-/* end: kinds */
 
 const char *kind_word(expr_kind kind) { return (size_t)kind < sizeof KINDS / sizeof *KINDS ? KINDS[kind] : "value"; }
 

@@ -91,13 +91,13 @@ class Calls(unittest.TestCase):
         self.assertEqual((stopped.exception.kind, stopped.exception.limit), ("limit", limit))
         self.assertNotEqual(str(stopped.exception), "")
 
-    def test_untrusted_expressions(self):
+    def test_texts_of_strangers(self):
         for text, limit in [
             ("len(1..100000000)", "steps"),
             ("len(repeat(repeat('a', 1000000), 1000000))", "steps"),
             ("len(reduce(1..10000, [#acc], 0))", "steps"),
             ("all(1..300000, {all(1..300000, {true})})", "steps"),
-            ("(" * 200 + "1" + ")" * 200, "nesting"),
+            ("(" * 200 + "1" + ")" * 200, "height"),
             (r"'a' matches '\\w{20}' or " * 400 + "true", "patterns"),
         ]:
             self.stops(limit, text)
@@ -117,11 +117,11 @@ class Calls(unittest.TestCase):
                 limited.run({"x": 0})
             self.assertIs(usual.run({"x": 0}), True)
         for limits, text, limit in [
-            (lambda number: exprlang.Limits(nesting=number), "((1))", "nesting"),
+            (lambda number: exprlang.Limits(height=number), "((1))", "height"),
             (lambda number: exprlang.Limits(patterns=number), "'a' matches 'b'", "patterns"),
             (lambda number: exprlang.Limits(depth=number), "[[1]]", "depth"),
         ]:
-            least = {"nesting": 3, "patterns": 12, "depth": 2}[limit]
+            least = {"height": 3, "patterns": 12, "depth": 2}[limit]
             self.stops(limit, text, limits=limits(least - 1))
             exprlang.evaluate(text, limits=limits(least))
         self.assertEqual(exprlang.evaluate("len(1..2000000)", limits=exprlang.UNLIMITED), 2000000)

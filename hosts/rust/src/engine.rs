@@ -5,7 +5,6 @@ use crate::map::Map;
 use crate::moment::DateTimeValue;
 use crate::pool::Token;
 use crate::raw::{kind, Ask, Asked, Handle, Raw, Told, ASKS, DIFFERS, LIMITS, MISUSE};
-use crate::raw::{EVALUATION, LITERAL, MEMORY, PATTERN, SYNTAX};
 use crate::value::Value;
 use std::collections::HashMap;
 use std::hash::{BuildHasherDefault, Hasher};
@@ -58,7 +57,7 @@ pub struct Filled {
 
 impl Engine {
     pub fn open(number: u64) -> Engine {
-        let limits = Some(numbers(&Limits::untrusted()));
+        let limits = Some(numbers(&Limits::for_strangers()));
         Engine { raw: Raw::open(), number, copies: HashMap::default(), temporary: None, limits }
     }
 
@@ -171,7 +170,7 @@ impl Engine {
             if self.limits.map(|has| has[place]) != Some(number) {
                 self.ask(Ask::Limit, Asked { kind, number, ..Asked::default() })?;
                 // Where the engine had no limits, it has those for untrusted strings now, with this one changed.
-                self.limits.get_or_insert(numbers(&Limits::untrusted()))[place] = number;
+                self.limits.get_or_insert(numbers(&Limits::for_strangers()))[place] = number;
             }
         }
         Ok(())
@@ -211,11 +210,11 @@ impl Engine {
     fn error(&mut self, status: u32, told: &Told) -> Error {
         let message = self.text(told, Ask::Said);
         match status {
-            SYNTAX => Error::PestError(Place { byte: told.place, line: told.line, column: told.column, shown: message }),
-            LITERAL => Error::ParseError(message),
-            EVALUATION => Error::ExprError(message),
-            PATTERN => Error::RegexError(message),
-            MEMORY => Error::MemoryError,
+            1 => Error::PestError(Place { byte: told.place, line: told.line, column: told.column, shown: message }),
+            2 => Error::ParseError(message),
+            3 => Error::ExprError(message),
+            4 => Error::RegexError(message),
+            5 => Error::MemoryError,
             MISUSE => Error::MisuseError(message),
             DIFFERS => Error::ExprError("a run came to another call than the one that was replied to".into()),
             status => match limit_of(status) {
@@ -354,13 +353,13 @@ type Numbers = [i64; 5];
 
 fn numbers(limits: &Limits) -> Numbers {
     let whole = |number: u64| i64::try_from(number).unwrap_or(i64::MAX);
-    let (nesting, depth) = (limits.nesting as u64, limits.depth as u64);
-    [whole(nesting), whole(limits.patterns), whole(limits.steps), whole(depth), whole(limits.size)]
+    let (height, depth) = (limits.height as u64, limits.depth as u64);
+    [whole(height), whole(limits.patterns), whole(limits.steps), whole(depth), whole(limits.size)]
 }
 
 /// The limit that a status tells of.
 fn limit_of(status: u32) -> Option<Limit> {
-    const ALL: [Limit; 5] = [Limit::Nesting, Limit::Patterns, Limit::Steps, Limit::Depth, Limit::Size];
+    const ALL: [Limit; 5] = [Limit::Height, Limit::Patterns, Limit::Steps, Limit::Depth, Limit::Size];
     ALL.get(status.checked_sub(LIMITS)? as usize).copied()
 }
 

@@ -19,7 +19,7 @@
 //!
 //! # Limits
 //!
-//! [`compile`] and [`eval`] take the limits for untrusted strings, [`Limits::untrusted`]. [`compile_limited`] and
+//! [`compile`] and [`eval`] take the limits for untrusted strings, [`Limits::for_strangers`]. [`compile_limited`] and
 //! [`eval_limited`] take others. [`compile_unlimited`] and [`eval_unlimited`] take none. A program that would pass a limit
 //! ends with [`Error::LimitError`].
 //!

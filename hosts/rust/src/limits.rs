@@ -4,7 +4,7 @@ use std::fmt;
 /// What a program may take, when it is compiled and each time that it runs. A program keeps the limits within which it was
 /// compiled, whoever runs it and on whatever thread.
 ///
-/// The default is [`Limits::untrusted`]. `docs/LIMITS.md` in the repository says what counts. Limits may get more
+/// The default is [`Limits::for_strangers`]. `docs/LIMITS.md` in the repository says what counts. Limits may get more
 /// fields. So begin with the default, and change what you need:
 ///
 /// ```
@@ -17,7 +17,7 @@ use std::fmt;
 #[non_exhaustive]
 pub struct Limits {
     /// How high the tree of a string may be: the greatest number of trees one inside another.
-    pub nesting: usize,
+    pub height: usize,
     /// What the literal patterns of a string may weigh together.
     pub patterns: u64,
     /// How many steps a run may take. An instruction is one, and so is an item that is looked at and 16 bytes of a string.
@@ -32,17 +32,17 @@ pub struct Limits {
 }
 
 impl Limits {
-    /// Limits for an untrusted string: a nesting of 100, patterns of 100,000, 1,000,000 steps, a depth of 1,000, a size of
+    /// Limits for an untrusted string: a height of 100, patterns of 100,000, 1,000,000 steps, a depth of 1,000, a size of
     /// 1,000,000, and 100 calls of your functions.
     #[must_use]
-    pub const fn untrusted() -> Limits {
-        Limits { nesting: 100, patterns: 100_000, steps: 1_000_000, depth: 1_000, size: 1_000_000, calls: 100 }
+    pub const fn for_strangers() -> Limits {
+        Limits { height: 100, patterns: 100_000, steps: 1_000_000, depth: 1_000, size: 1_000_000, calls: 100 }
     }
 
-    /// These limits with another nesting.
+    /// These limits with another height.
     #[must_use]
-    pub const fn with_nesting(mut self, nesting: usize) -> Limits {
-        self.nesting = nesting;
+    pub const fn with_height(mut self, height: usize) -> Limits {
+        self.height = height;
         self
     }
 
@@ -85,7 +85,7 @@ impl Limits {
 /// Those for untrusted strings.
 impl Default for Limits {
     fn default() -> Limits {
-        Limits::untrusted()
+        Limits::for_strangers()
     }
 }
 
@@ -94,7 +94,7 @@ impl Default for Limits {
 #[non_exhaustive]
 pub enum Limit {
     /// The tree of a string is higher.
-    Nesting,
+    Height,
     /// The literal patterns of a string weigh more.
     Patterns,
     /// A run takes more steps.
@@ -110,7 +110,7 @@ pub enum Limit {
 impl fmt::Display for Limit {
     fn fmt(&self, f: &mut fmt::Formatter<'_>) -> fmt::Result {
         f.write_str(match self {
-            Limit::Nesting => "the expression nests deeper than the limit of nesting",
+            Limit::Height => "the expression nests deeper than the limit of height",
             Limit::Patterns => "the patterns of the expression weigh more than the limit of patterns",
             Limit::Steps => "the run takes more steps than the limit of steps",
             Limit::Depth => "the run makes a value that is deeper than the limit of depth",

@@ -57,7 +57,7 @@ pub enum Missing {
 /// # Errors
 ///
 /// [`Error::PestError`] if the string is no expression. [`Error::ParseError`] for an integer of 2^63 or more.
-/// [`Error::LimitError`] at the limits `nesting` and `patterns`. [`Error::MemoryError`] if the engine is out of memory.
+/// [`Error::LimitError`] at the limits `height` and `patterns`. [`Error::MemoryError`] if the engine is out of memory.
 pub fn compile(code: &str) -> Result<Program> {
     compile_limited(code, &Limits::default())
 }
@@ -66,9 +66,9 @@ pub fn compile(code: &str) -> Result<Program> {
 ///
 /// ```
 /// use exprlang::{compile_limited, Error, Limit, Limits};
-/// let low = Limits::default().with_nesting(3);
+/// let low = Limits::default().with_height(3);
 /// assert!(compile_limited("1 + 2 * 3", &low).is_ok());
-/// assert_eq!(compile_limited("((((1))))", &low).err(), Some(Error::LimitError(Limit::Nesting)));
+/// assert_eq!(compile_limited("((((1))))", &low).err(), Some(Error::LimitError(Limit::Height)));
 /// ```
 ///
 /// # Errors

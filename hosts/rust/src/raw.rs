@@ -1,4 +1,4 @@
-//! The three calls of the engine, as `crates/expr_c/src/lib.rt` and `crates/expr_exchange/src/call.rt` have them, and two of the
+//! The three calls of the engine, as `crates/expr_c/src/lib.rt` and `crates/expr_engine/src/call.rt` have them, and two of the
 //! library: one counts tags, one says the version. Where the parts of a call lie is asserted below, and `hosts/border.py`
 //! compares that, and the numbers, with those sources.
 use std::ffi::{c_char, c_void, CStr};
@@ -101,7 +101,6 @@ lies_at! {
 #[repr(u32)]
 #[allow(dead_code)]
 pub enum Ask {
-    // begin: asks, by hosts/border.py --write
     Compile,
     Names,
     Run,
@@ -137,29 +136,19 @@ pub enum Ask {
     UsesEnv,
     Functions,
     FillMissing,
-    // end: asks
 }
 
-// begin: statuses, by hosts/border.py --write
-/// The statuses of errors of the language, as `Status` of host_error.rt.
-pub const SYNTAX: u32 = 1;
-pub const LITERAL: u32 = 2;
-pub const EVALUATION: u32 = 3;
-pub const PATTERN: u32 = 4;
-pub const MEMORY: u32 = 5;
 /// The status of a call that makes no sense. The engine says why.
 pub const MISUSE: u32 = 7;
-/// The status of a run that waits for the host's reply.
+/// The status of a run that waits for the host's reply, as `Status` of host_error.rt.
 pub const ASKS: u32 = 8;
 /// The status of a run that came to another call than the one that was replied to.
 pub const DIFFERS: u32 = 9;
 /// The first of the statuses of limits, one for each in the order of [`Limits`](crate::Limits).
 pub const LIMITS: u32 = 10;
-// end: statuses
 
 /// Kinds of values, as `Kind` of kind.rt.
 pub mod kind {
-    // begin: kinds, by hosts/border.py --write
     pub const NIL: u32 = 0;
     pub const BOOL: u32 = 1;
     pub const INTEGER: u32 = 2;
@@ -174,7 +163,6 @@ pub mod kind {
     pub const MAP: u32 = 11;
     pub const KEYED_MAP: u32 = 12;
     pub const BUILT: u32 = 14;
-    // end: kinds
 }
 
 unsafe extern "C" {

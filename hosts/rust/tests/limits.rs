@@ -12,7 +12,7 @@ fn stops<T>(limit: Limit) -> exprlang::Result<T> {
 }
 
 #[test]
-fn untrusted_expressions_stop() {
+fn texts_of_strangers_stop() {
     let high = format!("{}1{}", "(".repeat(200), ")".repeat(200));
     let heavy = format!("{}true", r#""a" matches "\\w{20}" or "#.repeat(400));
     for (code, limit) in [
@@ -20,18 +20,18 @@ fn untrusted_expressions_stop() {
         ("len(repeat(repeat('a', 1000000), 1000000))", Limit::Steps),
         ("len(reduce(1..10000, [#acc], 0))", Limit::Steps),
         ("all(1..300000, {all(1..300000, {true})})", Limit::Steps),
-        (&high, Limit::Nesting),
+        (&high, Limit::Height),
         (&heavy, Limit::Patterns),
     ] {
         assert_eq!(alone(code), stops(limit), "{limit:?}");
         assert_eq!(Environment::new().eval(code, &Context::default()), stops(limit), "{limit:?}");
-        let is_of_text = matches!(limit, Limit::Nesting | Limit::Patterns);
+        let is_of_text = matches!(limit, Limit::Height | Limit::Patterns);
         assert_eq!(compile(code).err(), is_of_text.then_some(Error::LimitError(limit)), "{limit:?}");
         assert!(!limit.to_string().is_empty());
     }
     assert_eq!(alone("1 + 1"), Ok(Value::Integer(2)));
     // With more steps they come to what they take much of.
-    let wide = Limits::untrusted().with_steps(u64::MAX);
+    let wide = Limits::for_strangers().with_steps(u64::MAX);
     for (code, limit) in [
         ("len(1..100000000)", Limit::Size),
         ("len(repeat(repeat('a', 1000000), 1000000))", Limit::Size),
@@ -44,7 +44,7 @@ fn untrusted_expressions_stop() {
 
 #[test]
 fn limits_are_the_programs_own() {
-    assert_eq!(Limits::default(), Limits::untrusted());
+    assert_eq!(Limits::default(), Limits::for_strangers());
     let few = Limits::default().with_steps(1_000);
     let (code, ctx) = ("all(1..1000, {# > x})", Context::from_iter([("x", 0)]));
     let (limited, usual) = (compile_limited(code, &few).unwrap(), compile(code).unwrap());
@@ -70,10 +70,10 @@ fn limits_are_the_programs_own() {
 fn programs_stop_exactly_at_a_limit() {
     let ctx = Context::default();
     let within = |limits: Limits, code: &str| eval_limited(code, &ctx, &limits).map(|_| ());
-    let most = Limits::default().with_nesting(usize::MAX).with_depth(usize::MAX).with_calls(0);
+    let most = Limits::default().with_height(usize::MAX).with_depth(usize::MAX).with_calls(0);
     let wide = most.with_patterns(u64::MAX).with_steps(u64::MAX).with_size(u64::MAX);
-    assert_eq!(within(wide.with_nesting(3), "((1))"), Ok(()));
-    assert_eq!(within(wide.with_nesting(2), "((1))"), stops(Limit::Nesting));
+    assert_eq!(within(wide.with_height(3), "((1))"), Ok(()));
+    assert_eq!(within(wide.with_height(2), "((1))"), stops(Limit::Height));
     assert_eq!(within(wide.with_patterns(12), "'a' matches 'b'"), Ok(()));
     assert_eq!(within(wide.with_patterns(11), "'a' matches 'b'"), stops(Limit::Patterns));
     assert_eq!(within(wide.with_depth(2), "[[1]]"), Ok(()));
@@ -94,8 +94,8 @@ fn there_are_none_by_name() {
     assert_eq!(eval_unlimited("len(1..2000000)", &ctx), Ok(Value::Integer(2_000_000)));
     assert_eq!(Environment::new().eval_unlimited("len(1..2000000)", &ctx), Ok(Value::Integer(2_000_000)));
     assert_eq!(eval("len(1..2000000)", &ctx), stops(Limit::Steps));
-    let low = Limits::default().with_nesting(1);
-    assert_eq!(Environment::new().eval_limited("1 + 1", &ctx, &low), stops(Limit::Nesting));
+    let low = Limits::default().with_height(1);
+    assert_eq!(Environment::new().eval_limited("1 + 1", &ctx, &low), stops(Limit::Height));
 }
 
 fn doubled(call: ExprCall) -> exprlang::Result<Value> {

@@ -19,7 +19,7 @@ fn a_program_says_what_it_reads() {
 fn a_program_is_parsed_and_cloned() {
     let parsed: Program = "x * 2".parse().unwrap();
     assert!(matches!("x *".parse::<Program>(), Err(Error::PestError(_))));
-    let limits = Limits::untrusted();
+    let limits = Limits::for_strangers();
     assert_eq!((parsed.limits(), parsed.missing()), (Some(&limits), Missing::Error));
     let clone = parsed.clone().with_missing(Missing::Nil);
     assert_eq!((clone.text(), clone.missing(), parsed.missing()), ("x * 2", Missing::Nil, Missing::Error));

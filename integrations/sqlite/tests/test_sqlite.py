@@ -2,7 +2,7 @@
 import json, math, os, random, sqlite3, sys, threading, time, unittest
 
 sys.path.insert(0, os.path.join(os.path.dirname(os.path.abspath(__file__)), "../../sql"))
-import database_rows
+import rows
 
 EXTENSION = os.environ["EXPRLANG_SQLITE"]
 LIMIT = getattr(sqlite3, "SQLITE_TOOBIG", 18)
@@ -198,11 +198,11 @@ class Json(Case):
 
 class Rows(Case):
     def test_rows(self) -> None:
-        """The expressions of rows/: the answers of the engine that this language is a port of, and worked examples."""
+        """The rows of crates/expr_bench: the answers of the engine that this language is a port of, and worked examples."""
         query = "SELECT json_array(expr_eval(?, ?))"
         count = 0
-        for row in database_rows.bench():
-            with self.subTest(place=row.place, rule=row.rule):
+        for row in rows.bench():
+            with self.subTest(number=row.number, rule=row.rule):
                 count += 1
                 try:
                     answer = json.loads(self.one(query, row.rule, json.dumps(row.record)))[0]
@@ -220,8 +220,8 @@ class Rows(Case):
     def test_hostile_rows(self) -> None:
         """Each takes a second of the processor at most, and ends with a value or an error of a rule."""
         stopped = 0
-        for row in database_rows.hostile():
-            with self.subTest(place=row.place):
+        for row in rows.hostile():
+            with self.subTest(name=row.name):
                 start = time.process_time()
                 try:
                     self.eval(row.rule, json.dumps(row.record))

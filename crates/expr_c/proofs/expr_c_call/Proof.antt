@@ -1,5 +1,4 @@
--- `expr_c_call` borrows what is at the pointer for the call of `do_call`, gets it back, and passes on its
--- contract. A walk of the code by hand.
+-- `expr_c_call` lends what lies at the pointer for the call of `do_call`, has it back, and hands on what that says. A walk of the code by hand.
 use Rattle.std.proofs.Common.{ℕ, [], ◌∷◌, ◌++◌, refl, ap, MutBor}
 use Rattle.std.proofs.raw_atomic.Walks.{proved}
 use base.Fraction.{full_share}
@@ -34,7 +33,7 @@ use denote.Triple.Walked.{Stays, walk_of, stay_dropped, gave_ref, says, Goes-dro
 use denote.Triple.Table.{framed}
 use Rattle.expr_engine.specs.Promised.{IsServed}
 use Rattle.expr_engine.specs.contracts.engine.Engine.{the_row as E}
-use Rattle.expr_exchange.specs.contracts.call.Call.{the_row as call_row}
+use Rattle.expr_engine.specs.contracts.call.Call.{the_row as call_row}
 use Rattle.expr_c.specs.contracts.expr_c_call as f
 use Rattle.expr_c.proofs.expr_c_call.Statement.{statement}
 use Rattle.expr_c.proofs.expr_c_call.Code as code

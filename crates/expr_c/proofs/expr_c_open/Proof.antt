@@ -1,5 +1,4 @@
--- `expr_c_open` writes the result of `new_engine` into the memory at the pointer, and passes on its contract.
--- A walk of the code by hand.
+-- `expr_c_open` writes what `new_engine` gives into the room at the pointer, and hands on what that says. A walk of the code by hand.
 use Rattle.std.proofs.Common.{List, [], ◌∷◌, ◌++◌, refl}
 use Rattle.std.proofs.raw_atomic.Walks.{proved}
 use base.Fraction.{full_share}

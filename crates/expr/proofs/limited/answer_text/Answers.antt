@@ -1,17 +1,15 @@
 use Rattle.std.proofs.Common.{Ok, ap, subst}
-use Rattle.expr_limits.specs.declared.outcome.Outcome.{Outcome}
+use Rattle.expr_meter.specs.declared.outcome.Outcome.{Outcome}
 use Rattle.expr_meaning.specs.World.{World}
 use Rattle.expr_error.specs.ErrorKind.{error_kind}
 use Rattle.expr_machine.specs.Here.{here}
 use Rattle.expr_tree.specs.TermOf.{program_term}
 use Rattle.expr_tree.specs.declared.node.Program.{Program}
 use Rattle.expr_value.specs.declared.value.Value.{Value}
-use Rattle.expr_syntax.specs.CompiledLimited.{IsCompiledLimited}
-use Rattle.expr.specs.Limited.{EndsText}
-use Rattle.expr_limits.specs.declared.outcome.Outcome.TheVariants.{Stopped}
+use Rattle.expr.specs.Limited.{EndsText, IsCompiledLimited}
+use Rattle.expr_meter.specs.declared.outcome.Outcome.TheVariants.{Stopped}
 use Rattle.expr.proofs.Ending.{memory_ends, passed_ends, run_boundary, run_place, stopped_ends, text_answers, text_ends, text_refused}
-use Rattle.expr_syntax.proofs.Passed.{boundary_kept, place_kept}
-use Rattle.expr_eval.proofs.Faults.{memory_boundary, memory_place}
+use Rattle.expr_eval.proofs.Faults.{boundary_kept, memory_boundary, memory_place, place_kept}
 use Rattle.expr.proofs.limited.answer_text.Goals as goal
 
 pub returns-in_err-compiled : goal.returns-in_err-compiled

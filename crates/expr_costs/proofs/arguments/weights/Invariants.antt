@@ -1,5 +1,5 @@
 use Rattle.std.proofs.Common.{◌≡◌, ◌+◌, take}
-use Rattle.expr_limits.specs.Sizes.{weights}
+use Rattle.expr_sizes.specs.Sizes.{weights}
 use Rattle.expr_costs.proofs.arguments.weights.Given as goal
 
 abbrev pub invariant-loop-argument : goal.invariant-loop-argument

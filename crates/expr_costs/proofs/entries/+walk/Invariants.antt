@@ -1,5 +1,5 @@
 use Rattle.std.proofs.Common.{◌≡◌, ◌+◌, ◌*◌, take}
-use Rattle.expr_limits.specs.Sizes.{weight, weights}
+use Rattle.expr_sizes.specs.Sizes.{weight, weights}
 use Rattle.expr_costs.specs.Measures.{entries_within}
 use Rattle.expr_costs.proofs.entries.+walk.Given as goal
 

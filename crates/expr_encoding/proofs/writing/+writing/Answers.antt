@@ -10,7 +10,7 @@ use Rattle.expr_encoding.specs.Writing.{data_of, members_all, pair_data}
 use Rattle.expr_encoding.proofs.Rising.{left_at}
 use Rattle.expr_encoding.proofs.writing.+writing.Goals as goal
 
--- the pair at an index is the first of those that remain
+-- the pair at an index goes first of those that are left
 module _ (es : List (List ℕ × Value)) (i : ℕ) (name : List ℕ) (v : Value) (done : Members) (at : slice_get es i ≡ Some (name, v)) where
   goes_on : members_all (map pair_data (drop i es)) done ≡ option_and_then (λ d. members_all (map pair_data (drop (i + 1) es)) (put name d done)) (data_of v)
   goes_on = ap (λ ps. members_all (map pair_data ps) done) (left_at es i (name, v) at)

@@ -3,7 +3,7 @@ use Rattle.std.proofs.lemmas.Int.{to_z-of_z}
 use Rattle.std.proofs.lemmas.Result.{IfErr-weaker}
 use mir.Val.{SFits}
 use Rattle.jiff.specs.Instant.{IsTimestampParts}
-use Rattle.expr_exchange.specs.declared.call.Call.{Call}
+use Rattle.expr_engine.specs.declared.call.Call.{Call}
 use Rattle.expr_exchange.specs.Refusals.{NotMeant}
 use Rattle.expr_exchange.specs.declared.host_error.HostError.{HostError}
 use Rattle.expr_exchange.specs.declared.host_error.HostError.TheVariants.{Unknown}

@@ -1,6 +1,6 @@
 use Rattle.std.proofs.Common.{◌≡◌, ◌∙◌, None, arith, sym}
 use Rattle.std.proofs.lemmas.Grind.{common_steps}
-use Rattle.expr_engine.specs.Adding.{is_word_alone}
+use Rattle.expr_engine.specs.Adding.{is_word}
 use Rattle.expr_engine.proofs.Named.{is_nothing, named, unread}
 use Rattle.expr_engine.proofs.additions.is_name.Goals as goal
 
@@ -11,5 +11,5 @@ pub returns-clause-ok : goal.returns-clause-ok
 returns-clause-ok c =
     let reading = c.in_ok-reading.reading in
     let read : reading.fault ≡ None = is_nothing reading.fault (sym c.is_some.ensures ∙ c.if-is_some.false) in
-    let is : c.is_word.result ≡ is_word_alone reading.tokens.items c.args.text.now = grind (arith, common_steps) in
+    let is : c.is_word.result ≡ is_word reading.tokens.items c.args.text.now = grind (arith, common_steps) in
     named c.args.text.now reading.tokens.items reading.starts.items c.is_word.result (c.in_ok-reading.ensures.reads read) (c.in_ok-reading.ensures.unique read) is

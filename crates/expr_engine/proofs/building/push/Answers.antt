@@ -21,7 +21,7 @@ returns-clause-done c = then_so c.push.result c.push.ensures.ok (λ s. record {
   handed = c.in_ok-value.ensures.value;
   stands = s;
   keeps = returns-clause-kept c;
-  rest = c.in_ok-value.ensures.rest;
+  rest = c.in_ok-value.ensures.standing;
 })
 
 pub returns-in_err-value-clause-why : goal.returns-in_err-value-clause-why

@@ -2,7 +2,7 @@ use Rattle.std.proofs.Common.{◌≡◌, ◌⊎◌, ◌∙◌, IsUtf8, inl, inr,
 use Rattle.std.proofs.lemmas.Result.{IfErr-weaker}
 use Rattle.expr_engine.specs.Effects.{Changes}
 use Rattle.expr_engine.specs.Reasons.{HandsNothingIn, IsUnknownOrForMemory}
-use Rattle.expr_exchange.specs.declared.call.Call.{Call}
+use Rattle.expr_engine.specs.declared.call.Call.{Call}
 use Rattle.expr_engine.specs.declared.engine.Engine.{Engine}
 use Rattle.expr_exchange.specs.Kinds.{kind_numbered}
 use Rattle.expr_exchange.specs.declared.host_error.HostError.{HostError}
@@ -42,5 +42,5 @@ returns-clause-done c = then_so c.set.result c.set.ensures.set (λ changes. reco
       (subst (λ old. Changes (λ was is. is ≡ put c.in_ok-name.name.now c.in_ok-value.value was) old c.set.new.self.contexts c.args.call.now.context) c.in_ok-value.ensures.contexts changes);
   rules = c.set.ensures.rules ∙ c.in_ok-value.ensures.rules;
   environments = c.set.ensures.environments ∙ c.in_ok-value.ensures.environments;
-  rest = c.set.ensures.rest ∙ c.in_ok-value.ensures.rest;
+  rest = c.set.ensures.standing ∙ c.in_ok-value.ensures.standing;
 })

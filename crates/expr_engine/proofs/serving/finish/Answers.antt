@@ -1,5 +1,5 @@
 use Rattle.std.proofs.Common.{◌⊎◌, ◌≡◌, ℕ, List, Result, IfErr, string_bytes, subst, sym}
-use Rattle.expr_engine.specs.Faults.{IsAt, text_place, refused_byte}
+use Rattle.expr_engine.specs.Faults.{IsAt, place_of, refused_byte}
 use Rattle.expr_engine.specs.Served.{EndsCall, ShowsText}
 use Rattle.expr_exchange.specs.declared.host_error.HostError.{HostError}
 use Rattle.expr_engine.proofs.Ended.{ends_call, misuse_ends}
@@ -17,8 +17,8 @@ pub returns-in-Err-clause-placed : goal.returns-in-Err-clause-placed
 returns-in-Err-clause-placed c =
     let text = c.args.call.now.text.now in
     let number = c.answer-in-Err.new.call.status in
-    subst (λ (done : Result (Unit {0}) HostError). IfErr done (λ refused. IsAt (refused_byte refused) text (text_place c.answer-in-Err.new.call) ⊎ (number ≡ 5))) (sym c.in-Err.is)
-    (placed_on (refused_byte c.in-Err.refused) text (text_place c.refuse-status.new.call) (text_place c.answer-in-Err.new.call) c.refuse-status.result number
+    subst (λ (done : Result (Unit {0}) HostError). IfErr done (λ refused. IsAt (refused_byte refused) text (place_of c.answer-in-Err.new.call) ⊎ (number ≡ 5))) (sym c.in-Err.is)
+    (placed_on (refused_byte c.in-Err.refused) text (place_of c.refuse-status.new.call) (place_of c.answer-in-Err.new.call) c.refuse-status.result number
     c.refuse-status.ensures.placed c.answer-in-Err.ensures.place c.answer-in-Err.ensures.status)
 
 pub returns-in-Err-clause-said : goal.returns-in-Err-clause-said

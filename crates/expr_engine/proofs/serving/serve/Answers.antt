@@ -1,15 +1,15 @@
 use Rattle.std.proofs.Common.{◌≡◌, ℕ, List, [], Some, MatchOption, ap, refl, string_bytes, subst, sym}
-use Rattle.expr_exchange.specs.Asks.{ask_of, shows_of}
-use Rattle.expr_engine.specs.Effects.{Does, HandleFindsNothing, call_result}
+use Rattle.expr_engine.specs.Asks.{ask_of, shows_of}
+use Rattle.expr_engine.specs.Effects.{Does, IsMissing, call_result}
 use Rattle.expr_engine.specs.Engines.{run_inputs}
-use Rattle.expr_engine.specs.Faults.{text_place}
+use Rattle.expr_engine.specs.Faults.{place_of}
 use Rattle.expr_engine.specs.Limiting.{LimitsBy}
 use Rattle.expr_engine.specs.Promised.{Gives}
 use Rattle.expr_engine.specs.Reasons.{EndsWithReason}
 use Rattle.expr_engine.specs.Served.{AnswersNumber, ShowsText, text_shown}
 use Rattle.expr_engine.specs.Turns.{TurnsBy}
-use Rattle.expr_exchange.specs.declared.call.Ask.{Ask}
-use Rattle.expr_exchange.specs.declared.call.Ask.TheVariants as is
+use Rattle.expr_engine.specs.declared.call.Ask.{Ask}
+use Rattle.expr_engine.specs.declared.call.Ask.TheVariants as is
 use Rattle.expr_exchange.specs.Cursor.{part_of}
 use Rattle.expr_exchange.specs.declared.misuse.Misuse.TheVariants as wrong
 use Rattle.expr_engine.proofs.Acting.{served_nothing}
@@ -38,28 +38,28 @@ returns-in-Some c =
       text = λ is_compile.
           let same_ask : ask ≡ is.Compile = cc (is_compile, same) in
           let (refuses, kept) = subst (λ (x : Ask). Gives x old call c.act-done.new.call result (part_of mid.answer)) same_ask acts.gives in
-          placed_in old.limits call.text.now c.act-done.new.call.text.now result answered.status (text_place answered) refuses kept ends.ended ends.placed;
+          placed_in old.limits call.text.now c.act-done.new.call.text.now result answered.status (place_of answered) refuses kept ends.ended ends.placed;
       run = λ is_run.
           let same_ask : ask ≡ is.Run = cc (is_run, same) in
           let found = run_inputs old call.program call.environment call.context in
-          subst (λ a. MatchOption found (answered.status ≡ 6) (λ q. AnswersNumber q [] answered.status (part_of a))) (sym (ap answer_in ends.rest))
+          subst (λ a. MatchOption found (answered.status ≡ 6) (λ q. AnswersNumber q [] answered.status (part_of a))) (sym (ap answer_in ends.standing))
           (served_by found [] result (part_of mid.answer) answered.status
           (subst (λ (x : Ask). Gives x old call c.act-done.new.call result (part_of mid.answer)) same_ask acts.gives) ends.unknown ends.ended);
       turns =
           asked_for (new.waits ≡ old.waits) (ask_of call.ask) ask (λ ask. TurnsBy ask old call answered.status new.waits (part_of new.answer)) same
-          (record { done = result; ends = ends.ended; turns = turns_on ask old call result mid new acts.turns (ap waits_in ends.rest) (ap answer_in ends.rest) });
+          (record { done = result; ends = ends.ended; turns = turns_on ask old call result mid new acts.turns (ap waits_in ends.standing) (ap answer_in ends.standing) });
       limits =
           asked_for (new.limits ≡ old.limits) (ask_of call.ask) ask (λ ask. LimitsBy ask old.limits call (answered.status ≡ 0) (answered.status ≡ 7) new.limits) same
-          (limits_by ask old.limits call result answered.status mid.limits new.limits ends.ended acts.limits (ap limits_in ends.rest));
-      refused = λ n. leaves_after old mid new (refused_by result answered.status acts.refused ends.ended n) ends.kept (ap answer_in ends.rest);
+          (limits_by ask old.limits call result answered.status mid.limits new.limits ends.ended acts.limits (ap limits_in ends.standing));
+      refused = λ n. leaves_after old mid new (refused_by result answered.status acts.refused ends.ended n) ends.kept (ap answer_in ends.standing);
       why =
           asked_for (answered.status ≡ 7) (ask_of call.ask) ask (λ ask. EndsWithReason ask old call answered.status) same
           (record { done = result; ends = ends.ended; why = acts.why });
       built = λ n. refused_by result answered.status ends.built ends.ended n;
       unknown =
-          asked_for (answered.status ≡ 7) (ask_of call.ask) ask (λ ask. HandleFindsNothing ask old call → answered.status ≡ 6) same
+          asked_for (answered.status ≡ 7) (ask_of call.ask) ask (λ ask. IsMissing ask old call → answered.status ≡ 6) same
           (λ m. ends.unknown (acts.unknown m));
-      known = λ e. asked_for ⊥ (ask_of call.ask) ask (λ ask. HandleFindsNothing ask old call) same (acts.known (ends.known e));
+      known = λ e. asked_for ⊥ (ask_of call.ask) ask (λ ask. IsMissing ask old call) same (acts.known (ends.known e));
       numbers = rise_after old mid new acts.numbers ends.kept;
       shown = λ z.
           asked_for ⊥ (ask_of call.ask) ask (λ ask. ShowsText (text_shown (shows_of ask) new) call.room.now answered) same
@@ -71,4 +71,4 @@ returns-in-Some c =
 pub returns-in-None : goal.returns-in-None
 returns-in-None c =
     let ends = c.finish-in-None.ensures in
-    served_nothing c.args.engine.now c.finish-in-None.new.engine c.args.call.now c.finish-in-None.new.call (sym c.in-None.ensures) (ends.misuse wrong.UnknownAsk refl) ends.kept ends.rest ends.built ends.said
+    served_nothing c.args.engine.now c.finish-in-None.new.engine c.args.call.now c.finish-in-None.new.call (sym c.in-None.ensures) (ends.misuse wrong.UnknownAsk refl) ends.kept ends.standing ends.built ends.said

@@ -6,8 +6,7 @@ use Rattle.expr_meaning.specs.Allows.{AllowsBlock}
 use Rattle.expr_meaning.specs.World.{World}
 use Rattle.expr_tree.specs.TermOf.{program_term}
 use Rattle.expr_value.proofs.Answered.{Returns-passed, Returns-under}
-use Rattle.expr_syntax.specs.Refused.{IsRefused}
-use Rattle.expr_eval.specs.Texts.{MayAnswer, MayAnswerWhereAgreed}
+use Rattle.expr_eval.specs.Texts.{IsRefused, MayAnswer, MayAnswerWhereAgreed}
 use Rattle.expr_eval.proofs.Faults.{boundary_of_run, boundary_passed, place_of_run, place_passed, refused_by_compile}
 use Rattle.expr_eval.proofs.ReadsBack.{back_from_run, back_refused}
 use Rattle.expr_eval.proofs.text.evaluate_text.Goals as goal

@@ -6,7 +6,7 @@ use Rattle.std.specs.Prelude.{false}
 use Rattle.expr_layout.specs.Layouts.{IsLayout}
 use Rattle.expr_layout.proofs.layout.tokens_of.Given as goal
 
--- the tokens of the rest, which is UTF-8, together with those before it are the tokens of the layout
+-- the tokens of what is left, which is text, make with those before them the tokens of the layout
 abbrev pub invariant-loop-token : goal.invariant-loop-token
 invariant-loop-token l =
     record {

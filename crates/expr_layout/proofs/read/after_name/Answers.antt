@@ -1,5 +1,5 @@
 use Rattle.expr_layout.proofs.Findings.{stripped}
-use Rattle.expr_layout.proofs.Prefixes.{prefixed}
+use Rattle.expr_duration.proofs.Steps.{prefixed}
 use Rattle.expr_layout.proofs.read.after_name.Goals as goal
 
 pub returns : goal.returns

@@ -1,8 +1,8 @@
 use Rattle.std.proofs.Common.{◌≡◌, Err, sym, ◌∙◌}
-use Rattle.expr_limits.specs.Counting.{KeepsAll}
-use Rattle.expr_limits.specs.MeterView.{MeterView}
-use Rattle.expr_limits.specs.Rooms.{rooms}
-use Rattle.expr_limits.specs.contracts.budget.BudgetMeter.TheImpl.{ghosts}
+use Rattle.expr_meter.specs.Counting.{KeepsAll}
+use Rattle.expr_meter.specs.MeterView.{MeterView}
+use Rattle.expr_meter.specs.Rooms.{rooms}
+use Rattle.expr_meter.specs.contracts.budget.BudgetMeter.TheImpl.{ghosts}
 use Rattle.expr_limited.specs.Copies.{copied_values}
 use Rattle.expr_limited.proofs.Copying.{keep_on, keep_stops, pass_on, stops_by}
 use Rattle.expr_limited.proofs.copies.keep_places.Goals as goal

@@ -1,14 +1,14 @@
 use Rattle.std.proofs.Common.{◌≡◌, List, [], length, Ok, Err, refl, sym, ap, ◌∙◌, subst}
-use Rattle.expr_code.specs.Instructions.{Op}
+use Rattle.expr_code.specs.Machine.{Op}
 use Rattle.expr_code.specs.Safe.{IsSafe}
 use Rattle.expr_costs.specs.Costs.{costs_in}
-use Rattle.expr_code.proofs.Safety.{code_is_safe}
+use Rattle.expr_instructions.proofs.Safety.{code_is_safe}
 use Rattle.expr_lowering.specs.Blocks.{blocks_of}
 use Rattle.expr_machine.specs.Texts.{text_of}
-use Rattle.expr_meaning.specs.Counts.{CountsRuns}
-use Rattle.expr_limits.specs.MeterView.{MeterView}
-use Rattle.expr_limits.specs.Rooms.{rooms}
-use Rattle.expr_limits.specs.contracts.budget.BudgetMeter.TheImpl.{ghosts}
+use Rattle.expr_meter.specs.Counts.{CountsRuns}
+use Rattle.expr_meter.specs.MeterView.{MeterView}
+use Rattle.expr_meter.specs.Rooms.{rooms}
+use Rattle.expr_meter.specs.contracts.budget.BudgetMeter.TheImpl.{ghosts}
 use Rattle.expr_stack.specs.Cells.{cell_values}
 use Rattle.expr_stack.specs.Memories.{slot_values}
 use Rattle.expr_meaning.specs.World.{World}
@@ -32,8 +32,8 @@ returns-in_err-is_range g c =
     let world : World = here g.H.Functions.host g.P.ContextProvider.context c.args.machine.now in
     let blocks : List (List Op) = blocks_of g.L.Pointer.held (text_of g.N.Pointer.held) c.args.code.now in
     let costs = costs_in world.host in
-    let was : MeterView = ghosts.metered c.args.resources.now.budget in
-    let reached : MeterView = ghosts.metered c.run_up.new.resources.budget in
+    let was : MeterView = ghosts.metered c.args.carried.now.budget in
+    let reached : MeterView = ghosts.metered c.run_up.new.carried.budget in
     let slots : slot_values c.new-memory.result ≡ [] = ap (cell_values c.new-memory.result.kept) c.new-memory.ensures.slots in
     let e = c.in_err-is_range.field-0.0 in
     let fails = subst (λ l. Fails reached.stopped e (CountsRuns rooms costs world blocks 0 l was.room)) slots c.in_err-is_range.ensures.reaches in
@@ -45,8 +45,8 @@ last_span-requires-clause-two g c =
     let world : World = here g.H.Functions.host g.P.ContextProvider.context c.args.machine.now in
     let blocks : List (List Op) = blocks_of g.L.Pointer.held (text_of g.N.Pointer.held) c.args.code.now in
     let costs = costs_in world.host in
-    let was : MeterView = ghosts.metered c.args.resources.now.budget in
-    let reached : MeterView = ghosts.metered c.run_up.new.resources.budget in
+    let was : MeterView = ghosts.metered c.args.carried.now.budget in
+    let reached : MeterView = ghosts.metered c.run_up.new.carried.budget in
     let (two, goes_on, comes) = code_left costs world blocks was.room c.new-memory.result c.new-memory.ensures.slots c.in_ok-is_range.is_range c.run_up.new.memory c.run_up.new.stack reached c.in_ok-is_range.ensures.reaches c.if-is_range.true in
     two
 
@@ -55,8 +55,8 @@ last_span-requires-clause-goes_on g c =
     let world : World = here g.H.Functions.host g.P.ContextProvider.context c.args.machine.now in
     let blocks : List (List Op) = blocks_of g.L.Pointer.held (text_of g.N.Pointer.held) c.args.code.now in
     let costs = costs_in world.host in
-    let was : MeterView = ghosts.metered c.args.resources.now.budget in
-    let reached : MeterView = ghosts.metered c.run_up.new.resources.budget in
+    let was : MeterView = ghosts.metered c.args.carried.now.budget in
+    let reached : MeterView = ghosts.metered c.run_up.new.carried.budget in
     let (two, goes_on, comes) = code_left costs world blocks was.room c.new-memory.result c.new-memory.ensures.slots c.in_ok-is_range.is_range c.run_up.new.memory c.run_up.new.stack reached c.in_ok-is_range.ensures.reaches c.if-is_range.true in
     goes_on
 
@@ -65,8 +65,8 @@ returns-in_err-answer g c =
     let world : World = here g.H.Functions.host g.P.ContextProvider.context c.args.machine.now in
     let blocks : List (List Op) = blocks_of g.L.Pointer.held (text_of g.N.Pointer.held) c.args.code.now in
     let costs = costs_in world.host in
-    let was : MeterView = ghosts.metered c.args.resources.now.budget in
-    let reached : MeterView = ghosts.metered c.run_up.new.resources.budget in
+    let was : MeterView = ghosts.metered c.args.carried.now.budget in
+    let reached : MeterView = ghosts.metered c.run_up.new.carried.budget in
     let (two, goes_on, comes) = code_left costs world blocks was.room c.new-memory.result c.new-memory.ensures.slots c.in_ok-is_range.is_range c.run_up.new.memory c.run_up.new.stack reached c.in_ok-is_range.ensures.reaches c.if-is_range.true in
     let e = c.in_err-answer.field-0.0 in
     let ran : MeterView = ghosts.metered c.last_span.new.budget in
@@ -77,8 +77,8 @@ returns-in_err-keep_flat g c =
     let world : World = here g.H.Functions.host g.P.ContextProvider.context c.args.machine.now in
     let blocks : List (List Op) = blocks_of g.L.Pointer.held (text_of g.N.Pointer.held) c.args.code.now in
     let costs = costs_in world.host in
-    let was : MeterView = ghosts.metered c.args.resources.now.budget in
-    let reached : MeterView = ghosts.metered c.run_up.new.resources.budget in
+    let was : MeterView = ghosts.metered c.args.carried.now.budget in
+    let reached : MeterView = ghosts.metered c.run_up.new.carried.budget in
     let (two, goes_on, comes) = code_left costs world blocks was.room c.new-memory.result c.new-memory.ensures.slots c.in_ok-is_range.is_range c.run_up.new.memory c.run_up.new.stack reached c.in_ok-is_range.ensures.reaches c.if-is_range.true in
     let v = c.in_ok-answer.answer in
     let ran : MeterView = ghosts.metered c.last_span.new.budget in
@@ -95,8 +95,8 @@ returns-then-is_range g c =
     let world : World = here g.H.Functions.host g.P.ContextProvider.context c.args.machine.now in
     let blocks : List (List Op) = blocks_of g.L.Pointer.held (text_of g.N.Pointer.held) c.args.code.now in
     let costs = costs_in world.host in
-    let was : MeterView = ghosts.metered c.args.resources.now.budget in
-    let reached : MeterView = ghosts.metered c.run_up.new.resources.budget in
+    let was : MeterView = ghosts.metered c.args.carried.now.budget in
+    let reached : MeterView = ghosts.metered c.run_up.new.carried.budget in
     let (two, goes_on, comes) = code_left costs world blocks was.room c.new-memory.result c.new-memory.ensures.slots c.in_ok-is_range.is_range c.run_up.new.memory c.run_up.new.stack reached c.in_ok-is_range.ensures.reaches c.if-is_range.true in
     let v = c.in_ok-answer.answer in
     let ran : MeterView = ghosts.metered c.last_span.new.budget in
@@ -106,14 +106,14 @@ returns-then-is_range g c =
     let (same, kept) = c.in_ok-keep_flat.ensures in
     (same ∙ c.release.ensures.stopped ∙ on, code_gives costs world blocks was.room v ran.room gives_it c.mark-mark.ensures released.room c.release.ensures.room last.room kept)
 
--- a value on the stack
+-- a value that stands on the stack
 pub returns-in_err-answer-2 : goal.returns-in_err-answer-2
 returns-in_err-answer-2 g c =
     let world : World = here g.H.Functions.host g.P.ContextProvider.context c.args.machine.now in
     let blocks : List (List Op) = blocks_of g.L.Pointer.held (text_of g.N.Pointer.held) c.args.code.now in
     let costs = costs_in world.host in
-    let was : MeterView = ghosts.metered c.args.resources.now.budget in
-    let reached : MeterView = ghosts.metered c.run_up.new.resources.budget in
+    let was : MeterView = ghosts.metered c.args.carried.now.budget in
+    let reached : MeterView = ghosts.metered c.run_up.new.carried.budget in
     let stands = code_stands costs world blocks was.room c.new-memory.result c.new-memory.ensures.slots c.in_ok-is_range.is_range c.run_up.new.memory c.run_up.new.stack reached c.in_ok-is_range.ensures.reaches c.if-is_range.false in
     let e = c.in_err-answer-2.field-0.0 in
     let comes = value_comes costs world c.run_up.new.memory c.run_up.new.stack reached (FirstBlock costs world blocks was.room) stands c.kept_values.result.now c.kept_values.ensures.places (Err e) c.in_err-answer-2.ensures.value c.in_err-answer-2.ensures.refusal in
@@ -124,8 +124,8 @@ returns-in_err-keep g c =
     let world : World = here g.H.Functions.host g.P.ContextProvider.context c.args.machine.now in
     let blocks : List (List Op) = blocks_of g.L.Pointer.held (text_of g.N.Pointer.held) c.args.code.now in
     let costs = costs_in world.host in
-    let was : MeterView = ghosts.metered c.args.resources.now.budget in
-    let reached : MeterView = ghosts.metered c.run_up.new.resources.budget in
+    let was : MeterView = ghosts.metered c.args.carried.now.budget in
+    let reached : MeterView = ghosts.metered c.run_up.new.carried.budget in
     let stands = code_stands costs world blocks was.room c.new-memory.result c.new-memory.ensures.slots c.in_ok-is_range.is_range c.run_up.new.memory c.run_up.new.stack reached c.in_ok-is_range.ensures.reaches c.if-is_range.false in
     let v = c.in_ok-answer-2.answer in
     let (on, gives_it) = value_comes costs world c.run_up.new.memory c.run_up.new.stack reached (FirstBlock costs world blocks was.room) stands c.kept_values.result.now c.kept_values.ensures.places (Ok v) c.in_ok-answer-2.ensures.value c.in_ok-answer-2.ensures.refusal in
@@ -141,8 +141,8 @@ returns g c =
     let world : World = here g.H.Functions.host g.P.ContextProvider.context c.args.machine.now in
     let blocks : List (List Op) = blocks_of g.L.Pointer.held (text_of g.N.Pointer.held) c.args.code.now in
     let costs = costs_in world.host in
-    let was : MeterView = ghosts.metered c.args.resources.now.budget in
-    let reached : MeterView = ghosts.metered c.run_up.new.resources.budget in
+    let was : MeterView = ghosts.metered c.args.carried.now.budget in
+    let reached : MeterView = ghosts.metered c.run_up.new.carried.budget in
     let stands = code_stands costs world blocks was.room c.new-memory.result c.new-memory.ensures.slots c.in_ok-is_range.is_range c.run_up.new.memory c.run_up.new.stack reached c.in_ok-is_range.ensures.reaches c.if-is_range.false in
     let v = c.in_ok-answer-2.answer in
     let (on, gives_it) = value_comes costs world c.run_up.new.memory c.run_up.new.stack reached (FirstBlock costs world blocks was.room) stands c.kept_values.result.now c.kept_values.ensures.places (Ok v) c.in_ok-answer-2.ensures.value c.in_ok-answer-2.ensures.refusal in

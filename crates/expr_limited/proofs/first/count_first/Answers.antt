@@ -1,6 +1,6 @@
 use Rattle.std.proofs.Common.{true, refl}
-use Rattle.expr_limits.specs.MeterView.{MeterView}
-use Rattle.expr_limits.specs.contracts.budget.BudgetMeter.TheImpl.{ghosts}
+use Rattle.expr_meter.specs.MeterView.{MeterView}
+use Rattle.expr_meter.specs.contracts.budget.BudgetMeter.TheImpl.{ghosts}
 use Rattle.expr_predicates.specs.Calls.{fold_of_call}
 use Rattle.expr_limited.proofs.Keepings.{none_kept, one_kept}
 use Rattle.expr_limited.proofs.first.count_first.Goals as goal

@@ -2,8 +2,8 @@ use Rattle.std.proofs.Common.{◌≡◌, Ok, refl, sym, ◌∙◌, subst}
 use Rattle.expr_costs.specs.Retention.{RetainsAs}
 use Rattle.expr_meaning.specs.Host.{Host}
 use Rattle.expr_predicates.specs.Calls.{fold_of}
-use Rattle.expr_limits.specs.MeterView.{MeterView}
-use Rattle.expr_limits.specs.contracts.budget.BudgetMeter.TheImpl.{ghosts}
+use Rattle.expr_meter.specs.MeterView.{MeterView}
+use Rattle.expr_meter.specs.contracts.budget.BudgetMeter.TheImpl.{ghosts}
 use Rattle.expr_limited.proofs.Beginnings.{started_by}
 use Rattle.expr_limited.proofs.Keepings.{added_first, nothing_first, unnamed_first}
 use Rattle.expr_limited.proofs.first.keep_first.Goals as goal

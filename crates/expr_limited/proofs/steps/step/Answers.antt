@@ -1,11 +1,11 @@
 use Rattle.std.proofs.Common.{◌≡◌, length, Ok, string_bytes, refl, sym, ap, ◌∙◌, subst}
-use Rattle.expr_code.specs.Instructions.{jump, load, look, push, unless_nil}
+use Rattle.expr_code.specs.Machine.{jump, load, look, push, unless_nil}
 use Rattle.expr_costs.specs.Costs.{costs_in}
-use Rattle.expr_code.specs.InMemory.{op_of}
+use Rattle.expr_instructions.specs.InMemory.{op_of}
 use Rattle.expr_machine.specs.Texts.{text_of}
 use Rattle.expr_machine.proofs.Leading.{values_as}
-use Rattle.expr_limits.specs.MeterView.{MeterView}
-use Rattle.expr_limits.specs.contracts.budget.BudgetMeter.TheImpl.{ghosts}
+use Rattle.expr_meter.specs.MeterView.{MeterView}
+use Rattle.expr_meter.specs.contracts.budget.BudgetMeter.TheImpl.{ghosts}
 use Rattle.expr_meaning.specs.World.{World}
 use Rattle.expr_machine.specs.Here.{here}
 use Rattle.expr_turns.specs.Turns.{Turns}
@@ -38,7 +38,7 @@ returns-in-Push g c =
     let old = c.args.stack.now in
     let new = c.push_lent.new.self in
     let now = c.args.memory.now in
-    pushed_turn world now old (ghosts.metered c.args.resources.now.budget) (f x) (push v) (ap f c.in-Push.is) tt c.requires.goes_on c.push_lent.result c.after_push.result c.after_push.ensures new (
+    pushed_turn world now old (ghosts.metered c.args.carried.now.budget) (f x) (push v) (ap f c.in-Push.is) tt c.requires.goes_on c.push_lent.result c.after_push.result c.after_push.ensures new (
     push_leads world now old new v c.get.result.now c.get.ensures c.push_lent.result c.push_lent.ensures.pushed
     )
 
@@ -51,7 +51,7 @@ returns-in-PushMade g c =
     let old = c.args.stack.now in
     let new = c.push_lent-in-PushMade.new.self in
     let now = c.args.memory.now in
-    pushed_turn world now old (ghosts.metered c.args.resources.now.budget) (f x) (push v) (ap f c.in-PushMade.is) tt c.requires.goes_on c.push_lent-in-PushMade.result c.after_push-in-PushMade.result c.after_push-in-PushMade.ensures new (
+    pushed_turn world now old (ghosts.metered c.args.carried.now.budget) (f x) (push v) (ap f c.in-PushMade.is) tt c.requires.goes_on c.push_lent-in-PushMade.result c.after_push-in-PushMade.result c.after_push-in-PushMade.ensures new (
     push_leads world now old new v c.get-in-PushMade.result.now c.get-in-PushMade.ensures c.push_lent-in-PushMade.result c.push_lent-in-PushMade.ensures.pushed
     )
 
@@ -63,7 +63,7 @@ returns-in-Load g c =
     let old = c.args.stack.now in
     let new = c.push_operand.new.self in
     let now = c.args.memory.now in
-    pushed_turn world now old (ghosts.metered c.args.resources.now.budget) (f x) (load c.in-Load.slot) (ap f c.in-Load.is) tt c.requires.goes_on c.push_operand.result c.after_push-in-Load.result c.after_push-in-Load.ensures new (
+    pushed_turn world now old (ghosts.metered c.args.carried.now.budget) (f x) (load c.in-Load.slot) (ap f c.in-Load.is) tt c.requires.goes_on c.push_operand.result c.after_push-in-Load.result c.after_push-in-Load.ensures new (
     load_leads world now old new c.in-Load.slot _ c.load.ensures.loaded c.load.ensures.within c.push_operand.result c.push_operand.ensures.pushed
     )
 
@@ -76,7 +76,7 @@ returns-in-Name g c =
     let old = c.args.stack.now in
     let new = c.push_name.new.stack in
     let now = c.args.memory.now in
-    let was : MeterView = ghosts.metered c.args.resources.now.budget in
+    let was : MeterView = ghosts.metered c.args.carried.now.budget in
     let is : MeterView = ghosts.metered c.push_name.new.budget in
     let key : c.deref.result.now ≡ T c.in-Name.name = c.deref.ensures ∙ ap string_bytes c.get-in-Name.ensures in
     subst (λ o. Turns world (costs_in world.host) o now old was c.push_name.result new is) (sym (ap f c.in-Name.is)) (
@@ -90,7 +90,7 @@ returns-in-Jump g c =
     let x = c.args.instruction.now in
     let n = c.in-Jump.passed in
     let old = c.args.stack.now in
-    idle_turn world c.args.memory.now old (ghosts.metered c.args.resources.now.budget) (f x) (jump n) (ap f c.in-Jump.is) tt n old (refl, λ p. p)
+    idle_turn world c.args.memory.now old (ghosts.metered c.args.carried.now.budget) (f x) (jump n) (ap f c.in-Jump.is) tt n old (refl, λ p. p)
 
 pub returns-in-UnlessNil : goal.returns-in-UnlessNil
 returns-in-UnlessNil g c =
@@ -101,7 +101,7 @@ returns-in-UnlessNil g c =
     let old = c.args.stack.now in
     let new = c.take_nil-is_nil.new.self in
     let now = c.args.memory.now in
-    let was : MeterView = ghosts.metered c.args.resources.now.budget in
+    let was : MeterView = ghosts.metered c.args.carried.now.budget in
     let some = values_as (f x) (unless_nil n) (ap f c.in-UnlessNil.is) (length old) c.requires.values in
     subst (λ k. Turns world (costs_in world.host) (f x) now old was (Ok k) new was) (sym c.passed_unless.ensures) (
     idle_turn world now old was (f x) (unless_nil n) (ap f c.in-UnlessNil.is) tt _ new (

@@ -1,5 +1,5 @@
 use Rattle.std.proofs.Common.{string_bytes}
-use Rattle.expr_code.specs.InMemory.{op_of}
+use Rattle.expr_instructions.specs.InMemory.{op_of}
 use Rattle.expr_lowering.specs.Owned.{own_text, own_value}
 use Rattle.expr_lowering.proofs.AtPoint.{made_next}
 use Rattle.expr_lowering.proofs.kept.kept_block.Goals as goal

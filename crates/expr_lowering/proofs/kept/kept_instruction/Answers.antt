@@ -1,7 +1,7 @@
 use Rattle.std.proofs.Common.{map, string_bytes, sym, ap, ◌∙◌}
-use Rattle.expr_code.specs.Instructions.{push, look, look_with, act, asks, operate_with, gather, pick_at, invoke, calls}
-use Rattle.expr_code.specs.InMemory.{op_of}
-use Rattle.expr_functions.specs.declared.operator.Operator.TheVariants.{Matches}
+use Rattle.expr_code.specs.Machine.{push, look, look_with, act, asks, operate_with, gather, pick_at, invoke, calls}
+use Rattle.expr_instructions.specs.InMemory.{op_of}
+use Rattle.expr_tree.specs.declared.operator.Operator.TheVariants.{Matches}
 use Rattle.expr_lowering.proofs.kept.kept_instruction.Goals as goal
 
 pub returns-in-Load : goal.returns-in-Load

@@ -1,5 +1,5 @@
 use Rattle.std.proofs.Common.{◌≤◌, drop, reverse, map, length}
-use Rattle.expr_code.specs.Shapes.{shape_of}
+use Rattle.expr_instructions.specs.Shapes.{shape_of}
 use Rattle.expr_lowering.proofs.Needing.{StartsOf}
 use Rattle.expr_lowering.proofs.safety.are_safe.Given as goal
 

@@ -1,7 +1,7 @@
 use Rattle.std.proofs.Common.{refl, sym, ap, vec_len, arith}
 use Rattle.std.proofs.lemmas.List.{length-map}
-use Rattle.expr_code.specs.InMemory.{op_of}
-use Rattle.expr_code.specs.Shapes.{no_text, no_value}
+use Rattle.expr_instructions.specs.InMemory.{op_of}
+use Rattle.expr_instructions.specs.Shapes.{no_text, no_value}
 use Rattle.expr_lowering.proofs.Needing.{needed_of, needed_put, needed_read, needed_taken, needed_bounded, needed_asks, needed_store, needed_jump_if_false, needed_branch}
 use Rattle.expr_lowering.proofs.safety.need_before.Goals as goal
 

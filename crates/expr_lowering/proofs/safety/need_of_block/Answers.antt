@@ -1,7 +1,7 @@
 use Rattle.std.proofs.Common.{arith, reverse, subst, ◌∙◌}
 use Rattle.std.proofs.lemmas.List.{take_all}
-use Rattle.expr_code.specs.InMemory.{op_of}
-use Rattle.expr_code.specs.Shapes.{no_text, no_value}
+use Rattle.expr_instructions.specs.InMemory.{op_of}
+use Rattle.expr_instructions.specs.Shapes.{no_text, no_value}
 use Rattle.expr_lowering.specs.Needs.{Admits}
 use Rattle.expr_lowering.proofs.Needing.{NeedsBefore, needs_begun, needs_next, needs_all}
 use Rattle.expr_lowering.proofs.safety.need_of_block.Goals as goal

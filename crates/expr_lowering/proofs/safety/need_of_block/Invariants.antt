@@ -1,5 +1,5 @@
 use Rattle.std.proofs.Common.{ℕ, take, reverse}
-use Rattle.expr_code.specs.Shapes.{shape_of}
+use Rattle.expr_instructions.specs.Shapes.{shape_of}
 use Rattle.expr_lowering.specs.Needs.{Admits}
 use Rattle.expr_lowering.proofs.Needing.{NeedsOf}
 use Rattle.expr_lowering.proofs.safety.need_of_block.Given as goal

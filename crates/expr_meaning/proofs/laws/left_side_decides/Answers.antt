@@ -6,7 +6,7 @@ use Rattle.expr_value.specs.Answers.{Answer, Then}
 use Rattle.expr_meaning.proofs.laws.left_side_decides.Goals as goal
 use Rattle.expr_meaning.specs.World.{world_of}
 
--- after a literal the next step continues with its value
+-- after a literal the next step goes on with its value
 module _ (v : Value) (next : Value → Answer → Type 0) (a : Answer) where
   from_literal : Then (λ b. b ≡ Ok v) next a → next v a
   from_literal (Ok w, e, h) = let same : w ≡ v = cc e in subst (λ u. next u a) same h

@@ -8,8 +8,7 @@ use Rattle.expr_tree.specs.Term.{Term, Block, call, no_terms, predicate, term}
 use Rattle.expr_predicates.proofs.Opposite.{none_opposite}
 use Rattle.expr_predicates.specs.Calls.{AllowsHigherOrder, array_then, fold_of_call, fold_of_array}
 use Rattle.expr_predicates.specs.Runs.{FoldMayReturn}
-use Rattle.expr_context.specs.Told.{PredicateArgsView}
-use Rattle.expr_predicates.specs.Folds.{Fold, any_holds, none_holds}
+use Rattle.expr_predicates.specs.Folds.{PredicateArgsView, Fold, any_holds, none_holds}
 use Rattle.expr_functions.specs.Functions.{builtin_named}
 use Rattle.expr_functions.specs.declared.functions.HigherOrderCall.{HigherOrderCall}
 use Rattle.expr_functions.specs.declared.functions.HigherOrderCall.TheVariants.{Any, NoneOf}

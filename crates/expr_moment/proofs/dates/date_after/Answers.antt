@@ -13,7 +13,7 @@ weaker : {X : Type 0} (o : Option X) {A B : Type 0} {P Q : X → Type 0} → (A 
 weaker None f g h = f h
 weaker (Some x) f g h = g x h
 
--- a number that is passed on
+-- a number that is handed on
 same_128 : (z : ℤ) → SFits w128 z → to_z w128 (of_z w128 z) ≡ z
 same_128 z h = to_z-of_z w128 z h
 

@@ -1,5 +1,5 @@
 use Rattle.std.proofs.Common.{inl, subst}
-use Rattle.expr_context.specs.Contexts.{context_of}
+use Rattle.expr.specs.Contexts.{context_of}
 use Rattle.expr_meaning.specs.Allows.{AllowsBlock}
 use Rattle.expr_tree.specs.TermOf.{program_term}
 use Rattle.expr_value.proofs.Answered.{Returns-under}

@@ -1,7 +1,7 @@
 use Rattle.std.proofs.Common.{◌≡◌, ◌+◌, [], ◌∷◌, map, drop, string_bytes, Ok, Err, ap, subst, sym, refl, ◌∙◌}
 use Rattle.std.proofs.lemmas.List.{drop_more}
 use Rattle.expr_serve.specs.Served.{MayAnswerUnder, MayBind}
-use Rattle.expr_serve.specs.Words.{bound_name, code_of}
+use Rattle.expr_serve.specs.Words.{name_of, code_of}
 use Rattle.expr_value.proofs.Answered.{Returns-passed}
 use Rattle.expr_error.specs.ErrorKind.{error_kind}
 use Rattle.expr_value.specs.Names.{put}
@@ -32,8 +32,8 @@ loop-word-preserved c =
     let at : drop i words ≡ word ∷ drop (i + 1) words = drop_more words i word c.loop-word-test.true ∙ ap (λ w. w ∷ drop (i + 1) words) (sym c.word-item.is) in
     let given_to = c.in_ok-bind.ensures.bound in
     let value = given_to.0 in
-    let pairs : c.bind.new.context ≡ put (bound_name (string_bytes word)) value c.loop-word.context =
-    given_to.2 ∙ ap (λ n. put (bound_name n) value c.loop-word.context) c.as_str.ensures.value in
+    let pairs : c.bind.new.context ≡ put (name_of (string_bytes word)) value c.loop-word.context =
+    given_to.2 ∙ ap (λ n. put (name_of n) value c.loop-word.context) c.as_str.ensures.value in
     λ given p. c.loop-word.invariant given (
     subst (λ ws. MayBind (map string_bytes ws) c.loop-word.context given) (sym at) (
       Ok value,

@@ -1,5 +1,5 @@
 use Rattle.std.proofs.Common.{subst, sym}
-use Rattle.expr_limits.specs.Outcomes.{ReturnsOutcome}
+use Rattle.expr_limited.specs.Outcomes.{ReturnsOutcome}
 use Rattle.expr_lowering.specs.Blocks.{blocks_of}
 use Rattle.expr_machine.specs.Texts.{text_of}
 use Rattle.expr_meaning.specs.Refusals.{NeverRefusesWith}

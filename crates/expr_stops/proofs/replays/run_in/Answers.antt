@@ -1,4 +1,4 @@
-use Rattle.expr_context.specs.Context.{ContextView}
+use Rattle.expr_steps.specs.Context.{ContextView}
 use Rattle.expr_meaning.specs.World.{world_of}
 use Rattle.expr_stops.specs.Stops.{AllowedWhereAgreed}
 use Rattle.expr_stops.proofs.Replied.{refused_so}

@@ -1,7 +1,7 @@
 use Rattle.std.proofs.Common.{sym, subst}
-use Rattle.expr_tokens.proofs.Lexing.{one_reading}
-use Rattle.expr_tokens.specs.Grammar.{Spells}
-use Rattle.expr_tokens.proofs.Complete.{one_tree}
+use Rattle.expr_token.proofs.Lexing.{one_reading}
+use Rattle.expr_grammar.specs.Grammar.{Spells}
+use Rattle.expr_grammar.proofs.Complete.{one_tree}
 use Rattle.expr_syntax.proofs.laws.one_tree_of_text.Goals as goal
 
 pub returns : goal.returns

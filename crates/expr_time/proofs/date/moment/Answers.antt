@@ -4,7 +4,7 @@ use Rattle.std.specs.Int.{w32}
 use mir.Val.{SFits, of_z, to_z}
 use Rattle.std.proofs.lemmas.Int.{to_z-of_z}
 use Rattle.expr_datetime.specs.declared.moment.MomentZone.TheVariants.{Named}
-use Rattle.expr_time.specs.Civil.{answer_in, place_of_offset, place_read}
+use Rattle.expr_time.specs.Civil.{answer_in, place_at, place_read}
 use Rattle.expr_time.proofs.Given.{gives_more}
 use Rattle.expr_time.proofs.date.moment.Goals as goal
 
@@ -16,8 +16,8 @@ returns-in-Some-offset c =
     let seconds = c.in-Some-offset.seconds in
     let fits : SFits w32 seconds = search rules in
     let offset : Some seconds ≡ f.offset = cc in
-    let same : answer_in (place_of_offset (to_z w32 (of_z w32 seconds))) civil ≡ answer_in (place_read f.offset zone) civil =
-    ap (λ (s : ℤ). answer_in (place_of_offset s) civil) (to_z-of_z w32 seconds fits) ∙ ap (λ (o : Option ℤ). answer_in (place_read o zone) civil) offset in
+    let same : answer_in (place_at (to_z w32 (of_z w32 seconds))) civil ≡ answer_in (place_read f.offset zone) civil =
+    ap (λ (s : ℤ). answer_in (place_at s) civil) (to_z-of_z w32 seconds fits) ∙ ap (λ (o : Option ℤ). answer_in (place_read o zone) civil) offset in
     gives_more c.at_offset.result (λ a e. inl (civil, c.in-Some.ensures, sym same ∙ e)) c.at_offset.ensures
 
 pub returns-in-None : goal.returns-in-None

@@ -1,7 +1,7 @@
 use Rattle.std.proofs.Common.{◌++◌, [], map, sym, ap, ◌∙◌}
 use Rattle.expr_tree.specs.Children.{children, pairs_children, term_list, predicate_children}
 use Rattle.expr_tree.specs.LentChildren.{program_children}
-use Rattle.expr_tree.specs.Term.{term_pairs}
+use Rattle.expr_tree.specs.Term.{pairs_of}
 use Rattle.expr_tree.specs.TermOf.{term_of, line_term, predicate_term, terms_of}
 use Rattle.expr_tree.proofs.NodeChildren.{items-same, term_list-terms_of, pairs-same}
 use Rattle.expr_tree.proofs.Gathered.{both}
@@ -15,7 +15,7 @@ returns-in-Array-clause-children c =
 
 pub returns-in-Map-clause-children : goal.returns-in-Map-clause-children
 returns-in-Map-clause-children c =
-    pairs-same c.deref-in-Map.result.now ∙ ap (λ ps. pairs_children (term_pairs (map line_term ps))) c.deref-in-Map.ensures.value
+    pairs-same c.deref-in-Map.result.now ∙ ap (λ ps. pairs_children (pairs_of (map line_term ps))) c.deref-in-Map.ensures.value
     ∙ sym (ap (λ n. children (term_of n)) c.in-Map.is ∙ ap children (term_of-Map c.in-Map.pairs))
 
 pub returns-in-None-clause-children : goal.returns-in-None-clause-children

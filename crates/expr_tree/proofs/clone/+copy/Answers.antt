@@ -1,7 +1,7 @@
 use Rattle.std.proofs.Common.{◌≡◌, ℕ, ◌+◌, ◌<◌, List, [], ◌∷◌, ◌++◌, map, take, length, get_or, Global, String, refl, sym, ap, ◌∙◌}
 use Rattle.std.proofs.lemmas.List.Elements.{All-nil, All-push, All-same}
 use Rattle.std.proofs.lemmas.List.{take_more, map-append}
-use Rattle.expr_tree.specs.Term.{name, list, range, call, unary, operation, postfix, choice, block_with, mapping, term_pairs, index, slice, ternary, method}
+use Rattle.expr_tree.specs.Term.{name, list, range, call, unary, operation, postfix, choice, block_with, mapping, pairs_of, index, slice, ternary, method}
 use Rattle.expr_tree.specs.KeptPatterns.{KeptPattern, NodeKeepsNone}
 use Rattle.expr_tree.specs.declared.node.CompiledRegex.TheVariants as compiled
 use Rattle.expr_tree.specs.declared.node.Node.{Node}
@@ -17,7 +17,7 @@ copied_next f xs ys next i x y within at before pushed same =
     ap (map f) pushed ∙ map-append f ys (y ∷ []) ∙ (λ j. before j ++ same j ∷ [])
     ∙ sym (ap (map f) (take_more xs i x within ∙ ap (λ z. take i xs ++ z ∷ []) (sym at)) ∙ map-append f (take i xs) (x ∷ []))
 
--- no operation keeps a pattern
+-- that no pattern is kept beside an operation
 abbrev none_kept : KeptPattern → Type 0
 none_kept b = b.kept ≡ compiled.None
 
@@ -42,7 +42,7 @@ copy_program-returns-clause-tree t c =
 
 pub copy-returns-in_ok-copy_lines-in-Map-clause-tree : goal.copy-returns-in_ok-copy_lines-in-Map-clause-tree
 copy-returns-in_ok-copy_lines-in-Map-clause-tree t c =
-    term_of-Map _ ∙ ap (λ ps. mapping (term_pairs ps)) c.in_ok-copy_lines-in-Map.ensures.tree ∙ sym (ap term_of c.in-Map.is ∙ term_of-Map c.in-Map.pairs)
+    term_of-Map _ ∙ ap (λ ps. mapping (pairs_of ps)) c.in_ok-copy_lines-in-Map.ensures.tree ∙ sym (ap term_of c.in-Map.is ∙ term_of-Map c.in-Map.pairs)
 
 pub copy-returns-in_ok-clone-in-Ident-clause-tree : goal.copy-returns-in_ok-clone-in-Ident-clause-tree
 copy-returns-in_ok-clone-in-Ident-clause-tree t c = term_of-Ident _ ∙ ap name c.in_ok-clone-in-Ident.ensures.cases ∙ sym (ap term_of c.in-Ident.is ∙ term_of-Ident c.in-Ident.name)

@@ -1,19 +1,19 @@
 use Rattle.std.proofs.Common.{◌+◌, ◌/◌, length, string_bytes, refl, ap, ◌∙◌, subst}
-use Rattle.expr_code.specs.Instructions.{Op, act, look_with, operate, operate_with, pick}
-use Rattle.expr_costs.specs.Measures.{entry_count, lookup_work}
+use Rattle.expr_code.specs.Machine.{Op, act, look_with, operate, operate_with, pick}
+use Rattle.expr_costs.specs.Measures.{entries_of, lookup_work}
 use Rattle.expr_costs.specs.Operators.{operator_room, operator_work}
-use Rattle.expr_code.specs.InMemory.{op_of}
+use Rattle.expr_instructions.specs.InMemory.{op_of}
 use Rattle.expr_machine.specs.Texts.{text_of}
 use Rattle.expr_machine.proofs.Leading.{slot_as, values_as}
 use Rattle.expr_meaning.specs.Host.{no_host}
-use Rattle.expr_meaning.specs.Counts.{observed_values}
-use Rattle.expr_limits.specs.MeterView.{Charges, MeterView}
-use Rattle.expr_limits.specs.Rooms.{TakesWork}
-use Rattle.expr_limits.specs.contracts.budget.BudgetMeter.TheImpl.{ghosts}
-use Rattle.expr_limits.specs.Sizes.{byte_units}
+use Rattle.expr_meter.specs.Counts.{observed_values}
+use Rattle.expr_meter.specs.MeterView.{Charges, MeterView}
+use Rattle.expr_meter.specs.Rooms.{TakesWork}
+use Rattle.expr_meter.specs.contracts.budget.BudgetMeter.TheImpl.{ghosts}
+use Rattle.expr_sizes.specs.Sizes.{byte_units}
 use Rattle.expr_stack.specs.Cells.{cell_values}
 use Rattle.expr_stack.specs.Memories.{slot_values}
-use Rattle.expr_functions.specs.declared.operator.Operator.TheVariants.{Matches}
+use Rattle.expr_tree.specs.declared.operator.Operator.TheVariants.{Matches}
 use Rattle.expr_turns.proofs.Light.{is_free, paid_as, paid_look, paid_none, paid_on_two, paid_operator, slot_item}
 use Rattle.expr_turns.proofs.charges.charge_light.Goals as goal
 
@@ -121,7 +121,7 @@ returns-in-NameAt g c =
     let s = slot_item now c.in-NameAt.slot (slot_as (f c.args.instruction.now) there is-here (length now.slots) c.requires.slot) in
     paid_as no_host now old r was is (f c.args.instruction.now) there is-here (
     paid_look no_host now old r was is (T c.in-NameAt.name) c.in-NameAt.slot s.0 s.1 (
-    subst (λ k. Charges r (TakesWork (byte_units (length k) + entry_count s.0 / 32) 0) was is) key (c.charge_look.ensures s.0 s.1)
+    subst (λ k. Charges r (TakesWork (byte_units (length k) + entries_of s.0 / 32) 0) was is) key (c.charge_look.ensures s.0 s.1)
     )
     )
 

@@ -1,8 +1,8 @@
 use Rattle.std.proofs.Common.{◌∙◌}
 use Rattle.expr_costs.specs.Operators.{operator_room, operator_work}
-use Rattle.expr_limits.specs.MeterView.{Charges, MeterView}
-use Rattle.expr_limits.specs.Rooms.{TakesWork}
-use Rattle.expr_limits.specs.contracts.budget.BudgetMeter.TheImpl.{ghosts}
+use Rattle.expr_meter.specs.MeterView.{Charges, MeterView}
+use Rattle.expr_meter.specs.Rooms.{TakesWork}
+use Rattle.expr_meter.specs.contracts.budget.BudgetMeter.TheImpl.{ghosts}
 use Rattle.expr_turns.proofs.Light.{on_one}
 use Rattle.expr_turns.proofs.charges.charge_one.Goals as goal
 

@@ -1,8 +1,8 @@
 use Rattle.std.proofs.Common.{◌∙◌, subst}
 use Rattle.expr_costs.specs.Measures.{lookup_work}
-use Rattle.expr_limits.specs.MeterView.{Charges, MeterView}
-use Rattle.expr_limits.specs.Rooms.{TakesWork}
-use Rattle.expr_limits.specs.contracts.budget.BudgetMeter.TheImpl.{ghosts}
+use Rattle.expr_meter.specs.MeterView.{Charges, MeterView}
+use Rattle.expr_meter.specs.Rooms.{TakesWork}
+use Rattle.expr_meter.specs.contracts.budget.BudgetMeter.TheImpl.{ghosts}
 use Rattle.expr_turns.proofs.Light.{on_two}
 use Rattle.expr_turns.proofs.charges.charge_pick.Goals as goal
 

@@ -1,6 +1,6 @@
 use Rattle.std.proofs.Common.{refl}
-use Rattle.expr_limits.specs.MeterView.{MeterView}
-use Rattle.expr_limits.specs.contracts.budget.BudgetMeter.TheImpl.{ghosts}
+use Rattle.expr_meter.specs.MeterView.{MeterView}
+use Rattle.expr_meter.specs.contracts.budget.BudgetMeter.TheImpl.{ghosts}
 use Rattle.expr_turns.proofs.Plain.{plain_top}
 use Rattle.expr_turns.proofs.made_value.count_made.Goals as goal
 

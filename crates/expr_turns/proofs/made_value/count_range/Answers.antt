@@ -1,7 +1,7 @@
 use Rattle.std.proofs.Common.{◌+◌, ◌∙◌, subst}
-use Rattle.expr_limits.specs.MeterView.{Charges, MeterView}
-use Rattle.expr_limits.specs.Rooms.{Holds}
-use Rattle.expr_limits.specs.contracts.budget.BudgetMeter.TheImpl.{ghosts}
+use Rattle.expr_meter.specs.MeterView.{Charges, MeterView}
+use Rattle.expr_meter.specs.Rooms.{Holds}
+use Rattle.expr_meter.specs.contracts.budget.BudgetMeter.TheImpl.{ghosts}
 use Rattle.expr_turns.proofs.Flat.{flat_counted}
 use Rattle.expr_turns.proofs.made_value.count_range.Goals as goal
 

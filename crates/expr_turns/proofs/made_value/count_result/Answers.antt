@@ -1,11 +1,11 @@
 use Rattle.std.proofs.Common.{Ok, ap, subst}
 use Rattle.expr_costs.specs.Costs.{op_leaves}
-use Rattle.expr_code.specs.InMemory.{op_of}
+use Rattle.expr_instructions.specs.InMemory.{op_of}
 use Rattle.expr_machine.specs.Texts.{text_of}
 use Rattle.expr_meaning.specs.Host.{no_host}
-use Rattle.expr_meaning.specs.Counts.{borrowed, owned, either}
-use Rattle.expr_limits.specs.MeterView.{MeterView}
-use Rattle.expr_limits.specs.contracts.budget.BudgetMeter.TheImpl.{ghosts}
+use Rattle.expr_meter.specs.Counts.{borrowed, owned, either}
+use Rattle.expr_meter.specs.MeterView.{MeterView}
+use Rattle.expr_meter.specs.contracts.budget.BudgetMeter.TheImpl.{ghosts}
 use Rattle.expr_stack.specs.Cells.{cell_values}
 use Rattle.expr_turns.specs.Turns.{SpansFlat}
 use Rattle.expr_turns.proofs.Leaving.{counted_as, either_isnt_lent, has_top, leaves_own, lent_counted, own_isnt_lent}

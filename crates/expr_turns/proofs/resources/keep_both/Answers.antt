@@ -1,6 +1,6 @@
 use Rattle.std.proofs.Common.{◌≡◌, [], ◌∷◌}
-use Rattle.expr_limits.specs.MeterView.{MeterView}
-use Rattle.expr_limits.specs.contracts.budget.BudgetMeter.TheImpl.{ghosts}
+use Rattle.expr_meter.specs.MeterView.{MeterView}
+use Rattle.expr_meter.specs.contracts.budget.BudgetMeter.TheImpl.{ghosts}
 use Rattle.expr_turns.proofs.Kept.{first_kept, kept_err, two_kept}
 use Rattle.expr_turns.proofs.resources.keep_both.Goals as goal
 

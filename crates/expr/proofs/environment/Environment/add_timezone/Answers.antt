@@ -1,7 +1,7 @@
 use Rattle.std.proofs.Common.{string_bytes}
 use Rattle.std.proofs.lemmas.Map.Text.{hash_map_updates_text}
 use Rattle.expr.specs.Hosted.{zone_at}
-use Rattle.expr_moment.proofs.Stored.{stored}
+use Rattle.expr.proofs.Placed.{stored}
 use Rattle.expr.proofs.environment.Environment.add_timezone.Goals as goal
 
 pub returns-clause-added : goal.returns-clause-added

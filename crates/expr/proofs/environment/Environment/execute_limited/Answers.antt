@@ -1,8 +1,8 @@
 use Rattle.std.proofs.Common.{List, string_bytes}
-use Rattle.expr_code.specs.Instructions.{Op}
+use Rattle.expr_code.specs.Machine.{Op}
 use Rattle.expr_lowering.specs.Blocks.{blocks_of}
 use Rattle.expr_meaning.specs.Host.{Host}
-use Rattle.expr_context.specs.Context.{ContextView}
+use Rattle.expr_steps.specs.Context.{ContextView}
 use Rattle.expr_meaning.specs.World.{world_of}
 use Rattle.expr.specs.Hosted.{host_of}
 use Rattle.expr.proofs.Ending.{code_answers}

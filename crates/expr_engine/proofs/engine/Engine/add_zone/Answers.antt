@@ -3,7 +3,7 @@ use Rattle.std.proofs.lemmas.Int.{to_z-of_z}
 use Rattle.std.proofs.lemmas.Grind.{common_steps}
 use Rattle.expr_engine.specs.Adding.{BecomesByRule, BecomesFixed}
 use Rattle.expr_engine.specs.Effects.{Changes}
-use Rattle.expr_exchange.specs.HandleMap.{thing_at}
+use Rattle.expr_handles.specs.HandleMap.{thing_at}
 use Rattle.expr_stops.specs.Stops.{is_named}
 use Rattle.expr_engine.proofs.Unchanged.{additions_by_exchange, changes_by_exchange, on_err}
 use Rattle.expr_engine.proofs.engine.Engine.add_zone.Goals as goal

@@ -1,5 +1,5 @@
 use Rattle.std.proofs.Common.{ℕ, List, refl, subst}
-use Rattle.expr_syntax.specs.LineColumns.{IsLineColumn}
+use Rattle.expr.specs.LineColumns.{IsLineColumn}
 use Rattle.expr_engine.proofs.engine.Engine.note_fault.Goals as goal
 
 pub returns-clause-noted : goal.returns-clause-noted

@@ -7,7 +7,7 @@ use Rattle.expr_exchange.specs.Cursor.{part_of}
 use Rattle.expr_exchange.specs.Refusals.{ReturnsToHost}
 use Rattle.expr_exchange.specs.declared.host_error.HostError.{HostError}
 use Rattle.expr_exchange.specs.declared.host_error.HostError.TheVariants.{Unknown}
-use Rattle.expr_limits.specs.Counting.{stops}
+use Rattle.expr_meter.specs.Counting.{stops}
 use Rattle.expr_stops.specs.Stops.{replies_of, waiting_call_of}
 use Rattle.expr_stops.specs.declared.replies.CallReply.{CallReply}
 use Rattle.expr_engine.proofs.engine.Engine.run.Goals as goal

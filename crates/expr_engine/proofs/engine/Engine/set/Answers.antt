@@ -3,7 +3,7 @@ use Rattle.std.proofs.lemmas.Grind.{common_steps}
 use Rattle.expr_engine.specs.Reasons.{IsUnknownOrForMemory}
 use Rattle.expr_exchange.specs.declared.host_error.HostError.{HostError}
 use Rattle.expr_exchange.proofs.Refused.{passed_so}
-use Rattle.expr_exchange.specs.HandleMap.{thing_at}
+use Rattle.expr_handles.specs.HandleMap.{thing_at}
 use Rattle.expr_value.specs.Names.{put}
 use Rattle.expr_engine.proofs.Unchanged.{changes_by_exchange}
 use Rattle.expr_engine.proofs.engine.Engine.set.Goals as goal

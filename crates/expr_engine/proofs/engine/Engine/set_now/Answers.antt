@@ -1,7 +1,7 @@
 use Rattle.std.proofs.Common.{◌≡◌, true, arith, is_some}
 use Rattle.std.proofs.lemmas.Grind.{common_steps}
 use Rattle.expr_engine.specs.Adding.{BecomesNow}
-use Rattle.expr_exchange.specs.HandleMap.{thing_at}
+use Rattle.expr_handles.specs.HandleMap.{thing_at}
 use Rattle.expr_engine.proofs.Unchanged.{changes_by_exchange}
 use Rattle.expr_engine.proofs.engine.Engine.set_now.Goals as goal
 

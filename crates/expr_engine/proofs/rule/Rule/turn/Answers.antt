@@ -1,9 +1,9 @@
 use Rattle.std.proofs.Common.{List, ap, subst, sym}
 use Rattle.std.specs.Option.{option_copied}
-use Rattle.expr_code.specs.Instructions.{Op}
-use Rattle.expr_lowering.specs.OwnedCodes.{owned_blocks}
-use Rattle.expr_context.specs.Contexts.{context_of}
-use Rattle.expr_engine.specs.Runs.{host_by, host_with_replies, named_by, names_or_none}
+use Rattle.expr_code.specs.Machine.{Op}
+use Rattle.expr.specs.KeptCodes.{kept_blocks}
+use Rattle.expr.specs.Contexts.{context_of}
+use Rattle.expr_engine.specs.Runs.{host_by, host_with_replies, named_by, pairs_of}
 use Rattle.expr_engine.proofs.Given.{hosted_in, stops_in, turned_within, unhosted_in}
 use Rattle.expr_stops.proofs.Replied.{turned}
 use Rattle.expr_stops.specs.Stops.{CodeComes, EndsTurn, StopsWell, waiting_call_of, replies_of}
@@ -14,15 +14,15 @@ use Rattle.expr_engine.proofs.rule.Rule.turn.Goals as goal
 
 pub returns-in-Some-clause-ends : goal.returns-in-Some-clause-ends
 returns-in-Some-clause-ends c =
-    let ctx : ContextView = context_of (names_or_none (option_copied c.args.names.names)) in
-    let code : List (List Op) = owned_blocks c.args.self.now.code in
+    let ctx : ContextView = context_of (pairs_of (option_copied c.args.names.names)) in
+    let code : List (List Op) = kept_blocks c.args.self.now.code in
     hosted_in (λ h. EndsTurn c.execute.result (CodeComes c.args.limits (world_of h ctx) code)) (option_copied c.args.host.added) c.in-Some.added.now c.names.result.now (replies_of c.args.stops.now)
     (ap option_copied c.in-Some.is) c.names.ensures c.execute.ensures.ends
 
 pub returns-in-Some-clause-ended : goal.returns-in-Some-clause-ended
 returns-in-Some-clause-ended c =
-    let ctx : ContextView = context_of (names_or_none (option_copied c.args.names.names)) in
-    let code : List (List Op) = owned_blocks c.args.self.now.code in
+    let ctx : ContextView = context_of (pairs_of (option_copied c.args.names.names)) in
+    let code : List (List Op) = kept_blocks c.args.self.now.code in
     let host = host_with_replies (option_copied c.args.host.added) (replies_of c.args.stops.now) in
     let ends : EndsTurn c.execute.result (CodeComes c.args.limits (world_of host ctx) code) = returns-in-Some-clause-ends c in
     turned_within c.args.limits c.execute.result (world_of host ctx) (program_term c.args.self.now.program) code c.args.self.now.lowered ends
@@ -33,16 +33,16 @@ returns-in-Some-clause-stops c = λ none.
 
 pub returns-in-None-clause-ends : goal.returns-in-None-clause-ends
 returns-in-None-clause-ends c =
-    let ctx : ContextView = context_of (names_or_none (option_copied c.args.names.names)) in
-    let code : List (List Op) = owned_blocks c.args.self.now.code in
+    let ctx : ContextView = context_of (pairs_of (option_copied c.args.names.names)) in
+    let code : List (List Op) = kept_blocks c.args.self.now.code in
     let o = option_copied c.args.host.added in
     unhosted_in (λ h. EndsTurn c.of.result (CodeComes c.args.limits (world_of h ctx) code)) o (replies_of c.args.stops.now) (ap option_copied c.in-None.is)
     (turned c.run.result c.of.result (CodeComes c.args.limits (world_of (host_by o) ctx) code) c.run.ensures.ends c.of.ensures.went)
 
 pub returns-in-None-clause-ended : goal.returns-in-None-clause-ended
 returns-in-None-clause-ended c =
-    let ctx : ContextView = context_of (names_or_none (option_copied c.args.names.names)) in
-    let code : List (List Op) = owned_blocks c.args.self.now.code in
+    let ctx : ContextView = context_of (pairs_of (option_copied c.args.names.names)) in
+    let code : List (List Op) = kept_blocks c.args.self.now.code in
     let host = host_with_replies (option_copied c.args.host.added) (replies_of c.args.stops.now) in
     let ends : EndsTurn c.of.result (CodeComes c.args.limits (world_of host ctx) code) = returns-in-None-clause-ends c in
     turned_within c.args.limits c.of.result (world_of host ctx) (program_term c.args.self.now.program) code c.args.self.now.lowered ends

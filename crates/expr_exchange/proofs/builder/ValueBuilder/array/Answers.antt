@@ -5,7 +5,7 @@ use Rattle.expr_exchange.specs.declared.host_error.HostError.{HostError}
 use Rattle.expr_exchange.specs.declared.host_error.HostError.TheVariants.{Language, Unknown, Misuse, Asks, Differs, Stopped}
 use Rattle.expr_exchange.proofs.builder.ValueBuilder.array.Goals as goal
 
--- what fails only for lack of memory may have a meaning
+-- what is refused for want of memory alone may stand for something
 for_memory : {A : Type 0} (Means : Type 0) (r : Result A HostError) → IfErr r IsForMemory → IfErr r (NotMeant Means)
 for_memory Means (Ok v) m = tt
 for_memory Means (Err (Language error)) m = m

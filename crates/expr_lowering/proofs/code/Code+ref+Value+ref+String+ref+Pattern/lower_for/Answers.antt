@@ -1,5 +1,5 @@
 use Rattle.expr_code.proofs.Shaped.{safe_code}
-use Rattle.expr_code.proofs.Safety.{shape_is_safe}
+use Rattle.expr_instructions.proofs.Safety.{shape_is_safe}
 use Rattle.expr_tree.specs.TermOf.{program_term}
 use Rattle.expr_lowering.specs.Lent.{lent_text, lent_value}
 use Rattle.expr_lowering.specs.States.{lent_blocks}

@@ -1,8 +1,8 @@
 use Rattle.std.proofs.Common.{◌∷◌, map, string_bytes, sym, ap, ◌∙◌, subst, arith}
 use Rattle.std.proofs.lemmas.List.{take_all}
 use Rattle.expr_code.specs.Safe.{IsSafeCode}
-use Rattle.expr_code.specs.InMemory.{op_of, ops_of}
-use Rattle.expr_code.proofs.Safety.{code_is_safe, shape_is_safe}
+use Rattle.expr_instructions.specs.InMemory.{op_of, ops_of}
+use Rattle.expr_instructions.proofs.Safety.{code_is_safe, shape_is_safe}
 use Rattle.expr_lowering.specs.Owned.{own_text, own_value}
 use Rattle.expr_lowering.proofs.Keeping.{same-reversed}
 use Rattle.expr_lowering.proofs.AtPoint.{made_next}

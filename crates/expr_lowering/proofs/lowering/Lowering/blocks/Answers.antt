@@ -2,7 +2,7 @@ use Rattle.std.proofs.Common.{◌≡◌, ◌≤◌, [], ◌∷◌, length, map, 
 use Rattle.std.proofs.lemmas.List.{length-map}
 use Rattle.expr_tree.specs.TermOf.{program_term}
 use Rattle.expr_lowering.specs.Leading.{Progress}
-use Rattle.expr_lowering.specs.Lent.{slot_entries, entry_of, pending_block_of}
+use Rattle.expr_lowering.specs.Lent.{entries_of, entry_of, pending_block_of}
 use Rattle.expr_lowering.specs.States.{lent_blocks, lent_ops, state_of}
 use Rattle.expr_lowering.proofs.Finishing.{no_items, ops_in, promise_at, next_progress, next_lighter}
 use Rattle.expr_lowering.proofs.Patterns.{no_blocks, one_more_block, promised_keeps}
@@ -32,7 +32,7 @@ enter-requires c =
     let n = length c.loop-self.later.items in
     let at = promise_at c.loop-self.self.promised.items c.len-in-loop-self-3.result n c.index-promised.result.now (omega (arith, c.len-in-loop-self-3.ensures, c.loop-self.later.ok.0)) (omega (arith, c.loop-self.self.promised.ok.0)) c.index-promised.ensures in
     let w = next_waits b s n (lent_blocks c.in_ok-first.first c.loop-self.later) c.loop-self.invariant.progress (pending_block_of c.index-promised.result.now) at in
-    omega (arith, scope_within (slot_entries c.loop-self.self.scopes.names.items) c.index-promised.result.now.scope w.q.0 w.scoped, length-map c.loop-self.self.scopes.names.items entry_of, c.loop-self.self.scopes.names.ok.0)
+    omega (arith, scope_within (entries_of c.loop-self.self.scopes.names.items) c.index-promised.result.now.scope w.q.0 w.scoped, length-map c.loop-self.self.scopes.names.items entry_of, c.loop-self.self.scopes.names.ok.0)
 
 pub loop-self-preserved : goal.loop-self-preserved
 loop-self-preserved c =
@@ -42,7 +42,7 @@ loop-self-preserved c =
     let at = promise_at c.loop-self.self.promised.items c.len-in-loop-self-3.result n c.index-promised.result.now (omega (arith, c.len-in-loop-self-3.ensures, c.loop-self.later.ok.0)) (omega (arith, c.loop-self.self.promised.ok.0)) c.index-promised.ensures in
     record {
       progress = next_progress b s (lent_ops c.in_ok-first.first.items) c.loop-self.later.items _ c.in_ok-block.block (pending_block_of c.index-promised.result.now) _ _ c.len-in-loop-self-4.result (omega (arith, c.len-in-loop-self-4.ensures, c.loop-self.later.ok.0)) c.loop-self.invariant.progress at (
-          λ i. record (state_of c.loop-self.self) { entries = slot_entries (c.enter.ensures.names i).items; scope = c.enter.ensures.scope i }
+          λ i. record (state_of c.loop-self.self) { entries = entries_of (c.enter.ensures.names i).items; scope = c.enter.ensures.scope i }
           ) c.in_ok-block.ensures.block c.in_ok-push.ensures.items;
       works = c.in_ok-block.ensures.done;
       kept = λ p.
@@ -58,7 +58,7 @@ loop-self-smaller c =
     let n = length c.loop-self.later.items in
     let at = promise_at c.loop-self.self.promised.items c.len-in-loop-self-3.result n c.index-promised.result.now (omega (arith, c.len-in-loop-self-3.ensures, c.loop-self.later.ok.0)) (omega (arith, c.loop-self.self.promised.ok.0)) c.index-promised.ensures in
     next_lighter b s (lent_ops c.in_ok-first.first.items) c.loop-self.later.items _ c.in_ok-block.block (pending_block_of c.index-promised.result.now) _ _ c.len-in-loop-self-4.result (omega (arith, c.len-in-loop-self-4.ensures, c.loop-self.later.ok.0)) c.loop-self.invariant.progress at (
-    λ i. record (state_of c.loop-self.self) { entries = slot_entries (c.enter.ensures.names i).items; scope = c.enter.ensures.scope i }
+    λ i. record (state_of c.loop-self.self) { entries = entries_of (c.enter.ensures.names i).items; scope = c.enter.ensures.scope i }
     ) c.in_ok-block.ensures.block c.in_ok-push.ensures.items
 
 pub returns-clause-code : goal.returns-clause-code

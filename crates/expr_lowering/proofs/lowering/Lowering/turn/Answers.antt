@@ -1,5 +1,5 @@
 use Rattle.std.proofs.Common.{length, ap, ◌∙◌}
-use Rattle.expr_code.specs.Instructions.{jump, jump_if_false}
+use Rattle.expr_code.specs.Machine.{jump, jump_if_false}
 use Rattle.expr_tree.specs.TermOf.{term_of}
 use Rattle.expr_lowering.specs.Leading.{with_op, with_task}
 use Rattle.expr_lowering.specs.States.{state_of}

@@ -1,8 +1,8 @@
 use Rattle.std.proofs.Common.{◌≡◌, ℕ, sym, ap, ◌∙◌, subst}
-use Rattle.expr_code.specs.Instructions.{and_then, or_else, unless_nil, jump_if_false}
+use Rattle.expr_code.specs.Machine.{and_then, or_else, unless_nil, jump_if_false}
 use Rattle.expr_tree.specs.TermOf.{term_of, program_term}
 use Rattle.expr_lowering.specs.Leading.{LoweringState, Leads, with_op, with_task}
-use Rattle.expr_lowering.specs.Lent.{slot_entries, task_of}
+use Rattle.expr_lowering.specs.Lent.{entries_of, task_of}
 use Rattle.expr_lowering.specs.Scoping.{Grows}
 use Rattle.expr_lowering.specs.States.{state_of}
 use Rattle.expr_lowering.specs.Tasks.{block_task, term_task}
@@ -22,9 +22,9 @@ pub returns-in_ok-emit-in-Line-clause-leads : goal.returns-in_ok-emit-in-Line-cl
 returns-in_ok-emit-in-Line-clause-leads c =
     let s = state_of c.args.self.now in
     let t = term_of c.in-Line.node.now in
-    let grows : Grows (slot_entries c.args.self.now.scopes.names.items) (slot_entries c.leave-slot.new.self.names.items) = subst (λ v. Grows (slot_entries c.args.self.now.scopes.names.items) (slot_entries v.items)) (sym c.leave-slot.ensures.names) (λ n e at. at) in
+    let grows : Grows (entries_of c.args.self.now.scopes.names.items) (entries_of c.leave-slot.new.self.names.items) = subst (λ v. Grows (entries_of c.args.self.now.scopes.names.items) (entries_of v.items)) (sym c.leave-slot.ensures.names) (λ n e at. at) in
     goes_to 0 _ _ _ (term_task t) c.in_ok-emit-in-Line.ensures.state (
-    from_work 0 c.args.work _ s _ c.in-Line.is (leads_left s t (slot_entries c.leave-slot.new.self.names.items) c.leave-slot.new.self.scope c.leave-slot.result grows c.leave-slot.ensures.scope c.leave-slot.ensures.slot)
+    from_work 0 c.args.work _ s _ c.in-Line.is (leads_left s t (entries_of c.leave-slot.new.self.names.items) c.leave-slot.new.self.scope c.leave-slot.result grows c.leave-slot.ensures.scope c.leave-slot.ensures.slot)
     )
 
 pub returns-in_ok-emit-in-AndThen-clause-leads : goal.returns-in_ok-emit-in-AndThen-clause-leads

@@ -1,8 +1,9 @@
 use Rattle.std.proofs.Common.{subst, rules}
 use Rattle.expr_tree.specs.KeptPatterns.{right_of, node_patterns}
 use Rattle.expr_tree.specs.declared.node.Node.{the_lemmas}
-use Rattle.expr_parts.specs.Kept.{IsKept, IsKeptBeside}
+use Rattle.expr_parts.specs.Kept.{IsKept}
 use Rattle.expr_tree.proofs.KeptPatterns.{all-Operation}
+use Rattle.expr_parts.specs.Kept.{IsKeptBeside}
 use Rattle.expr_parts.proofs.annotated_node.AnnotatedNode.operation.Goals as goal
 
 pub made-requires-clause-hash : goal.made-requires-clause-hash

@@ -1,12 +1,12 @@
 use Rattle.std.proofs.Common.{◌≡◌, IfOk, suc, Bool, [], map, if◌then◌else◌, sym, ap, ◌∙◌, subst}
 use Rattle.expr_value.specs.Names.{put_all}
 use Rattle.expr_value.specs.declared.value.Value.TheVariants as value
-use Rattle.expr_tree.specs.Term.{literal, mapping, term_pairs}
+use Rattle.expr_tree.specs.Term.{literal, mapping, pairs_of}
 use Rattle.expr_tree.specs.TermOf.{line_term}
 use Rattle.expr_tree.proofs.KeptPatterns.{all-Map}
 use Rattle.expr_tree.proofs.Shapes.{term_of-Map}
 use Rattle.expr_parts.specs.Kept.{IsKeptBeside}
-use Rattle.expr_parts.specs.Maps.{literal_pairs, map_term}
+use Rattle.expr_parts.specs.Maps.{literals, map_term}
 use Rattle.expr_parts.specs.Parts.{PairsWithHeight}
 use Rattle.expr_parts.specs.Promotion.{has_free_hash}
 use Rattle.expr_parts.proofs.Parts.{pairs_free, same_measured}
@@ -27,7 +27,7 @@ returns-then-has_expression c =
     subst (λ m. IfOk c.made.result (λ p. p ≡ m)) (
     same_measured
     (term_of-Map ps
-    ∙ sym (ap (λ (b : Bool). if b then mapping (term_pairs pairs) else literal (value.Map (put_all [] (literal_pairs pairs)))) (sym c.self.invariant.0 ∙ c.if-has_expression.true))
+    ∙ sym (ap (λ (b : Bool). if b then mapping (pairs_of pairs) else literal (value.Map (put_all [] (literals pairs)))) (sym c.self.invariant.0 ∙ c.if-has_expression.true))
     ∙ ap (λ (m : PairsWithHeight). map_term m.pairs) c.self.view_is)
     (c.in_ok-height.ensures ∙ ap (λ (m : PairsWithHeight). suc m.height) c.self.view_is)
     ) c.made.ensures

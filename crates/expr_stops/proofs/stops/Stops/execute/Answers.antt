@@ -1,10 +1,10 @@
 use Rattle.std.proofs.Common.{◌≢◌, List, subst}
-use Rattle.expr_code.specs.Instructions.{Op}
-use Rattle.expr_limits.specs.Outcomes.{ReturnsOutcome}
+use Rattle.expr_code.specs.Machine.{Op}
+use Rattle.expr_limited.specs.Outcomes.{ReturnsOutcome}
 use Rattle.expr_lowering.specs.Blocks.{blocks_of}
 use Rattle.expr_machine.specs.Texts.{text_of}
 use Rattle.expr_meaning.specs.Host.{Host}
-use Rattle.expr_context.specs.Context.{ContextView}
+use Rattle.expr_steps.specs.Context.{ContextView}
 use Rattle.expr_meaning.specs.World.{world_of}
 use Rattle.expr_stops.specs.Stops.{CodeComes, EndsTurn, host_replying, is_named}
 use Rattle.expr_stops.proofs.Replied.{answers_by, refused_as, turned}

@@ -1,7 +1,7 @@
 use Rattle.std.proofs.Common.{◌≢◌, subst}
-use Rattle.expr_limits.specs.Outcomes.{ReturnsOutcome}
+use Rattle.expr_limited.specs.Outcomes.{ReturnsOutcome}
 use Rattle.expr_meaning.specs.Allows.{AllowsBlock}
-use Rattle.expr_context.specs.Context.{ContextView}
+use Rattle.expr_steps.specs.Context.{ContextView}
 use Rattle.expr_meaning.specs.World.{world_of}
 use Rattle.expr_stops.specs.Stops.{AllowedWhereAgreed, ComesTo, host_replying, is_named}
 use Rattle.expr_stops.proofs.Replied.{refused_as, turned}

@@ -1,8 +1,0 @@
--- The value, owned or borrowed.
-use Rattle.expr_value.specs.declared.value.Value.{Value}
-use Rattle.expr_arguments.specs.declared.cow.Cow.{Cow}
-use Rattle.expr_arguments.specs.declared.cow.Cow.TheVariants.{Owned, Borrowed}
-
-abbrev pub cow_value : Cow → Value
-cow_value (Owned v) = v
-cow_value (Borrowed v) = v.now

@@ -1,0 +1,9 @@
+use Rattle.std.proofs.Common.{length, ◌-◌, ◌≤◌, take}
+use Rattle.std.specs.Str.Parse.{AllDigits}
+use Rattle.expr_duration.proofs.spelling.digits.Given as goal
+
+abbrev pub invariant-loop-len : goal.invariant-loop-len
+invariant-loop-len l = (l.len ≤ length l.text) × AllDigits 10 (take l.len l.text)
+
+abbrev pub decreases-loop-len : goal.decreases-loop-len
+decreases-loop-len l = length l.text - l.len

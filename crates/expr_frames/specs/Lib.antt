@@ -1,0 +1,4 @@
+pub mod Programs
+pub mod Nodes
+pub mod ReadErrors
+pub mod Measures

@@ -1,0 +1,5 @@
+pub mod Brackets
+pub mod Grammar
+pub mod Height
+pub mod Machine
+pub mod Prefixes

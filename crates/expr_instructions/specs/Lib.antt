@@ -1,0 +1,3 @@
+pub mod InMemory
+pub mod Patterns
+pub mod Shapes

@@ -1,5 +1,0 @@
-pub mod Deep
-pub mod Empty
-pub mod Growing
-mod Passing
-mod Sums

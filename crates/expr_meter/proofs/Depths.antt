@@ -1,0 +1,67 @@
+-- What a code answers within limits is no deeper than it may be.
+use Rattle.std.proofs.Common.{◌≡◌, ℕ, ◌≤◌, List, [], Result, Ok, Err, refl, sym, ap, subst, arith}
+use Rattle.expr_code.specs.Machine.{Op}
+use Rattle.expr_sizes.specs.Sizes.{depth, inner_weight, weight}
+use Rattle.expr_meaning.specs.World.{World}
+use Rattle.expr_value.specs.declared.value.Value.{Value}
+use Rattle.expr_meter.specs.Counting.{ChargeThen, Ending, ThenIfGives, ThenIfCharged, gives, refuses, stops}
+use Rattle.expr_meter.specs.Counts.{CodeCounts, Costs}
+use Rattle.expr_meter.specs.Rooms.{TakesWork, Holds, Room, Takes, room_released, rooms, unlimited, limited}
+use Rattle.expr_meter.specs.declared.limit.Limit.{Limit}
+use Rattle.expr_meter.proofs.Endings.{not_stopped}
+use Rattle.expr_meter.proofs.Stays.{InEnding, runs_stay}
+
+-- how deep values may be, where there is a limit of it
+abbrev IsDeepest : ℕ → Room → Type 0
+IsDeepest d unlimited = ⊥
+IsDeepest d (limited s w e) = e ≡ d
+
+takes : (d n k : ℕ) (now next : Room) → Takes n k now (Ok next) → IsDeepest d now → IsDeepest d next
+takes d n k unlimited next t h = absurd h
+takes d n k (limited s w e) next t h = subst (IsDeepest d) (sym t.2) h
+
+begins : (d n k : ℕ) (now next : Room) → TakesWork n k now (Ok next) → IsDeepest d now → IsDeepest d next
+begins d n k unlimited next t h = absurd h
+begins d n k (limited s w e) next t h = subst (IsDeepest d) (sym t.2) h
+
+holds : (d n k : ℕ) (now next : Room) → Holds n k now (Ok next) → IsDeepest d now → IsDeepest d next
+holds d n k unlimited next t h = absurd h
+holds d n k (limited s w e) next t h = takes d n n (limited s w e) next t.1 h
+
+frees : (d : ℕ) (first now : Room) → IsDeepest d now → IsDeepest d (room_released first now)
+frees d first unlimited h = absurd h
+frees d first (limited s w e) h = h
+
+abbrev IsGiven : Ending Room → Type 0
+IsGiven (gives v now) = Unit {0}
+IsGiven (refuses e) = ⊥
+IsGiven (stops limit) = ⊥
+
+abbrev depth_of : Ending Room → ℕ
+depth_of (gives v now) = depth v
+depth_of (refuses e) = 0
+depth_of (stops limit) = 0
+
+kept : (d : ℕ) (u v : Value) (left room : Room) (r : Result Room Limit) → IsDeepest d room → Holds (weight u) (depth u) room r → ThenIfCharged r (λ last e. e ≡ gives u last) (gives v left) → depth v ≤ d
+kept d u v left unlimited r h c p = absurd h
+kept d u v left (limited s w e) (Ok now) h c p =
+    let same : depth v ≡ depth u = ap depth_of p in
+    omega (arith, h, c.0, same)
+kept d u v left (limited s w e) (Err limit) h c p = absurd (not_stopped (Ok v) left limit p)
+
+ended_by : (d : ℕ) (first : Room) (v : Value) (left : Room) (x : Ending Room) → InEnding (IsDeepest d) x → ThenIfGives x (λ u ran. ChargeThen (rooms.keeps u) (room_released first ran) (λ last e. e ≡ gives u last)) (gives v left) → depth v ≤ d
+ended_by d first v left (gives u ran) h (r, c, p) = kept d u v left (room_released first ran) r (frees d first ran h) c p
+ended_by d first v left (refuses e) h p = absurd (subst IsGiven p tt)
+ended_by d first v left (stops limit) h p = absurd (subst IsGiven p tt)
+
+pub code_depth : (costs : Costs) (world : World) (blocks : List (List Op)) (s w d : ℕ) (v : Value) (left : Room) → CodeCounts rooms costs world blocks (limited s w d) (gives v left) → depth v ≤ d
+code_depth costs world blocks s w d v left (x, ran, p) =
+    ended_by d (limited s w d) v left x (
+    runs_stay rooms (IsDeepest d) (record {
+      enters = λ n. takes d n n;
+      works = λ n k. begins d n k;
+      makes = λ v. holds d (inner_weight v) (depth v);
+      keeps = λ v. holds d (weight v) (depth v);
+      freed = frees d;
+    }) costs world blocks 0 [] (limited s w d) x refl ran
+    ) p

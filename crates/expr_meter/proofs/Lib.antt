@@ -1,0 +1,11 @@
+pub mod Ample
+pub mod Beginning
+pub mod Depths
+pub mod Empty
+pub mod Endings
+pub mod Enough
+pub mod Forgotten
+pub mod Kept
+pub mod Stays
+pub mod Turning
+pub mod Turns

@@ -1,0 +1,69 @@
+-- The counting of a run within limits: what is left of them.
+use Rattle.std.specs.Prelude.{◌≡◌, ℕ, ◌+◌, ◌-◌, ◌<◌, ◌≤◌, Option, Some, None, Ok, Err}
+use Rattle.expr_sizes.specs.Sizes.{depth, inner_weight, weight}
+use Rattle.expr_meter.specs.Counting.{Charge, Counting}
+use Rattle.expr_meter.specs.declared.limit.Limit.TheVariants.{Steps, Size, Depth}
+
+-- how many steps a run may still take, how much it may still hold, and how deep its values may be. Without limits nothing is counted.
+pub data Room : Type 0 where
+  unlimited : Room
+  limited : (steps size deepest : ℕ) → Room
+
+-- so many steps are taken, and so much more is held
+abbrev pub Takes : (steps size : ℕ) → Charge Room
+Takes n k unlimited r = r ≡ Ok unlimited
+Takes n k (limited s w d) (Ok now) = (n ≤ s) × (k ≤ w) × (now ≡ limited (s - n) (w - k) d)
+Takes n k (limited s w d) (Err Steps) = s < n
+Takes n k (limited s w d) (Err Size) = w < k
+Takes n k (limited s w d) (Err limit) = ⊥
+
+-- so many steps are taken; so much must be left of both, but isn't held yet
+abbrev pub TakesWork : (work room : ℕ) → Charge Room
+TakesWork n k unlimited r = r ≡ Ok unlimited
+TakesWork n k (limited s w d) (Ok now) = (n + k ≤ s) × (k ≤ w) × (now ≡ limited (s - n) w d)
+TakesWork n k (limited s w d) (Err Steps) = s < n + k
+TakesWork n k (limited s w d) (Err Size) = w < k
+TakesWork n k (limited s w d) (Err limit) = ⊥
+
+-- a value of such a weight and depth is held: each unit of it takes a step too
+abbrev pub Holds : (weight depth : ℕ) → Charge Room
+Holds n e unlimited r = r ≡ Ok unlimited
+Holds n e (limited s w d) (Ok now) = (e ≤ d) × Takes n n (limited s w d) (Ok now)
+Holds n e (limited s w d) (Err Steps) = s < n
+Holds n e (limited s w d) (Err Size) = w < n
+Holds n e (limited s w d) (Err Depth) = d < e
+Holds n e (limited s w d) (Err limit) = ⊥
+
+-- how many steps it may still take, where there is a limit
+abbrev pub steps_left : Room → Option ℕ
+steps_left unlimited = None
+steps_left (limited s w d) = Some s
+
+-- more steps are needed than are left
+abbrev pub Overruns : Charge Room
+Overruns unlimited r = r ≡ Ok unlimited
+Overruns (limited s w d) r = r ≡ Err Steps
+
+-- how much it may still hold, which is nothing to be told where there is no limit
+abbrev pub size_left : Room → ℕ
+size_left unlimited = 0
+size_left (limited s w d) = w
+
+abbrev pub with_size : ℕ → Room → Room
+with_size k unlimited = unlimited
+with_size k (limited s w d) = limited s k d
+
+-- what was held since a room was the first one is gone; the steps that were taken are not
+abbrev pub room_released : (first now : Room) → Room
+room_released first now = with_size (size_left first) now
+
+-- An instruction takes a step and holds a unit, for which its block is charged; so a value that it makes is counted without the unit of its place, and one that is kept with it.
+abbrev pub rooms : Counting
+rooms = record {
+  Tally = Room;
+  enters = λ n. Takes n n;
+  works = TakesWork;
+  makes = λ v. Holds (inner_weight v) (depth v);
+  keeps = λ v. Holds (weight v) (depth v);
+  freed = room_released;
+}

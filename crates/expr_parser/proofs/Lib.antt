@@ -1,0 +1,4 @@
+mod Prefixes
+mod Reach
+mod Runs
+mod Whole

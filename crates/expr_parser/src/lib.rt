@@ -1,0 +1,4 @@
+//! From tokens to a program: the parser over the grammar's machine.
+#![tactic(auto)]
+
+pub mod parser;

@@ -1,6 +1,0 @@
-use Rattle.expr_predicates.specs.Sorting.{precedes}
-use Rattle.expr_predicates.proofs.OneOrder.{key_order, one_order}
-use Rattle.expr_predicates.proofs.laws.a_list_has_one_stable_order.Goals as goal
-
-pub returns : goal.returns
-returns c = λ down ps qs rs p q. one_order (precedes down) (key_order down) ps qs rs p.sorted q.sorted p.stable q.stable

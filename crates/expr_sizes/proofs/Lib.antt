@@ -1,0 +1,4 @@
+pub mod Deep
+pub mod Growing
+mod Passing
+mod Sums

@@ -1,5 +1,0 @@
-use Rattle.expr_tokens.proofs.Printed.{printed_reads}
-use Rattle.expr_tokens.proofs.laws.printed_text_reads.Goals as goal
-
-pub returns : goal.returns
-returns c = printed_reads
