@@ -13,11 +13,12 @@ import setuptools
 HERE = pathlib.Path(__file__).resolve().parent
 TOP = HERE.parents[1]
 LIBRARY = TOP / "hosts/out/lib/libexprlang.a"
+SOURCES = "engines values program records members runs lines module"
 IS_CPYTHON = sys.implementation.name == "cpython" and sys.version_info >= (3, 10)
 
 native = setuptools.Extension(
     "exprlang._native",
-    [f"native/{name}.c" for name in ("engines", "values", "program", "records", "runs", "lines", "module")],
+    [f"native/{name}.c" for name in SOURCES.split()],
     depends=["native/native.h", "native/runs.h"],
     include_dirs=[str(TOP / "hosts/out/include")],
     extra_objects=[str(LIBRARY)],

@@ -111,7 +111,7 @@ class Rule(Program):
         r"""Returns the lines of JSON for which the rule is true, without their line feeds.
 
         `data` has a JSON object on each line. The lines come back as `data` is, str or bytes. Blank
-        lines are skipped. The engine reads the JSON itself, so other threads run meanwhile.
+        lines are skipped. Other threads run meanwhile.
 
         `errors` is a list, or None. Into a list go the lines with an error: the number of each,
         counted from 1, and the Error. Without one, the first error is raised, and says its line.

@@ -1,4 +1,4 @@
-/* Runs over JSON lines, which the engine reads itself, without the GIL. */
+/* Runs over JSON lines, without the GIL. */
 #include "runs.h"
 #include <string.h>
 
@@ -14,6 +14,7 @@ typedef struct {
 typedef struct {
     const char *text;
     size_t length, next;
+    int is_whole;      /* the context is of a whole line, and not of the names that the rule reads */
     Py_ssize_t number; /* of the line */
     span line;         /* without its line feed */
     span found[MOST_FOUND]; /* lines for which the rule is true */
@@ -39,10 +40,9 @@ static int next_line(scan *s) {
 }
 
 /* Ends the look at a line whose run is done. */
-static stop line_ended(run *r, scan *s, const expr_answer *answer) {
+static stop line_ended(scan *s, const expr_answer *answer) {
     if (answer->kind != EXPR_BOOL) return AT_VALUE;
     if (answer->number) s->found[s->count++] = s->line;
-    context_dropped(r);
     return AT_PAUSE;
 }
 
@@ -55,11 +55,17 @@ static stop line_begun(run *r, scan *s, expr_status *status, expr_answer *answer
         json += 3;
         length -= 3;
     }
-    *status = expr_context_json(r->in->at, json, length, &r->context);
-    r->has_context = *status == EXPR_OK;
+    if (s->is_whole) context_dropped(r);
+    s->is_whole = !line_put(r, json, length);
+    *status = EXPR_OK;
+    if (s->is_whole) {
+        context_dropped(r);
+        *status = expr_context_json(r->in->at, json, length, &r->context);
+        r->has_context = *status == EXPR_OK;
+    }
     if (*status == EXPR_OK && r->is_nil) *status = expr_fill_missing(r->in->at, r->compiled, r->context);
     if (*status == EXPR_OK) *status = expr_run(r->in->at, r->compiled, r->environment, r->context, answer);
-    if (*status == EXPR_OK) return line_ended(r, s, answer);
+    if (*status == EXPR_OK) return line_ended(s, answer);
     return *status == EXPR_ASKS ? AT_CALL : AT_ERROR;
 }
 
@@ -79,7 +85,7 @@ static int settled(run *r, scan *s, stop at, expr_status status, expr_answer *an
     r->from.number = s->number;
     if (at == AT_CALL) {
         if (run_ended(r, NULL, status, answer) < 0) return -1;
-        at = line_ended(r, s, answer);
+        at = line_ended(s, answer);
     }
     if (at == AT_ERROR) {
         raise_failed(r->state, r->in, status, NULL, r->from);
@@ -130,7 +136,6 @@ static int scanned_whole(run *r, scan *s, int is_text, PyObject *errors, PyObjec
         at = scanned(r, s, &status, &answer);
         Py_END_ALLOW_THREADS
         int done = settled(r, s, at, status, &answer);
-        context_dropped(r);
         if (done < 0) done = error_added(r, errors, s->number);
         if (done < 0 || lines_added(s, is_text, list) < 0) return -1;
     }
@@ -138,6 +143,7 @@ static int scanned_whole(run *r, scan *s, int is_text, PyObject *errors, PyObjec
 }
 
 PyObject *lines_found(run *r, const char *text, size_t length, int is_text, PyObject *errors) {
+    if (names_noted(r) < 0) return NULL;
     scan *s = (scan *)PyMem_Calloc(1, sizeof *s);
     if (!s) return PyErr_NoMemory();
     s->text = text;

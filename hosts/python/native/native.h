@@ -4,6 +4,7 @@
  *     values.c    how values cross to an engine and back
  *     program.c   programs
  *     records.c   what a run reads
+ *     members.c   what a run reads of a JSON line
  *     runs.c      runs, and the functions that they call
  *     lines.c     runs over JSON lines
  *     module.c    contexts, environments, and the module itself

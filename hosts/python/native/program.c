@@ -93,8 +93,16 @@ int names_known(run *r) {
     }
     self->uses_env = uses_env;
     self->names = names;
+    self->count = count;
     self->words = words;
     return 0;
+}
+
+int names_noted(run *r) {
+    if (names_known(r) < 0) return -1;
+    if ((r->is_put = (char *)PyMem_Calloc((size_t)r->it->count + 1, 1))) return 0;
+    PyErr_NoMemory();
+    return -1;
 }
 
 /* --- the type --- */
@@ -145,11 +153,7 @@ static PyObject *run_over_each(PyTypeObject *defining, PyObject *self, PyObject 
         Py_XDECREF(list);
         return NULL;
     }
-    if (names_known(&r) == 0) r.is_put = (char *)PyMem_Calloc((size_t)PyTuple_Size(r.it->words) + 1, 1);
-    if (!r.is_put) {
-        if (!PyErr_Occurred()) PyErr_NoMemory();
-        Py_CLEAR(list);
-    }
+    if (names_noted(&r) < 0) Py_CLEAR(list);
     while (list && (record = PyIter_Next(records))) {
         PyObject *value = run_over(&r, record, is_filter);
         if (!value || record_added(list, record, value, is_filter) < 0 || paused(r.from.number) < 0) Py_CLEAR(list);

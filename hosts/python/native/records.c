@@ -85,8 +85,7 @@ static int part_put(run *r, const record *from, expr_context context, PyObject *
  * earlier record that this one lacks. */
 static int names_put(run *r, const record *from, expr_context context, PyObject *has) {
     const program *it = r->it;
-    Py_ssize_t count = PyTuple_Size(it->words);
-    for (Py_ssize_t i = 0; i < count; i++) {
+    for (Py_ssize_t i = 0; i < it->count; i++) {
         PyObject *part = part_of(r->state, from, it->names[i].word);
         if (!part && PyErr_Occurred()) return -1;
         if (!part && !has && r->is_put && r->is_put[i]) return 1;
@@ -155,7 +154,7 @@ static int context_begun(run *r) {
         return -1;
     }
     r->has_context = 1;
-    if (r->is_put) memset(r->is_put, 0, (size_t)PyTuple_Size(r->it->words));
+    if (r->is_put) memset(r->is_put, 0, (size_t)r->it->count);
     return 0;
 }
 

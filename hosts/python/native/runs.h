@@ -1,4 +1,4 @@
-/* Programs and their runs, as program.c, records.c, runs.c and lines.c share them. */
+/* Programs and their runs, as program.c, records.c, members.c, runs.c and lines.c share them. */
 #ifndef EXPRLANG_RUNS_H
 #define EXPRLANG_RUNS_H
 #include "native.h"
@@ -22,6 +22,7 @@ typedef struct {
     PyObject *words;                 /* a tuple of the names that it asks for; null until a run needs them */
     int uses_env;
     name *names;
+    Py_ssize_t count; /* of the names */
 } program;
 
 /* Runs of a program in an engine that is taken for them. */
@@ -54,6 +55,8 @@ typedef struct {
 int program_compiled(module_state *state, program *self, engine *in, expr_program *found);
 /* Finds out which names a program reads, for all of its runs. */
 int names_known(run *r);
+/* The same, and has the runs note which of them a context has. */
+int names_noted(run *r);
 
 /* --- records.c --- */
 
@@ -65,6 +68,12 @@ int context_copied(run *r, const record *from, expr_context *found);
 int context_made(run *r, const record *from);
 /* Drops that context, if there is one. This needs no GIL. */
 void context_dropped(run *r);
+
+/* --- members.c --- */
+
+/* Puts what the program reads of a JSON line into a context, of the line before where that is allowed. Returns 0 for a line that
+ * is left to the engine, which may be no JSON; the context is of no use then. This needs no GIL. */
+int line_put(run *r, const char *json, size_t length);
 
 /* --- runs.c --- */
 

@@ -10,6 +10,8 @@ import json
 import mmap
 import os
 import pickle
+import random
+import re
 import signal
 import sys
 import tempfile
@@ -177,6 +179,104 @@ class Lines(Case):
             exprlang.Rule("len(text) > 2000000").lines(json.dumps({"text": "x" * 3000000})),
             [json.dumps({"text": "x" * 3000000})],
         )
+
+    def test_lines_are_read_as_json_is(self):
+        """A line is right or wrong as Python's json has it, and so is each value of it."""
+        lines = [
+            '{"n": 1, "s": "text", "x": [1, {"y": null, "z": [true, false]}], "other": -90}',
+            '{"n":0,"n":3,"x":{},"other":[[], {}, "a\\n\\"b\\u00e9\\\\"]}',
+            ' { "s" : "\\ud83d\\ude00 \\/" ,\t"other" : "\\ud83d\\ude00" , "n" : 0 }\r',
+            '{"s": "é€😀", "é": "\x7f", "\\u006e": 5, "x": "\\\\"}',
+            '{"n": 999999999999999999, "other": 9223372036854775807, "x": -9223372036854775808}',
+            '{"other": {"n": 7, "s": ["n", {"x": -1}]}, "s": ""}',
+            "{}",
+        ]
+        lines += [f'{{"x": {"[" * n}{"]" * n}, "n": 4}}' for n in (15, 16, 17, 126, 127)]
+        lines += [f'{{"n": 1, "other": {"[" * n}{"]" * n}}}' for n in (15, 16, 17, 126, 127)]
+        marks = [bytes([mark]) for mark in b'"\\{}[],:01289-.eE+ntfudDsx \t\r\0\x7f\xff']
+        marks += ["é".encode(), b""]
+        chance = random.Random(71)
+
+        def damaged(line):
+            for _ in range(chance.randrange(4)):
+                begin = chance.randrange(len(line) + 1)
+                end = begin + chance.choice([0, 0, 1, 1, 2, 5])
+                put = chance.choice([*marks, line[end : end + 9]])
+                line = line[:begin] + put + line[end:]
+            return line if line.strip() else b"{}"
+
+        others = r"""-0 00 01 - -1 1.5 1e3 1E3 .5 +1 tru truee nul NaN True
+            "" "a "\x" "\e" "\0" "\" "\/" "\b\f\r\t" "\u12g4" "\u123" "\uD83D" "\uDE00" "\uD7ff"
+            [ ] [1,] [,1] [1,,2] [1;2] [1]] { {,} {"a"} {"a":} {"a":1,} {"a":1}} {1:2}
+            {"a":"b":"c"} {"a","b"} {"\u0061":1} {"\x":1}"""
+        lines += [f'{{"n": 4, "other": {it}}}' for it in [*others.split(), "", "1 2", '"a\tb"']]
+        octets = [damaged(chance.choice(lines).encode()) for _ in range(1000)]
+        octets += [it.encode() for it in lines]
+        octets.append(b'{"n": 4, "other": "\xff"}')
+        texts = [line.decode(errors="replace") for line in octets]
+        rules = [
+            "n > 1",
+            "len(toJSON([n, s, x])) % 2 == 0",
+            "let n = 2; n > 1",
+            "len(toJSON($env)) % 2 == 0",
+        ]
+        for text, missing, (given, data) in itertools.product(
+            rules,
+            ["error", "nil"],
+            [(octets, b"\n".join(octets)), (texts, "\n".join(texts))],
+        ):
+            rule, errors = exprlang.Rule(text, missing=missing), []
+            wanted = [self.judged(rule, line) for line in given]
+            found = rule.lines(data, errors)
+            self.assertEqual(found, [line for line, is_true in zip(given, wanted) if is_true])
+            failed = [number for number, is_true in enumerate(wanted, 1) if is_true is None]
+            self.assertEqual([number for number, _ in errors], failed)
+
+    def test_lines_are_utf8(self):
+        """A line with other bytes is wrong, and Python says which these are."""
+
+        def is_right(line):
+            try:
+                return bool(line.decode())
+            except UnicodeDecodeError:
+                return False
+
+        firsts = [*range(0x7F, 0x82), *range(0xBF, 0xC4), *range(0xDE, 0x100)]
+        seconds = [0x7F, 0x80, 0x8F, 0x90, 0x9F, 0xA0, 0xBF, 0xC0]
+        ends = [b"", b"\x80", b"\xbf", b"\x80\x80", b"\xbf\xbf", b"\x80\xc0", b"\x80\x80\x80"]
+        parts = [bytes(two) + end for *two, end in itertools.product(firsts, seconds, ends)]
+        parts += [bytes([first]) for first in firsts]
+        for rule in ["n > 1", "n > 1 and s != ''"]:
+            for form in [b'{"n": 4, "s": "%b"}', b'{"%b": 4, "n": 4, "s": 0}']:
+                lines, errors = [form % it for it in parts], []
+                found = exprlang.Rule(rule).lines(b"\n".join(lines), errors)
+                self.assertEqual(found, [line for line in lines if is_right(line)])
+                self.assertEqual(len(errors), len(lines) - len(found))
+
+    def judged(self, rule, line):
+        """Returns what a rule says of a line that Python's json reads, or None for an error."""
+        wrong = object()
+
+        def integer(digits):
+            number = int(digits)
+            return number if -(2**63) <= number < 2**63 and digits != "-0" else wrong
+
+        def is_right(value, levels):
+            if isinstance(value, (dict, list)):
+                parts = [*value, *value.values()] if isinstance(value, dict) else value
+                return levels > 0 and all(is_right(it, levels - 1) for it in parts)
+            if isinstance(value, str):
+                return not re.search("[\ud800-\udfff]", value)
+            return value is not wrong
+
+        try:
+            hooks = dict.fromkeys(["parse_float", "parse_constant"], lambda _: wrong)
+            text = line if isinstance(line, str) else line.decode()
+            record = json.loads(text, parse_int=integer, **hooks)
+            is_record = isinstance(record, dict) and is_right(record, 127)
+            return rule.matches(record) if is_record else None
+        except (ValueError, exprlang.Error):
+            return None
 
     def test_errors(self):
         rule, data = (
