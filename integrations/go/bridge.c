@@ -10,9 +10,6 @@
 #include <stdlib.h>
 #include <string.h>
 
-/* What bridge_settle leaves of the memory of a call. */
-enum { KEPT = 1 << 16 };
-
 /* An array or a map that is being written: how many parts it has, and how many are written. */
 struct level {
     int64_t count, done;
@@ -335,7 +332,7 @@ expr_status bridge_reply(bridge *b, const void *value, size_t length) {
 }
 
 void bridge_settle(bridge *b) {
-    int is_large = b->room > KEPT;
+    int is_large = b->room > BRIDGE_KEPT;
     drop_context(b);
     /* the engine keeps its last answer and a run that waits up to its next run */
     if (b->waits || is_large) expr_eval(b->engine, "nil", EXPR_Z, EXPR_NO_ENVIRONMENT, EXPR_NO_CONTEXT, NULL);

@@ -48,6 +48,7 @@ expr_status bridge_now(bridge *b, expr_environment environment, int64_t second, 
 expr_status bridge_run(bridge *b, expr_program program, expr_environment environment, const void *record, size_t length,
                        int is_json, int fills_missing);
 expr_status bridge_reply(bridge *b, const void *value, size_t length);
-/* Drops what a run has left. */
+/* Drops what a run has left, and the memory for it if that is more than BRIDGE_KEPT bytes. */
+enum { BRIDGE_KEPT = 1 << 16 };
 void bridge_settle(bridge *b);
 #endif

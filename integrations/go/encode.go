@@ -290,8 +290,11 @@ func appendReflected(bytes []byte, value reflect.Value, depth int) ([]byte, erro
 		}
 		return appendPart(bytes, value.Elem().Interface(), depth+1)
 	case reflect.Struct:
-		count := 0
-		for _, field := range fieldsOf(value.Type()) {
+		fields, count := fieldsOf(value.Type()), 0
+		if len(fields) == 0 && value.NumField() > 0 {
+			return bytes, wrong("%s has no exported fields", described(value.Interface()))
+		}
+		for _, field := range fields {
 			member, has := field.of(value)
 			if !has || member.Kind() == reflect.Func {
 				continue

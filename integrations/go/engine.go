@@ -37,7 +37,7 @@ type compiled struct {
 const outOfMemory = "out of memory"
 
 // mostKept is how many bytes of a buffer an engine keeps for its next call.
-const mostKept = 1 << 16
+const mostKept = C.BRIDGE_KEPT
 
 func openEngine() (*engine, error) {
 	bridge := C.bridge_open()
@@ -50,9 +50,11 @@ func openEngine() (*engine, error) {
 
 func (e *engine) close() { C.bridge_close(e.bridge) }
 
-// settle drops what a call has left.
+// settle drops what a call has left, if that is more than its memory for the next one.
 func (e *engine) settle() {
-	C.bridge_settle(e.bridge)
+	if e.bridge.has_context != 0 || e.bridge.waits != 0 || e.bridge.room > mostKept {
+		C.bridge_settle(e.bridge)
+	}
 	if cap(e.buffer) > mostKept {
 		e.buffer = nil
 	}
@@ -213,7 +215,7 @@ func (e *engine) run(it *compiled, environment C.expr_environment, r *record, fi
 		number(fillsMissing))
 	err = e.failed(status)
 	if failed, ok := err.(*Error); ok && e.bridge.is_handed_in == 0 && failed.Kind != KindMemory {
-		err = &ValueError{Path: r.name(int(e.bridge.handed_in)), Message: failed.Message}
+		err = &ValueError{Path: r.crossed(int(e.bridge.handed_in)), Message: failed.Message}
 	}
 	return status == C.EXPR_ASKS, err
 }

@@ -15,8 +15,6 @@ type record struct {
 	plain   map[string]any
 	// other is a map with string keys or a struct.
 	other reflect.Value
-	// read are the names that have crossed, in their order.
-	read []string
 }
 
 func newRecord(p *Program, env any) (*record, error) {
@@ -95,26 +93,37 @@ func (r *record) append(bytes []byte) ([]byte, error) {
 	if r.isJSON {
 		return append(bytes, r.json...), nil
 	}
+	var err error
 	for _, name := range r.names() {
-		value, has := r.value(name)
-		if !has || r.program.usesEnv && isFunction(reflect.ValueOf(value)) {
-			continue
-		}
-		r.read = append(r.read, name)
-		var err error
-		if bytes, err = appendNamed(bytes, name, value); err != nil {
-			return bytes, err
+		if value, has := r.handedIn(name); has {
+			if bytes, err = appendNamed(bytes, name, value); err != nil {
+				return bytes, err
+			}
 		}
 	}
 	return bytes, nil
 }
 
-// name returns a name that has crossed, or "".
-func (r *record) name(number int) string {
-	if r.isJSON || number >= len(r.read) {
+// handedIn returns the value of a name, if a run hands it in. A function is left out where the program reads the whole env.
+func (r *record) handedIn(name string) (any, bool) {
+	value, has := r.value(name)
+	return value, has && !(r.program.usesEnv && isFunction(reflect.ValueOf(value)))
+}
+
+// crossed returns the name that so many others crossed before, or "".
+func (r *record) crossed(number int) string {
+	if r.isJSON {
 		return ""
 	}
-	return r.read[number]
+	for _, name := range r.names() {
+		if _, has := r.handedIn(name); has {
+			if number == 0 {
+				return name
+			}
+			number--
+		}
+	}
+	return ""
 }
 
 // functions returns the functions of the record that the program calls and the options don't have.

@@ -167,6 +167,9 @@ func TestGarbage(t *testing.T) {
 
 // Memory stays as it is over many runs that end in every way.
 func TestMemory(t *testing.T) {
+	if isInstrumented {
+		t.Skip("a checker takes memory too")
+	}
 	f := Function("f", func(params ...any) (any, error) {
 		switch params[0] {
 		case 0:
@@ -188,10 +191,7 @@ func TestMemory(t *testing.T) {
 		Eval("x", map[string]any{"x": []any{time.Date(20000, 1, 1, 0, 0, 0, 0, time.UTC)}})
 		Compile("1 +")
 	}
-	turns := 300
-	if testing.Short() {
-		turns = 30
-	}
+	const turns = 300
 	for i := 0; i < turns/10; i++ {
 		run()
 	}

@@ -5,6 +5,7 @@ import (
 	"errors"
 	"fmt"
 	"math"
+	"math/big"
 	"reflect"
 	"strings"
 	"testing"
@@ -82,6 +83,7 @@ func TestValues(t *testing.T) {
 		{&seven, 7, "7"},
 		{(*int)(nil), nil, "nil"},
 		{error(nil), nil, "nil"},
+		{struct{}{}, map[string]any{}, "{}"},
 		{link, map[string]any{"ID": 0, "Low": 1, "High": 2, "name": "a", "Tags": []any{"x"},
 			"Next": map[string]any{"ID": 3, "name": "", "Tags": []any{}, "Next": nil}},
 			`{High: 2, ID: 0, Low: 1, Next: {ID: 3, Next: nil, Tags: [], name: ""}, Tags: ["x"], name: "a"}`},
@@ -163,6 +165,7 @@ func TestNoValues(t *testing.T) {
 		{map[string]any{"\xff": 1}, "x.\xff", "UTF-8"},
 		{make(chan int), "x", "chan int"},
 		{complex(1, 2), "x", "complex128"},
+		{big.NewInt(1), "x", "a big.Int has no exported fields"},
 		{func() {}, "x", "func()"},
 		{[]any{map[string]any{"a": []float64{1, 2.5}}}, "x[0].a[1]", "2.5"},
 		{map[int]any{3: struct{ F any }{1i}}, "x[3].F", "complex128"},
