@@ -1,0 +1,3 @@
+module exprlang
+
+go 1.19

@@ -1,0 +1,5 @@
+//go:build !race && !asan
+
+package exprlang
+
+const isInstrumented = false
