@@ -26,7 +26,7 @@ const text = at("text"), record = at("record"), result = at("result");
 let module = null; // the compiled module
 let worker = null;
 let untrusted = null; // the limits that the fields begin with
-let isReady = false, isBusy = false;
+let hasFailed = false, isReady = false, isBusy = false;
 let isStale = false; // whether the fields have changed since the engine got them
 let quiet = 0, patience = 0; // timers; quiet is 0 if none waits
 
@@ -85,6 +85,7 @@ function take({ version, untrusted: limits, found, memory, fault }) {
 function ask() {
     clearTimeout(quiet);
     quiet = 0;
+    if (hasFailed) return;
     isStale = true;
     result.setAttribute("aria-busy", "true");
     if (!isReady || isBusy) return;
@@ -103,6 +104,7 @@ function ask() {
 }
 
 function askSoon() {
+    if (hasFailed) return;
     isStale = true;
     result.setAttribute("aria-busy", "true");
     clearTimeout(quiet);
@@ -123,6 +125,7 @@ function faultOf(fault) {
 }
 
 function fail(why) {
+    hasFailed = true;
     at("notice").textContent = why;
     at("notice").hidden = false;
     result.setAttribute("aria-busy", "false");
