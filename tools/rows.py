@@ -28,6 +28,8 @@ import re
 from collections.abc import Callable, Iterable, Iterator
 from dataclasses import dataclass
 
+from markdown import blocks_of
+
 # Who reads the rows of a kind. Those without one are expressions: the bench, hosts and the
 # programs read them. hosts/c/rows.c reads those of HOSTS, bin/expr_runs and bin/lines_runs
 # those of PROGRAMS, and bin/hostile its own.
@@ -215,6 +217,18 @@ def read(
 def read_block(path: str, text: str, first: int) -> Iterator[Row]:
     """The rows of a block of a page, whose first line has a number."""
     return read(path, text.split("\n"), first, is_page=True)
+
+
+def of_page(top: str, page: str) -> Iterator[tuple[str, Row]]:
+    """The examples in the language of a page, each with the heading above it."""
+    heading = ""
+    with open(page, encoding="utf-8") as file:
+        for it in blocks_of(enumerate(file.read().split("\n"), 1)):
+            if it.kind == "heading":
+                heading = it.text
+            if it.language == "expr":
+                for row in read_block(os.path.relpath(page, top), it.text, it.line + 1):
+                    yield heading, row
 
 
 def files(top: str) -> list[str]:

@@ -1,0 +1,6 @@
+/* What hosts/c/exprlang.c wants of the C library: ../libc.c has it. */
+#include <stddef.h>
+void *malloc(size_t size);
+void *calloc(size_t count, size_t size);
+void *realloc(void *at, size_t size);
+void free(void *at);
