@@ -94,6 +94,10 @@ def unescaped(line: str) -> str:
     return re.sub(r"\\(.)", lambda found: back.get(found[1], found[1]), line)
 
 
+# A longer answer is compared once. Shorter ones are also tried with each write failing, and with each growth refused.
+MOST_TRIED = 200
+
+
 def expanded(text: str) -> str:
     """A text with what `<<..>>` stands for. A byte is what `surrogateescape` makes of it."""
     made, at = [], 0
