@@ -36,8 +36,8 @@ pub fn operator_cost(operator: Operator, left: &Value, right: &Value, bound: u64
 }
 
 /// The work of an operator on two strings, the left one of less than 16 bytes, or of seeking such a string or
-/// an integer in an array of less than 32 items. It takes no room. Returns None for other values, and for a
-/// sum or a pattern.
+/// an integer in an array of less than 32 items. It takes no room. Returns None for other values, and for an
+/// operator that doesn't return a boolean for these.
 #[inline(always)]
 pub fn short_work(operator: Operator, left: &Value, right: &Value) -> Option<u64>
     ensures { IfSome result (λ work. (operator_work operator left.now right.now ≡ work)
@@ -90,9 +90,16 @@ fn work_on_texts(operator: Operator, left: &Value, right: &Value) -> Option<u64>
         return None;
     }
     match operator {
-        Operator::Add | Operator::Matches => None,
-        Operator::In | Operator::NotIn | Operator::Contains => Some(1),
-        _ => Some(0),
+        Operator::Equal
+        | Operator::NotEqual
+        | Operator::GreaterThan
+        | Operator::GreaterThanOrEqual
+        | Operator::LessThan
+        | Operator::LessThanOrEqual
+        | Operator::StartsWith
+        | Operator::EndsWith => Some(0),
+        Operator::Contains => Some(1),
+        _ => None,
     }
 }
 

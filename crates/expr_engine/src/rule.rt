@@ -32,7 +32,7 @@ impl Rule {
     ghost use Rattle.expr_lowering.specs.HostNeeds.{AreFunctionsOf, AreMissing};
     ghost use Rattle.expr_tree.specs.Names.{AreNamesOf, block_operands, env};
     ghost use Rattle.std.specs.Option.{option_copied};
-    ghost use Rattle.expr_limited.specs.Given.{MayGive as GivesWithin};
+    ghost use Rattle.expr_machine.specs.Given.{MayGive as GivesWithin};
     ghost use Rattle.expr_engine.specs.Limiting.{IsCompiledBy};
     ghost use Rattle.expr_engine.specs.Effects.{AreSaid, TellsWhether};
     ghost use Rattle.expr_error.specs.ErrorKind.{OnlyMemory};

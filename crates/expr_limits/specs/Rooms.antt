@@ -1,5 +1,5 @@
 -- Counting a run within limits: what is left of them.
-use Rattle.std.specs.Prelude.{◌≡◌, ℕ, ◌+◌, ◌-◌, ◌<◌, ◌≤◌, Option, Some, None, Ok, Err}
+use Rattle.std.specs.Prelude.{◌≡◌, ℕ, ◌+◌, ◌-◌, ◌<◌, ◌≤◌, Bool, true, false, Option, Some, None, Ok, Err}
 use Rattle.expr_limits.specs.Sizes.{depth, inner_weight, weight}
 use Rattle.expr_limits.specs.Counting.{Charge, Counting}
 use Rattle.expr_limits.specs.declared.limit.Limit.TheVariants.{Steps, Size, Depth}
@@ -39,6 +39,16 @@ Holds n e (limited s w d) (Err limit) = ⊥
 abbrev pub steps_left : Room → Option ℕ
 steps_left unlimited = None
 steps_left (limited s w d) = Some s
+
+-- whether anything is counted
+abbrev pub is_limited : Room → Bool
+is_limited unlimited = false
+is_limited (limited s w d) = true
+
+-- how many steps it may still take; 0, where there is no limit
+abbrev pub least_steps : Room → ℕ
+least_steps unlimited = 0
+least_steps (limited s w d) = s
 
 -- more steps are needed than are left
 abbrev pub Overruns : Charge Room

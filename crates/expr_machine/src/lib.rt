@@ -2,15 +2,25 @@
 #![tactic(auto)]
 
 mod acts;
+mod asking;
+mod calls;
 mod conditions;
+mod frame;
+mod halt;
 mod kept;
 mod list_arena;
 mod machine;
 mod names;
+mod pay;
+mod perform;
+mod quick;
+mod runs;
 mod stores;
-mod turns;
+mod world;
 
-pub use acts::texts;
-pub use conditions::{known_if, passed_unless, passing_on};
+pub use asking::Asking;
+pub use halt::{Halt, RunMeter};
 pub use kept::ReusableMachine;
-pub use machine::{Machine, block_of, execute, run};
+pub use machine::Machine;
+pub use runs::{LimitedRun, execute, run};
+pub use world::World;

@@ -10,7 +10,7 @@ use crate::arguments::{direction, is_downward, runs_alone};
 use crate::remaining::Remaining;
 use crate::scalar_accumulator::ScalarAccumulator;
 use crate::sorting::sort_items;
-use crate::value_accumulator::ValueAccumulator;
+use crate::value_accumulator::{ValueAccumulator, keep_lent};
 use expr_arguments::{Array, CowValue, array_and_more, count_items, into_items};
 use expr_functions::HigherOrderCall;
 use expr_value::{Items, Result, Value, refusal};
@@ -125,6 +125,32 @@ impl Accumulator {
             Accumulator::Values(kept) => kept.outcome(alloc),
         }
     }
+}
+
+/// An item or a result that needs no allocation.
+#[derive(Clone, Copy)]
+pub enum Plain<'s> {
+    Integer(i64),
+    Bool(bool),
+    /// A borrowed value.
+    Lent(&'s Value),
+}
+
+/// What became of a result that needs no allocation.
+#[derive(Clone, Copy)]
+pub enum Noted {
+    /// Nothing: [`PredicateRun::answer`] must take it.
+    Not,
+    /// It was taken, and nothing is kept of it.
+    Done,
+    /// It was taken, and the call needs no more results.
+    Ends,
+    /// It was taken and kept.
+    Kept,
+    /// It was taken and replaces the one before.
+    Replaced,
+    /// The item must be kept. There is room for it.
+    WantsItem,
 }
 
 /// A call of a built-in between two results of its predicate. It runs no predicate: it hands out an item, takes it back
@@ -359,6 +385,85 @@ impl<'s> PredicateRun<'s> {
     {
         let place = self.asked.saturating_sub(1);
         self.gathered.take(alloc, place, item, answer)
+    }
+
+    /// Hands out the next item, if it needs no allocation. The call needs more results.
+    #[inline(always)]
+    pub fn next_plain(&mut self) -> Option<Plain<'s>> {
+        let item = self.left.pop_plain()?;
+        self.asked += 1;
+        Some(item)
+    }
+
+    /// The position in the array of the item that is out, from 0.
+    #[inline(always)]
+    pub fn place(&self) -> usize {
+        self.asked.saturating_sub(1)
+    }
+
+    /// Whether `#index` is bound beside an item.
+    #[inline(always)]
+    pub fn tells_index(&self) -> bool {
+        matches!(
+            self.gathered,
+            Accumulator::Values(ValueAccumulator::Map(_) | ValueAccumulator::Reduce(_))
+        )
+    }
+
+    /// Whether `#index` and `#acc` are bound beside an item.
+    #[inline(always)]
+    pub fn tells_acc(&self) -> bool {
+        matches!(
+            self.gathered,
+            Accumulator::Values(ValueAccumulator::Reduce(_))
+        )
+    }
+
+    /// Takes a result about the item that is out, if that needs no allocation.
+    #[inline(always)]
+    pub fn note(&mut self, answer: Plain<'_>) -> Noted {
+        match (&mut self.gathered, answer) {
+            (Accumulator::Scalar(noted), Plain::Bool(truth)) => {
+                noted.note_truth(self.asked.saturating_sub(1), truth)
+            }
+            (Accumulator::Values(ValueAccumulator::Filter(kept)), Plain::Bool(true)) => {
+                if kept.len() == kept.capacity() {
+                    return Noted::Not;
+                }
+                Noted::WantsItem
+            }
+            (Accumulator::Values(ValueAccumulator::Filter(_)), _) => Noted::Done,
+            (Accumulator::Values(ValueAccumulator::Map(kept)), Plain::Integer(n)) => {
+                if kept.len() == kept.capacity() {
+                    return Noted::Not;
+                }
+                kept.push_reserved(Value::Integer(n));
+                Noted::Kept
+            }
+            (Accumulator::Values(ValueAccumulator::Reduce(acc)), Plain::Integer(n)) => {
+                if let Value::Nil | Value::Integer(_) = acc {
+                    *acc = Value::Integer(n);
+                    return Noted::Replaced;
+                }
+                Noted::Not
+            }
+            _ => Noted::Not,
+        }
+    }
+
+    /// Keeps the item that is out, for which [`note`](PredicateRun::note) found room. Copies a borrowed item. Returns
+    /// false if the copy is out of memory.
+    #[inline(always)]
+    pub fn keep(&mut self, item: Plain<'_>) -> bool {
+        let Accumulator::Values(ValueAccumulator::Filter(kept)) = &mut self.gathered else {
+            unreachable!()
+        };
+        match item {
+            Plain::Integer(n) => kept.push_reserved(Value::Integer(n)),
+            Plain::Bool(truth) => kept.push_reserved(Value::Bool(truth)),
+            Plain::Lent(value) => return keep_lent(kept, value),
+        }
+        true
     }
 
     /// Takes back the item that was handed out, as the predicate's result for itself.

@@ -6,6 +6,7 @@ ghost use Rattle.expr_error.specs.ErrorKind.{evaluation, RefusesWith, IsOfKind};
 ghost use Rattle.expr_value.specs.declared.value.Value.{Value as value};
 ghost use Rattle.expr_predicates.specs.Folds.{place_or_none};
 
+use crate::run::Noted;
 use expr_arguments::unexpected_value;
 use expr_functions::HigherOrderCall;
 use expr_value::{Error, Result, Value, refusal};
@@ -118,6 +119,31 @@ impl ScalarAccumulator {
                 None => false,
             },
         }
+    }
+
+    /// Takes a boolean result about the item at this position. Nothing was found before.
+    #[inline(always)]
+    pub(crate) fn note_truth(&mut self, place: usize, truth: bool) -> Noted {
+        let ends = match self {
+            ScalarAccumulator::Count(count) => {
+                *count = count_if(*count, truth);
+                false
+            }
+            ScalarAccumulator::All(found) => {
+                *found = !truth;
+                !truth
+            }
+            ScalarAccumulator::Any(found) | ScalarAccumulator::NoneOf(found) => {
+                *found = truth;
+                truth
+            }
+            ScalarAccumulator::FindIndex(found) => {
+                *found = found_if(None, truth, place);
+                truth
+            }
+            _ => return Noted::Not,
+        };
+        if ends { Noted::Ends } else { Noted::Done }
     }
 
     /// The error for a result that isn't accepted.

@@ -147,6 +147,15 @@ fn keep_copy(kept: &mut Vec<Value>, item: &Value) -> std::result::Result<(), All
     put_last(kept, item.clone()?)
 }
 
+/// Keeps a copy of an item. Returns false if it is out of memory: a boolean takes no place in the caller.
+#[inline(never)]
+pub(crate) fn keep_lent(kept: &mut Vec<Value>, item: &Value) -> bool {
+    match item.clone() {
+        Ok(copy) => put_last(kept, copy).is_ok(),
+        Err(_) => false,
+    }
+}
+
 /// Adds a value at the end.
 #[inline(always)]
 fn put_last(kept: &mut Vec<Value>, value: Value) -> std::result::Result<(), AllocError>

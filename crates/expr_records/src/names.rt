@@ -8,7 +8,7 @@ ghost use Rattle.expr_value.specs.declared.value.Value.{Value};
 
 use crate::query::HEIGHT;
 use expr_context::Context;
-use expr_machine::Machine;
+use expr_machine::World;
 use expr_meaning::Functions;
 use expr_syntax::compile_within;
 use expr_value::{Result, Value};
@@ -19,12 +19,12 @@ fn value_of<H: Functions>(alloc: Global, host: &H, code: &str) -> Result<Value>
     ensures { Returns result (may_name (H.host host.now) code.now) }
 {
     let program = compile_within(alloc, code, HEIGHT)?;
-    let machine = Machine {
+    let world = World {
         alloc,
         host,
         provider: Context::new(alloc),
     };
-    machine.answer_program(&program)
+    world.answer_program(&program)
 }
 
 /// Evaluates code without any names, and puts the value under a name. On an error the names stay as they

@@ -9,10 +9,9 @@ ghost use Rattle.expr_error.specs.ErrorKind.{RefusesNoPattern, pattern as bad_pa
 ghost use Rattle.expr_meaning.specs.World.{world_of};
 
 use expr_context::ContextProvider;
-use expr_limited::execute_limited;
 use expr_limits::{Limits, Outcome};
 use expr_lowering::{Code, Pointer};
-use expr_machine::Machine;
+use expr_machine::World;
 use expr_meaning::Functions;
 use expr_pattern::Pattern;
 use expr_value::{Result, Value};
@@ -42,13 +41,13 @@ pub fn execute_in<
     ensures pattern { limits ≡ None → NeverRefusesWith (H.host host.now) bad_pattern
         → CodeKeeps L.held K.held code.now → RefusesNoPattern result }
 {
-    let machine = Machine {
+    let world = World {
         alloc,
         host,
         provider,
     };
     match limits {
-        Some(limits) => execute_limited(&machine, code, &limits),
-        None => Ok(Outcome::Answered(machine.execute_once(code)?)),
+        Some(limits) => world.execute_limited(code, &limits),
+        None => Ok(Outcome::Answered(world.execute_once(code)?)),
     }
 }

@@ -18,7 +18,7 @@ use crate::replies::CallReply;
 use expr_context::ContextProvider;
 use expr_limits::{Limits, Outcome};
 use expr_lowering::{Code, Pointer};
-use expr_machine::Machine;
+use expr_machine::World;
 use expr_meaning::Functions;
 use expr_pattern::Pattern;
 use expr_tree::node::Program;
@@ -101,10 +101,10 @@ fn run_in<H: Functions>(
     ensures pattern { NeverRefusesWith (H.host host.now) bad_pattern → ProgramKeeps program.now
         → RefusesNoPattern result }
 {
-    let machine = Machine {
+    let world = World {
         alloc,
         host,
         provider: ctx,
     };
-    Ok(Outcome::Answered(machine.answer_program(program)?))
+    Ok(Outcome::Answered(world.answer_program(program)?))
 }

@@ -1,0 +1,132 @@
+//! Why a run stops without a value.
+ghost use Rattle.std.specs.Prelude.{◌≡◌, ◌⊎◌, ℕ, Bool, List, false, true, string_bytes};
+ghost use Rattle.expr_machine.specs.Halts.{IsMemory};
+ghost use Rattle.expr_machine.specs.declared.halt.Halt.{Halt as declared};
+ghost use Rattle.expr_machine.specs.declared.halt.Halt.TheVariants.{Asks, Paused, Refused};
+
+use expr_limits::{Budget, Limit, Meter, NoLimit, NoMeter};
+use expr_meaning::ExprCall;
+use expr_value::Error;
+use std::alloc::{AllocError, Global};
+
+/// Why a run has no value, or none yet.
+#[derive(Drop)]
+pub enum Halt {
+    /// It failed.
+    Refused(Error),
+    /// It would exceed a limit.
+    Limit(Limit),
+    /// It is at a call of the host. It goes on with the reply.
+    Asks(Box<ExprCall>),
+    /// It has taken the steps that it was given for now. It goes on when asked to.
+    Paused,
+}
+
+impl From<Error> for Halt {
+    ghost use Rattle.expr_machine.specs.declared.halt.Halt.TheVariants.{Refused};
+
+    ghost from_gives = { λ e r. r ≡ Refused e };
+
+    fn from(error: Error) -> Halt {
+        Halt::Refused(error)
+    }
+}
+
+impl From<Limit> for Halt {
+    ghost use Rattle.expr_machine.specs.declared.halt.Halt.TheVariants as halt;
+
+    ghost from_gives = { λ l r. r ≡ halt.Limit l };
+
+    fn from(limit: Limit) -> Halt {
+        Halt::Limit(limit)
+    }
+}
+
+impl From<AllocError> for Halt {
+    ghost use Rattle.expr_machine.specs.declared.halt.Halt.TheVariants.{Refused};
+    ghost use Rattle.expr_error.specs.declared.error.Error.TheVariants.{MemoryError};
+
+    ghost from_gives = { λ e r. r ≡ Refused MemoryError };
+
+    fn from(_error: AllocError) -> Halt {
+        Halt::Refused(Error::MemoryError)
+    }
+}
+
+impl From<NoLimit> for Halt {
+    ghost from_gives = { λ _ _. ⊥ };
+
+    fn from(limit: NoLimit) -> Halt {
+        match limit {}
+    }
+}
+
+/// A meter of a run, and why the run stops.
+pub trait RunMeter: Meter {
+    /// Why the run stops.
+    type Halt: Drop + From<Error> + From<AllocError> + From<Self::Stop>;
+
+    /// Whether the run stops at a call of the host's function of this name.
+    ghost stops: { Self → List ℕ → Bool };
+
+    /// What a halt means.
+    ghost halt: { Self.Halt → declared };
+
+    /// Whether the run stops at a call of the host's function of this name.
+    fn stops_at(&self, name: &str) -> bool
+        ensures { result ≡ stops self.now name.now };
+
+    /// The halt at this call.
+    fn asks(&self, alloc: Global, call: ExprCall) -> Self::Halt
+        requires { stops self.now (string_bytes call.ident) ≡ true }
+        ensures { IsMemory (halt result) ⊎ (halt result ≡ Asks call) };
+
+    /// The halt of a run that pauses. A run that counts nothing pauses only after 2^64 turns of the loop, which take
+    /// centuries.
+    fn pauses(&self) -> Self::Halt
+        ensures { IsMemory (halt result) ⊎ (halt result ≡ Paused) };
+}
+
+impl RunMeter for NoMeter {
+    type Halt = Error;
+
+    ghost stops = { λ _ _. false };
+
+    ghost halt = { λ e. Refused e };
+
+    #[inline(always)]
+    fn stops_at(&self, _name: &str) -> bool {
+        false
+    }
+
+    fn asks(&self, _alloc: Global, _call: ExprCall) -> Error {
+        unreachable!()
+    }
+
+    #[inline(always)]
+    fn pauses(&self) -> Error {
+        Error::MemoryError
+    }
+}
+
+impl RunMeter for Budget {
+    type Halt = Halt;
+
+    ghost stops = { λ _ _. false };
+
+    ghost halt = { λ h. h };
+
+    #[inline(always)]
+    fn stops_at(&self, _name: &str) -> bool {
+        false
+    }
+
+    fn asks(&self, _alloc: Global, _call: ExprCall) -> Halt {
+        unreachable!()
+    }
+
+    #[inline(always)]
+    fn pauses(&self) -> Halt {
+        Halt::Paused
+    }
+}
