@@ -15,10 +15,10 @@ MOST_JOBS = 3
 CRITICAL = 0.8
 
 
-def seconds_of(table: pathlib.Path) -> dict[str, int]:
-    """Returns the seconds of each crate's proof, by the table of docs/GATE.md: | `crate` | edits | seconds |."""
-    found = re.findall(r"(?m)^\| `(\w+)` \| \d+ \| ([\d,]+) \|", table.read_text(encoding="utf-8"))
-    return {name: int(seconds.replace(",", "")) for name, seconds in found}
+def seconds_of(table: pathlib.Path, *, of_edits: bool = False) -> dict[str, int]:
+    """Returns the seconds of each crate's proof, or of its edits, by docs/GATE.md: | `crate` | edits | proof | edits' seconds |."""
+    found = re.findall(r"(?m)^\| `(\w+)` \| \d+ \| ([\d,]+) \| *([\d,]*) *\|", table.read_text(encoding="utf-8"))
+    return {name: int((edits if of_edits else proof).replace(",", "") or 0) for name, proof, edits in found}
 
 
 class Plan(Generic[Task]):

@@ -32,14 +32,14 @@ from markdown import blocks_of
 
 # Who reads the rows of a kind. Those without one are expressions: the bench, hosts and the
 # programs read them. hosts/c/rows.c reads those of HOSTS, bin/expr_runs and bin/lines_runs
-# those of PROGRAMS, and bin/hostile its own.
+# those of PROGRAMS, and bin/hostile its own. The bench and hosts/c/rows.c both read `text` and `versions`.
 BENCH = (
-    "calls copy environment lent made odd once order parts plain printed program refusing starts "
-    "string tokens topic within"
+    "calls copy environment held lent made name odd once order parts plain printed program refusing scope "
+    "starts string text tokens topic versions within"
 ).split()
 HOSTS = (
     "added_function added_name added_zone context damaged limited names nest once printed "
-    "zone_name"
+    "text versions zone_name"
 ).split()
 PROGRAMS = "exprlang expr_lines".split()
 KINDS = {"", "hostile", *BENCH, *HOSTS, *PROGRAMS}

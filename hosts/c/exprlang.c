@@ -204,29 +204,33 @@ expr_status expr_compile(expr_engine *engine, const char *text, size_t length, e
     return status;
 }
 
-/* The words that an ask says of a program, each on a line. */
-static expr_status words_of(expr_engine *engine, enum ask ask, expr_program program, size_t *count, const char **names) {
+/* What an ask says of a program, and how much that is: the words that stand on lines, or the bytes of its text. */
+static expr_status said_of(expr_engine *engine, enum ask ask, expr_program program, size_t *count, const char **text) {
     if (count) *count = 0;
-    if (names) *names = "";
+    if (text) *text = "";
     if (!engine) return EXPR_MISUSE;
     call *c = begun(engine, ask);
     c->program = of_program(program);
     expr_status status = asked(engine);
     if (status != EXPR_OK) return status;
-    size_t found = (size_t)c->number;
-    const char *said = names ? whole(engine, SAID) : "";
+    size_t found = ask == PROGRAM_TEXT ? c->length : (size_t)c->number;
+    const char *said = text ? whole(engine, SAID) : "";
     if (!said) return EXPR_MEMORY;
     if (count) *count = found;
-    if (names) *names = said;
+    if (text) *text = said;
     return EXPR_OK;
 }
 
 expr_status expr_names(expr_engine *engine, expr_program program, size_t *count, const char **names) {
-    return words_of(engine, NAMES, program, count, names);
+    return said_of(engine, NAMES, program, count, names);
 }
 
 expr_status expr_functions(expr_engine *engine, expr_program program, size_t *count, const char **names) {
-    return words_of(engine, FUNCTIONS, program, count, names);
+    return said_of(engine, FUNCTIONS, program, count, names);
+}
+
+expr_status expr_program_text(expr_engine *engine, expr_program program, size_t *length, const char **text) {
+    return said_of(engine, PROGRAM_TEXT, program, length, text);
 }
 
 expr_status expr_uses_env(expr_engine *engine, expr_program program, int *uses) {
@@ -494,6 +498,12 @@ expr_status expr_set_now(expr_engine *engine, expr_environment environment, int6
     call *c = on_environment(engine, NOW, environment);
     c->number = second;
     c->fraction = fraction;
+    return asked(engine);
+}
+
+expr_status expr_add_versions(expr_engine *engine, expr_environment environment) {
+    if (!engine) return EXPR_MISUSE;
+    on_environment(engine, VERSIONS, environment);
     return asked(engine);
 }
 

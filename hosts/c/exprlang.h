@@ -200,6 +200,10 @@ expr_status expr_names(expr_engine *engine, expr_program program, size_t *count,
 expr_status expr_uses_env(expr_engine *engine, expr_program program, int *uses);
 /* Says which functions a program calls, as expr_names says names, in byte order. Methods of values are not among them. */
 expr_status expr_functions(expr_engine *engine, expr_program program, size_t *count, const char **names);
+/* Says a program as a string, in the normal form: brackets only where they are needed, one space round each operator. All
+ * strings of a program have the same. It compiles to this very program, and its tree is never higher than that of your string.
+ * It stays there until the next call on the engine. If the call fails, it is empty. Both pointers may be null. */
+expr_status expr_program_text(expr_engine *engine, expr_program program, size_t *length, const char **text);
 /* Drops a program: its handle finds nothing from now on. */
 expr_status expr_drop_program(expr_engine *engine, expr_program program);
 
@@ -322,6 +326,9 @@ expr_status expr_add_zone_rule(expr_engine *engine, expr_environment environment
                                const char *rule, size_t length);
 /* Sets the time that `now()` returns. */
 expr_status expr_set_now(expr_engine *engine, expr_environment environment, int64_t second, uint32_t fraction);
+/* Adds two functions on versions: versionMatches("1.4.2", ">=1.2, <2") is true, versionCompare("1.9.0", "1.10.0") is -1. The
+ * engine runs them itself, so no run waits for you. A function of this name that you add by expr_add_name goes first. */
+expr_status expr_add_versions(expr_engine *engine, expr_environment environment);
 /* Drops an environment: its handle finds nothing from now on. */
 expr_status expr_drop_environment(expr_engine *engine, expr_environment environment);
 
@@ -375,7 +382,8 @@ expr_status expr_refuse(expr_engine *engine, const char *text, size_t length, ex
  *     expr_set_limits                                             MISUSE
  *     expr_compile                                                SYNTAX LITERAL MEMORY MISUSE and LIMIT_NESTING LIMIT_PATTERNS
  *     expr_names, expr_functions, expr_fill_missing               UNKNOWN MEMORY
- *     expr_uses_env, expr_drop_..                                 UNKNOWN
+ *     expr_program_text                                           UNKNOWN MEMORY
+ *     expr_uses_env, expr_add_versions, expr_drop_..              UNKNOWN
  *     expr_context_new, expr_environment_new                      MEMORY
  *     expr_context_json                                           EVALUATION MEMORY MISUSE
  *     expr_context_built                                          EVALUATION MEMORY MISUSE

@@ -15,12 +15,13 @@ static const char *const TOKENS[] = {
     "1", "2", "0", "9223372036854775807", "9223372036854775808", "\"a\"", "'b'", "`c`", "x", "y", "list", "map1", "#", "#acc", "$env", "nil", "true", "false",
     "+", "-", "*", "/", "%", "^", "**", "==", "!=", "<", ">", "<=", ">=", "and", "or", "not", "&&", "||", "!", "??", "?", ":", "?.", ".", "..", ",", ";", "|",
     "(", ")", "[", "]", "{", "}", "let", "=", "if", "else", "in", "contains", "startsWith", "endsWith", "matches", "filter(", "map(", "sum(", "len(", "upper(",
-    "toJSON(", "fromJSON(", "duration(\"1h\")", "now()", "sort(", "groupBy(", "reduce(", "repeat(", "split(", "asks(", "asks(1)", " ", "\n", "/*", "*/", "//", "\\", "\"", "\xc3\xa9"};
+    "toJSON(", "fromJSON(", "duration(\"1h\")", "now()", "sort(", "groupBy(", "reduce(", "repeat(", "split(", "asks(", "asks(1)", "versionMatches(", " ", "\n", "/*", "*/", "//", "\\", "\"", "\xc3\xa9"};
 #define TOKEN_COUNT (sizeof TOKENS / sizeof *TOKENS)
 
 static const char *const WELL[] = {
     "1 + 2 * 3", "filter(1..20, # % 2 == 0)", "let a = 3; a * a", "x ?? 1", "{\"a\": [1, x]}.a[1]", "upper(\"abc\") + \"d\"", "map(list, # * 2)", "toJSON({\"a\": list})",
-    "sum(list) > 3 ? \"big\" : \"small\"", "\"a\" matches \"^[a-z]$\"", "map1.b", "list[1:]", "reduce(list, # + #acc)", "duration(\"90s\")", "map(list, asks(#))", "asks(x) + asks(y)", "fromJSON(\"[1,{\\\"a\\\":null}]\")"};
+    "sum(list) > 3 ? \"big\" : \"small\"", "\"a\" matches \"^[a-z]$\"", "map1.b", "list[1:]", "reduce(list, # + #acc)", "duration(\"90s\")", "map(list, asks(#))", "asks(x) + asks(y)", "fromJSON(\"[1,{\\\"a\\\":null}]\")",
+    "versionMatches(\"1.2.3-a.1+b\", \">=1.2, <2\")", "versionCompare(\"1.0.0\", y)"};
 #define WELL_COUNT (sizeof WELL / sizeof *WELL)
 
 #define FAIL(what) do { printf("fuzz.c:%d: %s\n", __LINE__, what); exit(1); } while (0)
@@ -159,6 +160,23 @@ static void run_again(expr_program program, expr_environment environment, expr_c
     limit();
 }
 
+/* Compiles what is said of a program, if its handle finds one: that comes to the same text. */
+static void say_again(expr_program program, expr_status status) {
+    size_t length, again;
+    const char *text;
+    if (expr_program_text(engine, program, &length, &text) != status) FAIL("the text of a program");
+    if (status != EXPR_OK) return;
+    char *before = malloc(length + 1);
+    memcpy(before, text, length + 1);
+    expr_set_unlimited(engine);
+    if (expr_compile(engine, before, length, &program, NULL) != EXPR_OK) FAIL("the text of a program is none");
+    if (expr_program_text(engine, program, &again, &text) != EXPR_OK) FAIL("the text of a program");
+    if (again != length || memcmp(text, before, length)) FAIL("another text");
+    expr_drop_program(engine, program);
+    free(before);
+    limit();
+}
+
 /* Runs a handle of some sort: kept, dropped, forged, of another kind. */
 static void run_any(uint32_t turn) {
     expr_program program = programs[next(16)];
@@ -179,6 +197,7 @@ static void run_any(uint32_t turn) {
     status = expr_names(engine, program, &names, NULL);
     if (status != EXPR_OK && status != EXPR_UNKNOWN) FAIL("names");
     if (expr_functions(engine, program, &names, NULL) != status) FAIL("functions");
+    if (next(4) == 0) say_again(program, status);
     if (expr_uses_env(engine, program, &uses) != status || (uses && status != EXPR_OK)) FAIL("uses_env");
     if (next(8)) return;
     status = expr_fill_missing(engine, program, context);
@@ -212,7 +231,7 @@ static void forge_any(void *forged) {
     uint8_t room[64];
     size_t length;
     char *text = any_text(&length);
-    c.ask = next(50) ? next(FILL_MISSING + 3) : UINT32_MAX - next(9);
+    c.ask = next(50) ? next(PROGRAM_TEXT + 3) : UINT32_MAX - next(9);
     if (c.ask == CLEAR && next(50)) c.ask = LIMIT;
     c.status = next(99);
     c.kind = next(3) ? next(16) : UINT32_MAX - next(9);
@@ -231,13 +250,14 @@ static void forge_any(void *forged) {
     if (c.status > EXPR_LIMIT_SIZE) FAIL("no status");
     if (c.ask == LIMIT && c.status != (is_limit ? EXPR_OK : EXPR_MISUSE)) FAIL("a limit");
     if (c.ask == UNLIMITED && c.status != EXPR_OK) FAIL("no limits");
-    if (c.ask > FILL_MISSING && c.status != EXPR_MISUSE) FAIL("nothing is asked");
+    if (c.ask > PROGRAM_TEXT && c.status != EXPR_MISUSE) FAIL("nothing is asked");
     endings[3][c.status]++;
     free(text);
 }
 
 static int has_host(void) {
-    return expr_environment_new(engine, &host) == EXPR_OK && expr_add_name(engine, host, "asks", EXPR_Z) == EXPR_OK;
+    return expr_environment_new(engine, &host) == EXPR_OK && expr_add_name(engine, host, "asks", EXPR_Z) == EXPR_OK &&
+           expr_add_versions(engine, host) == EXPR_OK;
 }
 
 int main(int count, char **words) {

@@ -1,5 +1,6 @@
 /* loop WAY COUNT TEXT [NAME=NUMBER].. : so many times compiles TEXT (compile), runs its program among the names (run), does
- * both (eval), or asks the least that there is (ask); within the limits for untrusted expressions, or within none if UNLIMITED is set. */
+ * both (eval), writes its program in the normal form (text), or asks the least that there is (ask); within the limits for untrusted
+ * expressions, or within none if UNLIMITED is set. Where TEXT is `-`, it is what is on the input. */
 #include "exprlang.h"
 #include <stdio.h>
 #include <stdlib.h>
@@ -10,12 +11,27 @@ static expr_engine *engine;
 static expr_program program;
 static expr_context context;
 
+/* What is on the input, with a zero byte behind it. */
+static char *input(void) {
+    size_t length = 0, room = 1 << 20;
+    char *text = malloc(room);
+    while (text) {
+        length += fread(text + length, 1, room - 1 - length, stdin);
+        text[length] = 0;
+        if (length < room - 1) break;
+        room *= 2;
+        text = realloc(text, room);
+    }
+    return text;
+}
+
 static int turn(char way, const char *text, size_t length) {
     expr_program one;
     expr_answer answer;
     switch (way) {
     case 'c': return expr_compile(engine, text, length, &one, NULL) || expr_drop_program(engine, one);
     case 'r': return expr_run(engine, program, EXPR_NO_ENVIRONMENT, context, &answer);
+    case 't': return expr_program_text(engine, program, NULL, NULL);
     case 'e': return expr_eval(engine, text, length, EXPR_NO_ENVIRONMENT, context, &answer);
     default: return expr_drop_program(engine, (expr_program){0, 0, UINT64_MAX}) != EXPR_UNKNOWN;
     }
@@ -24,7 +40,8 @@ static int turn(char way, const char *text, size_t length) {
 int main(int count, char **words) {
     if (count < 4) return 2;
     long turns = atol(words[2]);
-    const char *text = words[3];
+    const char *text = strcmp(words[3], "-") ? words[3] : input();
+    if (!text) return 3;
     size_t length = strlen(text);
     engine = expr_open();
     if (getenv("UNLIMITED")) expr_set_unlimited(engine);

@@ -99,6 +99,7 @@ static int handles(expr_engine *engine) {
     CHECK(expr_run(engine, program, ALONE, &answer) == EXPR_UNKNOWN && *expr_message(engine));
     CHECK(expr_names(engine, program, &count, &names) == EXPR_UNKNOWN && count == 0 && !*names);
     CHECK(expr_functions(engine, program, &count, &names) == EXPR_UNKNOWN && count == 0 && !*names);
+    CHECK(expr_program_text(engine, program, &count, &names) == EXPR_UNKNOWN && count == 0 && !*names);
     uses = 1;
     CHECK(expr_uses_env(engine, program, &uses) == EXPR_UNKNOWN && uses == 0);
     CHECK(expr_fill_missing(engine, program, context) == EXPR_UNKNOWN);
@@ -128,8 +129,10 @@ static int engines(expr_engine *engine, expr_engine *other) {
     CHECK(expr_run(engine, mine, away, context, &answer) == EXPR_UNKNOWN);
     CHECK(expr_uses_env(other, mine, &uses) == EXPR_UNKNOWN && expr_names(other, mine, NULL, NULL) == EXPR_UNKNOWN);
     CHECK(expr_functions(other, mine, NULL, NULL) == EXPR_UNKNOWN && expr_fill_missing(other, theirs, context) == EXPR_UNKNOWN);
+    CHECK(expr_program_text(other, mine, NULL, NULL) == EXPR_UNKNOWN && expr_program_text(engine, theirs, NULL, NULL) == EXPR_UNKNOWN);
     CHECK(expr_set_nil(other, context, "x", EXPR_Z) == EXPR_UNKNOWN && expr_add_name(other, host, "f", EXPR_Z) == EXPR_UNKNOWN);
     CHECK(expr_add_fixed_zone(other, host, "Z", EXPR_Z, 0) == EXPR_UNKNOWN && expr_set_now(other, host, 0, 0) == EXPR_UNKNOWN);
+    CHECK(expr_add_versions(other, host) == EXPR_UNKNOWN && expr_add_versions(NULL, host) == EXPR_MISUSE);
     CHECK(expr_drop_program(other, mine) == EXPR_UNKNOWN && expr_drop_context(other, context) == EXPR_UNKNOWN);
     CHECK(expr_drop_environment(other, host) == EXPR_UNKNOWN && expr_drop_program(engine, theirs) == EXPR_UNKNOWN);
     CHECK(expr_run(engine, mine, host, context, &answer) == EXPR_OK && answer.number == 2);

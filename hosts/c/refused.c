@@ -33,7 +33,7 @@ static int ok(expr_status status) {
     return status == EXPR_OK;
 }
 
-/* A run that stops at a limit, unless memory is refused. */
+/* A run that stops at a limit, or an error, unless memory is refused. */
 static void stop(expr_engine *engine, const char *text, expr_status limit) {
     expr_status status = expr_eval(engine, text, EXPR_Z, EXPR_NO_ENVIRONMENT, EXPR_NO_CONTEXT, NULL);
     if (status != limit) ok(status == EXPR_OK ? EXPR_MISUSE : status);
@@ -154,6 +154,10 @@ static void additions(expr_engine *engine) {
     }
 }
 
+/* What the program of `work` says. */
+static const char NORMAL[] =
+    "map(filter(xs, {# > 1}), {{n: #, t: string(#) + \"!\"}})[0].t matches \"[0-9]+!\" ? built ?? 1 : 2";
+
 /* All kinds of work; the parts that are refused are passed over. */
 static void work(expr_engine *engine) {
     expr_program rule;
@@ -172,6 +176,7 @@ static void work(expr_engine *engine) {
     int has_host = ok(expr_environment_new(engine, &host)) && ok(expr_add_fixed_zone(engine, host, "Here", EXPR_Z, 3600)) &&
                    ok(expr_add_zone_rule(engine, host, "There", EXPR_Z, "EST5EDT,M3.2.0,M11.1.0", EXPR_Z)) &&
                    ok(expr_set_now(engine, host, 5, 6));
+    if (has_host && expr_add_versions(engine, host) != EXPR_OK) FAIL("versions take no memory");
     if (has_context) {
         set_each(engine, context);
         build(engine, context);
@@ -184,11 +189,18 @@ static void work(expr_engine *engine) {
         if (count != (is_done ? 3 : 0) || strcmp(names, is_done ? "#\nbuilt\nxs" : "")) FAIL("names");
         is_done = ok(expr_functions(engine, rule, &count, &names));
         if (count != (is_done ? 3 : 0) || strcmp(names, is_done ? "filter\nmap\nstring" : "")) FAIL("functions");
+        is_done = ok(expr_program_text(engine, rule, &count, &names));
+        if (count != strlen(names) || strcmp(names, is_done ? NORMAL : "")) FAIL("the text of a program");
         if (expr_uses_env(engine, rule, &uses) != EXPR_OK || uses) FAIL("uses_env takes no memory");
     }
     if (has_rule && ok(expr_context_new(engine, &sparse))) fill(engine, rule, sparse);
     if (has_rule && has_context && has_host && ok(expr_run(engine, rule, host, context, &answer))) look(engine, context);
     ok(expr_eval(engine, "repeat(\"long\", 100)", EXPR_Z, EXPR_NO_ENVIRONMENT, EXPR_NO_CONTEXT, &answer));
+    if (has_host && ok(expr_eval(engine, "versionMatches(\"1.2.0-a+b\", \">=1.2.0-a, <2\") and versionCompare(\"1.0.0-b\", \"1.0.0-a\") == 1",
+                                 EXPR_Z, host, EXPR_NO_CONTEXT, &answer)) && answer.number != 1) FAIL("versions");
+    if (ok(expr_eval(engine, "\"abc\" matches (\"^a\" + \"b\")", EXPR_Z, EXPR_NO_ENVIRONMENT, EXPR_NO_CONTEXT, &answer)) &&
+        answer.number != 1) FAIL("a pattern that is made in a run");
+    stop(engine, "1 +\n* 2", EXPR_SYNTAX);
     stop(engine, "map(1..300, {string(#) + \"!\"})", EXPR_LIMIT_SIZE);
     stop(engine, "reduce(1..9, [#acc], 0)", EXPR_LIMIT_DEPTH);
     stop(engine, "all(1..50, {all(1..50, {[#] != [0]})})", EXPR_LIMIT_STEPS);

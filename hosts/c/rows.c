@@ -222,6 +222,29 @@ static void context(expr_engine *engine, const word *words, size_t count) {
     say_end(engine, status);
 }
 
+/* An expression, in an environment with the functions on versions. */
+static void versions(expr_engine *engine, const word *words, size_t count) {
+    expr_environment host;
+    (void)count;
+    expr_environment_new(engine, &host);
+    expr_add_versions(engine, host);
+    say_end(engine, expr_eval(engine, words[0].text, words[0].length, host, EXPR_NO_CONTEXT, NULL));
+    expr_drop_environment(engine, host);
+}
+
+/* An expression: the text of its program. */
+static void program_text(expr_engine *engine, const word *words, size_t count) {
+    expr_program program;
+    const char *text;
+    size_t length;
+    (void)count;
+    expr_status status = expr_compile(engine, words[0].text, words[0].length, &program, NULL);
+    if (status == EXPR_OK) status = expr_program_text(engine, program, &length, &text);
+    if (status == EXPR_OK) say_bytes(text, length);
+    else say_end(engine, status);
+    expr_drop_program(engine, program);
+}
+
 /* A name: whether it is free for a zone. */
 static void zone_name(expr_engine *engine, const word *words, size_t count) {
     expr_environment host;
@@ -309,7 +332,7 @@ static void damaged(expr_engine *engine, const word *words, size_t count) {
 
 static const struct { const char *kind; void (*come_to)(expr_engine *, const word *, size_t); } kinds[] = {
     {"once", expression}, {"printed", expression}, {"limited", limited}, {"nest", nest}, {"names", names},
-    {"context", context}, {"zone_name", zone_name}, {"damaged", damaged},
+    {"context", context}, {"zone_name", zone_name}, {"damaged", damaged}, {"versions", versions}, {"text", program_text},
 };
 
 /* What a row comes to, in `said`; answers whether there is such a kind. */

@@ -283,6 +283,83 @@ static int functions(expr_engine *engine) {
     return 0;
 }
 
+/* A program as a string: the same for each string of the program, and compiled again the same. */
+static int normal_form(expr_engine *engine) {
+    static const struct { const char *text, *normal; } rows[] = {
+        {"(a+b)*c", "(a + b) * c"},
+        {"a+(b*c)", "a + b * c"},
+        {"!(x in xs)&&y", "not (x in xs) and y"},
+        {"filter(xs,#.age>=18)|len()", "filter(xs, {.age >= 18}) | len()"},
+        {"'it\\'s \"so\"'", "\"it\\\\'s \\\"so\\\"\""},
+        {"let n=1;n ?? 0x10", "let n = 1;\nn ?? 16"},
+    };
+    expr_program program, again;
+    const char *text;
+    char kept[64];
+    size_t length;
+    for (size_t i = 0; i < sizeof rows / sizeof *rows; i++) {
+        CHECK(expr_compile(engine, rows[i].text, EXPR_Z, &program, NULL) == EXPR_OK);
+        CHECK(expr_program_text(engine, program, &length, &text) == EXPR_OK && length == strlen(rows[i].normal));
+        CHECK(!strcmp(text, rows[i].normal));
+        /* the string may be handed in as it is, and stands for the same program */
+        CHECK(expr_compile(engine, text, length, &again, NULL) == EXPR_OK);
+        CHECK(expr_program_text(engine, again, NULL, &text) == EXPR_OK && !strcmp(text, rows[i].normal));
+        CHECK(expr_drop_program(engine, program) == EXPR_OK && expr_drop_program(engine, again) == EXPR_OK);
+    }
+    /* a zero byte in a string, and a text that is longer than what came before */
+    CHECK(expr_compile(engine, "\"a\0b\"", 5, &program, NULL) == EXPR_OK);
+    CHECK(expr_program_text(engine, program, &length, &text) == EXPR_OK && length == 5 && !memcmp(text, "\"a\0b\"", 6));
+    for (size_t i = 0; i < sizeof kept; i++) kept[i] = i % 2 ? '+' : '1';
+    CHECK(expr_compile(engine, kept, sizeof kept - 1, &program, NULL) == EXPR_OK);
+    CHECK(expr_program_text(engine, program, &length, &text) == EXPR_OK && length == 1 + 4 * 31 && strlen(text) == length);
+    CHECK(expr_program_text(engine, program, &length, NULL) == EXPR_OK && length == 1 + 4 * 31);
+    /* an answer stays, and a program that was dropped has none */
+    CHECK(expr_eval(engine, "[7]", EXPR_Z, ALONE, NULL) == EXPR_OK);
+    CHECK(expr_program_text(engine, program, NULL, NULL) == EXPR_OK && !strcmp(expr_shown(engine, NULL), "[7]"));
+    CHECK(expr_drop_program(engine, program) == EXPR_OK);
+    CHECK(expr_program_text(engine, program, &length, &text) == EXPR_UNKNOWN && length == 0 && !*text);
+    CHECK(!strcmp(expr_shown(engine, NULL), "[7]") && expr_program_text(NULL, program, &length, &text) == EXPR_MISUSE);
+    return 0;
+}
+
+/* The functions on versions: an environment has them once they are added, and a function of a host goes before them. */
+static int versions(expr_engine *engine) {
+    static const char text[] = "versionMatches(app, \">=1.9, <2\") and versionCompare(app, \"1.9.0\") == 1";
+    expr_environment host, bare;
+    expr_context context;
+    expr_program program;
+    expr_answer answer;
+    const char *names, *functions, *name;
+    size_t count;
+    CHECK(expr_environment_new(engine, &host) == EXPR_OK && expr_environment_new(engine, &bare) == EXPR_OK);
+    CHECK(expr_context_new(engine, &context) == EXPR_OK);
+    CHECK(expr_set_string(engine, context, "app", EXPR_Z, "1.10.0", EXPR_Z) == EXPR_OK);
+    CHECK(expr_compile(engine, text, EXPR_Z, &program, NULL) == EXPR_OK);
+    CHECK(expr_run(engine, program, host, context, &answer) == EXPR_EVALUATION);
+    CHECK(expr_add_versions(engine, host) == EXPR_OK && expr_add_versions(engine, host) == EXPR_OK);
+    CHECK(expr_run(engine, program, host, context, &answer) == EXPR_OK && answer.kind == EXPR_BOOL && answer.number == 1);
+    CHECK(expr_run(engine, program, bare, context, &answer) == EXPR_EVALUATION);
+    CHECK(expr_names(engine, program, &count, &names) == EXPR_OK && count == 1 && !strcmp(names, "app"));
+    CHECK(expr_functions(engine, program, &count, &functions) == EXPR_OK && count == 2);
+    CHECK(!strcmp(functions, "versionCompare\nversionMatches"));
+    /* what else is added stays, and messages say what was wrong */
+    CHECK(expr_set_now(engine, host, 0, 0) == EXPR_OK && expr_add_fixed_zone(engine, host, "Z1", EXPR_Z, 60) == EXPR_OK);
+    CHECK(expr_run(engine, program, host, context, &answer) == EXPR_OK && answer.number == 1);
+    CHECK(expr_set_string(engine, context, "app", EXPR_Z, "1.10", EXPR_Z) == EXPR_OK);
+    CHECK(expr_run(engine, program, host, context, &answer) == EXPR_EVALUATION && strstr(expr_message(engine), "found \"1.10\""));
+    CHECK(expr_set_integer(engine, context, "app", EXPR_Z, 1) == EXPR_OK);
+    CHECK(expr_run(engine, program, host, context, &answer) == EXPR_EVALUATION);
+    CHECK(!strcmp(expr_message(engine), "versionMatches takes two strings, found an Integer, a String"));
+    CHECK(expr_add_versions(engine, EXPR_NO_ENVIRONMENT) == EXPR_UNKNOWN);
+    /* a function of this name that the host answers itself */
+    CHECK(expr_add_name(engine, host, "versionMatches", EXPR_Z) == EXPR_OK);
+    CHECK(expr_run(engine, program, host, context, &answer) == EXPR_ASKS);
+    CHECK(expr_asked(engine, &name, NULL) == EXPR_OK && !strcmp(name, "versionMatches"));
+    CHECK(expr_push_bool(engine, 0) == EXPR_OK && expr_reply(engine, &answer) == EXPR_OK && answer.number == 0);
+    CHECK(expr_drop_environment(engine, host) == EXPR_OK && expr_add_versions(engine, host) == EXPR_UNKNOWN);
+    return 0;
+}
+
 /* The call that waits: what is refused leaves it, and so do calls about other things. */
 static int waiting(expr_engine *engine) {
     expr_environment host;
@@ -325,8 +402,8 @@ static int waiting(expr_engine *engine) {
 int main(void) {
     expr_engine *engine = expr_open();
     CHECK(engine);
-    int failed = programs(engine) || needs(engine) || texts(engine) || named(engine) || built(engine) || refusals(engine) ||
-                 environments(engine) || functions(engine) || waiting(engine);
+    int failed = programs(engine) || needs(engine) || normal_form(engine) || texts(engine) || named(engine) || built(engine) || refusals(engine) ||
+                 environments(engine) || functions(engine) || versions(engine) || waiting(engine);
     expr_close(engine);
     expr_close(NULL);
     if (!failed) printf("test: ok\n");

@@ -1,4 +1,5 @@
-// Go's expr, whose machine is kept from turn to turn.
+// Go's expr, whose machine is kept from turn to turn. With types, a program is compiled with `expr.Env` of the names, as its users
+// do and its own benchmarks; without, the compiler knows no name.
 package main
 
 import (
@@ -11,8 +12,22 @@ type peer struct {
 	machine vm.VM
 }
 
-func prepared(code string) *peer {
-	program, err := expr.Compile(code)
+// A function of this type is called without reflection, if the compiler knows it.
+func twiceOf(arguments ...interface{}) interface{} { return twice(arguments[0].(int)) }
+
+func function(typed bool) interface{} {
+	if typed {
+		return twiceOf
+	}
+	return twice
+}
+
+func prepared(code string, names map[string]interface{}, typed bool) *peer {
+	var options []expr.Option
+	if typed {
+		options = append(options, expr.Env(names))
+	}
+	program, err := expr.Compile(code, options...)
 	check(err)
 	return &peer{program: program}
 }

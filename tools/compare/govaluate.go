@@ -7,7 +7,9 @@ type peer struct {
 	expression *govaluate.EvaluableExpression
 }
 
-func prepared(code string) *peer {
+func function(typed bool) interface{} { return twice }
+
+func prepared(code string, names map[string]interface{}, typed bool) *peer {
 	expression, err := govaluate.NewEvaluableExpression(code)
 	check(err)
 	return &peer{expression}

@@ -1,56 +1,97 @@
-/* Ours from C: PROGRAM PART TURNS CODE [NAME=JSON].. does a part so many times: `compile` (and lets the program go), or `run` of a
-   program that is kept, in a context that is kept; both within the limits for untrusted expressions, which an engine has at first, and without
-   limits where the part is `compile-unlimited` or `run-unlimited`. The answer goes to standard output, and the nanoseconds of all
-   turns to standard error. */
+/* Ours from C: turns.h says what it does. A program is kept, and so is its context; `compile` lets the program go. An engine has
+ * the limits for untrusted expressions at first; a part whose name ends in `-unlimited` has none. A call of `twice` is answered
+ * by replies: the run ends with EXPR_ASKS, and goes on with what this host replies. */
 #include "exprlang.h"
-#include <stdio.h>
-#include <stdlib.h>
-#include <string.h>
-#include <time.h>
+#include "turns.h"
 
 static expr_engine *engine;
+static expr_program program;
+static expr_context context;
+static expr_environment environment;
 
 static void check(expr_status status)
 {
-    if (status != EXPR_OK) {
-        fprintf(stderr, "%s: %s\n", expr_status_word(status), expr_message(engine));
-        exit(1);
+    if (status == EXPR_OK) return;
+    fprintf(stderr, "%s: %s\n", expr_status_word(status), expr_message(engine));
+    exit(1);
+}
+
+static void push(const value *it)
+{
+    switch (it->kind) {
+    case BOOL: check(expr_push_bool(engine, (int)it->number)); break;
+    case INTEGER: check(expr_push_integer(engine, it->number)); break;
+    case STRING: check(expr_push_string(engine, it->text, it->count)); break;
+    case LIST:
+        for (size_t i = 0; i < it->count; i++) push(it->items + i);
+        check(expr_make_array(engine, it->count));
+        break;
+    case MAP:
+        for (size_t i = 0; i < it->count; i++) {
+            check(expr_push_string(engine, it->keys[i], EXPR_Z));
+            push(it->items + i);
+        }
+        check(expr_make_map(engine, it->count));
+        break;
+    default: check(expr_push_nil(engine));
     }
 }
 
-static expr_program compiled(const char *code, size_t length)
+static void set_name(const named *one)
 {
-    expr_program program;
-    check(expr_compile(engine, code, length, &program, NULL));
-    return program;
+    const value *it = &one->it;
+    switch (it->kind) {
+    case BOOL: check(expr_set_bool(engine, context, one->name, one->length, (int)it->number)); break;
+    case INTEGER: check(expr_set_integer(engine, context, one->name, one->length, it->number)); break;
+    case STRING: check(expr_set_string(engine, context, one->name, one->length, it->text, it->count)); break;
+    default:
+        push(it);
+        check(expr_set_built(engine, context, one->name, one->length));
+    }
 }
 
-int main(int count, char **words)
+static void set_names(void)
 {
-    long turns = atol(words[2]);
-    const char *code = words[3];
-    size_t length = strlen(code);
-    struct timespec start, end;
-    expr_context names;
-    expr_answer answer;
+    for (size_t i = 0; i < name_count; i++) set_name(names + i);
+}
+
+static void prepare(const char *part, const char *code)
+{
     engine = expr_open();
-    if (strstr(words[1], "-unlimited")) check(expr_set_unlimited(engine));
-    check(expr_context_new(engine, &names));
-    for (int i = 4; i < count; i++) {
-        const char *value = strchr(words[i], '=');
-        check(expr_set_json(engine, names, words[i], (size_t)(value - words[i]), value + 1, EXPR_Z));
+    environment = EXPR_NO_ENVIRONMENT;
+    if (strstr(part, "-unlimited")) check(expr_set_unlimited(engine));
+    check(expr_context_new(engine, &context));
+    if (strstr(code, "twice(")) {
+        check(expr_environment_new(engine, &environment));
+        check(expr_add_name(engine, environment, "twice", EXPR_Z));
     }
-    expr_program program = compiled(code, length);
-    clock_gettime(CLOCK_MONOTONIC, &start);
-    if (!strncmp(words[1], "compile", strlen("compile"))) {
-        for (long i = 0; i < turns; i++) check(expr_drop_program(engine, compiled(code, length)));
-    } else {
-        for (long i = 0; i < turns; i++) check(expr_run(engine, program, EXPR_NO_ENVIRONMENT, names, &answer));
+    set_names();
+    check(expr_compile(engine, code, EXPR_Z, &program, NULL));
+}
+
+static void compile_once(const char *code)
+{
+    expr_program compiled;
+    check(expr_compile(engine, code, EXPR_Z, &compiled, NULL));
+    check(expr_drop_program(engine, compiled));
+}
+
+static void run_once(void)
+{
+    expr_answer answer, argument;
+    expr_status status = expr_run(engine, program, environment, context, &answer);
+    while (status == EXPR_ASKS) {
+        check(expr_asked(engine, NULL, NULL));
+        check(expr_down(engine, 0, &argument));
+        check(expr_push_integer(engine, twice(argument.number)));
+        status = expr_reply(engine, &answer);
     }
-    clock_gettime(CLOCK_MONOTONIC, &end);
-    fprintf(stderr, "%ld\n", (end.tv_sec - start.tv_sec) * 1000000000 + (end.tv_nsec - start.tv_nsec));
-    check(expr_run(engine, program, EXPR_NO_ENVIRONMENT, names, NULL));
-    printf("%s\n", expr_shown(engine, NULL));
+    check(status);
+}
+
+static void show(void)
+{
+    run_once();
+    printf("%s", expr_shown(engine, NULL));
     expr_close(engine);
-    return 0;
 }

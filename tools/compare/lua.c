@@ -1,75 +1,111 @@
-/* Lua: PROGRAM PART TURNS CHUNK [NAME=VALUE].. does a part, `compile` or `run`, so many times. The chunk's answer goes to standard
-   output, and the nanoseconds of all turns to standard error. */
-#include <lua5.4/lua.h>
-#include <lua5.4/lauxlib.h>
-#include <lua5.4/lualib.h>
-#include <stdio.h>
-#include <stdlib.h>
-#include <string.h>
-#include <time.h>
+/* Lua or LuaJIT, called from C by the functions that both have: turns.h says what it does. Names are globals, and so is the
+ * host's function `twice`. */
+#include "turns.h"
+#ifdef __cplusplus
+extern "C" {
+#endif
+#include <lauxlib.h>
+#include <lua.h>
+#include <lualib.h>
+#ifdef __cplusplus
+}
+#endif
 
-static void load(lua_State *lua, const char *chunk)
+static lua_State *lua;
+
+static int twice_of(lua_State *state)
 {
-    if (luaL_loadstring(lua, chunk)) {
-        fprintf(stderr, "%s\n", lua_tostring(lua, -1));
-        exit(1);
+    lua_pushinteger(state, (lua_Integer)twice((int64_t)luaL_checkinteger(state, 1)));
+    return 1;
+}
+
+static void push(const value *it)
+{
+    switch (it->kind) {
+    case BOOL: lua_pushboolean(lua, (int)it->number); break;
+    case INTEGER: lua_pushinteger(lua, (lua_Integer)it->number); break;
+    case STRING: lua_pushlstring(lua, it->text, it->count); break;
+    case LIST:
+        lua_createtable(lua, (int)it->count, 0);
+        for (size_t i = 0; i < it->count; i++) {
+            push(it->items + i);
+            lua_rawseti(lua, -2, (int)i + 1);
+        }
+        break;
+    case MAP:
+        lua_createtable(lua, 0, (int)it->count);
+        for (size_t i = 0; i < it->count; i++) {
+            push(it->items + i);
+            lua_setfield(lua, -2, it->keys[i]);
+        }
+        break;
+    default: lua_pushnil(lua);
     }
 }
 
-static void call(lua_State *lua)
+static void set_names(void)
 {
-    if (lua_pcall(lua, 0, 1, 0)) {
-        fprintf(stderr, "%s\n", lua_tostring(lua, -1));
-        exit(1);
+    for (size_t i = 0; i < name_count; i++) {
+        push(&names[i].it);
+        lua_setglobal(lua, names[i].name);
     }
 }
 
-static void print(lua_State *lua)
+static void load(const char *code)
 {
-    if (!lua_istable(lua, -1)) {
-        printf("%s ", luaL_tolstring(lua, -1, NULL));
-        return;
-    }
-    for (lua_Integer i = 1; i <= luaL_len(lua, 1); i++) {
-        lua_geti(lua, 1, i);
-        print(lua);
-        lua_settop(lua, 1);
-    }
+    if (luaL_loadstring(lua, code)) stop(lua_tostring(lua, -1));
 }
 
-int main(int count, char **words)
+/* The chunk is kept as the first value on the stack. */
+static void prepare(const char *part, const char *code)
 {
-    lua_State *lua = luaL_newstate();
-    struct timespec start, end;
-    long turns = atol(words[2]);
+    (void)part;
+    lua = luaL_newstate();
     luaL_openlibs(lua);
-    for (int i = 4; i < count; i++) {
-        char *value = strchr(words[i], '=');
-        *value = 0;
-        lua_pushfstring(lua, "return %s", value + 1);
-        load(lua, lua_tostring(lua, -1));
-        call(lua);
-        lua_setglobal(lua, words[i]);
-        lua_settop(lua, 0);
-    }
-    load(lua, words[3]);
-    clock_gettime(CLOCK_MONOTONIC, &start);
-    if (!strcmp(words[1], "compile")) {
-        for (long i = 0; i < turns; i++) {
-            load(lua, words[3]);
+    lua_pushcfunction(lua, twice_of);
+    lua_setglobal(lua, "twice");
+    set_names();
+    load(code);
+}
+
+static void compile_once(const char *code)
+{
+    load(code);
+    lua_pop(lua, 1);
+}
+
+static void call(void)
+{
+    lua_pushvalue(lua, 1);
+    if (lua_pcall(lua, 0, 1, 0)) stop(lua_tostring(lua, -1));
+}
+
+static void run_once(void)
+{
+    call();
+    lua_pop(lua, 1);
+}
+
+static void print(void)
+{
+    if (lua_istable(lua, -1)) {
+        for (int i = 1;; i++) {
+            lua_rawgeti(lua, -1, i);
+            if (lua_isnil(lua, -1)) break;
+            print();
             lua_pop(lua, 1);
         }
+        lua_pop(lua, 1);
+    } else if (lua_isboolean(lua, -1)) {
+        printf("%s ", lua_toboolean(lua, -1) ? "true" : "false");
     } else {
-        for (long i = 0; i < turns; i++) {
-            lua_pushvalue(lua, 1);
-            call(lua);
-            lua_pop(lua, 1);
-        }
+        printf("%s ", lua_tostring(lua, -1));
     }
-    clock_gettime(CLOCK_MONOTONIC, &end);
-    fprintf(stderr, "%ld\n", (end.tv_sec - start.tv_sec) * 1000000000 + (end.tv_nsec - start.tv_nsec));
-    call(lua);
-    print(lua);
-    printf("\n");
-    return 0;
+}
+
+static void show(void)
+{
+    call();
+    print();
+    lua_close(lua);
 }

@@ -7,6 +7,7 @@ import subprocess
 import sys
 
 from crates import Crates
+from lanes import seconds_of
 
 from .checker import Checker
 from .edit import Edit, Unreadable, edits_of
@@ -60,7 +61,7 @@ def wanted(crates: Crates, names: list[str], *, in_gate: bool) -> dict[str, list
 def try_all(crates: Crates, edits: dict[str, list[Edit]], flags: set[str]) -> dict[Edit, Verdict]:
     """Tries what no note tells of, and returns what each edit came to.
 
-    In the gate there is a crate for each lane of bin/lanes.
+    In the gate there is a crate for each lane of bin/lanes, those first whose edits take longest.
     """
     notes = Notes(crates)
     verdicts: dict[Edit, Verdict] = {}
@@ -80,9 +81,12 @@ def try_all(crates: Crates, edits: dict[str, list[Edit]], flags: set[str]) -> di
                 checker, fresh, tell, in_gate="--gate" in flags, one_by_one="--alone" in flags
             )
 
-    lanes = lanes_of(crates) if "--gate" in flags else 1
+    lanes, order = 1, list(edits)
+    if "--gate" in flags:
+        seconds = seconds_of(crates.top / "docs/GATE.md", of_edits=True)
+        lanes, order = lanes_of(crates), sorted(edits, key=lambda it: -seconds.get(it, 0))
     with concurrent.futures.ThreadPoolExecutor(lanes) as pool:
-        list(pool.map(settle, edits))
+        list(pool.map(settle, order))
     return verdicts
 
 

@@ -22,6 +22,7 @@ class PlanTest(unittest.TestCase):
             file = pathlib.Path(folder) / "GATE.md"
             file.write_text("| Crate | Edits | Proof, s |\n|---|---|---|\n| `low` | 0 | 33 |  | 1 |\n| `top` | 2 | 1,277 | 4 | 9 |\n", encoding="utf-8")
             self.assertEqual(seconds_of(file), {"low": 33, "top": 1277})
+            self.assertEqual(seconds_of(file, of_edits=True), {"low": 0, "top": 4})
 
     def test_the_longest_chain_begins_with_two_jobs(self) -> None:
         plan = chain_and_leaves(4)

@@ -1,5 +1,5 @@
 -- What an environment has added.
-use Rattle.std.specs.Prelude.{◌≡◌, ℕ, List, Result, Ok, Err, Option, None, Some, IfSome, bytes_eq, if◌then◌else◌, is_some, option_map, string_bytes}
+use Rattle.std.specs.Prelude.{◌≡◌, ◌||◌, ℕ, Bool, List, MatchOption, Result, Ok, Err, Option, None, Some, bytes_eq, if◌then◌else◌, is_some, option_map, string_bytes}
 use Rattle.std.specs.HashMap.{get_by_text}
 use Rattle.expr_value.specs.Answers.{Answer}
 use Rattle.expr_error.specs.ErrorKind.{error_kind}
@@ -8,6 +8,7 @@ use Rattle.expr_datetime.specs.declared.moment.DateTimeValue.{DateTimeValue}
 use Rattle.expr_value.specs.declared.value.Value.{Value}
 use Rattle.expr_datetime.specs.declared.zone.TimezoneValue.{TimezoneValue}
 use Rattle.expr_meaning.specs.Host.{Host}
+use Rattle.expr_versions.specs.Versions.{VersionsReturn, function_added}
 use Rattle.expr_meaning.specs.declared.environment.ExprCall.{ExprCall}
 use Rattle.expr.specs.declared.environment.Environment.{Environment}
 use Rattle.expr.specs.declared.boxed_function.BoxedFunction.{BoxedFunction}
@@ -54,14 +55,19 @@ IsAdded part name added old new = (key : List ℕ) → option_map part (new key)
 abbrev pub moment_set : {x f g : _} → Environment x f g → Option DateTimeValue
 moment_set env = env.moment
 
-abbrev pub host_with : (List ℕ → Option TimezoneValue) → Option DateTimeValue → {x f g : _} → (List ℕ → Option (BoxedFunction x f g)) → Host
-host_with zones moment functions = record {
-  is_added = λ key. is_some (functions key);
-  calls = λ key vs answer. IfSome (functions key) (λ r. FunctionMayReturn (relation_of r) key vs answer);
+-- whether the functions on versions are added
+abbrev pub has_versions : {x f g : _} → Environment x f g → Bool
+has_versions env = env.versions
+
+abbrev pub host_with : (List ℕ → Option TimezoneValue) → Option DateTimeValue → Bool → {x f g : _} → (List ℕ → Option (BoxedFunction x f g)) → Host
+host_with zones moment versions functions = record {
+  is_added = λ key. is_some (functions key) || is_some (function_added versions key);
+  calls = λ key vs answer. MatchOption (functions key) (VersionsReturn versions key vs answer)
+      (λ r. FunctionMayReturn (relation_of r) key vs answer);
   zones = zones;
   moment = moment;
 }
 
 -- what an environment has added
 abbrev pub host_of : {x f g : _} → Environment x f g → Host
-host_of env = host_with (zone_at env) (moment_set env) (function_named env)
+host_of env = host_with (zone_at env) (moment_set env) (has_versions env) (function_named env)

@@ -21,6 +21,7 @@ pub use expr_machine::{ReusableMachine, execute, run};
 pub use expr_meaning::ExprCall;
 pub use expr_predicates::Predicate;
 pub use expr_syntax::{LineColumn, compile, compile_limited, compile_within, line_column_of};
+pub use expr_text::{node_to_code, to_code};
 pub use expr_tree::node::{CompiledRegex, Node, Pattern, PostfixOperator, Program, Unbuilt};
 #[doc(hidden)]
 pub use expr_value::assembly;

@@ -2,15 +2,15 @@
 ghost use Rattle.std.specs.Prelude.{◌≡◌, IfOk, Ok, Err, Some, None};
 ghost use Rattle.expr_value.specs.Answers.{ReturnsExactly};
 ghost use Rattle.std.specs.Option.{option_copied, option_map};
-ghost use Rattle.expr_error.specs.ErrorKind.{evaluation, RefusesWith};
+ghost use Rattle.expr_error.specs.ErrorKind.{evaluation, IsOfKind, RefusesWith};
 ghost use Rattle.expr_value.specs.Values.{integer_of, items_of};
 ghost use Rattle.expr_arguments.specs.Arrays.{array_items};
 ghost use Rattle.expr_arguments.specs.Arguments.{without_arguments, one_duration, one_integer, two_integers, one_text, two_texts, two_texts_and_limit, one_or_two_texts, text_and_integer, three_texts_and_limit, array_and_text, array_and_more, one_of, two_of, any_value};
 
-use crate::array::{Array, array_of};
+use crate::array::{Array, array_of, array_or_itself};
 use crate::cow::CowValue;
-use crate::messages::unexpected_arguments;
-use expr_value::{Items, Result, Value, refusal};
+use crate::messages::{unexpected, unexpected_arguments, unexpected_value};
+use expr_value::{Error, Items, Result, Value};
 use std::alloc::Global;
 
 /// Returns `answer` if there are no arguments.
@@ -189,13 +189,14 @@ pub fn array_and_integer<'a>(arguments: &mut [CowValue<'a>]) -> Option<(Array<'a
     Some((array_of(arguments[0].take_cow())?, number))
 }
 
-/// An array and an optional second argument.
+/// An array and an optional second argument. `expected` says what the call takes, for messages.
 ///
 /// # Errors
 ///
 /// Returns `ExprError` for other arguments.
 pub fn array_and_more<'s>(
     alloc: Global,
+    expected: &str,
     args: Items<CowValue<'s>>,
 ) -> Result<(Array<'s>, Option<CowValue<'s>>)>
     ensures value { IfOk result (λ p. array_and_more args.entry ≡ Ok (array_items p.0, p.1)) }
@@ -204,26 +205,40 @@ pub fn array_and_more<'s>(
     let mut args = args.into_vec();
     if args.len() == 1 {
         if let Some(array) = args.pop() {
-            return Ok((array_or_refusal(alloc, array)?, None));
+            return Ok((array_or_refusal(alloc, expected, array)?, None));
         }
     }
     if args.len() == 2 {
         if let Some(more) = args.pop() {
             if let Some(array) = args.pop() {
-                return Ok((array_or_refusal(alloc, array)?, Some(more)));
+                return Ok((array_or_refusal(alloc, expected, array)?, Some(more)));
             }
         }
     }
-    Err(refusal(alloc, "expected an array and at most one more argument"))
+    Err(not_one_or_two(alloc, expected, &args))
 }
 
-// The array that a value is. Any other value gives `ExprError`.
-fn array_or_refusal<'s>(alloc: Global, value: CowValue<'s>) -> Result<Array<'s>>
+// The error for no arguments or more than two. A predicate may be there, so nothing is said of it.
+fn not_one_or_two(alloc: Global, expected: &str, arguments: &[CowValue<'_>]) -> Error
+    ensures { IsOfKind result evaluation }
+{
+    if arguments.is_empty() {
+        return unexpected(alloc, expected, &"no array");
+    }
+    unexpected_arguments(alloc, expected, arguments)
+}
+
+/// The array that a value is. `expected` says what the call takes, for messages.
+///
+/// # Errors
+///
+/// Returns `ExprError` for any other value.
+pub fn array_or_refusal<'s>(alloc: Global, expected: &str, value: CowValue<'s>) -> Result<Array<'s>>
     ensures value { IfOk result (λ array. items_of value.entry ≡ Some (array_items array)) }
     ensures refusal { RefusesWith result (λ k. (items_of value.entry ≡ None) × (k ≡ evaluation)) }
 {
-    match array_of(value.into_cow()) {
-        Some(array) => Ok(array),
-        None => Err(refusal(alloc, "expected an array as first argument")),
+    match array_or_itself(value) {
+        Ok(array) => Ok(array),
+        Err(other) => Err(unexpected_value(alloc, expected, other.get())),
     }
 }

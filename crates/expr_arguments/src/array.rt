@@ -1,6 +1,6 @@
 //! Arrays among the arguments, owned or borrowed. Items of an owned array are moved out, and items of a borrowed one
 //! are copied if they are kept.
-ghost use Rattle.std.specs.Prelude.{◌≡◌, length, IfOk};
+ghost use Rattle.std.specs.Prelude.{◌≡◌, None, length, IfOk, IfErr};
 ghost use Rattle.std.specs.Option.{option_map};
 ghost use Rattle.expr_arguments.specs.Cow.{cow_value};
 ghost use Rattle.expr_value.specs.Values.{items_of};
@@ -28,6 +28,20 @@ pub fn array_of(value: Cow<'_>) -> Option<Array<'_>>
         Cow::Owned(Value::Array(items)) => Some(Array::Owned(items)),
         Cow::Borrowed(Value::Array(items)) => Some(Array::Borrowed(items)),
         _ => None,
+    }
+}
+
+/// The array, or the value itself if it is none.
+pub fn array_or_itself(value: CowValue<'_>) -> std::result::Result<Array<'_>, CowValue<'_>>
+    ensures array { IfOk result (λ array. value.entry ≡ Value.Array (array_items array)) }
+    ensures itself { IfErr result (λ same. same ≡ value.entry) }
+    ensures other { IfErr result (λ same. items_of same ≡ None) }
+{
+    match value.into_cow() {
+        Cow::Owned(Value::Array(items)) => Ok(Array::Owned(items)),
+        Cow::Borrowed(Value::Array(items)) => Ok(Array::Borrowed(items)),
+        Cow::Owned(other) => Err(CowValue::from_owned(other)),
+        Cow::Borrowed(other) => Err(CowValue::from_borrowed(other)),
     }
 }
 

@@ -17,16 +17,18 @@ mod position;
 mod times;
 
 pub use arguments::{
-    array_and_integer, array_and_more, array_and_text, one_array, one_duration, one_integer,
-    one_or_two_texts, one_text, one_value, text_and_integer, three_texts_and_limit, two_integers,
-    two_texts, two_texts_and_limit, two_values, without_arguments,
+    array_and_integer, array_and_more, array_and_text, array_or_refusal, one_array, one_duration,
+    one_integer, one_or_two_texts, one_text, one_value, text_and_integer, three_texts_and_limit,
+    two_integers, two_texts, two_texts_and_limit, two_values, without_arguments,
 };
 pub use array::{
-    Array, array_of, count_items, cows_of_values, each_cow, into_items, values_of_cows,
+    Array, array_of, array_or_itself, count_items, cows_of_values, each_cow, into_items,
+    values_of_cows,
 };
 pub use cow::{Cow, CowValue};
 pub use messages::{
-    kind_of, refusal_of, unexpected_arguments, unexpected_integer, unexpected_value, unknown_zone,
+    kind_of, missing_predicate, refusal_of, unexpected, unexpected_arguments, unexpected_integer,
+    unexpected_item, unexpected_text, unexpected_value, unknown_zone,
 };
 pub use position::item;
 pub use times::{one_moment, one_zone, three_integers, timezone_in};

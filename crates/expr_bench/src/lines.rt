@@ -1,44 +1,26 @@
-//! How texts are written on a line, and the rows that lines write.
-use expr::{Result, Value};
+//! The rows that lines write.
+use crate::page::Page;
 use std::alloc::{AllocError, Global};
 
 /// The text that a line writes.
-fn unescape(alloc: Global, line: &str) -> std::result::Result<String, AllocError> {
-    let mut text = String::with_capacity(alloc, line.len())?;
+fn unescaped(alloc: Global, line: &str) -> Result<String, AllocError> {
+    let mut page = Page::new(alloc);
     let mut is_escaped = false;
     for c in line.chars() {
-        if is_escaped {
-            text.push(match c {
-                'n' => '\n',
-                'r' => '\r',
-                't' => '\t',
-                '0' => '\0',
-                other => other,
-            })?;
-            is_escaped = false;
-        } else if c == '\\' {
+        if !is_escaped && c == '\\' {
             is_escaped = true;
-        } else {
-            text.push(c)?;
+            continue;
         }
+        page.put_char(match c {
+            'n' if is_escaped => '\n',
+            'r' if is_escaped => '\r',
+            't' if is_escaped => '\t',
+            '0' if is_escaped => '\0',
+            other => other,
+        });
+        is_escaped = false;
     }
-    Ok(text)
-}
-
-/// The line that writes a text.
-pub fn escape(alloc: Global, text: &str) -> std::result::Result<String, AllocError> {
-    let mut line = String::with_capacity(alloc, text.len())?;
-    for c in text.chars() {
-        match c {
-            '\\' => line.push_str("\\\\")?,
-            '\n' => line.push_str("\\n")?,
-            '\r' => line.push_str("\\r")?,
-            '\t' => line.push_str("\\t")?,
-            '\0' => line.push_str("\\0")?,
-            other => line.push(other)?,
-        }
-    }
-    Ok(line)
+    page.into_text()
 }
 
 /// The texts of a row.
@@ -49,10 +31,10 @@ pub struct Row {
 
 impl Row {
     /// The row that a line writes, with a tab between two texts.
-    pub fn read(alloc: Global, line: &str) -> std::result::Result<Row, AllocError> {
+    pub fn read(alloc: Global, line: &str) -> Result<Row, AllocError> {
         let mut parts = Vec::new(alloc);
         for part in line.split('\t') {
-            parts.push(unescape(alloc, part)?)?;
+            parts.push(unescaped(alloc, part)?)?;
         }
         Ok(Row { parts })
     }
@@ -69,9 +51,4 @@ impl Row {
     pub fn behind(&self) -> &[String] {
         self.parts.get(1..).unwrap_or(&[])
     }
-}
-
-/// What is printed of an answer.
-pub fn answer_text(alloc: Global, answer: Result<Value>) -> Result<String> {
-    Ok(answer?.to_string(alloc)?)
 }

@@ -4,8 +4,12 @@
 //! return, tab and NUL are written `\\`, `\n`, `\r`, `\t`, `\0`, and a `%` at the beginning `\%`. Behind an expression, a line may
 //! bind names, each as a tab and `NAME=CODE`. A line `%KIND ..` asks for something else, which `kinds` says. `%by_tree` prints how
 //! many lines above it were also evaluated by recursion on the tree. `bin/rows` makes the lines.
+//!
+//! A function here owns one tree, environment or machine at most, takes the rest by reference, and puts what it shows on a page,
+//! which remembers whether memory was missing. So few paths have something to drop, and each of those is a step of its proof.
 #![tactic(auto)]
 
+pub mod answers;
 pub mod calls;
 pub mod environments;
 mod kinds;
@@ -20,37 +24,39 @@ pub mod tokens;
 pub mod value_calls;
 pub mod values;
 
-use crate::lines::{Row, escape};
-use crate::page::word_of;
-use crate::rows::row_text;
-use expr::Result;
-use kinds::kind_text;
+use crate::lines::Row;
+use crate::page::Page;
+use crate::rows::put_row;
+use kinds::put_kind;
 use std::alloc::Global;
 use std::io;
 
-/// What is printed of a line. Where its tree is evaluated too, that is counted.
-fn line_text(alloc: Global, line: &str, trees: &mut usize) -> Result<String> {
-    let Some(rest) = line.strip_prefix('%') else {
-        return row_text(alloc, &Row::read(alloc, line)?, trees);
+/// Puts what is printed of a line. Where its tree is evaluated too, that is counted.
+fn put_answer(alloc: Global, line: &str, trees: &mut usize, page: &mut Page) {
+    let (kind, text) = match line.strip_prefix('%') {
+        Some(rest) => rest.split_once(' ').unwrap_or((rest, "")),
+        None => ("", line),
     };
-    let (kind, row) = rest.split_once(' ').unwrap_or((rest, ""));
-    if kind == "by_tree" {
-        return Ok(trees.to_string(alloc)?);
+    match Row::read(alloc, text) {
+        Ok(row) => match kind {
+            "" | "once" | "printed" => put_row(alloc, kind, &row, trees, page),
+            "by_tree" => page.put_shown(trees),
+            _ => put_kind(alloc, kind, &row, page),
+        },
+        Err(_) => page.miss(),
     }
-    kind_text(alloc, kind, &Row::read(alloc, row)?)
 }
 
 fn main(rt: HostRuntime) -> io::Result<()> {
     let alloc = rt.alloc();
     let lines = io::read_to_string(alloc, rt.reader())?;
     let mut trees = 0;
-    let mut answers = String::new(alloc);
+    let mut answers = Page::new(alloc);
     for line in lines.lines() {
-        match line_text(alloc, line, &mut trees) {
-            Ok(text) => answers.push_str(&escape(alloc, &text)?)?,
-            Err(error) => answers.push_str(word_of(&error))?,
-        }
-        answers.push('\n')?;
+        let mut row = Page::new(alloc);
+        put_answer(alloc, line, &mut trees, &mut row);
+        answers.put_row(&row);
     }
+    let answers = answers.into_text()?;
     print!(rt; "{answers}")
 }

@@ -1,6 +1,7 @@
 //! A text that is written piece by piece.
 use expr::{Error, Result, Value};
 use std::alloc::{AllocError, Global};
+use std::fmt::{Debug, Display};
 
 /// A text so far, and whether there was memory for each piece of it.
 #[derive(Drop)]
@@ -9,7 +10,7 @@ pub struct Page {
     is_whole: bool,
 }
 
-/// The word for a kind of refusal, after a sign that begins no value.
+/// The word for a kind of error, after a sign that begins no value.
 pub fn word_of(error: &Error) -> &'static str {
     match error {
         Error::PestError(_) => "!syntax",
@@ -35,7 +36,14 @@ impl Page {
         }
     }
 
-    /// Puts a space at the end, unless nothing stands there yet.
+    /// Puts a character at the end.
+    pub fn put_char(&mut self, c: char) {
+        if self.text.push(c).is_err() {
+            self.is_whole = false;
+        }
+    }
+
+    /// Puts a space at the end, unless the page is empty.
     pub fn put_space(&mut self) {
         if !self.text.is_empty() {
             self.put(" ");
@@ -50,12 +58,48 @@ impl Page {
         }
     }
 
-    /// Puts the printed text of an answer at the end, or the word for its refusal. Want of memory is a piece that is missed.
-    pub fn put_answer(&mut self, answer: Result<Value>) {
+    /// Puts what is printed of a thing.
+    pub fn put_shown<T: Display>(&mut self, thing: &T) {
+        self.put_made(thing.to_string(self.allocator()));
+    }
+
+    /// Puts what `{:?}` prints of a thing.
+    pub fn put_debug<T: Debug>(&mut self, thing: &T) {
+        self.put_made(format!(in self.allocator(); "{thing:?}"));
+    }
+
+    /// Puts a space, and what is printed of a thing.
+    pub fn put_word<T: Display>(&mut self, thing: &T) {
+        self.put(" ");
+        self.put_shown(thing);
+    }
+
+    /// Puts a name or key and its value.
+    pub fn put_pair<T: Display>(&mut self, name: &T, value: &Value) {
+        self.put_shown(name);
+        self.put("=");
+        self.put_shown(value);
+        self.put(";");
+    }
+
+    /// Notes that a piece is missing.
+    pub fn miss(&mut self) {
+        self.is_whole = false;
+    }
+
+    /// Puts the word for an error. Out of memory is a piece that is missed.
+    pub fn put_error(&mut self, error: &Error) {
+        match error {
+            Error::MemoryError => self.is_whole = false,
+            other => self.put(word_of(other)),
+        }
+    }
+
+    /// Puts the printed text of an answer, or the word for its error.
+    pub fn put_answer<T: Display + Drop>(&mut self, answer: Result<T>) {
         match answer {
-            Ok(value) => self.put_made(value.to_string(self.allocator())),
-            Err(Error::MemoryError) => self.is_whole = false,
-            Err(error) => self.put(word_of(&error)),
+            Ok(value) => self.put_shown(&value),
+            Err(error) => self.put_error(&error),
         }
     }
 
@@ -68,27 +112,79 @@ impl Page {
     }
 
     /// Puts the name of a call and what it answers.
-    pub fn put_call(&mut self, name: &str, answer: Result<Value>) {
+    pub fn put_call<T: Display + Drop>(&mut self, name: &str, answer: Result<T>) {
         self.put_named(name, "");
         self.put_answer(answer);
     }
 
-    /// Puts a fact and whether it holds.
-    pub fn put_fact(&mut self, fact: &str, holds: bool) {
-        self.put_call(fact, Ok(Value::Bool(holds)));
+    /// Puts the name of a call and what `{:?}` prints of the thing that it makes.
+    pub fn put_thing<T: Debug + Drop>(&mut self, name: &str, made: Result<T>) {
+        self.put_named(name, "");
+        match made {
+            Ok(thing) => self.put_debug(&thing),
+            Err(error) => self.put_error(&error),
+        }
+    }
+
+    /// Puts the name of a call that copies a thing, and what `{:?}` prints of the copy.
+    pub fn put_copy<T: Clone + Debug + Drop>(&mut self, name: &str, thing: &T) {
+        self.put_named(name, "");
+        match thing.clone() {
+            Ok(copy) => self.put_debug(&copy),
+            Err(_) => self.miss(),
+        }
+    }
+
+    /// Puts whether a copy of a thing is equal to it.
+    pub fn put_is_equal<T: Clone + PartialEq + Drop>(&mut self, thing: &T) {
+        match thing.clone() {
+            Ok(copy) => self.put_word(&(copy == *thing)),
+            Err(_) => self.miss(),
+        }
+    }
+
+    /// Compares what is on the page with what another answer prints, and says so where they differ.
+    pub fn put_same(&mut self, answer: Result<Value>) {
+        let mut other = Page::new(self.allocator());
+        other.put_answer(answer);
+        if !other.is_whole {
+            self.is_whole = false;
+        } else if self.text != other.text {
+            self.put("!!the ways to an answer differ");
+        }
+    }
+
+    /// Puts a text as a line writes it, and ends the line.
+    pub fn put_line(&mut self, text: &str) {
+        for c in text.chars() {
+            match c {
+                '\\' => self.put("\\\\"),
+                '\n' => self.put("\\n"),
+                '\r' => self.put("\\r"),
+                '\t' => self.put("\\t"),
+                '\0' => self.put("\\0"),
+                other => self.put_char(other),
+            }
+        }
+        self.put("\n");
+    }
+
+    /// Puts what a row came to, whose page is another, on a line.
+    pub fn put_row(&mut self, row: &Page) {
+        self.put_line(if row.is_whole {
+            row.text.as_str()
+        } else {
+            word_of(&Error::MemoryError)
+        });
     }
 
     pub fn allocator(&self) -> Global {
         *self.text.allocator()
     }
 
-    /// The text, or want of memory where there was none for all of it.
-    pub fn into_text(self) -> Result<String> {
+    /// The text, or an error where there was no memory for all of it.
+    pub fn into_text(self) -> std::result::Result<String, AllocError> {
         let Page { text, is_whole } = self;
-        if is_whole {
-            Ok(text)
-        } else {
-            Err(Error::MemoryError)
-        }
+        if is_whole { Ok(text) } else { Err(AllocError) }
     }
 }

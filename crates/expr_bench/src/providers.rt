@@ -1,5 +1,5 @@
 //! What a host lends: a provider whose names and whose map disagree.
-use crate::lines::{Row, answer_text};
+use crate::page::Page;
 use expr::{Context, ContextProvider, Error, Result, Value, eval, value};
 use std::alloc::Global;
 
@@ -32,14 +32,27 @@ impl ContextProvider for Odd {
     }
 }
 
-/// What a text comes to under a provider whose function and map disagree.
-pub fn odd_text(alloc: Global, row: &Row, refuses: bool) -> Result<String> {
-    let names = Context::try_from(alloc, value!(in alloc; {"#": {"x": 7}, "$env": 1, "a": 2})?)?;
-    let shown = Context::try_from(alloc, value!(in alloc; {"a": 3})?)?;
-    let odd = Odd {
+/// The context of a map.
+pub fn context_of(alloc: Global, map: Result<Value>) -> Result<Context> {
+    Context::try_from(alloc, map?)
+}
+
+/// A provider whose function and map disagree.
+fn odd_provider(alloc: Global, refuses: bool) -> Result<Odd> {
+    let names = value!(in alloc; {"#": {"x": 7}, "$env": 1, "a": 2});
+    let names = context_of(alloc, names)?;
+    let shown = context_of(alloc, value!(in alloc; {"a": 3}))?;
+    Ok(Odd {
         names,
         shown,
         refuses,
-    };
-    answer_text(alloc, eval(alloc, row.text(0), &odd))
+    })
+}
+
+/// Puts what a text comes to under a provider whose function and map disagree.
+pub fn put_odd(alloc: Global, text: &str, refuses: bool, page: &mut Page) {
+    match odd_provider(alloc, refuses) {
+        Ok(odd) => page.put_answer(eval(alloc, text, &odd)),
+        Err(error) => page.put_error(&error),
+    }
 }

@@ -1,18 +1,15 @@
 //! The rule engine of docs/RATTLE.md: what a rule comes to for an order, in the shop's environment.
-use crate::lines::Row;
+use crate::page::Page;
 use expr::{
-    Context, ContextProvider, Environment, Error, ExprCall, Program, Result, Value, compile,
-    compile_within, line_column_of, run, value,
+    Context, ContextProvider, Environment, Error, ExprCall, Result, Value, compile_within, eval,
+    line_column_of, value,
 };
 use std::alloc::Global;
 
-/// Whether an order is large: a host in ten lines.
+/// Whether an order is large: a host in a few lines.
 pub fn is_large(alloc: Global, price: i64, count: i64) -> Result<bool> {
-    let program = compile(alloc, "price * count > 100")?;
-    let mut context = Context::new(alloc);
-    context.insert("price".to_string(alloc)?, Value::Integer(price))?;
-    context.insert("count".to_string(alloc)?, Value::Integer(count))?;
-    let answer = run(alloc, &program, &context)?;
+    let order = Context::try_from(alloc, value!(in alloc; {"price": price, "count": count})?)?;
+    let answer = eval(alloc, "price * count > 100", &order)?;
     Ok(matches!(answer, Value::Bool(true)))
 }
 
@@ -67,35 +64,35 @@ pub fn refusal_text(alloc: Global, code: &str, error: &Error) -> Result<String> 
 }
 
 /// The record of a line, which is a JSON object.
-fn record_of(alloc: Global, shop: &Environment, reader: &Program, line: &str) -> Result<Context> {
+fn record_of(alloc: Global, line: &str) -> Result<Context> {
     let mut context = Context::new(alloc);
-    context.insert("text".to_string(alloc)?, value!(in alloc; line)?)?;
-    let value = shop.run(alloc, reader, &context)?;
-    Context::try_from(alloc, value)
+    context.insert("text".to_string(alloc)?, Value::text(alloc, line)?)?;
+    Context::try_from(alloc, eval(alloc, "fromJSON(text)", &context)?)
 }
 
-/// What a rule, whose tree has a height of 500 at most, comes to for the record of a line, the first.
-fn judge(alloc: Global, code: &str, line: &str) -> Result<Value> {
+/// What a rule, whose tree has a height of 500 at most, comes to for an order.
+fn judge(alloc: Global, code: &str, order: &Order) -> Result<Value> {
+    let rule = compile_within(alloc, code, 500)?;
     let mut shop = Environment::new(alloc);
     shop.add_function(
         "percent",
         Box::new(alloc, move |call: ExprCall| percent(alloc, &call))?,
     )?;
-    let reader = compile(alloc, "fromJSON(text)")?;
-    let rule = compile_within(alloc, code, 500)?;
-    let record = record_of(alloc, &shop, &reader, line)?;
-    let order = Order {
-        record,
-        line: Value::Integer(1),
-    };
-    shop.run(alloc, &rule, &order)
+    shop.run(alloc, &rule, order)
 }
 
-/// What a rule comes to for the order that stands behind it, or what is shown to its author. Out of memory the work ends.
-pub fn order_text(alloc: Global, row: &Row) -> Result<String> {
-    match judge(alloc, row.text(0), row.text(1)) {
-        Ok(value) => Ok(value.to_string(alloc)?),
-        Err(Error::MemoryError) => Err(Error::MemoryError),
-        Err(error) => refusal_text(alloc, row.text(0), &error),
+/// Puts what a rule comes to for the order of a line, the first, or what is shown to the rule's author.
+pub fn put_order(alloc: Global, code: &str, line: &str, page: &mut Page) {
+    let judged = match record_of(alloc, line) {
+        Ok(record) => {
+            let line = Value::Integer(1);
+            judge(alloc, code, &Order { record, line })
+        }
+        Err(error) => Err(error),
+    };
+    match judged {
+        Err(Error::MemoryError) => page.miss(),
+        Err(error) => page.put_answer(refusal_text(alloc, code, &error)),
+        answer => page.put_answer(answer),
     }
 }

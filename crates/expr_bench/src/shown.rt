@@ -47,7 +47,7 @@ fn show_behind(front: &str, node: &Node, page: &mut Page) {
 fn show_node(node: &Node, page: &mut Page) {
     match node {
         Node::Ident(name) => page.put(name),
-        Node::Value(value) => page.put_made(value.to_string(page.allocator())),
+        Node::Value(value) => page.put_shown(value),
         Node::Array(items) => show_nodes(items, page),
         Node::Map(entries) => {
             page.put("{");
@@ -86,7 +86,8 @@ fn show_composed(node: &Node, page: &mut Page) {
             compiled_regex,
         } => {
             show_behind("(", left, page);
-            page.put_made(format!(in page.allocator(); " {operator} "));
+            page.put_word(operator);
+            page.put(" ");
             show_node(right, page);
             if let Some(pattern) = compiled_regex.pattern() {
                 page.put(" by ");

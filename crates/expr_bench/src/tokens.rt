@@ -1,52 +1,56 @@
 //! Readings of texts.
-use crate::lines::Row;
 use crate::page::Page;
-use expr::Result;
 use expr_tokens::{Reading, Token, read};
 use std::alloc::Global;
 
-/// A token in a form of its own: large integers as `large`, contents in angle brackets after the first letter of their kind.
-fn show(token: &Token, page: &mut Page) {
+/// Puts a token in a form of its own: large integers as `large`, contents in angle brackets after the first letter of their kind.
+fn put_token(token: &Token, page: &mut Page) {
     match token {
-        Token::Integer(Some(value)) => page.put_made(value.to_string(page.allocator())),
+        Token::Integer(Some(value)) => page.put_shown(value),
         Token::Integer(None) => page.put("large"),
         Token::Word(word) => page.put(word.as_str()),
         Token::Reserved(reserved) => {
-            page.put_made(format!(in page.allocator(); "{}!", reserved.spelling()))
+            page.put(reserved.spelling());
+            page.put("!");
         }
         Token::Hash(name) => page.put(name.as_str()),
-        Token::Quoted(content) => {
-            page.put_made(format!(in page.allocator(); "q<{}>", content.as_str()))
-        }
-        Token::Raw(content) => {
-            page.put_made(format!(in page.allocator(); "r<{}>", content.as_str()))
-        }
+        Token::Quoted(content) => put_content("q<", content.as_str(), page),
+        Token::Raw(content) => put_content("r<", content.as_str(), page),
         Token::Bytes(bytes) => {
-            page.put_made(format!(in page.allocator(); "b<{:?}>", bytes.as_slice()))
+            page.put("b<");
+            page.put_debug(&bytes.as_slice());
+            page.put(">");
         }
         Token::Sign(sign) => page.put(sign.spelling()),
     }
 }
 
-/// Puts the tokens of a reading, and after `?` the place of its fault.
-fn put_reading(reading: &Reading, page: &mut Page) {
-    for token in &reading.tokens {
-        page.put_space();
-        show(token, page);
-    }
-    if let Some(place) = reading.fault {
-        page.put_space();
-        page.put_made(format!(in page.allocator(); "?{place}"));
+fn put_content(front: &str, content: &str, page: &mut Page) {
+    page.put(front);
+    page.put(content);
+    page.put(">");
+}
+
+/// Puts the tokens of a text, after `?` the place of its fault, and behind `@` where the tokens start, where that is asked for.
+pub fn put_tokens(alloc: Global, text: &str, has_starts: bool, page: &mut Page) {
+    match read(alloc, text) {
+        Ok(reading) => put_reading(&reading, has_starts, page),
+        Err(_) => page.miss(),
     }
 }
 
-/// The tokens of a text, and the place of its fault; and behind `@` where the tokens start.
-pub fn tokens_text(alloc: Global, row: &Row, has_starts: bool) -> Result<String> {
-    let mut page = Page::new(alloc);
-    let reading = read(alloc, row.text(0))?;
-    put_reading(&reading, &mut page);
-    if has_starts {
-        page.put_made(format!(in alloc; " @{:?}", reading.starts.as_slice()));
+fn put_reading(reading: &Reading, has_starts: bool, page: &mut Page) {
+    for token in &reading.tokens {
+        page.put_space();
+        put_token(token, page);
     }
-    page.into_text()
+    if let Some(place) = reading.fault {
+        page.put_space();
+        page.put("?");
+        page.put_shown(&place);
+    }
+    if has_starts {
+        page.put(" @");
+        page.put_debug(&reading.starts.as_slice());
+    }
 }

@@ -1,9 +1,12 @@
 -- Each of some values by its kind, one value more at a time.
-use Rattle.std.proofs.Common.{◌≡◌, ℕ, zero, suc, ◌+◌, ◌<◌, List, [], ◌∷◌, ◌++◌, length, get_or, take, map, Option, Some, None, refl, sym, ap, ◌∙◌, arith, add-one, append_assoc}
+use Rattle.std.proofs.Common.{◌≡◌, ℕ, zero, suc, ◌+◌, ◌<◌, List, [], ◌∷◌, ◌++◌, length, get_or, take, map, Option, Some, None, Result, Ok, Err, ◌≢◌, refl, sym, ap, subst, ◌∙◌, arith, add-one, append_assoc}
 use Rattle.std.specs.Prelude.{slice_get}
 use Rattle.std.specs.Option.{option_and_then, option_map}
+use Rattle.std.specs.Result.{IsErrAnd}
 use Rattle.std.proofs.lemmas.List.{append-nil}
 use Rattle.std.proofs.lemmas.Grind.{flat_map-append}
+use Rattle.expr_error.specs.ErrorKind.{ErrorKind, RefusesWith, error_kind, memory}
+use Rattle.expr_error.specs.declared.error.Error.{Error}
 use Rattle.expr_value.specs.Values.{items_of, of_key}
 use Rattle.expr_value.specs.declared.key.Key.{Key}
 use Rattle.expr_value.specs.declared.value.Value as value
@@ -82,3 +85,9 @@ all_taken [] zero e = refl
 all_taken [] (suc i) e = refl
 all_taken (x ∷ xs) zero e = absurd (cc)
 all_taken (x ∷ xs) (suc i) e = ap (λ l. x ∷ l) (all_taken xs i e)
+
+-- an error that a `?` passes on
+pub refused_passed : {A : Type 0} (r : Result A Error) (e : Error) (P : ErrorKind → Type 0)
+    → IsErrAnd r (λ x. x ≡ e) → (error_kind e ≢ memory → P (error_kind e)) → RefusesWith r P
+refused_passed (Ok v) e P is p = absurd is
+refused_passed (Err x) e P is p = subst (λ y. error_kind y ≢ memory → P (error_kind y)) (sym is) p

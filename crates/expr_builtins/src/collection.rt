@@ -2,7 +2,7 @@
 ghost use Rattle.std.specs.Prelude.{◌≡◌, ◌-◌, ◌++◌, None, Some, Ok, map, length, IfOk, OnOk};
 ghost use Rattle.std.specs.Option.{option_copied, option_map};
 ghost use Rattle.std.specs.Str.{chars};
-ghost use Rattle.expr_error.specs.ErrorKind.{OnlyMemory};
+ghost use Rattle.expr_error.specs.ErrorKind.{evaluation, OnlyMemory, RefusesWith};
 ghost use Rattle.expr_value.specs.Values.{of_key, string_of, items_of};
 ghost use Rattle.expr_value.specs.Answers.{Returns};
 ghost use Rattle.expr_arguments.specs.Arguments.{all_of};
@@ -14,12 +14,12 @@ use crate::array::{first_items, item_at};
 use crate::cuts::join_texts;
 use crate::{distinct, nested};
 use expr_arguments::{
-    Array, CowValue, array_and_integer, array_and_text, array_of, count_items, each_cow,
-    into_items, item, one_array, one_value, two_values, unexpected_arguments, unexpected_integer,
-    unexpected_value,
+    Array, CowValue, array_and_integer, array_and_text, array_or_itself, array_or_refusal,
+    count_items, each_cow, into_items, item, one_array, one_value, refusal_of, two_values,
+    unexpected_arguments, unexpected_integer, unexpected_item, unexpected_value,
 };
 use expr_functions::CollectionCall;
-use expr_value::{Items, Key, KeyedMap, Result, Text, Value, ValueMap, refusal};
+use expr_value::{Items, Key, KeyedMap, Result, Text, Value, ValueMap};
 use std::alloc::{AllocError, Global};
 use std::mem;
 
@@ -236,27 +236,25 @@ fn join(alloc: Global, arguments: &[CowValue<'_>]) -> Result<Value>
             arguments,
         ));
     };
-    let Some(parts) = texts(alloc, items)? else {
-        return Err(refusal(alloc, "join takes an array of strings"));
-    };
+    let parts = texts(alloc, items)?;
     let text = join_texts(alloc, &parts, separator)?;
     Ok(Value::String(Text::from_string(text)))
 }
 
-// The strings, if all of these values are strings.
-fn texts(alloc: Global, items: &[Value]) -> Result<Option<Vec<&str>>>
-    ensures ok { IfOk result (λ found. option_map
-        (λ v. map (λ t. t.now) v.items) found ≡ all_of string_of items.now) }
-    ensures err { OnlyMemory result }
+// The strings. A value that is none gives `ExprError`.
+fn texts(alloc: Global, items: &[Value]) -> Result<Vec<&str>>
+    ensures ok { IfOk result (λ v. all_of string_of items.now ≡ Some (map (λ t. t.now) v.items)) }
+    ensures kind { RefusesWith result (λ k. k ≡ evaluation) }
+    ensures refused { RefusesWith result (λ k. all_of string_of items.now ≡ None) }
 {
     let mut parts = Vec::with_capacity(alloc, items.len())?;
     for i in 0..items.len() {
         let Some(text) = items[i].as_string() else {
-            return Ok(None);
+            return Err(unexpected_item(alloc, "join takes an array of strings", &items[i], i));
         };
         parts.push(text)?;
     }
-    Ok(Some(parts))
+    Ok(parts)
 }
 
 /// `toPairs`: the pairs of a map, in its order, as arrays of two.
@@ -320,38 +318,52 @@ fn from_pairs(alloc: Global, arguments: &mut [CowValue<'_>]) -> Result<Value>
         return Err(unexpected_arguments(alloc, "fromPairs takes an array", arguments));
     };
     let items = each_cow(alloc, array)?;
-    let Some(pairs) = pairs_of_items(alloc, items)? else {
-        return Err(refusal(
-            alloc,
-            "fromPairs takes an array of arrays with two items each",
-        ));
-    };
+    let pairs = pairs_of_items(alloc, items)?;
     let map = KeyedMap::from_pairs(alloc, pairs)?;
     Ok(Value::KeyedMap(map))
 }
 
-fn pairs_of_items(alloc: Global, items: Vec<CowValue<'_>>) -> Result<Option<Vec<(Value, Value)>>>
-    ensures ok { IfOk result (λ found. option_map (λ v. v.items) found ≡ all_of pair_of items.entry.items) }
-    ensures err { OnlyMemory result }
+fn pairs_of_items(alloc: Global, items: Vec<CowValue<'_>>) -> Result<Vec<(Value, Value)>>
+    ensures ok { IfOk result (λ v. all_of pair_of items.entry.items ≡ Some v.items) }
+    ensures kind { RefusesWith result (λ k. k ≡ evaluation) }
+    ensures refused { RefusesWith result (λ k. all_of pair_of items.entry.items ≡ None) }
 {
     let mut pairs = Vec::with_capacity(alloc, items.len())?;
     for item in items {
-        let Some(pair) = pair_of_item(item)? else {
-            return Ok(None);
-        };
+        let pair = pair_of_item(alloc, pairs.len(), item)?;
         pairs.push(pair)?;
     }
-    Ok(Some(pairs))
+    Ok(pairs)
 }
 
-fn pair_of_item(value: CowValue<'_>) -> Result<Option<(Value, Value)>>
-    ensures ok { IfOk result (λ found. found ≡ pair_of value.entry) }
+const PAIRS: &str = "fromPairs takes an array of arrays with two items each";
+
+// The pair that the item at an index is.
+fn pair_of_item(alloc: Global, index: usize, value: CowValue<'_>) -> Result<(Value, Value)>
+    ensures ok { IfOk result (λ pair. pair_of value.entry ≡ Some pair) }
+    ensures kind { RefusesWith result (λ k. k ≡ evaluation) }
+    ensures refused { RefusesWith result (λ k. pair_of value.entry ≡ None) }
+{
+    let array = match array_or_itself(value) {
+        Ok(array) => array,
+        Err(other) => return Err(unexpected_item(alloc, PAIRS, other.get(), index)),
+    };
+    let count = count_items(&array);
+    match two_of_array(array)? {
+        Some(pair) => Ok(pair),
+        None => Err(refusal_of(format!(in alloc;
+            "{PAIRS}, found an Array of length {count} at index {index}"
+        ))),
+    }
+}
+
+fn two_of_array(array: Array<'_>) -> Result<Option<(Value, Value)>>
+    ensures ok { IfOk result (λ found. found ≡ two_items (array_items array.entry)) }
     ensures err { OnlyMemory result }
 {
-    match array_of(value.into_cow()) {
-        Some(Array::Owned(items)) => Ok(take_two_items(&mut items.into_vec())),
-        Some(Array::Borrowed(items)) => copy_two_items(items.as_slice()),
-        None => Ok(None),
+    match array {
+        Array::Owned(items) => Ok(take_two_items(&mut items.into_vec())),
+        Array::Borrowed(items) => copy_two_items(items.as_slice()),
     }
 }
 
@@ -379,31 +391,30 @@ fn concat(alloc: Global, arguments: Vec<CowValue<'_>>) -> Result<Value>
     ensures { Returns result (λ answer. answer ≡ concat arguments.entry.items) }
 {
     if arguments.is_empty() {
-        return Err(refusal(alloc, "concat takes at least one array"));
+        return Err(unexpected_arguments(alloc, CONCAT, &arguments));
     }
-    let Some(items) = append_all(Vec::new(alloc), arguments)? else {
-        return Err(refusal(alloc, "concat takes arrays"));
-    };
+    let items = append_all(alloc, Vec::new(alloc), arguments)?;
     Ok(Value::Array(Items::from_vec(items)))
 }
 
+const CONCAT: &str = "concat takes arrays";
+
 // Allocates once, for the items of all arrays.
-fn append_all(front: Vec<Value>, arrays: Vec<CowValue<'_>>) -> Result<Option<Vec<Value>>>
-    ensures ok { IfOk result (λ found. option_map (λ v. v.items) found ≡ option_map
-        (λ rows. front.items ++ concatenated rows) (all_of items_of arrays.entry.items)) }
-    ensures err { OnlyMemory result }
+fn append_all(alloc: Global, front: Vec<Value>, arrays: Vec<CowValue<'_>>) -> Result<Vec<Value>>
+    ensures ok { IfOk result (λ v. option_map
+        (λ rows. front.items ++ concatenated rows) (all_of items_of arrays.entry.items) ≡ Some v.items) }
+    ensures kind { RefusesWith result (λ k. k ≡ evaluation) }
+    ensures refused { RefusesWith result (λ k. all_of items_of arrays.entry.items ≡ None) }
 {
     let items = arrays.iter().filter_map(|array| array.get().as_array());
     let more = items.fold(0, |sum: usize, items| sum.saturating_add(items.len()));
     let mut all = front;
     all.reserve(more)?;
     for value in arrays {
-        let Some(array) = array_of(value.into_cow()) else {
-            return Ok(None);
-        };
+        let array = array_or_refusal(alloc, CONCAT, value)?;
         append(&mut all, array)?;
     }
-    Ok(Some(all))
+    Ok(all)
 }
 
 fn append(all: &mut Vec<Value>, array: Array<'_>) -> std::result::Result<(), AllocError>

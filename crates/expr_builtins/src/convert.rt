@@ -4,9 +4,11 @@ ghost use Rattle.expr_value.specs.declared.value.Value.{out-Value};
 ghost use Rattle.expr_value.specs.Answers.{Returns};
 ghost use Rattle.expr_builtins.specs.Conversions.{ConversionCalled, Int, ReadsInteger, string, kind_text, type_name};
 
-use expr_arguments::{CowValue, one_value, unexpected_arguments, unexpected_value};
+use expr_arguments::{
+    CowValue, one_value, unexpected_arguments, unexpected_text, unexpected_value,
+};
 use expr_functions::ConversionCall;
-use expr_value::{Result, Text, Value, refusal};
+use expr_value::{Result, Text, Value};
 use std::alloc::Global;
 
 /// Calls a built-in that converts, with these arguments.
@@ -49,9 +51,10 @@ fn read(alloc: Global, text: &str) -> Result<Value>
 {
     match text.parse::<i64>() {
         Ok(number) => Ok(Value::Integer(number)),
-        Err(_) => Err(refusal(
+        Err(_) => Err(unexpected_text(
             alloc,
             "int takes a string with an optional sign and digits, within 64 bits",
+            text,
         )),
     }
 }

@@ -1,13 +1,11 @@
 //! Arrays within arrays.
-ghost use Rattle.std.specs.Prelude.{◌≡◌, None, IfOk, IfErr};
+ghost use Rattle.std.specs.Prelude.{◌≡◌, IfOk};
 ghost use Rattle.expr_value.specs.Answers.{Returns};
-ghost use Rattle.expr_value.specs.Values.{items_of};
-ghost use Rattle.expr_arguments.specs.Arrays.{array_items};
 ghost use Rattle.expr_builtins.specs.Nested.{flatten, all_flat_items};
 ghost use Rattle.expr_error.specs.ErrorKind.{OnlyMemory};
 
 use expr_arguments::{
-    Array, Cow, CowValue, each_cow, one_array, unexpected_arguments, values_of_cows,
+    CowValue, array_or_itself, each_cow, one_array, unexpected_arguments, values_of_cows,
 };
 use expr_value::{Items, Result, Value};
 use std::alloc::Global;
@@ -44,18 +42,4 @@ pub(crate) fn flat_items<'a>(alloc: Global, values: Vec<CowValue<'a>>) -> Result
         }
     }
     Ok(found)
-}
-
-// The array, or the value itself if it is none.
-fn array_or_itself(value: CowValue<'_>) -> std::result::Result<Array<'_>, CowValue<'_>>
-    ensures array { IfOk result (λ array. value.entry ≡ Value.Array (array_items array)) }
-    ensures itself { IfErr result (λ same. same ≡ value.entry) }
-    ensures other { IfErr result (λ same. items_of same ≡ None) }
-{
-    match value.into_cow() {
-        Cow::Owned(Value::Array(items)) => Ok(Array::Owned(items)),
-        Cow::Borrowed(Value::Array(items)) => Ok(Array::Borrowed(items)),
-        Cow::Owned(other) => Err(CowValue::from_owned(other)),
-        Cow::Borrowed(other) => Err(CowValue::from_borrowed(other)),
-    }
 }

@@ -1,16 +1,15 @@
 //! Built-ins on numbers.
-ghost use Rattle.std.specs.Prelude.{◌≡◌, Err, IfOk};
+ghost use Rattle.std.specs.Prelude.{◌≡◌, Err, IfOk, None, Some};
 ghost use Rattle.std.specs.Int.{int_max, int_min};
-ghost use Rattle.std.specs.Option.{option_map};
 ghost use Rattle.expr_value.specs.Answers.{Returns};
-ghost use Rattle.expr_error.specs.ErrorKind.{evaluation, OnlyMemory};
+ghost use Rattle.expr_error.specs.ErrorKind.{evaluation, RefusesWith};
 ghost use Rattle.expr_value.specs.Values.{integer_of};
 ghost use Rattle.expr_arguments.specs.Arguments.{all_of};
 ghost use Rattle.expr_builtins.specs.Nested.{all_flat_items};
 ghost use Rattle.expr_builtins.specs.Numbers.{NumberCalled, abs, choice_of, greatest, least};
 
 use crate::nested::flat_items;
-use expr_arguments::{CowValue, one_integer, unexpected_arguments};
+use expr_arguments::{CowValue, one_integer, unexpected_arguments, unexpected_value};
 use expr_functions::NumberCall;
 use expr_value::{Result, Value, refusal};
 use std::alloc::Global;
@@ -63,16 +62,18 @@ fn of_fractions(alloc: Global) -> Result<Value>
     ))
 }
 
+const MAX: &str = "max takes integers and arrays of integers";
+
+const MIN: &str = "min takes integers and arrays of integers";
+
 /// `max`: the greatest of integers and of arrays of them, at every depth, or nil if there are none.
 fn greatest(alloc: Global, arguments: Vec<CowValue<'_>>) -> Result<Value>
     ensures { Returns result (λ answer. answer ≡ greatest arguments.entry.items) }
 {
     if arguments.is_empty() {
-        return Err(refusal(alloc, "max takes at least one argument"));
+        return Err(unexpected_arguments(alloc, MAX, &arguments));
     }
-    let Some(numbers) = flat_integers(alloc, arguments)? else {
-        return Err(refusal(alloc, "max takes integers and arrays of integers"));
-    };
+    let numbers = flat_integers(alloc, MAX, arguments)?;
     Ok(greatest_of(&numbers))
 }
 
@@ -81,38 +82,38 @@ fn least(alloc: Global, arguments: Vec<CowValue<'_>>) -> Result<Value>
     ensures { Returns result (λ answer. answer ≡ least arguments.entry.items) }
 {
     if arguments.is_empty() {
-        return Err(refusal(alloc, "min takes at least one argument"));
+        return Err(unexpected_arguments(alloc, MIN, &arguments));
     }
-    let Some(numbers) = flat_integers(alloc, arguments)? else {
-        return Err(refusal(alloc, "min takes integers and arrays of integers"));
-    };
+    let numbers = flat_integers(alloc, MIN, arguments)?;
     Ok(least_of(&numbers))
 }
 
-// The integers of these values, with each array replaced by its items at every depth. `None` if anything else is among
-// them.
-fn flat_integers(alloc: Global, values: Vec<CowValue<'_>>) -> Result<Option<Vec<i64>>>
-    ensures ok { IfOk result (λ found. option_map
-        (λ v. v.items) found ≡ all_of integer_of (all_flat_items values.entry.items)) }
-    ensures err { OnlyMemory result }
+// The integers of these values, with each array replaced by its items at every depth. Anything else among them gives
+// `ExprError`.
+fn flat_integers(alloc: Global, expected: &str, values: Vec<CowValue<'_>>) -> Result<Vec<i64>>
+    ensures ok { IfOk result (λ v. all_of integer_of (all_flat_items values.entry.items) ≡ Some v.items) }
+    ensures kind { RefusesWith result (λ k. k ≡ evaluation) }
+    ensures refused { RefusesWith result (λ k. all_of integer_of (all_flat_items values.entry.items) ≡ None) }
 {
     let opened = flat_items(alloc, values)?;
-    integers(alloc, &opened)
+    integers(alloc, expected, &opened)
 }
 
-// The integers, if all of these values are integers.
-fn integers(alloc: Global, values: &[CowValue<'_>]) -> Result<Option<Vec<i64>>>
-    ensures ok { IfOk result (λ found. option_map (λ v. v.items) found ≡ all_of integer_of values.now) }
-    ensures err { OnlyMemory result }
+// The integers. A value that is none gives `ExprError`.
+fn integers(alloc: Global, expected: &str, values: &[CowValue<'_>]) -> Result<Vec<i64>>
+    ensures ok { IfOk result (λ v. all_of integer_of values.now ≡ Some v.items) }
+    ensures kind { RefusesWith result (λ k. k ≡ evaluation) }
+    ensures refused { RefusesWith result (λ k. all_of integer_of values.now ≡ None) }
 {
     let mut numbers = Vec::with_capacity(alloc, values.len())?;
     for i in 0..values.len() {
-        let Some(number) = values[i].get().as_integer() else {
-            return Ok(None);
+        let value = values[i].get();
+        let Some(number) = value.as_integer() else {
+            return Err(unexpected_value(alloc, expected, value));
         };
         numbers.push(number)?;
     }
-    Ok(Some(numbers))
+    Ok(numbers)
 }
 
 fn greatest_of(numbers: &[i64]) -> Value

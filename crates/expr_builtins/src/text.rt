@@ -8,12 +8,12 @@ use crate::cuts::{parts, replace_matches};
 use crate::split_after::parts_after;
 use crate::{indices, trimmed};
 use expr_arguments::{
-    CowValue, one_or_two_texts, one_text, text_and_integer, three_texts_and_limit, two_texts,
-    two_texts_and_limit, unexpected_arguments, unexpected_integer,
+    CowValue, one_or_two_texts, one_text, refusal_of, text_and_integer, three_texts_and_limit,
+    two_texts, two_texts_and_limit, unexpected_arguments, unexpected_integer,
 };
 use expr_error::{has_back, has_front};
 use expr_functions::TextCall;
-use expr_value::{Items, Result, Text, Value, refusal};
+use expr_value::{Items, Result, Text, Value};
 use std::alloc::Global;
 
 /// Calls a built-in on strings with these arguments.
@@ -178,8 +178,11 @@ fn repeat_times(alloc: Global, text: &str, count: i64) -> Result<Value>
         return Err(unexpected_integer(alloc, REPEAT_TAKES, count));
     }
     let count = count as usize;
-    if count.checked_mul(text.len()).is_none() {
-        return Err(refusal(alloc, "the result of repeat is too long"));
+    let length = text.len();
+    if count.checked_mul(length).is_none() {
+        return Err(refusal_of(format!(in alloc;
+            "repeat returns less than 2^64 bytes, found {count} times {length}"
+        )));
     }
     Ok(Value::String(Text::from_string(text.repeat(alloc, count)?)))
 }

@@ -1,4 +1,5 @@
 pub mod Acting
+pub mod Compiled
 pub mod Ended
 pub mod Faulty
 pub mod Filled

@@ -5,7 +5,7 @@ use Rattle.std.proofs.lemmas.Grind.{common_steps}
 use Rattle.std.specs.Option.{unwrap_or}
 use Rattle.expr_engine.specs.Effects.{Changes}
 use Rattle.expr_engine.specs.Engines.{KeepsThings, KeepsRest, Kept, Leaves, NumbersRise, SameAdditions, SameKept, RestOfEngine}
-use Rattle.expr_engine.specs.Runs.{named_at, zone_added}
+use Rattle.expr_engine.specs.Runs.{adds_versions, named_at, zone_added}
 use Rattle.expr_engine.specs.declared.additions.Additions.{Additions}
 use Rattle.expr_engine.specs.declared.engine.Engine.{Engine}
 use Rattle.expr_engine.specs.declared.waiting_run.WaitingRun.{WaitingRun}
@@ -21,6 +21,7 @@ additions_by_things s = record {
   zones = λ h name. ap (option_map (λ a. zone_added a name)) (s h);
   moments = λ h. ap (option_map (λ a. a.moment)) (s h);
   names = λ h name. ap (option_map (λ a. named_at a name)) (s h);
+  versions = λ h. ap (option_map (λ a. adds_versions a)) (s h);
 }
 
 -- what handles find is the same where all three are
@@ -77,14 +78,16 @@ told_at f old mid new h spare was is m n w z k true e =
     same_told f (thing_at old k) (thing_at new k) spare was is (exchanged_twice (thing_at old k) (thing_at mid k) (thing_at new k) spare is (rw e at (m k)) (rw e at (n k))) (w ∙ ap (λ o. unwrap_or o spare) (sym (one_finds old h k e))) z
 told_at f old mid new h spare was is m n w z k false e = ap (option_map f) (rw e at (n k) ∙ rw e at (m k))
 
--- an environment was exchanged, changed and exchanged back, with the same zones, current time and names
+-- an environment was exchanged, changed and exchanged back, with the same zones, current time and names, and with the
+-- functions on versions if it had them
 pub additions_by_exchange : (old mid new : HandleMap Additions) (h : Handle) (spare was is : Additions) → ((k : Handle) → thing_at mid k ≡ (if is_same h k then option_map (λ _. spare) (thing_at old k) else thing_at old k))
     → ((k : Handle) → thing_at new k ≡ (if is_same h k then option_map (λ _. is) (thing_at mid k) else thing_at mid k)) → was ≡ unwrap_or (thing_at old h) spare
-    → ((name : List ℕ) → zone_added is name ≡ zone_added was name) → is.moment ≡ was.moment → ((name : List ℕ) → named_at is name ≡ named_at was name) → SameAdditions old new
-additions_by_exchange old mid new h spare was is m n w zones moment names = record {
+    → ((name : List ℕ) → zone_added is name ≡ zone_added was name) → is.moment ≡ was.moment → ((name : List ℕ) → named_at is name ≡ named_at was name) → adds_versions is ≡ adds_versions was → SameAdditions old new
+additions_by_exchange old mid new h spare was is m n w zones moment names versions = record {
   zones = λ k name. told_at (λ a. zone_added a name) old mid new h spare was is m n w (zones name) k (is_same h k) refl;
   moments = λ k. told_at (λ a. a.moment) old mid new h spare was is m n w moment k (is_same h k) refl;
   names = λ k name. told_at (λ a. named_at a name) old mid new h spare was is m n w (names name) k (is_same h k) refl;
+  versions = λ k. told_at (λ a. adds_versions a) old mid new h spare was is m n w versions k (is_same h k) refl;
 }
 
 -- what holds, holds if a result is an error
@@ -175,6 +178,7 @@ leaves_after old mid new l k a = record {
       zones = λ h name. ap (λ (x : Kept). option_map (λ a. zone_added a name) (thing_at x.environments h)) k ∙ l.kept.environments.zones h name;
       moments = λ h. ap (λ (x : Kept). option_map (λ a. a.moment) (thing_at x.environments h)) k ∙ l.kept.environments.moments h;
       names = λ h name. ap (λ (x : Kept). option_map (λ a. named_at a name) (thing_at x.environments h)) k ∙ l.kept.environments.names h name;
+      versions = λ h. ap (λ (x : Kept). option_map (λ a. adds_versions a) (thing_at x.environments h)) k ∙ l.kept.environments.versions h;
     };
   };
   look = record { whole = ap whole_value a ∙ l.look.whole; way = ap way_of a ∙ l.look.way };

@@ -5,7 +5,7 @@ use Rattle.jiff.specs.Types.{Offset, TimeZone as Rules}
 use Rattle.expr_moment.specs.AddedZones.{IsZoneAdded}
 use Rattle.expr_tokens.specs.Reading.{Reads}
 use Rattle.expr_tokens.specs.declared.token.Token.{Token}
-use Rattle.expr_engine.specs.Runs.{named_at, names_in, zone_added}
+use Rattle.expr_engine.specs.Runs.{adds_versions, named_at, names_in, zone_added}
 use Rattle.expr_engine.specs.declared.additions.Additions.{Additions}
 use Rattle.expr_datetime.specs.Times.{instant}
 
@@ -24,17 +24,19 @@ is_word_alone [] text = false
 is_word_alone (token ∷ []) text = is_this_word token text
 is_word_alone (token ∷ (next ∷ rest)) text = false
 
--- There are no zones, no current time, and no functions that the host runs itself.
+-- There are no zones, no current time, no functions that the host runs itself, and no functions on versions.
 pub record AddsNothing (added : Additions) : Type 0 where
   pub zones : (name : List ℕ) → zone_added added name ≡ None
   pub moment : added.moment ≡ None
   pub names : (name : List ℕ) → named_at added name ≡ false
+  pub versions : adds_versions added ≡ false
 
 -- There is now a zone of this name and these rules, and everything else is as before.
 pub record GainsZone (name : List ℕ) (rules : Rules) (was is : Additions) : Type 0 where
   pub zone : IsZoneAdded name rules (zone_added was) (zone_added is)
   pub moment : is.moment ≡ was.moment
   pub names : names_in is ≡ names_in was
+  pub versions : adds_versions is ≡ adds_versions was
 
 -- There is now a zone of this name whose clock is this many seconds ahead of UTC.
 pub record BecomesFixed (name : List ℕ) (ahead : ℤ) (was is : Additions) : Type 0 where
@@ -53,9 +55,18 @@ pub record BecomesNow (nanoseconds : ℤ) (was is : Additions) : Type 0 where
   pub moment : option_map instant is.moment ≡ Some nanoseconds
   pub zones : (name : List ℕ) → zone_added is name ≡ zone_added was name
   pub names : names_in is ≡ names_in was
+  pub versions : adds_versions is ≡ adds_versions was
 
 -- The host now runs functions of this name itself, and everything else is as before.
 pub record GainsName (name : List ℕ) (was is : Additions) : Type 0 where
   pub names : (key : List ℕ) → named_at is key ≡ (if bytes_eq name key then true else named_at was key)
   pub zones : (key : List ℕ) → zone_added is key ≡ zone_added was key
   pub moment : is.moment ≡ was.moment
+  pub versions : adds_versions is ≡ adds_versions was
+
+-- The functions on versions are added, and everything else is as before.
+pub record GainsVersions (was is : Additions) : Type 0 where
+  pub versions : adds_versions is ≡ true
+  pub zones : (key : List ℕ) → zone_added is key ≡ zone_added was key
+  pub moment : is.moment ≡ was.moment
+  pub names : names_in is ≡ names_in was

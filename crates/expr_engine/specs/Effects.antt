@@ -9,7 +9,7 @@ use Rattle.expr_encoding.specs.Optional.{value_or_refusal}
 use Rattle.expr_encoding.specs.Reading.{json_value}
 use Rattle.expr_encoding.specs.Writing.{json_text}
 use Rattle.expr_engine.specs.Engines.{KeepsThings, KeepsRest, RunMayAnswer, run_inputs, waiting_inputs}
-use Rattle.expr_engine.specs.Adding.{AddsNothing, BecomesByRule, BecomesFixed, BecomesNow, GainsName}
+use Rattle.expr_engine.specs.Adding.{AddsNothing, BecomesByRule, BecomesFixed, BecomesNow, GainsName, GainsVersions}
 use Rattle.expr_engine.specs.Limiting.{IsProgramBy, limits_asked}
 use Rattle.expr_exchange.specs.declared.call.Ask.{Ask}
 use Rattle.expr_exchange.specs.declared.call.Ask.TheVariants as is
@@ -29,7 +29,10 @@ use Rattle.expr_exchange.specs.declared.handles.HandleMap.{HandleMap}
 use Rattle.expr_lowering.specs.HostNeeds.{AreFunctionsOf, AreMissing, with_nil}
 use Rattle.expr_stops.specs.Stops.{waiting_call_of, replies_of}
 use Rattle.expr_stops.specs.declared.replay.Stop.{Stop}
+use Rattle.expr_syntax.specs.Texts.{IsProgramOf}
+use Rattle.expr_text.specs.Layout.{program_text}
 use Rattle.expr_tree.specs.Names.{AreNamesOf, block_operands, env}
+use Rattle.expr_tree.specs.Term.{Block}
 use Rattle.expr_tree.specs.TermOf.{program_term}
 use Rattle.expr_value.specs.Names.{put}
 use Rattle.expr_value.specs.Strings.{string_text}
@@ -113,6 +116,19 @@ pub record SaysFunctions (old new : Engine) (call : Call) (reply : CallResult) :
   pub said : IsSomeAnd (thing_at old.rules call.program)
       (λ rule. AreSaid (λ names. AreFunctionsOf names (owned_blocks rule.code)) (string_bytes new.said) count)
   pub number : pos count ≤ℤ pos 9223372036854775807 → reply.number ≡ pos count
+  pub built : new.built ≡ old.built
+
+-- This is the text of a program in the normal form, and compiling it gives this very program.
+pub record IsTextOf (text : List ℕ) (program : Block) : Type 0 where
+  pub same : text ≡ program_text program
+  pub compiles : IsProgramOf text program
+
+-- The message is the program's text.
+pub record SaysProgram (old new : Engine) (call : Call) : Type 0 where
+  pub keeps : KeepsThings old new
+  pub rest : KeepsRest old new
+  pub said : IsSomeAnd (thing_at old.rules call.program)
+      (λ rule. IsTextOf (string_bytes new.said) (program_term rule.program))
   pub built : new.built ≡ old.built
 
 -- The number is 1 if something holds, else 0.
@@ -310,6 +326,9 @@ SetsNow old new call = ChangesEnvironment (BecomesNow (instant_by call.number ca
 abbrev pub AddsName : Engine → Engine → Call → Type 0
 AddsName old new call = ChangesEnvironment (GainsName call.name.now) old new call
 
+abbrev pub AddsVersions : Engine → Engine → Call → Type 0
+AddsVersions old new call = ChangesEnvironment GainsVersions old new call
+
 pub record DropsProgram (old new : Engine) (call : Call) : Type 0 where
   pub rules : LetsGo old.rules new.rules call.program
   pub contexts : new.contexts ≡ old.contexts
@@ -392,6 +411,8 @@ Does is.Unlimited old new call reply = LetsGoOfLimits old new
 Does is.UsesEnv old new call reply = TellsEnv old new call reply
 Does is.Functions old new call reply = SaysFunctions old new call reply
 Does is.FillMissing old new call reply = FillsMissing old new call reply
+Does is.Versions old new call reply = AddsVersions old new call
+Does is.ProgramText old new call reply = SaysProgram old new call
 
 -- A call waits, and a handle of its run finds nothing.
 abbrev pub IsStale : Engine → Type 0
@@ -409,8 +430,10 @@ HandleFindsNothing is.DropProgram engine call = thing_at engine.rules call.progr
 HandleFindsNothing is.DropContext engine call = thing_at engine.contexts call.context ≡ None
 HandleFindsNothing is.DropEnvironment engine call = thing_at engine.environments call.environment ≡ None
 HandleFindsNothing is.Name engine call = thing_at engine.environments call.environment ≡ None
+HandleFindsNothing is.Versions engine call = thing_at engine.environments call.environment ≡ None
 HandleFindsNothing is.UsesEnv engine call = thing_at engine.rules call.program ≡ None
 HandleFindsNothing is.Functions engine call = thing_at engine.rules call.program ≡ None
+HandleFindsNothing is.ProgramText engine call = thing_at engine.rules call.program ≡ None
 HandleFindsNothing is.FillMissing engine call =
     (thing_at engine.rules call.program ≡ None) ⊎ (thing_at engine.contexts call.context ≡ None)
 HandleFindsNothing is.Answer engine call = IsStale engine

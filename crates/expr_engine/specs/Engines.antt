@@ -5,7 +5,7 @@ use Rattle.expr_syntax.specs.Refused.{IsRefused}
 use Rattle.expr_lowering.specs.OwnedCodes.{owned_blocks}
 use Rattle.expr_engine.specs.Limiting.{Passes}
 use Rattle.expr_context.specs.Contexts.{NamedValues, context_of}
-use Rattle.expr_engine.specs.Runs.{MeaningAllows, host_with_replies, named_at, zone_added}
+use Rattle.expr_engine.specs.Runs.{MeaningAllows, adds_versions, host_with_replies, named_at, zone_added}
 use Rattle.expr_engine.specs.declared.additions.Additions.{Additions}
 use Rattle.expr_engine.specs.declared.engine.Engine.{Engine}
 use Rattle.expr_engine.specs.declared.rule.Rule.{Rule}
@@ -123,7 +123,8 @@ rest_of_engine engine = record { answer = engine.answer; waits = engine.waits; l
 abbrev pub KeepsRest : Engine → Engine → Type 0
 KeepsRest old new = rest_of_engine new ≡ rest_of_engine old
 
--- Every handle finds an environment with the same zones, current time and names.
+-- Every handle finds an environment with the same zones, current time and names, and with the functions on versions
+-- if it had them.
 pub record SameAdditions (old new : HandleMap Additions) : Type 0 where
   pub zones : (h : Handle) (name : List ℕ) → option_map (λ a. zone_added a name) (thing_at new h)
       ≡ option_map (λ a. zone_added a name) (thing_at old h)
@@ -131,6 +132,8 @@ pub record SameAdditions (old new : HandleMap Additions) : Type 0 where
       ≡ option_map (λ a. a.moment) (thing_at old h)
   pub names : (h : Handle) (name : List ℕ) → option_map (λ a. named_at a name) (thing_at new h)
       ≡ option_map (λ a. named_at a name) (thing_at old h)
+  pub versions : (h : Handle) → option_map (λ a. adds_versions a) (thing_at new h)
+      ≡ option_map (λ a. adds_versions a) (thing_at old h)
 
 -- Every handle finds what it found.
 pub record SameKept (old new : Engine) : Type 0 where

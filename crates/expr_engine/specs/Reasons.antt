@@ -111,6 +111,8 @@ MayRefuse is.Unlimited engine call refused = ⊥
 MayRefuse is.UsesEnv engine call refused = refused ≡ Unknown
 MayRefuse is.Functions engine call refused = IsUnknownOrForMemory refused
 MayRefuse is.FillMissing engine call refused = IsUnknownOrForMemory refused
+MayRefuse is.Versions engine call refused = refused ≡ Unknown
+MayRefuse is.ProgramText engine call refused = IsUnknownOrForMemory refused
 
 -- A call with this number succeeded, or failed as it may.
 pub record EndsWithReason (ask : Ask) (old : Engine) (call : Call) (number : ℕ) : Type 0 where

@@ -1,5 +1,5 @@
 -- The inputs of a run: the names of a context, and the additions of an environment.
-use Rattle.std.specs.Prelude.{ℕ, Bool, List, [], Option, None, Some, false}
+use Rattle.std.specs.Prelude.{ℕ, Bool, List, [], Option, None, Some, false, is_some}
 use Rattle.std.specs.HashMap.{get_by_text}
 use Rattle.expr_context.specs.Contexts.{NamedValues}
 use Rattle.expr_engine.specs.declared.additions.Additions.{Additions}
@@ -10,6 +10,7 @@ use Rattle.expr_stops.specs.declared.replies.CallReply.{CallReply}
 use Rattle.expr_stops.specs.declared.names.StopNames.{StopNames}
 use Rattle.expr_tree.specs.Term.{Block}
 use Rattle.expr_value.specs.Answers.{Answer}
+use Rattle.expr_versions.specs.Versions.{VersionsReturn, function_added}
 use Rattle.expr_meaning.specs.World.{World}
 use Rattle.expr_datetime.specs.declared.zone.TimezoneValue.{TimezoneValue}
 
@@ -22,11 +23,15 @@ names_or_none (Some pairs) = pairs
 abbrev pub zone_added : Additions → List ℕ → Option TimezoneValue
 zone_added added name = get_by_text added.zones name
 
--- the additions of an environment: zones and a current time, and no function
+-- whether the functions on versions are added
+abbrev pub adds_versions : Additions → Bool
+adds_versions added = added.versions
+
+-- the additions of an environment: zones, a current time, and the functions on versions if they are added
 abbrev pub added_by : Additions → Host
 added_by added = record {
-  is_added = λ _. false;
-  calls = λ _ _ _. ⊥;
+  is_added = λ key. is_some (function_added (adds_versions added) key);
+  calls = λ key vs answer. VersionsReturn (adds_versions added) key vs answer;
   zones = zone_added added;
   moment = added.moment;
 }

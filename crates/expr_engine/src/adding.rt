@@ -1,7 +1,7 @@
 //! Calls about environments.
 ghost use Rattle.std.specs.Prelude.{◌≡◌, ◌≢◌, ◌⊎◌, Err, IfErr, IsUtf8, None, OnErr, OnOk, pos};
 ghost use Rattle.expr_engine.specs.Adding.{IsName};
-ghost use Rattle.expr_engine.specs.Effects.{AddsEnvironment, AddsFixedZone, AddsName, AddsZoneByRule, SetsNow, call_result};
+ghost use Rattle.expr_engine.specs.Effects.{AddsEnvironment, AddsFixedZone, AddsName, AddsVersions, AddsZoneByRule, SetsNow, call_result};
 ghost use Rattle.expr_engine.specs.Engines.{KeepsRest, NumbersRise, SameAdditions};
 ghost use Rattle.expr_engine.specs.Reasons.{RefusesName, RefusesZone};
 ghost use Rattle.expr_exchange.specs.Refusals.{IsForMemory, NotMeant};
@@ -106,4 +106,21 @@ pub fn add_name(engine: &mut Engine, call: &Call<'_>) -> Result<(), HostError>
     engine.knows_environment(call.environment)?;
     let name = utf8(call.name)?;
     engine.add_name(call.environment, name)
+}
+
+/// Adds the functions on versions to an environment.
+pub fn add_versions(engine: &mut Engine, call: &Call<'_>) -> Result<(), HostError>
+    ensures done { OnOk result (AddsVersions engine.old engine.new call.now) }
+    ensures unknown { thing_at engine.old.environments call.now.environment ≡ None
+        → result ≡ Err HostError.Unknown }
+    ensures known { result ≡ Err HostError.Unknown
+        → thing_at engine.old.environments call.now.environment ≡ None }
+    ensures err { OnErr result (SameAdditions engine.old.environments engine.new.environments) }
+    ensures next { SameNext engine.old.environments engine.new.environments }
+    ensures rules { engine.new.rules ≡ engine.old.rules }
+    ensures contexts { engine.new.contexts ≡ engine.old.contexts }
+    ensures rest { KeepsRest engine.old engine.new }
+    ensures why { IfErr result (λ e. e ≡ HostError.Unknown) }
+{
+    engine.add_versions(call.environment)
 }

@@ -1,7 +1,8 @@
-//! What a host adds to the language: zones, the current time, and the names of functions that it runs itself.
+//! What a host adds to the language: zones, the current time, the functions on versions, and the names of functions
+//! that it runs itself.
 ghost use Rattle.std.specs.Prelude.{◌≡◌, ◌↔◌, ℕ, List, IfErr, IfOk, OnErr, OnOk, IfSome, IsNone, IsTrue};
-ghost use Rattle.expr_engine.specs.Adding.{AddsNothing, BecomesByRule, BecomesFixed, BecomesNow, GainsName, GainsZone, IsName, is_this_word, is_word_alone};
-ghost use Rattle.expr_engine.specs.Runs.{named_at, names_in, zone_added};
+ghost use Rattle.expr_engine.specs.Adding.{AddsNothing, BecomesByRule, BecomesFixed, BecomesNow, GainsName, GainsVersions, GainsZone, IsName, is_this_word, is_word_alone};
+ghost use Rattle.expr_engine.specs.Runs.{adds_versions, named_at, names_in, zone_added};
 ghost use Rattle.expr_datetime.specs.Times.{plain_rules};
 ghost use Rattle.expr_error.specs.ErrorKind.{OnlyMemory, RefusesWith, evaluation};
 ghost use Rattle.expr_exchange.specs.Refusals.{NotMeant};
@@ -11,18 +12,21 @@ use expr_meaning::{ExprCall, Functions};
 use expr_stops::StopNames;
 use expr_tokens::{Token, read};
 use expr_value::{DateTimeValue, Error, Result, TimezoneValue, Value, refusal};
+use expr_versions::{call_version_function, has_version_function};
 use indexmap::IndexMap;
 use jiff::Timestamp;
 use jiff::tz::{Offset, TimeZone};
 use std::alloc::Global;
 
-/// The zones that a host has added, its current time, and the names of the functions that it runs itself.
+/// The zones that a host has added, its current time, the names of the functions that it runs itself, and whether
+/// it has added the functions on versions.
 #[derive(Drop)]
 pub struct Additions {
     alloc: Global,
     zones: IndexMap<String, TimezoneValue>,
     moment: Option<DateTimeValue>,
     names: StopNames,
+    versions: bool,
 }
 
 impl Additions {
@@ -35,6 +39,7 @@ impl Additions {
             zones: IndexMap::new(alloc),
             moment: None,
             names: StopNames::new(alloc),
+            versions: false,
         }
     }
 
@@ -50,6 +55,7 @@ impl Additions {
         ensures err { OnErr result ((key : List ℕ) → zone_added self.new key ≡ zone_added self.old key) }
         ensures moment { self.new.moment ≡ self.old.moment }
         ensures names { names_in self.new ≡ names_in self.old }
+        ensures versions { adds_versions self.new ≡ adds_versions self.old }
     {
         match offset_ahead(seconds) {
             Some(offset) => self.add(name, TimeZone::fixed(offset)),
@@ -72,6 +78,7 @@ impl Additions {
         ensures err { OnErr result ((key : List ℕ) → zone_added self.new key ≡ zone_added self.old key) }
         ensures moment { self.new.moment ≡ self.old.moment }
         ensures names { names_in self.new ≡ names_in self.old }
+        ensures versions { adds_versions self.new ≡ adds_versions self.old }
     {
         match TimeZone::posix(rule) {
             Ok(rules) => self.add(name, rules),
@@ -95,6 +102,7 @@ impl Additions {
         ensures err { OnErr result ((key : List ℕ) → zone_added self.new key ≡ zone_added self.old key) }
         ensures moment { self.new.moment ≡ self.old.moment }
         ensures names { names_in self.new ≡ names_in self.old }
+        ensures versions { adds_versions self.new ≡ adds_versions self.old }
     {
         match rule {
             Some(rule) => self.add_rule(name, rule),
@@ -108,6 +116,7 @@ impl Additions {
         ensures err { OnErr result ((key : List ℕ) → zone_added self.new key ≡ zone_added self.old key) }
         ensures moment { self.new.moment ≡ self.old.moment }
         ensures names { names_in self.new ≡ names_in self.old }
+        ensures versions { adds_versions self.new ≡ adds_versions self.old }
     {
         let alloc = self.alloc;
         if name == "UTC" {
@@ -131,6 +140,7 @@ impl Additions {
         ensures err { OnErr result ((key : List ℕ) → named_at self.new key ≡ named_at self.old key) }
         ensures zones { (key : List ℕ) → zone_added self.new key ≡ zone_added self.old key }
         ensures moment { self.new.moment ≡ self.old.moment }
+        ensures versions { adds_versions self.new ≡ adds_versions self.old }
     {
         if !is_name(self.alloc, name)? {
             return Err(HostError::Misuse(Misuse::NoWord));
@@ -151,6 +161,13 @@ impl Additions {
     {
         self.moment = Some(DateTimeValue::fixed(now, Offset::UTC));
     }
+
+    /// Adds the functions on versions.
+    pub fn add_versions(&mut self)
+        ensures { GainsVersions self.old self.new }
+    {
+        self.versions = true;
+    }
 }
 
 /// The additions of an environment, or none.
@@ -165,12 +182,19 @@ impl<'a> Functions for LentHost<'a> {
 
     ghost host = { λ lent. host_by (option_copied lent.added) };
 
-    fn has(&self, _name: &str) -> bool {
-        false
+    fn has(&self, name: &str) -> bool {
+        match self.added {
+            Some(added) => has_version_function(added.versions, name),
+            None => false,
+        }
     }
 
     fn ask(&self, call: ExprCall) -> Result<Value> {
-        Err(Error::ExprError(call.ident))
+        let ExprCall { ident, args } = call;
+        match self.added {
+            Some(added) => call_version_function(added.versions, added.alloc, ident, args),
+            None => Err(Error::ExprError(ident)),
+        }
     }
 
     fn zone(&self, name: &str) -> Option<&TimezoneValue> {

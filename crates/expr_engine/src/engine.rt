@@ -3,8 +3,8 @@
 ghost use Rattle.std.specs.Prelude.{◌≡◌, ◌≢◌, [], string_bytes, IfOk, IfErr, OnOk, OnErr, IfSome, IsSome, IsOk, IsNone, MatchOption, Err, None, Some, ◌⊎◌};
 ghost use Rattle.std.specs.List.{Contains};
 ghost use Rattle.std.specs.Option.{option_copied};
-ghost use Rattle.expr_engine.specs.Adding.{BecomesByRule, BecomesFixed, BecomesNow, GainsName, IsName};
-ghost use Rattle.expr_engine.specs.Effects.{Adds, AreSaid, Changes, FillsContext, ForgetsAll, IsStale, TellsWhether};
+ghost use Rattle.expr_engine.specs.Adding.{BecomesByRule, BecomesFixed, BecomesNow, GainsName, GainsVersions, IsName};
+ghost use Rattle.expr_engine.specs.Effects.{Adds, AreSaid, Changes, FillsContext, ForgetsAll, IsStale, IsTextOf, TellsWhether};
 ghost use Rattle.expr_engine.specs.Engines.{IsPlacedRefusal, KeepsThings, KeepsRest, RunMayAnswer, MayEnd, NumbersRise, RefusesText, SameAdditions, additions_at, run_inputs, waiting_inputs, names_at, no_number};
 ghost use Rattle.expr_engine.specs.Faults.{IsNotedAt, fault_byte, refused_byte};
 ghost use Rattle.expr_engine.specs.Limiting.{IsProgramBy};
@@ -148,6 +148,24 @@ impl Engine {
     {
         match self.rules.get(program) {
             Some(rule) => Ok(rule.functions(self.alloc)?),
+            None => Err(HostError::Unknown),
+        }
+    }
+
+    /// The text of a program, in the normal form.
+    ///
+    /// # Errors
+    ///
+    /// Returns `Unknown` if the handle finds nothing, and `MemoryError` if an allocation fails.
+    pub fn program_text(&self, program: Handle) -> Result<String, HostError>
+        ensures said { MatchOption (thing_at self.now.rules program) (result ≡ Err HostError.Unknown)
+            (λ rule. IfOk result (λ text. IsTextOf (string_bytes text) (program_term rule.program))) }
+        ensures unknown { thing_at self.now.rules program ≡ None → result ≡ Err HostError.Unknown }
+        ensures known { result ≡ Err HostError.Unknown → thing_at self.now.rules program ≡ None }
+        ensures why { IfErr result IsUnknownOrForMemory }
+    {
+        match self.rules.get(program) {
+            Some(rule) => Ok(rule.text(self.alloc)?),
             None => Err(HostError::Unknown),
         }
     }
@@ -573,8 +591,10 @@ impl Engine {
             self.old.environments self.new.environments environment) }
         ensures by_rule { OnOk result (IfSome rule.entry (λ rule. Changes (BecomesByRule name.now rule.now)
             self.old.environments self.new.environments environment)) }
-        ensures unknown { thing_at self.old.environments environment ≡ None → result ≡ Err HostError.Unknown }
-        ensures known { result ≡ Err HostError.Unknown → thing_at self.old.environments environment ≡ None }
+        ensures unknown { thing_at self.old.environments environment ≡ None
+            → result ≡ Err HostError.Unknown }
+        ensures known { result ≡ Err HostError.Unknown
+            → thing_at self.old.environments environment ≡ None }
         ensures err { OnErr result (SameAdditions self.old.environments self.new.environments) }
         ensures next { SameNext self.old.environments self.new.environments }
         ensures rules { self.new.rules ≡ self.old.rules }
@@ -600,8 +620,10 @@ impl Engine {
     pub fn add_name(&mut self, environment: Handle, name: &str) -> Result<(), HostError>
         ensures added { OnOk result (Changes (GainsName name.now) self.old.environments
             self.new.environments environment) }
-        ensures unknown { thing_at self.old.environments environment ≡ None → result ≡ Err HostError.Unknown }
-        ensures known { result ≡ Err HostError.Unknown → thing_at self.old.environments environment ≡ None }
+        ensures unknown { thing_at self.old.environments environment ≡ None
+            → result ≡ Err HostError.Unknown }
+        ensures known { result ≡ Err HostError.Unknown
+            → thing_at self.old.environments environment ≡ None }
         ensures err { OnErr result (SameAdditions self.old.environments self.new.environments) }
         ensures next { SameNext self.old.environments self.new.environments }
         ensures rules { self.new.rules ≡ self.old.rules }
@@ -627,8 +649,10 @@ impl Engine {
     pub fn set_now(&mut self, environment: Handle, now: Timestamp) -> Result<(), HostError>
         ensures set { OnOk result (Changes (BecomesNow now.nanosecond) self.old.environments
             self.new.environments environment) }
-        ensures unknown { thing_at self.old.environments environment ≡ None → result ≡ Err HostError.Unknown }
-        ensures known { result ≡ Err HostError.Unknown → thing_at self.old.environments environment ≡ None }
+        ensures unknown { thing_at self.old.environments environment ≡ None
+            → result ≡ Err HostError.Unknown }
+        ensures known { result ≡ Err HostError.Unknown
+            → thing_at self.old.environments environment ≡ None }
         ensures err { OnErr result (SameAdditions self.old.environments self.new.environments) }
         ensures next { SameNext self.old.environments self.new.environments }
         ensures rules { self.new.rules ≡ self.old.rules }
@@ -642,6 +666,35 @@ impl Engine {
             return Err(HostError::Unknown);
         }
         host.set_now(now);
+        let _kept = self.environments.swap(environment, &mut host);
+        Ok(())
+    }
+
+    /// Adds the functions on versions to an environment.
+    ///
+    /// # Errors
+    ///
+    /// Returns `Unknown` if the handle finds nothing.
+    pub fn add_versions(&mut self, environment: Handle) -> Result<(), HostError>
+        ensures added { OnOk result (Changes GainsVersions self.old.environments self.new.environments
+            environment) }
+        ensures unknown { thing_at self.old.environments environment ≡ None
+            → result ≡ Err HostError.Unknown }
+        ensures known { result ≡ Err HostError.Unknown
+            → thing_at self.old.environments environment ≡ None }
+        ensures err { OnErr result (SameAdditions self.old.environments self.new.environments) }
+        ensures next { SameNext self.old.environments self.new.environments }
+        ensures rules { self.new.rules ≡ self.old.rules }
+        ensures contexts { self.new.contexts ≡ self.old.contexts }
+        ensures built { self.new.built ≡ self.old.built }
+        ensures rest { KeepsRest self.old self.new }
+        ensures why { IfErr result (λ e. e ≡ HostError.Unknown) }
+    {
+        let mut host = Additions::new(self.alloc);
+        if !self.environments.swap(environment, &mut host) {
+            return Err(HostError::Unknown);
+        }
+        host.add_versions();
         let _kept = self.environments.swap(environment, &mut host);
         Ok(())
     }

@@ -1,8 +1,10 @@
 //! A program and its code.
+ghost use Rattle.std.specs.Prelude.{IsTrue};
 ghost use Rattle.expr_code.specs.Codes.{IsCode};
 ghost use Rattle.expr_lowering.specs.OwnedCodes.{owned_blocks};
 ghost use Rattle.expr_engine.specs.Limiting.{IsCompiledBy};
 ghost use Rattle.expr_syntax.specs.Texts.{IsPlaced};
+ghost use Rattle.expr_text.specs.Texts.{block_has_text};
 ghost use Rattle.expr_tree.specs.TermOf.{program_term};
 ghost use Rattle.expr_meaning.specs.World.{world_of};
 
@@ -14,6 +16,7 @@ use expr_lowering::{Code, OwnedCode, functions_of, missing_names};
 use expr_meaning::Functions;
 use expr_stops::{RunStatus, Stops, execute_in};
 use expr_syntax::{compile, compile_limited};
+use expr_text::to_code;
 use expr_tree::node::Program;
 use expr_value::{Result, Value};
 use std::alloc::Global;
@@ -24,6 +27,7 @@ pub struct Rule {
     pub program: Program,
     pub code: OwnedCode,
     pub ghost lowered: { ∥ IsCode (program_term program) (owned_blocks code) ∥₁ },
+    pub ghost worded: { IsTrue (block_has_text (program_term program)) },
 }
 
 impl Rule {
@@ -34,7 +38,7 @@ impl Rule {
     ghost use Rattle.std.specs.Option.{option_copied};
     ghost use Rattle.expr_machine.specs.Given.{MayGive as GivesWithin};
     ghost use Rattle.expr_engine.specs.Limiting.{IsCompiledBy};
-    ghost use Rattle.expr_engine.specs.Effects.{AreSaid, TellsWhether};
+    ghost use Rattle.expr_engine.specs.Effects.{AreSaid, IsTextOf, TellsWhether};
     ghost use Rattle.expr_error.specs.ErrorKind.{OnlyMemory};
     ghost use Rattle.expr_context.specs.Contexts.{context_of};
     ghost use Rattle.expr_engine.specs.Runs.{MeaningAllows, host_with_replies, named_by, names_or_none};
@@ -88,6 +92,18 @@ impl Rule {
     {
         let functions = functions_of(alloc, &self.code)?;
         Ok((functions.join(alloc, "\n")?, functions.len()))
+    }
+
+    /// The program's text, in the normal form.
+    ///
+    /// # Errors
+    ///
+    /// Returns `MemoryError` if an allocation fails.
+    pub fn text(&self, alloc: Global) -> Result<String>
+        ensures ok { IfOk result (λ text. IsTextOf (string_bytes text) (program_term self.now.program)) }
+        ensures err { OnlyMemory result }
+    {
+        to_code(alloc, &self.program)
     }
 
     /// Whether the program uses `$env` as an operand: 1 or 0.

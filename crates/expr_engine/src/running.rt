@@ -1,6 +1,6 @@
 //! Calls about programs.
 ghost use Rattle.std.specs.Prelude.{◌≡◌, [], Err, None, IfErr, IfOk, IsUtf8, MatchOption, OnErr, OnOk};
-ghost use Rattle.expr_engine.specs.Effects.{Compiles, RunsOnce, SaysFunctions, SaysNames, TellsEnv, call_result};
+ghost use Rattle.expr_engine.specs.Effects.{Compiles, RunsOnce, SaysFunctions, SaysNames, SaysProgram, TellsEnv, call_result};
 ghost use Rattle.expr_engine.specs.Engines.{CompileRefuses, KeepsThings, KeepsRest, NumbersRise, run_inputs};
 ghost use Rattle.expr_engine.specs.Served.{RunServes};
 ghost use Rattle.expr_engine.specs.Turns.{IsNewRun};
@@ -58,6 +58,20 @@ pub fn functions(engine: &mut Engine, call: &mut Call<'_>) -> Result<(), HostErr
     let (functions, count) = engine.functions(call.program)?;
     call.number = i64::try_from(count).unwrap_or(0);
     engine.said = functions;
+    Ok(())
+}
+
+/// Makes the message from the text of a program.
+pub fn program_text(engine: &mut Engine, call: &Call<'_>) -> Result<(), HostError>
+    ensures done { OnOk result (SaysProgram engine.old engine.new call.now) }
+    ensures unknown { thing_at engine.old.rules call.now.program ≡ None
+        → result ≡ Err HostError.Unknown }
+    ensures known { result ≡ Err HostError.Unknown → thing_at engine.old.rules call.now.program ≡ None }
+    ensures kept { KeepsThings engine.old engine.new }
+    ensures rest { KeepsRest engine.old engine.new }
+    ensures why { IfErr result IsUnknownOrForMemory }
+{
+    engine.said = engine.program_text(call.program)?;
     Ok(())
 }
 

@@ -9,7 +9,9 @@ ghost use Rattle.expr_exchange.specs.Builder.{values_of};
 ghost use Rattle.expr_exchange.specs.Refusals.{status_of};
 ghost use Rattle.expr_exchange.specs.declared.misuse.Misuse.{Misuse as Wrong};
 
-use crate::adding::{add_environment, add_name, set_now, zone_by_rule, zone_by_seconds};
+use crate::adding::{
+    add_environment, add_name, add_versions, set_now, zone_by_rule, zone_by_seconds,
+};
 use crate::building::{make_array, make_map, push, unbuild};
 use crate::engine::{Engine, TextPlace};
 use crate::filling::{built_context, fill_missing, new_context, set};
@@ -17,7 +19,7 @@ use crate::letting::{clear, drop_context, drop_environment, drop_program};
 use crate::limiting::{let_go_of_limits, set_limit};
 use crate::looking::{look, look_down, look_up, say_json, say_shown, say_text, show_key};
 use crate::replying::{answer_call, look_at_waiting_call, refuse_call};
-use crate::running::{compile, functions, names, run, uses_env};
+use crate::running::{compile, functions, names, program_text, run, uses_env};
 use expr_exchange::{Ask, Call, HostError, Misuse, Shows, Status, bytes_of};
 
 /// Handles a call. It returns whatever the call contains. On an error everything that the engine keeps and
@@ -79,6 +81,8 @@ fn act(engine: &mut Engine, call: &mut Call<'_>, ask: Ask) -> Result<(), HostErr
         Ask::UsesEnv => uses_env(engine, call),
         Ask::Functions => functions(engine, call),
         Ask::FillMissing => fill_missing(engine, call),
+        Ask::Versions => add_versions(engine, call),
+        Ask::ProgramText => program_text(engine, call),
     }
 }
 

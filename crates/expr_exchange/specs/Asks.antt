@@ -43,6 +43,8 @@ all_asks =
     ∷ is.UsesEnv
     ∷ is.Functions
     ∷ is.FillMissing
+    ∷ is.Versions
+    ∷ is.ProgramText
     ∷ []
 
 abbrev pub ask_of : ℕ → Option Ask
@@ -64,4 +66,5 @@ shows_of is.Json = Said
 shows_of is.Said = Said
 shows_of is.WaitingCall = Said
 shows_of is.Functions = Said
+shows_of is.ProgramText = Said
 shows_of ask = Nothing

@@ -114,6 +114,10 @@ pub enum Ask {
     /// Sets nil in a context for each missing name that a program looks up only outside of predicates.
     /// `number` is their count. Names in predicates stay missing, since nil would hide a field of `#`.
     FillMissing,
+    /// Adds the functions on versions to an environment: `versionMatches` and `versionCompare`.
+    Versions,
+    /// Returns the text of a program, in the normal form.
+    ProgramText,
 }
 
 /// Which string a call returns.
@@ -136,6 +140,7 @@ impl Ask {
             Ask::Look | Ask::Down | Ask::Up => Shows::Value,
             Ask::Names | Ask::Key | Ask::Shown | Ask::Text => Shows::Said,
             Ask::Json | Ask::Said | Ask::WaitingCall | Ask::Functions => Shows::Said,
+            Ask::ProgramText => Shows::Said,
             _ => Shows::Nothing,
         }
     }
@@ -180,6 +185,8 @@ impl Ask {
             32 => Some(Ask::UsesEnv),
             33 => Some(Ask::Functions),
             34 => Some(Ask::FillMissing),
+            35 => Some(Ask::Versions),
+            36 => Some(Ask::ProgramText),
             _ => None,
         }
     }

@@ -1,5 +1,5 @@
 -- Items that are their own keys.
-use Rattle.std.proofs.Common.{◌≡◌, ◌+◌, ◌<◌, Bool, true, false, cond, ◌&&◌, ◌||◌, List, [], ◌∷◌, length, map, Ok, Err, MatchBool, refl, sym, ap, ◌∙◌, subst, arith, inl, inr, ◌⊎◌}
+use Rattle.std.proofs.Common.{◌≡◌, ℕ, ℤ, ◌+◌, ◌<◌, Bool, true, false, cond, ◌&&◌, ◌||◌, List, [], ◌∷◌, length, map, Option, Some, None, Ok, Err, MatchBool, refl, sym, ap, ◌∙◌, subst, arith, inl, inr, ◌⊎◌}
 use Rattle.std.specs.List.{filter, list_all}
 use Rattle.std.specs.List.Sorted.{ties, IsSortedBy}
 use Rattle.std.proofs.lemmas.List.{get_or-map, length-map}
@@ -7,12 +7,13 @@ use Rattle.std.proofs.lemmas.List.Sorted.{IsPermutation-map}
 use Rattle.std.proofs.lemmas.Simd.{map-map}
 use Rattle.expr_value.specs.Answers.{Answer}
 use Rattle.expr_error.specs.ErrorKind.{evaluation}
-use Rattle.expr_value.specs.Values.{of_key}
+use Rattle.std.specs.Option.{is_some, option_map}
+use Rattle.expr_value.specs.Values.{integer_of, of_key, string_of}
 use Rattle.expr_value.specs.declared.key.Key.{Key}
 use Rattle.expr_value.specs.declared.value.Value as value
 use Rattle.expr_value.specs.declared.value.Value.{Value, roll-Value, ind-Value}
 use Rattle.expr_value.specs.declared.value.Value.TheOpen.{Value-F}
-use Rattle.expr_predicates.specs.Sorting.{IsSorting, Sorts, are_alike, beside_keys, is_integer, is_text, precedes, sort_key, own_keys, own_answers}
+use Rattle.expr_predicates.specs.Sorting.{IsSorting, Sorts, are_alike, beside_keys, is_integer, is_text, precedes, sort_key, own_keys, own_answers, items_alike}
 
 abbrev Sorted_by : Key → Bool
 Sorted_by k = is_integer k || is_text k
@@ -39,6 +40,43 @@ own_layer (Value-F.KeyedMap m) p = cc
 
 own : (v : Value) → Own v
 own = ind-Value Own (λ x y is. own_layer x)
+
+-- which items are integers or strings
+kind_layer : (x : Value-F Value) → (is_integer (sort_key (roll-Value x)) ≡ is_some (integer_of (roll-Value x))) × (is_text (sort_key (roll-Value x)) ≡ is_some (string_of (roll-Value x)))
+unfolding Rattle.expr_value.specs.declared.value.Value.TheViews.out-Value denote.Hole.Carrier.out roll-Value denote.Hole.Carrier.roll
+kind_layer (Value-F.Integer n) = (refl, refl)
+kind_layer (Value-F.Bool b) = (refl, refl)
+kind_layer Value-F.Nil = (refl, refl)
+kind_layer (Value-F.String s) = (refl, refl)
+kind_layer (Value-F.Duration n) = (refl, refl)
+kind_layer (Value-F.Month n) = (refl, refl)
+kind_layer (Value-F.Weekday n) = (refl, refl)
+kind_layer (Value-F.DateTime t) = (refl, refl)
+kind_layer (Value-F.Timezone z) = (refl, refl)
+kind_layer (Value-F.Array xs) = (refl, refl)
+kind_layer (Value-F.Bytes bs) = (refl, refl)
+kind_layer (Value-F.Map m) = (refl, refl)
+kind_layer (Value-F.KeyedMap m) = (refl, refl)
+
+own_kind : (v : Value) → (is_integer (sort_key v) ≡ is_some (integer_of v)) × (is_text (sort_key v) ≡ is_some (string_of v))
+own_kind = ind-Value (λ v. (is_integer (sort_key v) ≡ is_some (integer_of v)) × (is_text (sort_key v) ≡ is_some (string_of v))) (λ x y is. kind_layer x)
+
+some_mapped : {A B : Type 0} (f : A → B) (o : Option A) → is_some o ≡ is_some (option_map f o)
+some_mapped f (Some a) = refl
+some_mapped f None = refl
+
+pub integer_found : (v : Value) (b : Bool) (o : Option ℤ) → b ≡ is_some o → o ≡ integer_of v → b ≡ is_integer (sort_key v)
+integer_found v b o e is = e ∙ ap is_some is ∙ sym (own_kind v).0
+
+pub text_found : {A : Type 0} (f : A → List ℕ) (v : Value) (b : Bool) (o : Option A) → b ≡ is_some o → option_map f o ≡ string_of v → b ≡ is_text (sort_key v)
+text_found f v b o e is = e ∙ some_mapped f o ∙ ap is_some is ∙ sym (own_kind v).1
+
+all_own : (t : Key → Bool) (xs : List Value) → list_all (λ x. t (sort_key x)) xs ≡ list_all (λ p. t p.0) (own_keys xs)
+all_own t [] = refl
+all_own t (x ∷ xs) = ap (λ b. t (sort_key x) && b) (all_own t xs)
+
+pub alike_own : (xs : List Value) → are_alike (own_keys xs) ≡ items_alike xs
+alike_own xs = sym (λ i. all_own is_integer xs i || all_own is_text xs i)
 
 abbrev whole : Key × Unit {0} → Key × Value
 whole p = (p.0, of_key p.0)

@@ -33,7 +33,7 @@ ValuesRepresent (value_accumulator.Filter values) t rs = (t ≡ filtering) × (v
 ValuesRepresent (value_accumulator.Find found) t rs = (t ≡ finding) × (found ≡ option_map (λ r. r.0) (find holds rs))
 ValuesRepresent (value_accumulator.Reduce acc) t rs = (init : Value) × (first : ℕ) × (t ≡ reducing init first) × (acc ≡ acc_after init rs)
 ValuesRepresent (value_accumulator.GroupBy pairs) t rs = (t ≡ grouping) × (pairs.items ≡ items_by_key rs)
-ValuesRepresent (value_accumulator.SortBy down pairs) t rs = (t ≡ sorting down) × (pairs.items ≡ beside_keys rs)
+ValuesRepresent (value_accumulator.SortBy down pairs composite) t rs = (t ≡ sorting down) × (pairs.items ≡ beside_keys rs)
 
 abbrev pub Represents : Accumulator → Fold → List ItemAnswer → Type 0
 Represents (accumulator.Scalar n) t rs = ScalarRepresents n t rs

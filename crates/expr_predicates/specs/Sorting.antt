@@ -56,6 +56,10 @@ Sorts down rs answer = SortsPairs down (beside_keys rs) answer
 abbrev pub own_keys : List Value → List (Key × Unit {0})
 own_keys xs = map (λ x. (sort_key x, tt)) xs
 
+-- the items are all integers or all strings
+abbrev pub items_alike : List Value → Bool
+items_alike xs = list_all (λ x. is_integer (sort_key x)) xs || list_all (λ x. is_text (sort_key x)) xs
+
 -- items, each with itself as the result for it
 abbrev pub own_answers : List Value → List (Value × Value)
 own_answers xs = map (λ x. (x, x)) xs

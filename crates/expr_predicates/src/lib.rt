@@ -28,4 +28,4 @@ pub use laws::{
     none_is_the_opposite_of_any,
 };
 pub use run::{Noted, Plain, PredicateRun, sort};
-pub use sorting::{sort_by_keys, sort_items};
+pub use sorting::sort_items;

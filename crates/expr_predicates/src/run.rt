@@ -1,19 +1,22 @@
 //! A run of a predicate over the items of an array.
 ghost use Rattle.std.specs.Prelude.{◌≡◌, ℕ, ◌+◌, ◌<◌, ◌^◌, ◌∷◌, ◌++◌, [], List, reverse, length, IfOk, IfSome, IsSomeAnd, Ok, Err, Some, None, option_map, true, false};
 ghost use Rattle.expr_value.specs.Answers.{Returns};
-ghost use Rattle.expr_error.specs.ErrorKind.{evaluation, RefusesWith};
+ghost use Rattle.expr_error.specs.ErrorKind.{evaluation, IsOfKind, RefusesWith};
 ghost use Rattle.expr_arguments.specs.Arrays.{array_items};
 ghost use Rattle.expr_predicates.specs.Calls.{SortsItems};
 ghost use Rattle.expr_predicates.specs.Remaining.{items_remaining};
 
-use crate::arguments::{direction, is_downward, runs_alone};
+use crate::arguments::{direction, is_downward, runs_alone, takes};
 use crate::remaining::Remaining;
 use crate::scalar_accumulator::ScalarAccumulator;
 use crate::sorting::sort_items;
 use crate::value_accumulator::{ValueAccumulator, keep_lent};
-use expr_arguments::{Array, CowValue, array_and_more, count_items, into_items};
+use expr_arguments::{
+    Array, CowValue, array_and_more, count_items, into_items, kind_of, missing_predicate,
+    refusal_of,
+};
 use expr_functions::HigherOrderCall;
-use expr_value::{Items, Result, Value, refusal};
+use expr_value::{Error, Items, Result, Value, refusal};
 use std::alloc::Global;
 
 /// What is kept of the results so far.
@@ -200,9 +203,9 @@ impl<'s> PredicateRun<'s> {
         ensures refused { RefusesWith result (λ k. fold_of_call call args.entry given ≡ Err k) }
     {
         if !given && !runs_alone(call) {
-            return Err(refusal(alloc, "this function takes a predicate, such as {# > 0}"));
+            return Err(missing_predicate(alloc, takes(call), args.as_slice()));
         }
-        let (array, more) = array_and_more(alloc, args)?;
+        let (array, more) = array_and_more(alloc, takes(call), args)?;
         match more {
             None => PredicateRun::over_array(alloc, call, array),
             Some(more) => PredicateRun::over_array_with(alloc, call, array, more),
@@ -248,7 +251,7 @@ impl<'s> PredicateRun<'s> {
     {
         match Accumulator::at_start(alloc, call) {
             Some(gathered) => Ok(PredicateRun::forward(array, gathered)),
-            None => Err(refusal(alloc, "expected a second argument")),
+            None => Err(refusal(alloc, takes(call))),
         }
     }
 
@@ -276,10 +279,10 @@ impl<'s> PredicateRun<'s> {
                 let down = direction(alloc, more.get())?;
                 Ok(PredicateRun::forward(
                     array,
-                    Accumulator::Values(ValueAccumulator::SortBy(down, Vec::new(alloc))),
+                    Accumulator::Values(ValueAccumulator::SortBy(down, Vec::new(alloc), None)),
                 ))
             }
-            _ => Err(refusal(alloc, "expected an array as the only argument")),
+            _ => Err(unexpected_more(alloc, call, more.get())),
         }
     }
 
@@ -516,6 +519,15 @@ impl<'s> PredicateRun<'s> {
     }
 }
 
+// The error for a second argument that a built-in doesn't take.
+fn unexpected_more(alloc: Global, call: HigherOrderCall, more: &Value) -> Error
+    ensures { IsOfKind result evaluation }
+{
+    let takes = takes(call);
+    let more = kind_of(more);
+    refusal_of(format!(in alloc; "{takes}, found also {more}"))
+}
+
 /// `sort`: the items of an array in ascending order, or with `"desc"` in descending order. No predicate is called.
 /// Items are copied only if the array is borrowed.
 ///
@@ -526,7 +538,8 @@ impl<'s> PredicateRun<'s> {
 pub fn sort(alloc: Global, args: Items<CowValue<'_>>) -> Result<Value>
     ensures { Returns result (SortsItems args.entry) }
 {
-    let (array, order) = array_and_more(alloc, args)?;
+    let takes = "sort takes an array and an optional order";
+    let (array, order) = array_and_more(alloc, takes, args)?;
     let down = is_downward(alloc, order)?;
     let items = into_items(alloc, array)?;
     sort_items(alloc, down, items)

@@ -4,25 +4,61 @@ ghost use Rattle.std.specs.List.{list_all};
 ghost use Rattle.std.specs.List.Sorted.{IsPermutation, IsSortedBy, IsStableBy};
 ghost use Rattle.expr_value.specs.Answers.{Returns};
 ghost use Rattle.expr_value.specs.Values.{of_key};
-ghost use Rattle.expr_predicates.specs.Sorting.{IsSorting, Sorts, SortsPairs, own_keys, are_alike, is_integer, is_text, precedes, own_answers};
+ghost use Rattle.expr_error.specs.ErrorKind.{evaluation, IsOfKind};
+ghost use Rattle.expr_predicates.specs.Sorting.{IsSorting, Sorts, SortsPairs, own_keys, are_alike, is_integer, is_text, precedes, own_answers, sort_key, items_alike};
 
-use expr_value::{Items, Key, Result, Value, refusal};
+use expr_arguments::{unexpected, unexpected_value};
+use expr_value::{Error, Items, Key, Result, Value};
 use std::alloc::{AllocError, Global};
 
-/// The items sorted by their keys. Items with equal keys keep their order.
+/// The kind of a value that is no scalar.
+#[derive(Clone, Copy)]
+pub(crate) enum Composite {
+    Array,
+    Bytes,
+    Map,
+    KeyedMap,
+}
+
+impl Composite {
+    /// The kind of a value, or `None` for a scalar.
+    pub(crate) fn of(value: &Value) -> Option<Composite> {
+        match value {
+            Value::Array(_) => Some(Composite::Array),
+            Value::Bytes(_) => Some(Composite::Bytes),
+            Value::Map(_) => Some(Composite::Map),
+            Value::KeyedMap(_) => Some(Composite::KeyedMap),
+            _ => None,
+        }
+    }
+
+    /// The kind with its article, for messages.
+    fn name(self) -> &'static str {
+        match self {
+            Composite::Array => "an Array",
+            Composite::Bytes => "Bytes",
+            Composite::Map => "a Map",
+            Composite::KeyedMap => "a KeyedMap",
+        }
+    }
+}
+
+/// The items sorted by their keys. Items with equal keys keep their order. `composite` is the kind of a result that is
+/// no scalar, if there is one, for the message.
 ///
 /// # Errors
 ///
 /// Returns `ExprError` if the keys are neither all integers nor all strings.
-pub fn sort_by_keys(alloc: Global, down: bool, pairs: Vec<(Key, Value)>) -> Result<Value>
+pub(crate) fn sort_by_keys(
+    alloc: Global,
+    down: bool,
+    pairs: Vec<(Key, Value)>,
+    composite: Option<Composite>,
+) -> Result<Value>
     ensures { Returns result (SortsPairs down pairs.items) }
 {
     if !are_alike(&pairs) {
-        drop(pairs);
-        return Err(refusal(
-            alloc,
-            "the keys of sortBy must be all integers or all strings",
-        ));
+        return Err(unlike_keys(alloc, pairs, composite));
     }
     let mut pairs = pairs;
     sort_pairs(down, &mut pairs)?;
@@ -38,16 +74,46 @@ pub fn sort_by_keys(alloc: Global, down: bool, pairs: Vec<(Key, Value)>) -> Resu
 pub fn sort_items(alloc: Global, down: bool, items: Vec<Value>) -> Result<Value>
     ensures { Returns result (Sorts down (own_answers items.items)) }
 {
-    let mut keys = own_keys(alloc, items)?;
-    if !are_alike(&keys) {
-        return Err(refusal(
-            alloc,
-            "sort takes an array of integers or an array of strings",
-        ));
+    if !are_alike_items(&items) {
+        return Err(unlike_items(alloc, &items));
     }
+    let mut keys = own_keys(alloc, items)?;
     sort_pairs(down, &mut keys)?;
     let items = values_of(alloc, keys)?;
     Ok(Value::Array(Items::from_vec(items)))
+}
+
+const BOTH: &str = "an Integer and a String";
+
+// The error for keys that aren't alike: the kind of a result that is no scalar, or else of the first key that is
+// neither an integer nor a string. Without one, there are both.
+fn unlike_keys(alloc: Global, pairs: Vec<(Key, Value)>, composite: Option<Composite>) -> Error
+    ensures { IsOfKind result evaluation }
+{
+    let expected = "sortBy takes a predicate that returns only integers or only strings";
+    if let Some(composite) = composite {
+        return unexpected(alloc, expected, &composite.name());
+    }
+    for (key, _) in pairs {
+        if !is_integer(&key) && !is_text(&key) {
+            return unexpected_value(alloc, expected, &value_of(key));
+        }
+    }
+    unexpected(alloc, expected, &BOTH)
+}
+
+// The error for items that aren't alike: the kind of the first that is neither an integer nor a string. Without one,
+// there are both.
+fn unlike_items(alloc: Global, items: &[Value]) -> Error
+    ensures { IsOfKind result evaluation }
+{
+    let expected = "sort takes an array of integers or an array of strings";
+    for item in items {
+        if !is_integer_item(item) && !is_text_item(item) {
+            return unexpected_value(alloc, expected, item);
+        }
+    }
+    unexpected(alloc, expected, &BOTH)
 }
 
 /// The keys of some items.
@@ -115,6 +181,37 @@ fn is_text(key: &Key) -> bool
     ensures { result ≡ is_text key.now }
 {
     matches!(key, Key::String(_))
+}
+
+/// Whether the items are all integers or all strings.
+fn are_alike_items(items: &[Value]) -> bool
+    ensures { result ≡ items_alike items.now }
+{
+    are_integer_items(items) || are_text_items(items)
+}
+
+fn are_integer_items(items: &[Value]) -> bool
+    ensures { result ≡ list_all (λ x. is_integer (sort_key x)) items.now }
+{
+    items.iter().all(|item| is_integer_item(item))
+}
+
+fn are_text_items(items: &[Value]) -> bool
+    ensures { result ≡ list_all (λ x. is_text (sort_key x)) items.now }
+{
+    items.iter().all(|item| is_text_item(item))
+}
+
+fn is_integer_item(item: &Value) -> bool
+    ensures { result ≡ is_integer (sort_key item.now) }
+{
+    item.as_integer().is_some()
+}
+
+fn is_text_item(item: &Value) -> bool
+    ensures { result ≡ is_text (sort_key item.now) }
+{
+    item.as_string().is_some()
 }
 
 /// Sorts pairs by their keys. Pairs with equal keys keep their order.

@@ -9,10 +9,10 @@ ghost use Rattle.expr_predicates.specs.Sorting.{sort_key};
 
 use crate::grouping::group_by_key;
 use crate::scalar_accumulator::is_true;
-use crate::sorting::sort_by_keys;
-use expr_arguments::{Cow, CowValue};
+use crate::sorting::{Composite, sort_by_keys};
+use expr_arguments::{Cow, CowValue, kind_of, unexpected};
 use expr_functions::HigherOrderCall;
-use expr_value::{Items, Key, Result, Value, refusal};
+use expr_value::{Items, Key, Result, Value};
 use std::alloc::{AllocError, Global};
 
 /// What is kept of the items and results so far.
@@ -29,8 +29,8 @@ pub(crate) enum ValueAccumulator {
     /// The items with their keys.
     GroupBy(Vec<(Key, Value)>),
     /// The items with their keys, and whether the order is descending. A result that can't be a key is found at the
-    /// end.
-    SortBy(bool, Vec<(Key, Value)>),
+    /// end, and its kind is kept for the message.
+    SortBy(bool, Vec<(Key, Value)>, Option<Composite>),
 }
 
 impl ValueAccumulator {
@@ -47,7 +47,7 @@ impl ValueAccumulator {
             HigherOrderCall::Filter => Some(ValueAccumulator::Filter(Vec::new(alloc))),
             HigherOrderCall::Find => Some(ValueAccumulator::Find(None)),
             HigherOrderCall::GroupBy => Some(ValueAccumulator::GroupBy(Vec::new(alloc))),
-            HigherOrderCall::SortBy => Some(ValueAccumulator::SortBy(false, Vec::new(alloc))),
+            HigherOrderCall::SortBy => Some(ValueAccumulator::SortBy(false, Vec::new(alloc), None)),
             _ => None,
         }
     }
@@ -90,7 +90,7 @@ impl ValueAccumulator {
                 Ok(())
             }
             ValueAccumulator::GroupBy(pairs) => put_beside(alloc, pairs, answer, item),
-            ValueAccumulator::SortBy(_, pairs) => put_by(pairs, answer, item),
+            ValueAccumulator::SortBy(_, pairs, composite) => put_by(pairs, composite, answer, item),
         }
     }
 
@@ -105,7 +105,9 @@ impl ValueAccumulator {
             ValueAccumulator::Find(found) => Ok(found.unwrap_or(Value::Nil)),
             ValueAccumulator::Reduce(acc) => Ok(acc),
             ValueAccumulator::GroupBy(pairs) => Ok(Value::KeyedMap(group_by_key(alloc, pairs)?)),
-            ValueAccumulator::SortBy(down, pairs) => sort_by_keys(alloc, down, pairs),
+            ValueAccumulator::SortBy(down, pairs, composite) => sort_by_keys(
+                alloc, down, pairs, composite,
+            ),
         }
     }
 }
@@ -205,19 +207,33 @@ fn put_beside(
         × (pairs.new.items ≡ pairs.old.items ++ (k, item.entry) ∷ [])) }
     ensures err { RefusesWith result (λ k. (key_of answer ≡ None) × (k ≡ evaluation)) }
 {
+    let found = kind_of(&answer);
     let Some(key) = answer.into_key() else {
-        return Err(refusal(alloc, "groupBy takes a predicate that returns a scalar"));
+        return Err(unexpected(
+            alloc,
+            "groupBy takes a predicate that returns a scalar",
+            &found,
+        ));
     };
     pairs.push((key, item.into_value()?))?;
     Ok(())
 }
 
-/// Adds an item with its key, which is nil if the result is no scalar.
+/// Adds an item with its key, which is nil if the result is no scalar. `composite` is the kind of the first such
+/// result.
 #[inline(never)]
-fn put_by(pairs: &mut Vec<(Key, Value)>, answer: Value, item: CowValue<'_>) -> Result<()>
+fn put_by(
+    pairs: &mut Vec<(Key, Value)>,
+    composite: &mut Option<Composite>,
+    answer: Value,
+    item: CowValue<'_>,
+) -> Result<()>
     ensures ok { IfOk result (λ _. pairs.new.items ≡ pairs.old.items ++ (sort_key answer, item.entry) ∷ []) }
     ensures err { OnlyMemory result }
 {
+    if composite.is_none() {
+        *composite = Composite::of(&answer);
+    }
     pairs.push((answer.into_key().unwrap_or(Key::Nil), item.into_value()?))?;
     Ok(())
 }

@@ -1,7 +1,8 @@
 //! The program `expr`: evaluates its first argument, with the names that the other arguments bind.
 #![tactic(auto)]
 
-use expr_serve::serve::{refuse_usage, serve};
+pub mod serve;
+
 use std::alloc::AllocError;
 use std::io::BufWriter;
 use std::process::ExitCode;
@@ -12,7 +13,7 @@ fn main(rt: HostRuntime) -> ExitCode {
     let words: Result<Vec<String>, AllocError> = match env::args(&rt) {
         Ok(args) => args.skip(1).collect(rt.alloc()),
         Err(error) if error.kind() == io::ErrorKind::InvalidData => {
-            return ExitCode::from(refuse_usage(&mut err));
+            return ExitCode::from(serve::refuse_usage(&mut err));
         }
         Err(_) => Err(AllocError),
     };
@@ -22,5 +23,5 @@ fn main(rt: HostRuntime) -> ExitCode {
     let Ok(mut out) = BufWriter::new(rt.alloc(), rt.stdout()) else {
         return ExitCode::from(1);
     };
-    ExitCode::from(serve(rt.alloc(), words.as_slice(), &mut out, &mut err))
+    ExitCode::from(serve::serve(rt.alloc(), words.as_slice(), &mut out, &mut err))
 }

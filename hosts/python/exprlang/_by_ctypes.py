@@ -77,6 +77,9 @@ class Environment(Copied):
         if kind == "now":
             engine.ask(LIBRARY.set_now, handle, *words)
             return
+        if kind == "versions":
+            engine.ask(LIBRARY.add_versions, handle)
+            return
         name = words[0]
         if kind == "function":
             engine.ask(LIBRARY.add_name, handle, name, len(name))
@@ -116,6 +119,10 @@ class Program(Copied):
     def _functions(self) -> list[str]:
         with taken() as engine:
             return engine.lines(LIBRARY.functions, engine.copy(self).handle)
+
+    def _code(self) -> str:
+        with taken() as engine:
+            return engine.program_text(engine.copy(self).handle)
 
     def _uses_env(self) -> bool:
         with taken() as engine:

@@ -175,6 +175,12 @@ class Engine:
         self.ask(call, program, ctypes.byref(count), ctypes.byref(said))
         return (said.value or b"").decode().split("\n") if count.value else []
 
+    def program_text(self, program: _Handle) -> str:
+        """Returns a program as an expression in the normal form."""
+        length, said = ctypes.c_size_t(), ctypes.c_void_p()
+        self.ask(LIBRARY.program_text, program, ctypes.byref(length), ctypes.byref(said))
+        return ctypes.string_at(said.value or 0, length.value).decode()
+
     def uses_env(self, program: _Handle) -> bool:
         """Returns whether a program reads its whole context, as `$env`."""
         uses = ctypes.c_int()

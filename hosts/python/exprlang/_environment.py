@@ -16,6 +16,8 @@ from ._values import instant, utf8, within
 
 _Function = Callable[..., Any]
 
+_ON_VERSIONS = ("versionCompare", "versionMatches")
+
 # one change at a time, so that none is lost; a fork waits for the change that is made
 _CHANGES = threading.RLock()
 os.register_at_fork(
@@ -24,13 +26,15 @@ os.register_at_fork(
 
 
 class Environment(Kept, _core.Environment):
-    """What you add to the language: zones, the current time, and functions.
+    """What you add to the language: zones, the current time, functions, and those on versions.
 
     - `zones`: their names, each with a number of seconds ahead of UTC, or with a rule in POSIX's
       form
     - `now`: the time that `now()` returns, a datetime with an offset
     - `functions`: their names, each with a function of Python. It replaces a function of the
       language that has its name.
+    - `versions`: whether to add `versionMatches(version, requirement)`, which is true or false, and
+      `versionCompare(a, b)`, which is -1, 0 or 1. The engine runs them itself.
 
     A function gets the arguments of a call and returns its value. If it raises an Error, the run
     ends with an Error of the same kind and message, and the function's is its `__cause__`. Any
@@ -64,27 +68,28 @@ class Environment(Kept, _core.Environment):
         zones: Union[Mapping[str, Union[int, str]], Iterable[tuple[str, Union[int, str]]]] = (),
         now: Optional[datetime.datetime] = None,
         functions: Union[Mapping[str, _Function], Iterable[tuple[str, _Function]]] = (),
+        versions: bool = False,
     ) -> None:
         super().__init__()
         self._zones, self._now, self._functions = dict(zones), now, dict(functions)
+        self._versions = versions
         for name, function in self._functions.items():
             if not callable(function):
                 raise TypeError(
                     f"the function {name} can't be called: it is {type(function).__name__}"
                 )
         try:
-            self._parts = _parts(self._zones, now, self._functions)
+            self._parts = _parts(self._zones, now, self._functions, versions)
         except Unfit as fault:
             raise fault.kind(str(fault)) from None
         self._open(self._parts, self._functions)
 
     def __reduce__(self) -> tuple[Any, ...]:
-        return Environment, (self._zones, self._now, self._functions)
+        return Environment, (self._zones, self._now, self._functions, self._versions)
 
     def __repr__(self) -> str:
-        return (
-            f"Environment(zones={self._zones!r}, now={self._now!r}, functions={self._functions!r})"
-        )
+        parts = f"zones={self._zones!r}, now={self._now!r}, functions={self._functions!r}"
+        return f"Environment({parts}{', versions=True' if self._versions else ''})"
 
     @property
     def zones(self) -> Mapping[str, Union[int, str]]:
@@ -120,7 +125,23 @@ class Environment(Kept, _core.Environment):
     @now.setter
     def now(self, moment: Optional[datetime.datetime]) -> None:
         with _CHANGES:
-            self._become(Environment(self._zones, moment, self._functions))
+            self._become(Environment(self._zones, moment, self._functions, self._versions))
+
+    @property
+    def versions(self) -> bool:
+        """Whether it has the functions on versions.
+
+        >>> apps = exprlang.Environment(versions=True)
+        >>> exprlang.evaluate("versionMatches('1.10.0', '>=1.9, <2')", environment=apps)
+        True
+        >>> apps.versions
+        True
+        """
+        return self._versions
+
+    def _has(self, name: str) -> bool:
+        """Whether it adds a function of this name."""
+        return name in self._functions or self._versions and name in _ON_VERSIONS
 
     def add_function(self, name: str, function: _Function) -> None:
         """Adds a function, in place of an earlier one or of one of the language.
@@ -134,7 +155,7 @@ class Environment(Kept, _core.Environment):
         """
         with _CHANGES:
             functions = {**self._functions, name: function}
-            self._become(Environment(self._zones, self._now, functions))
+            self._become(Environment(self._zones, self._now, functions, self._versions))
 
     def _become(self, other: Environment) -> None:
         """Takes over what another is, for later runs."""
@@ -142,8 +163,10 @@ class Environment(Kept, _core.Environment):
         self._now, self._functions, self._parts = other._now, other._functions, other._parts
 
 
-def _parts(zones: Mapping[Any, Any], now: Any, functions: Mapping[Any, Any]) -> tuple[Any, ...]:
-    """Returns what an environment adds, as engines take it: functions, zones and the time."""
+def _parts(
+    zones: Mapping[Any, Any], now: Any, functions: Mapping[Any, Any], versions: Any
+) -> tuple[Any, ...]:
+    """Returns what an environment adds, as engines take it."""
     parts: list[Any] = [("function", _name(name, "function")) for name in functions]
     for name, rule in zones.items():
         word = _name(name, "zone")
@@ -160,6 +183,10 @@ def _parts(zones: Mapping[Any, Any], now: Any, functions: Mapping[Any, Any]) -> 
         if not isinstance(now, datetime.datetime):
             raise Unfit(TypeError, f"now is a datetime with an offset, not {type(now).__name__}")
         parts.append(("now", *instant(now)))
+    if not isinstance(versions, bool):
+        raise Unfit(TypeError, f"versions is a bool, not {type(versions).__name__}")
+    if versions:
+        parts.append(("versions",))
     return tuple(parts)
 
 

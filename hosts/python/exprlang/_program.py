@@ -18,7 +18,8 @@ Record = Union[None, Mapping[str, Any], Iterable[tuple[str, Any]]]
 class Program(Kept, _core.Program):
     """A compiled expression: its source, its limits, and what a missing name is.
 
-    Threads may share it. It can be copied and pickled. A `with` block closes it.
+    Threads may share it. It can be copied and pickled. A `with` block closes it. `str` of it is its
+    `code`.
 
     Errors: those of `compile`, which makes one.
 
@@ -48,9 +49,27 @@ class Program(Kept, _core.Program):
         missing = "" if self._missing == "error" else f", missing={self._missing!r}"
         return f"{type(self).__name__}({self._text!r}{limits}{missing})"
 
+    def __str__(self) -> str:
+        return self._code()
+
+    @property
+    def code(self) -> str:
+        """The program as an expression in the normal form. `str` of the program is the same.
+
+        Brackets are only where they are needed, with one space round each operator. All
+        expressions of a program have the same. It compiles to this very program, and its tree is
+        never higher than that of `text`.
+
+        Errors: Error of the kind "memory". ValueError if the program is closed.
+
+        >>> exprlang.compile("(price*count)>100&&!blocked").code
+        'price * count > 100 and not blocked'
+        """
+        return self._code()
+
     @property
     def text(self) -> str:
-        """The expression.
+        """The expression, as it was handed in.
 
         >>> exprlang.compile("1 + 1").text
         '1 + 1'
@@ -157,9 +176,9 @@ class Program(Kept, _core.Program):
             return None
         values = record(context)
         host = self._host if environment is None else environment
-        added = {} if host is None else host.functions
         for name in self._functions():
-            if name not in added and callable(values.get(name)):
+            is_added = host is not None and host._has(name)
+            if not is_added and callable(values.get(name)):
                 why = f"the context has a function {name}, hand it in by an Environment"
                 return Error(error.kind, f"{error}: {why}")
         return None

@@ -90,7 +90,8 @@ static PyType_Spec context_spec = {"exprlang._native.Context", (int)sizeof(conte
 
 /* --- environments --- */
 
-/* Adds a part to an engine's environment: a function's name alone, a zone with an offset or a rule, or the time. */
+/* Adds a part to an engine's environment: a function's name alone, a zone with an offset or a rule, the functions on versions,
+ * or the time. */
 static int part_added(engine *in, expr_environment to, PyObject *part, expr_status *status) {
     const char *word, *name, *rule;
     Py_ssize_t length, rule_length;
@@ -111,6 +112,9 @@ static int part_added(engine *in, expr_environment to, PyObject *part, expr_stat
     case 'r':
         if (!PyArg_ParseTuple(part, "sy#y#", &word, &name, &length, &rule, &rule_length)) return -1;
         *status = expr_add_zone_rule(in->at, to, name, (size_t)length, rule, (size_t)rule_length);
+        return 0;
+    case 'v':
+        *status = expr_add_versions(in->at, to);
         return 0;
     default:
         if (!PyArg_ParseTuple(part, "sLk", &word, &number, &fraction)) return -1;

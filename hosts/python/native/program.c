@@ -215,6 +215,24 @@ METHOD(program_functions) {
     return counted(count, names, 0) < 0 ? NULL : program_said(defining, self, expr_functions);
 }
 
+METHOD(program_code) {
+    (void)given;
+    module_state *state = counted(count, names, 0) < 0 ? NULL : state_of(defining);
+    program *it = (program *)self;
+    engine *in = state ? engine_taken(it->head.engines) : NULL;
+    if (!in) return NULL;
+    expr_program here;
+    size_t length;
+    const char *text;
+    int done = program_compiled(state, it, in, &here);
+    expr_status status = done == 0 ? expr_program_text(in->at, here, &length, &text) : EXPR_OK;
+    if (status != EXPR_OK) raise_failed(state, in, status, NULL, NOWHERE);
+    done = done < 0 || status != EXPR_OK ? -1 : 0;
+    PyObject *code = done == 0 ? PyUnicode_DecodeUTF8(text, (Py_ssize_t)length, NULL) : NULL;
+    engine_given_back(it->head.engines, in);
+    return code;
+}
+
 METHOD(program_uses_env) {
     (void)given;
     module_state *state = counted(count, names, 0) < 0 ? NULL : state_of(defining);
@@ -325,6 +343,7 @@ static PyMethodDef program_methods[] = {
     ENTRY("_open", program_open, "Compiles an expression, within limits, with what a missing name is, for an environment."),
     ENTRY("_names", program_names, "Returns the names that it asks for."),
     ENTRY("_functions", program_functions, "Returns the functions that it calls."),
+    ENTRY("_code", program_code, "Returns its text in the normal form."),
     ENTRY("_uses_env", program_uses_env, "Returns whether it reads the whole context."),
     ENTRY("_run", program_run, "Returns the value for a record."),
     ENTRY("_matches", program_matches, "Returns whether it is true of a record."),

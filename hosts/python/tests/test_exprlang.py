@@ -2,6 +2,7 @@
 
 import builtins
 import collections.abc
+import copy
 import ctypes
 import datetime
 import doctest
@@ -193,6 +194,39 @@ class Calls(unittest.TestCase):
             exprlang.evaluate("len('a', {'b': nil})", environment=host), ["a", {"b": None}]
         )
 
+    def test_versions(self):
+        host = exprlang.Environment(versions=True)
+        text = "versionMatches(app, '>=1.9, <2') and versionCompare(app, '1.9.0') > 0"
+        rule = exprlang.compile(text)
+        self.assertEqual(rule.functions, ["versionCompare", "versionMatches"])
+        self.assertEqual(rule.names, ["app"])
+        self.assertIs(rule.run({"app": "1.10.0"}, host), True)
+        self.assertIs(rule.run({"app": "2.0.0"}, host), False)
+        for app, why in [("1.10", "found \"1.10\""), (1, "found an Integer, a String")]:
+            with self.assertRaisesRegex(exprlang.Error, why) as caught:
+                rule.run({"app": app}, host)
+            self.assertEqual(caught.exception.kind, "evaluation")
+        with self.assertRaisesRegex(exprlang.Error, "unknown function versionMatches"):
+            rule.run({"app": "1.10.0"}, exprlang.Environment())
+        # the engine runs them itself: the limit on calls of functions is not for them
+        many = exprlang.compile("all(1..200, {versionCompare('1.0.0', '1.0.0') == 0})")
+        self.assertIs(many.run(environment=host), True)
+        # they stay when something else changes, and in a copy
+        host.now = datetime.datetime(2024, 5, 6, tzinfo=UTC)
+        host.add_function("f", lambda: "1.9.1")
+        for it in (host, copy.copy(host), copy.deepcopy(host)):
+            self.assertIs(it.versions, True)
+            self.assertIs(exprlang.evaluate("versionMatches(f(), '1')", environment=it), True)
+        self.assertIn("versions=True", repr(host))
+        # a function of this name goes first
+        own = exprlang.Environment(functions={"versionMatches": lambda *_: "mine"}, versions=True)
+        self.assertEqual(exprlang.evaluate("versionMatches('1.0.0', '1')", environment=own), "mine")
+        selects = exprlang.Rule("versionMatches(app, '^1')", host)
+        self.assertIs(selects.matches({"app": "1.2.3"}), True)
+        for wrong in (1, "yes", None):
+            with self.assertRaisesRegex(TypeError, "versions is a bool"):
+                exprlang.Environment(versions=wrong)
+
     def test_functions_that_raise(self):
         def refuses(what):
             raise exprlang.Error("evaluation", f"no such {what}")
@@ -275,6 +309,28 @@ class Records(unittest.TestCase):
         self.assertEqual(exprlang.compile("xs | map(# * 2) | sum()").functions, ["map", "sum"])
         self.assertEqual(exprlang.compile("a + b").functions, [])
 
+    def test_the_normal_form(self):
+        for text, form in [
+            ("(a+b)*c", "(a + b) * c"),
+            ("a+(b*c)", "a + b * c"),
+            ("!(x in xs)&&y", "not (x in xs) and y"),
+            ("filter(xs,#.age>=18)|len()", "filter(xs, {.age >= 18}) | len()"),
+            ("let n=1;n ?? 0x10", "let n = 1;\nn ?? 16"),
+            ("'say \"é\"' + \"\0\"", '"say \\"é\\"" + "\0"'),
+        ]:
+            for limits in (exprlang.Limits(), exprlang.UNLIMITED):
+                program = exprlang.compile(text, limits)
+                self.assertEqual((program.code, program.text), (form, text))
+                self.assertEqual(f"{program}", form)
+                self.assertEqual(exprlang.compile(program.code, limits).code, form)
+        rule = exprlang.Rule("(age)>=18")
+        self.assertEqual(str(rule), "age >= 18")
+        self.assertIs(rule.matches({"age": 20}), True)
+        long = exprlang.compile("+".join(["1"] * 50_000), exprlang.UNLIMITED)
+        self.assertEqual(long.code, " + ".join(["1"] * 50_000))
+        with self.assertRaises(AttributeError):
+            rule.code = "1"
+
     def test_mappings(self):
         class Record(collections.abc.Mapping):
             def __getitem__(self, name):
@@ -352,6 +408,7 @@ class Owners(unittest.TestCase):
             (lambda: exprlang.compile("1").run(None, kept), "environment"),
             (lambda: program.run(closed), "context"),
             (lambda: other.run(), "program"),
+            (lambda: str(other), "program"),
         ]:
             closed, other = exprlang.Context({"a": 1}), exprlang.compile("1")
             closed.close(), other.close()

@@ -134,6 +134,7 @@ pub struct Environment {
     functions: HashMap<String, Function>,
     zones: Vec<(String, Zone)>,
     now: Option<DateTimeValue>,
+    versions: bool,
     token: Token,
 }
 
@@ -190,6 +191,22 @@ impl Environment {
     ) {
         self.token = Token::default();
         self.functions.insert(name.into(), Box::new(function));
+    }
+
+    /// Adds two functions on versions. `versionMatches(version, requirement)` says whether a version matches a requirement
+    /// of Cargo. `versionCompare(a, b)` is -1, 0 or 1, as one version comes before, is level with or comes after another.
+    /// The engine runs them itself, at no cost of a call. A function of the same name that you add goes first.
+    ///
+    /// ```
+    /// use exprlang::{Context, Environment};
+    /// let mut env = Environment::new();
+    /// env.add_versions();
+    /// let app = Context::from_iter([("version", "1.10.0")]);
+    /// assert_eq!(env.eval("versionMatches(version, '>=1.9, <2')", &app).unwrap().as_bool(), Some(true));
+    /// ```
+    pub fn add_versions(&mut self) {
+        self.token = Token::default();
+        self.versions = true;
     }
 
     fn add(&mut self, name: &str, zone: Zone) -> Result<()> {
@@ -271,6 +288,9 @@ impl Environment {
             let (number, fraction) = (now.second(), now.nanosecond());
             engine.ask(Ask::Now, Asked { environment, number, fraction, ..Asked::default() })?;
         }
+        if self.versions {
+            engine.ask(Ask::Versions, Asked { environment, ..Asked::default() })?;
+        }
         Ok(())
     }
 }
@@ -282,6 +302,7 @@ impl fmt::Debug for Environment {
             .field("functions", &functions)
             .field("zones", &self.zones)
             .field("now", &self.now)
+            .field("versions", &self.versions)
             .finish()
     }
 }

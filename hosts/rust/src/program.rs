@@ -117,7 +117,7 @@ impl Shared {
 }
 
 impl Program {
-    /// The string that was compiled.
+    /// The string that was compiled. [`Program::to_code`] is the same program in the normal form.
     #[must_use]
     pub fn text(&self) -> &str {
         &self.shared.text
@@ -165,6 +165,27 @@ impl Program {
         })
     }
 
+    /// The program as a string in the normal form: brackets only where they are needed, one space round each operator, words
+    /// for `and`, `or` and `not`. All strings of a program have the same. It compiles to this very program, and its tree is
+    /// never higher than that of [`Program::text`].
+    ///
+    /// ```
+    /// let rule = exprlang::compile("(price*count)>100&&!blocked").unwrap();
+    /// assert_eq!(rule.to_code().unwrap(), "price * count > 100 and not blocked");
+    /// assert_eq!(rule.to_string(), rule.to_code().unwrap());
+    /// ```
+    ///
+    /// # Errors
+    ///
+    /// [`Error::MemoryError`] if the engine is out of memory.
+    pub fn to_code(&self) -> Result<String> {
+        with_engine(|engine| {
+            let program = self.handle(engine)?;
+            let told = engine.ask(Ask::ProgramText, Asked { program, ..Asked::default() })?;
+            Ok(engine.text(&told, Ask::Said))
+        })
+    }
+
     /// What a name is that the context of a run lacks.
     #[must_use]
     pub fn missing(&self) -> Missing {
@@ -203,6 +224,13 @@ impl FromStr for Program {
 
     fn from_str(code: &str) -> Result<Program> {
         compile(code)
+    }
+}
+
+/// Prints what [`Program::to_code`] returns. If the engine is out of memory this is [`fmt::Error`], and `to_string` panics.
+impl fmt::Display for Program {
+    fn fmt(&self, f: &mut fmt::Formatter<'_>) -> fmt::Result {
+        f.pad(&self.to_code().map_err(|_| fmt::Error)?)
     }
 }
 

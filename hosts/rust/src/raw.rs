@@ -137,6 +137,8 @@ pub enum Ask {
     UsesEnv,
     Functions,
     FillMissing,
+    Versions,
+    ProgramText,
     // end: asks
 }
 

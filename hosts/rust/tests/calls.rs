@@ -185,3 +185,29 @@ fn functions_run_programs_themselves() {
         }
     });
 }
+
+#[test]
+fn versions_are_matched_and_compared() {
+    let mut env = Environment::new();
+    let context = Context::from_iter([("app", "1.10.0")]);
+    let rule = compile("versionMatches(app, '>=1.9, <2') and versionCompare(app, '1.9.0') > 0").unwrap();
+    assert_eq!(rule.functions().unwrap(), ["versionCompare", "versionMatches"]);
+    assert_eq!(rule.names(), ["app"]);
+    assert!(matches!(env.run(&rule, &context), Err(Error::ExprError(_))));
+    env.add_versions();
+    assert_eq!(env.run(&rule, &context), Ok(Value::Bool(true)));
+    assert!(format!("{env:?}").contains("versions: true"));
+    for (app, why) in [(Value::from("1.10"), "found \"1.10\""), (Value::from(1), "found an Integer, a String")] {
+        match env.run(&rule, &Context::from_iter([("app", app)])) {
+            Err(Error::ExprError(message)) => assert!(message.contains(why), "{message}"),
+            other => panic!("{other:?}"),
+        }
+    }
+    // the engine runs them itself: the limit on calls of functions is not for them
+    let many = "all(1..200, {versionCompare('1.0.0', '1.0.0') == 0})";
+    assert_eq!(env.eval(many, &Context::default()), Ok(Value::Bool(true)));
+    env.set_now(0, 0);
+    env.add_function("versionMatches", |_| Ok(Value::from("mine")));
+    assert_eq!(env.eval("versionMatches(app, '1')", &context), Ok(Value::from("mine")));
+    assert_eq!(env.eval("versionCompare(app, '1.9.0')", &context), Ok(Value::from(1)));
+}

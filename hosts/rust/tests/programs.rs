@@ -1,4 +1,4 @@
-use exprlang::{compile, eval, run, value, Context, DateTimeValue, Environment, Error, Limits, Missing, Program, Value};
+use exprlang::{compile, compile_unlimited, eval, run, value, Context, DateTimeValue, Environment, Error, Limits, Missing, Program, Value};
 
 #[test]
 fn a_program_says_what_it_reads() {
@@ -13,6 +13,27 @@ fn a_program_says_what_it_reads() {
     assert_eq!(plain.functions().unwrap(), ["filter", "len"]);
     assert_eq!(plain.text(), "xs | filter(# > y) | len()");
     assert_eq!(compile("1").unwrap().functions().unwrap(), Vec::<String>::new());
+}
+
+#[test]
+fn a_program_prints_in_the_normal_form() {
+    for (text, form) in [
+        ("(a+b)*c", "(a + b) * c"),
+        ("a+(b*c)", "a + b * c"),
+        ("!(x in xs)&&y", "not (x in xs) and y"),
+        ("filter(xs,#.age>=18)|len()", "filter(xs, {.age >= 18}) | len()"),
+        ("let n=1;n ?? 0x10", "let n = 1;\nn ?? 16"),
+        ("'say \"é\"' + \"\0\"", "\"say \\\"é\\\"\" + \"\0\""),
+    ] {
+        let program = compile(text).unwrap();
+        assert_eq!((program.to_code().as_deref(), program.text()), (Ok(form), text));
+        assert_eq!(program.to_string(), form);
+        assert_eq!(compile(form).unwrap().to_code().as_deref(), Ok(form));
+    }
+    assert_eq!(format!("{:>5}|", compile("(1)").unwrap()), "    1|");
+    let many = vec!["1"; 50_000];
+    let long = compile_unlimited(&many.join("+")).unwrap();
+    assert_eq!(long.to_code(), Ok(many.join(" + ")));
 }
 
 #[test]

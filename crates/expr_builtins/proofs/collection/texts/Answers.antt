@@ -5,10 +5,10 @@ use Rattle.expr_arguments.specs.Arguments.{all_of}
 use Rattle.expr_builtins.proofs.Each.{all_of-refused, all_of-next}
 use Rattle.expr_builtins.proofs.collection.texts.Goals as goal
 
-pub returns-in_default-clause-ok : goal.returns-in_default-clause-ok
-returns-in_default-clause-ok c =
+pub returns-in_default-clause-refused : goal.returns-in_default-clause-refused
+returns-in_default-clause-refused c = λ m.
     let none = rw c.in_default.is at c.as_string.ensures in
-    sym (all_of-refused string_of c.args.items.now c.loop-i.i c.index-items-i.result c.loop-i-test.true c.index-items-i.is (sym none))
+    all_of-refused string_of c.args.items.now c.loop-i.i c.index-items-i.result c.loop-i-test.true c.index-items-i.is (sym none)
 
 pub loop-i-preserved : goal.loop-i-preserved
 loop-i-preserved c =

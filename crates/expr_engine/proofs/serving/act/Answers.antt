@@ -109,3 +109,9 @@ returns-in-Functions c = let f = c.functions.ensures in asked c.in-Functions.is 
 
 pub returns-in-FillMissing : goal.returns-in-FillMissing
 returns-in-FillMissing c = let f = c.fill_missing.ensures in asked c.in-FillMissing.is (acts f.done tt (ap waits_in f.rest) (ap limits_in f.rest) (left_contexts c.args.engine.now c.fill_missing.new.engine c.fill_missing.result f.rules f.err f.environments f.rest) f.why f.unknown f.known (numbers_by_contexts f.rules f.next f.environments) f.room)
+
+pub returns-in-Versions : goal.returns-in-Versions
+returns-in-Versions c = let f = c.add_versions.ensures in asked c.in-Versions.is (acts f.done tt (ap waits_in f.rest) (ap limits_in f.rest) (left_environments c.args.engine.now c.add_versions.new.engine c.add_versions.result f.rules f.contexts f.err f.rest) f.why f.unknown f.known (numbers_by_environments f.rules f.contexts f.next) refl)
+
+pub returns-in-ProgramText : goal.returns-in-ProgramText
+returns-in-ProgramText c = let f = c.program_text.ensures in asked c.in-ProgramText.is (acts f.done tt (ap waits_in f.rest) (ap limits_in f.rest) (left_same c.args.engine.now c.program_text.new.engine c.program_text.result f.kept f.rest) f.why f.unknown f.known (numbers_kept c.args.engine.now c.program_text.new.engine f.kept) refl)

@@ -17,4 +17,5 @@ returns-clause-added c = record {
   };
   moment = refl;
   names = refl;
+  versions = refl;
 }

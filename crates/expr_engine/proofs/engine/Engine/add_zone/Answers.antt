@@ -10,7 +10,7 @@ use Rattle.expr_engine.proofs.engine.Engine.add_zone.Goals as goal
 
 pub returns-in_err-done-clause-err : goal.returns-in_err-done-clause-err
 returns-in_err-done-clause-err c = on_err c.from_residual.result
-    (additions_by_exchange c.args.self.now.environments c.swap.new.self c.swap-kept.new.self c.args.environment c.new-host.result c.swap.new.thing c.add_zone-done.new.self c.swap.ensures.found c.swap-kept.ensures.found c.swap.ensures.given c.in_err-done.ensures.err c.in_err-done.ensures.moment (λ name. ap (λ n. is_named n name) c.in_err-done.ensures.names))
+    (additions_by_exchange c.args.self.now.environments c.swap.new.self c.swap-kept.new.self c.args.environment c.new-host.result c.swap.new.thing c.add_zone-done.new.self c.swap.ensures.found c.swap-kept.ensures.found c.swap.ensures.given c.in_err-done.ensures.err c.in_err-done.ensures.moment (λ name. ap (λ n. is_named n name) c.in_err-done.ensures.names) c.in_err-done.ensures.versions)
 
 pub returns-clause-fixed : goal.returns-clause-fixed
 returns-clause-fixed c = λ none.

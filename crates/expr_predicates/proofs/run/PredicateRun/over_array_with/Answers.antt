@@ -1,4 +1,4 @@
-use Rattle.std.proofs.Common.{Some, refl, sym, ap, ◌∙◌}
+use Rattle.std.proofs.Common.{None, Some, refl, sym, ap, ◌∙◌}
 use Rattle.expr_value.specs.Values.{string_of}
 use Rattle.expr_arguments.specs.Arrays.{array_items}
 use Rattle.expr_predicates.specs.Calls.{direction_named, sort_in_direction}
@@ -18,5 +18,5 @@ returns-in-Reduce-clause-begun c =
 pub returns-in-SortBy-clause-begun : goal.returns-in-SortBy-clause-begun
 returns-in-SortBy-clause-begun c =
     let down = c.in_ok-down-in-SortBy.down in
-    begun_as c.args.call (array_items c.args.array) (Some c.args.more) c.forward-in-SortBy.result higher_order_call.SortBy (sorting down) (array_items c.args.array) (accumulator.Values (value_accumulator.SortBy down c.new.result)) c.in-SortBy.is
+    begun_as c.args.call (array_items c.args.array) (Some c.args.more) c.forward-in-SortBy.result higher_order_call.SortBy (sorting down) (array_items c.args.array) (accumulator.Values (value_accumulator.SortBy down c.new.result None)) c.in-SortBy.is
     (ap (λ v. sort_in_direction (array_items c.args.array) (direction_named (string_of v))) (sym c.get.ensures) ∙ ap (sort_in_direction (array_items c.args.array)) c.in_ok-down-in-SortBy.ensures) c.forward-in-SortBy.ensures.left c.forward-in-SortBy.ensures.asked c.forward-in-SortBy.ensures.gathered (refl, c.new.ensures.items)

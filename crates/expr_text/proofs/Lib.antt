@@ -1,0 +1,21 @@
+pub mod Back
+pub mod Complete
+pub mod Counting
+pub mod Distinct
+mod Examples
+pub mod Expanding
+pub mod Fitting
+pub mod Heights
+pub mod Injective
+pub mod Laid
+pub mod ListExpanding
+pub mod Literals
+pub mod Pending
+pub mod Printed
+pub mod Same
+pub mod Sources
+pub mod Standing
+pub mod TreeKinds
+pub mod Wording
+pub mod Writing
+pub mod Written
