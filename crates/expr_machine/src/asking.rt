@@ -3,9 +3,8 @@ ghost use Rattle.std.specs.Prelude.{◌≡◌, ◌⊎◌};
 ghost use Rattle.expr_machine.specs.Halts.{IsMemory, is_named};
 ghost use Rattle.expr_machine.specs.declared.halt.Halt.TheVariants.{Asks};
 
-use crate::halt::{Halt, RunMeter};
+use crate::halt::{Asked, Halt, RunMeter};
 use expr_limits::{Budget, Meter, NoMeter};
-use expr_meaning::ExprCall;
 use expr_value::{Error, Value};
 use std::alloc::Global;
 
@@ -104,11 +103,11 @@ impl<'n, M> Asking<'n, M> {
 }
 
 /// The halt at this call.
-fn halt_at(alloc: Global, call: ExprCall) -> Halt
-    ensures { IsMemory result ⊎ (result ≡ Asks call) }
+fn halt_at(alloc: Global, asked: Asked) -> Halt
+    ensures { IsMemory result ⊎ (result ≡ Asks asked) }
 {
-    match Box::new(alloc, call) {
-        Ok(call) => Halt::Asks(call),
+    match Box::new(alloc, asked) {
+        Ok(asked) => Halt::Asks(asked),
         Err(_) => Halt::Refused(Error::MemoryError),
     }
 }
@@ -124,8 +123,8 @@ impl<'n> RunMeter for Asking<'n, Budget> {
         self.has(name)
     }
 
-    fn asks(&self, alloc: Global, call: ExprCall) -> Halt {
-        halt_at(alloc, call)
+    fn asks(&self, alloc: Global, asked: Asked) -> Halt {
+        halt_at(alloc, asked)
     }
 
     #[inline(always)]
@@ -145,8 +144,8 @@ impl<'n> RunMeter for Asking<'n, NoMeter> {
         self.has(name)
     }
 
-    fn asks(&self, alloc: Global, call: ExprCall) -> Halt {
-        halt_at(alloc, call)
+    fn asks(&self, alloc: Global, asked: Asked) -> Halt {
+        halt_at(alloc, asked)
     }
 
     #[inline(always)]

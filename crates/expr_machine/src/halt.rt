@@ -9,6 +9,22 @@ use expr_meaning::ExprCall;
 use expr_value::Error;
 use std::alloc::{AllocError, Global};
 
+/// How the reply to a call of the host is counted.
+#[derive(Clone, Copy)]
+pub(crate) enum Awaited {
+    /// As a value that an instruction made.
+    Made,
+    /// As the result of a call that may run a predicate. It replaces all that was made since this size was left.
+    Kept(u64),
+}
+
+/// A call of the host at which a run stopped.
+#[derive(Drop)]
+pub struct Asked {
+    pub call: ExprCall,
+    pub(crate) awaited: Awaited,
+}
+
 /// Why a run has no value, or none yet.
 #[derive(Drop)]
 pub enum Halt {
@@ -17,7 +33,7 @@ pub enum Halt {
     /// It would exceed a limit.
     Limit(Limit),
     /// It is at a call of the host. It goes on with the reply.
-    Asks(Box<ExprCall>),
+    Asks(Box<Asked>),
     /// It has taken the steps that it was given for now. It goes on when asked to.
     Paused,
 }
@@ -77,9 +93,9 @@ pub trait RunMeter: Meter {
         ensures { result ≡ stops self.now name.now };
 
     /// The halt at this call.
-    fn asks(&self, alloc: Global, call: ExprCall) -> Self::Halt
-        requires { stops self.now (string_bytes call.ident) ≡ true }
-        ensures { IsMemory (halt result) ⊎ (halt result ≡ Asks call) };
+    fn asks(&self, alloc: Global, asked: Asked) -> Self::Halt
+        requires { stops self.now (string_bytes asked.call.ident) ≡ true }
+        ensures { IsMemory (halt result) ⊎ (halt result ≡ Asks asked) };
 
     /// The halt of a run that pauses. A run that counts nothing pauses only after 2^64 turns of the loop, which take
     /// centuries.
@@ -99,7 +115,7 @@ impl RunMeter for NoMeter {
         false
     }
 
-    fn asks(&self, _alloc: Global, _call: ExprCall) -> Error {
+    fn asks(&self, _alloc: Global, _asked: Asked) -> Error {
         unreachable!()
     }
 
@@ -121,7 +137,7 @@ impl RunMeter for Budget {
         false
     }
 
-    fn asks(&self, _alloc: Global, _call: ExprCall) -> Halt {
+    fn asks(&self, _alloc: Global, _asked: Asked) -> Halt {
         unreachable!()
     }
 

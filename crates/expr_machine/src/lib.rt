@@ -8,6 +8,7 @@ mod conditions;
 mod frame;
 mod halt;
 mod kept;
+mod light;
 mod list_arena;
 mod machine;
 mod names;
@@ -19,7 +20,7 @@ mod stores;
 mod world;
 
 pub use asking::Asking;
-pub use halt::{Halt, RunMeter};
+pub use halt::{Asked, Halt, RunMeter};
 pub use kept::ReusableMachine;
 pub use machine::Machine;
 pub use runs::{LimitedRun, execute, run};
