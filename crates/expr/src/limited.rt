@@ -6,7 +6,7 @@ ghost use Rattle.expr_eval.specs.Texts.{IsOwnFault};
 ghost use Rattle.expr_lowering.specs.Blocks.{blocks_of};
 ghost use Rattle.expr_meaning.specs.Host.{no_host};
 ghost use Rattle.expr_meaning.specs.World.{world_of};
-ghost use Rattle.expr_machine.specs.Here.{here};
+ghost use Rattle.expr_acts.specs.Here.{here};
 
 use crate::environment::Environment;
 use expr_context::ContextProvider;

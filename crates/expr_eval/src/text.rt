@@ -1,7 +1,7 @@
 //! From an expression to its value.
 ghost use Rattle.expr_eval.specs.Promises.{AnswersText};
 ghost use Rattle.expr_eval.specs.Texts.{IsOwnFault};
-ghost use Rattle.expr_machine.specs.Here.{here};
+ghost use Rattle.expr_acts.specs.Here.{here};
 ghost use Rattle.expr_meaning.specs.Host.{no_host};
 ghost use Rattle.expr_meaning.specs.World.{world_of};
 

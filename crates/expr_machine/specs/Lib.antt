@@ -1,15 +1,5 @@
-pub mod Acts
 pub mod Calls
-pub mod Counted
-pub mod Decides
 pub mod Given
-pub mod Halts
-pub mod Here
-pub mod Machines
 pub mod Promises
-pub mod Ready
-pub mod Runs
 pub mod Seen
 pub mod Slow
-pub mod Stores
-pub mod Texts

@@ -4,7 +4,7 @@ ghost use Rattle.std.specs.Option.{option_copied};
 ghost use Rattle.expr_meaning.specs.CodeRuns.{CodeAnswers};
 ghost use Rattle.expr_lowering.specs.Blocks.{CodeKeeps, blocks_of};
 ghost use Rattle.expr_lowering.specs.Kept.{ProgramKeeps};
-ghost use Rattle.expr_machine.specs.Texts.{text_of};
+ghost use Rattle.expr_acts.specs.Texts.{text_of};
 ghost use Rattle.expr_meaning.specs.Allows.{AllowsBlock};
 ghost use Rattle.expr_meaning.specs.Refusals.{NeverRefusesWith};
 ghost use Rattle.expr_meaning.specs.World.{world_of};

@@ -2,7 +2,7 @@ use Rattle.std.proofs.Common.{Ok, ap, subst}
 use Rattle.expr_limits.specs.declared.outcome.Outcome.{Outcome}
 use Rattle.expr_meaning.specs.World.{World}
 use Rattle.expr_error.specs.ErrorKind.{error_kind}
-use Rattle.expr_machine.specs.Here.{here}
+use Rattle.expr_acts.specs.Here.{here}
 use Rattle.expr_tree.specs.TermOf.{program_term}
 use Rattle.expr_tree.specs.declared.node.Program.{Program}
 use Rattle.expr_value.specs.declared.value.Value.{Value}

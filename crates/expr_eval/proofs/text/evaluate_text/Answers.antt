@@ -1,6 +1,6 @@
 use Rattle.std.proofs.Common.{◌≢◌, Err, inl, inr}
 use Rattle.expr_error.specs.ErrorKind.{error_kind, memory}
-use Rattle.expr_machine.specs.Here.{here}
+use Rattle.expr_acts.specs.Here.{here}
 use Rattle.expr_meaning.proofs.Independent.{AllowsBlock-keeps}
 use Rattle.expr_meaning.specs.Allows.{AllowsBlock}
 use Rattle.expr_meaning.specs.World.{World}

@@ -1,7 +1,7 @@
 use Rattle.std.proofs.Common.{subst, sym}
 use Rattle.expr_limits.specs.Outcomes.{ReturnsOutcome}
 use Rattle.expr_lowering.specs.Blocks.{blocks_of}
-use Rattle.expr_machine.specs.Texts.{text_of}
+use Rattle.expr_acts.specs.Texts.{text_of}
 use Rattle.expr_meaning.specs.Refusals.{NeverRefusesWith}
 use Rattle.expr_stops.specs.Stops.{CodeComes, is_named}
 use Rattle.expr_stops.proofs.Replied.{answered_never, same_replay}

@@ -2,7 +2,7 @@ use Rattle.std.proofs.Common.{◌≢◌, List, subst}
 use Rattle.expr_code.specs.Instructions.{Op}
 use Rattle.expr_limits.specs.Outcomes.{ReturnsOutcome}
 use Rattle.expr_lowering.specs.Blocks.{blocks_of}
-use Rattle.expr_machine.specs.Texts.{text_of}
+use Rattle.expr_acts.specs.Texts.{text_of}
 use Rattle.expr_meaning.specs.Host.{Host}
 use Rattle.expr_context.specs.Context.{ContextView}
 use Rattle.expr_meaning.specs.World.{world_of}

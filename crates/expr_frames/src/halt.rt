@@ -1,8 +1,8 @@
 //! Why a run stops without a value.
 ghost use Rattle.std.specs.Prelude.{◌≡◌, ◌⊎◌, ℕ, Bool, List, false, true, string_bytes};
-ghost use Rattle.expr_machine.specs.Halts.{IsMemory};
-ghost use Rattle.expr_machine.specs.declared.halt.Halt.{Halt as declared};
-ghost use Rattle.expr_machine.specs.declared.halt.Halt.TheVariants.{Asks, Paused, Refused};
+ghost use Rattle.expr_frames.specs.Halts.{IsMemory};
+ghost use Rattle.expr_frames.specs.declared.halt.Halt.{Halt as declared};
+ghost use Rattle.expr_frames.specs.declared.halt.Halt.TheVariants.{Asks, Paused, Refused};
 
 use expr_limits::{Budget, Limit, Meter, NoLimit, NoMeter};
 use expr_meaning::ExprCall;
@@ -11,7 +11,7 @@ use std::alloc::{AllocError, Global};
 
 /// How the reply to a call of the host is counted.
 #[derive(Clone, Copy)]
-pub(crate) enum Awaited {
+pub enum Awaited {
     /// As a value that an instruction made.
     Made,
     /// As the result of a call that may run a predicate. It replaces all that was made since this size was left.
@@ -22,7 +22,7 @@ pub(crate) enum Awaited {
 #[derive(Drop)]
 pub struct Asked {
     pub call: ExprCall,
-    pub(crate) awaited: Awaited,
+    pub awaited: Awaited,
 }
 
 /// Why a run has no value, or none yet.
@@ -39,7 +39,7 @@ pub enum Halt {
 }
 
 impl From<Error> for Halt {
-    ghost use Rattle.expr_machine.specs.declared.halt.Halt.TheVariants.{Refused};
+    ghost use Rattle.expr_frames.specs.declared.halt.Halt.TheVariants.{Refused};
 
     ghost from_gives = { λ e r. r ≡ Refused e };
 
@@ -49,7 +49,7 @@ impl From<Error> for Halt {
 }
 
 impl From<Limit> for Halt {
-    ghost use Rattle.expr_machine.specs.declared.halt.Halt.TheVariants as halt;
+    ghost use Rattle.expr_frames.specs.declared.halt.Halt.TheVariants as halt;
 
     ghost from_gives = { λ l r. r ≡ halt.Limit l };
 
@@ -59,7 +59,7 @@ impl From<Limit> for Halt {
 }
 
 impl From<AllocError> for Halt {
-    ghost use Rattle.expr_machine.specs.declared.halt.Halt.TheVariants.{Refused};
+    ghost use Rattle.expr_frames.specs.declared.halt.Halt.TheVariants.{Refused};
     ghost use Rattle.expr_error.specs.declared.error.Error.TheVariants.{MemoryError};
 
     ghost from_gives = { λ e r. r ≡ Refused MemoryError };

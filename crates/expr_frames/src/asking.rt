@@ -1,7 +1,7 @@
 //! Runs that stop at calls of a host's functions.
 ghost use Rattle.std.specs.Prelude.{◌≡◌, ◌⊎◌};
-ghost use Rattle.expr_machine.specs.Halts.{IsMemory, is_named};
-ghost use Rattle.expr_machine.specs.declared.halt.Halt.TheVariants.{Asks};
+ghost use Rattle.expr_frames.specs.Halts.{IsMemory, is_named};
+ghost use Rattle.expr_frames.specs.declared.halt.Halt.TheVariants.{Asks};
 
 use crate::halt::{Asked, Halt, RunMeter};
 use expr_limits::{Budget, Meter, NoMeter};

@@ -1,6 +1,6 @@
 //! Values that go into slots.
 ghost use Rattle.std.specs.Prelude.{◌<◌, OnOk, length};
-ghost use Rattle.expr_machine.specs.Stores.{Stores};
+ghost use Rattle.expr_acts.specs.Stores.{Stores};
 ghost use Rattle.expr_stack.specs.Cells.{AreWithin};
 
 use expr_stack::{Memory, Stack};
@@ -8,7 +8,7 @@ use std::alloc::{AllocError, Allocator};
 
 /// Pops the top of the stack into a slot, which then is the last slot.
 #[inline(never)]
-pub(crate) fn store<'s, A: Allocator + Copy>(
+pub fn store<'s, A: Allocator + Copy>(
     stack: &mut Stack<'s, A>,
     memory: &mut Memory<'s, A>,
     slot: usize,

@@ -1,6 +1,6 @@
 //! Decisions by the top of a stack, and how many instructions to skip.
 ghost use Rattle.std.specs.Prelude.{◌<◌, ◌≡◌, ◌≢◌, ◌∷◌, List, MatchBool, MatchOption, false, if◌then◌else◌, length, not, true};
-ghost use Rattle.expr_machine.specs.Decides.{Decides};
+ghost use Rattle.expr_acts.specs.Decides.{Decides};
 ghost use Rattle.expr_operators.specs.Operators.{truth};
 ghost use Rattle.expr_stack.specs.Cells.{cell_value, top_of};
 ghost use Rattle.expr_stack.specs.Pushes.{HasPushed, OnOne};
@@ -13,7 +13,7 @@ use expr_value::{Result, Value};
 use std::alloc::{Allocator, Global};
 
 /// Pops the top and returns it as a condition.
-pub(crate) fn condition<A: Allocator + Copy>(
+pub fn condition<A: Allocator + Copy>(
     alloc: Global,
     stack: &mut Stack<'_, A>,
     kept: &[Value],
@@ -28,7 +28,7 @@ pub(crate) fn condition<A: Allocator + Copy>(
 }
 
 /// Pops the left side of `and` and returns it as a condition. If it is false, pushes false again.
-pub(crate) fn and_then<A: Allocator + Copy>(
+pub fn and_then<A: Allocator + Copy>(
     alloc: Global,
     stack: &mut Stack<'_, A>,
     kept: &[Value],
@@ -45,7 +45,7 @@ pub(crate) fn and_then<A: Allocator + Copy>(
 }
 
 /// Pops the left side of `or` and returns it as a condition. If it is true, pushes true again.
-pub(crate) fn or_else<A: Allocator + Copy>(
+pub fn or_else<A: Allocator + Copy>(
     alloc: Global,
     stack: &mut Stack<'_, A>,
     kept: &[Value],
@@ -63,7 +63,7 @@ pub(crate) fn or_else<A: Allocator + Copy>(
 
 /// Pops the top if it is nil, and returns whether it was. Otherwise it stays.
 #[inline(never)]
-pub(crate) fn take_nil<A: Allocator + Copy>(stack: &mut Stack<'_, A>, kept: &[Value]) -> bool
+pub fn take_nil<A: Allocator + Copy>(stack: &mut Stack<'_, A>, kept: &[Value]) -> bool
     requires { 0 < length stack.old }
     ensures is_nil { MatchBool result
         (cell_value kept.now (top_of stack.old) ≡ value.Nil)
@@ -75,7 +75,7 @@ pub(crate) fn take_nil<A: Allocator + Copy>(stack: &mut Stack<'_, A>, kept: &[Va
 
 /// How many instructions a jump skips unless this holds.
 #[inline(always)]
-pub(crate) fn passed_unless(holds: bool, passed: usize) -> usize
+pub fn passed_unless(holds: bool, passed: usize) -> usize
     ensures { result ≡ (if holds then 0 else passed) }
 {
     if holds { 0 } else { passed }
@@ -83,7 +83,7 @@ pub(crate) fn passed_unless(holds: bool, passed: usize) -> usize
 
 /// Whether the top is this boolean, if it is a boolean. Pops it if so. Any other value stays.
 #[inline(always)]
-pub(crate) fn take_if<A: Allocator + Copy>(stack: &mut Stack<'_, A>, truth: bool) -> Option<bool>
+pub fn take_if<A: Allocator + Copy>(stack: &mut Stack<'_, A>, truth: bool) -> Option<bool>
     requires { 0 < length stack.old }
     ensures { MatchOption result (stack.new ≡ stack.old) (λ is_taken. MatchBool is_taken
         (stack.old ≡ cell.Value (value.Bool truth) ∷ stack.new)
@@ -99,7 +99,7 @@ pub(crate) fn take_if<A: Allocator + Copy>(stack: &mut Stack<'_, A>, truth: bool
 
 /// Whether the top is known to be a boolean.
 #[inline(always)]
-pub(crate) fn is_bool<A: Allocator + Copy>(stack: &Stack<'_, A>) -> bool
+pub fn is_bool<A: Allocator + Copy>(stack: &Stack<'_, A>) -> bool
     requires { 0 < length stack.now }
     ensures { MatchBool result ((kept : List declared) → OnOne kept stack.now
         (λ x rest. HasPushed (λ a. a ≡ truth x) rest stack.now)) (Unit {0}) }
