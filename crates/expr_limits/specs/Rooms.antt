@@ -64,18 +64,17 @@ abbrev pub with_size : ℕ → Room → Room
 with_size k unlimited = unlimited
 with_size k (limited s w d) = limited s k d
 
--- what was held since the first room is gone. The steps that were taken are not.
-abbrev pub room_released : (first now : Room) → Room
-room_released first now = with_size (size_left first) now
-
+-- The mark of a room is the size that is left. What was made since then is gone, but not the steps that were taken.
 -- An instruction takes a step and holds a unit, for which its block is charged. So a value that it makes is charged
 -- without the unit of its slot, and one that is kept is charged with it.
 abbrev pub rooms : Counting
 rooms = record {
   Tally = Room;
+  Mark = ℕ;
   enters = λ n. Takes n n;
   works = TakesWork;
   makes = λ v. Holds (inner_weight v) (depth v);
   keeps = λ v. Holds (weight v) (depth v);
-  freed = room_released;
+  mark = size_left;
+  freed = with_size;
 }

@@ -44,7 +44,7 @@ impl Budget {
         ensures { ⟦<Budget as Meter>⟧.metered self.new ≡ ⟦<Budget as Meter>⟧.metered self.old }
     {
         self.pause = if steps < self.steps {
-            self.steps - steps + 1
+            (self.steps - steps).saturating_add(1)
         } else {
             0
         };
