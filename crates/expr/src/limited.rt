@@ -9,10 +9,11 @@ ghost use Rattle.expr_meaning.specs.World.{world_of};
 ghost use Rattle.expr_acts.specs.Here.{here};
 
 use crate::environment::Environment;
+use expr_acts::World;
 use expr_context::ContextProvider;
 use expr_limits::{Limits, Outcome};
 use expr_lowering::{Code, Pointer};
-use expr_machine::World;
+use expr_machine::execute_limited_with;
 use expr_meaning::{Functions, NoFunctions};
 use expr_syntax::compile_limited;
 use expr_tree::node::Pattern;
@@ -40,7 +41,7 @@ pub fn execute_limited<L: Pointer<Value>, N: Pointer<String>, P: Pointer<Pattern
         host: &NoFunctions,
         provider: ctx,
     };
-    world.execute_limited(code, limits)
+    execute_limited_with(&world, code, limits)
 }
 
 /// Evaluates an expression in a context within limits, with no additions of a host: [`compile_limited`], then
@@ -91,7 +92,7 @@ impl Environment {
             host: self,
             provider: ctx,
         };
-        world.execute_limited(code, limits)
+        execute_limited_with(&world, code, limits)
     }
 
     /// Evaluates an expression in a context within limits, as the free function [`eval_limited`] does, with
@@ -136,7 +137,7 @@ fn answer_text<H: Functions, P: ContextProvider>(
     match compiled {
         Outcome::Answered(program) => {
             let code = Code::lower_once(world.alloc, &program)?;
-            (&*world).execute_limited(&code, limits)
+            execute_limited_with(world, &code, limits)
         }
         Outcome::Stopped(limit) => Ok(Outcome::Stopped(limit)),
     }

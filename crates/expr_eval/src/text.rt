@@ -5,8 +5,9 @@ ghost use Rattle.expr_acts.specs.Here.{here};
 ghost use Rattle.expr_meaning.specs.Host.{no_host};
 ghost use Rattle.expr_meaning.specs.World.{world_of};
 
+use expr_acts::World;
 use expr_context::ContextProvider;
-use expr_machine::World;
+use expr_machine::run_with;
 use expr_meaning::{Functions, NoFunctions};
 use expr_syntax::compile;
 use expr_value::{Result, Value};
@@ -42,5 +43,5 @@ pub fn evaluate_text<H: Functions, P: ContextProvider>(
     ensures { AnswersText (here H.host P.context world.now) code.now result }
 {
     let program = compile(world.alloc, code)?;
-    (&*world).answer_program(&program)
+    run_with(world, &program)
 }

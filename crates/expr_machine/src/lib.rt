@@ -13,4 +13,6 @@ mod runs;
 
 pub use kept::ReusableMachine;
 pub use machine::Machine;
-pub use runs::{LimitedRun, execute, run};
+pub use runs::{
+    LimitedRun, execute, execute_limited_with, execute_with, run, run_limited_with, run_with,
+};

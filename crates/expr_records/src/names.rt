@@ -7,8 +7,9 @@ ghost use Rattle.expr_value.specs.Names.{put};
 ghost use Rattle.expr_value.specs.declared.value.Value.{Value};
 
 use crate::query::HEIGHT;
+use expr_acts::World;
 use expr_context::Context;
-use expr_machine::World;
+use expr_machine::run_with;
 use expr_meaning::Functions;
 use expr_syntax::compile_within;
 use expr_value::{Result, Value};
@@ -24,7 +25,7 @@ fn value_of<H: Functions>(alloc: Global, host: &H, code: &str) -> Result<Value>
         host,
         provider: Context::new(alloc),
     };
-    world.answer_program(&program)
+    run_with(&world, &program)
 }
 
 /// Evaluates code without any names, and puts the value under a name. On an error the names stay as they

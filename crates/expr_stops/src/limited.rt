@@ -8,10 +8,11 @@ ghost use Rattle.expr_stops.specs.Stops.{CodeComes};
 ghost use Rattle.expr_error.specs.ErrorKind.{RefusesNoPattern, pattern as bad_pattern};
 ghost use Rattle.expr_meaning.specs.World.{world_of};
 
+use expr_acts::World;
 use expr_context::ContextProvider;
 use expr_limits::{Limits, Outcome};
 use expr_lowering::{Code, Pointer};
-use expr_machine::World;
+use expr_machine::{execute_limited_with, execute_with};
 use expr_meaning::Functions;
 use expr_pattern::Pattern;
 use expr_value::{Result, Value};
@@ -47,7 +48,7 @@ pub fn execute_in<
         provider,
     };
     match limits {
-        Some(limits) => world.execute_limited(code, &limits),
-        None => Ok(Outcome::Answered(world.execute_once(code)?)),
+        Some(limits) => execute_limited_with(&world, code, &limits),
+        None => Ok(Outcome::Answered(execute_with(&world, code)?)),
     }
 }

@@ -15,10 +15,11 @@ use crate::limited::execute_in;
 use crate::names::StopNames;
 use crate::replay::{Replay, Stop};
 use crate::replies::CallReply;
+use expr_acts::World;
 use expr_context::ContextProvider;
 use expr_limits::{Limits, Outcome};
 use expr_lowering::{Code, Pointer};
-use expr_machine::World;
+use expr_machine::run_with;
 use expr_meaning::Functions;
 use expr_pattern::Pattern;
 use expr_tree::node::Program;
@@ -106,5 +107,5 @@ fn run_in<H: Functions>(
         host,
         provider: ctx,
     };
-    Ok(Outcome::Answered(world.answer_program(program)?))
+    Ok(Outcome::Answered(run_with(&world, program)?))
 }
