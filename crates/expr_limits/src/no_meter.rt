@@ -1,5 +1,5 @@
 //! A meter that counts nothing.
-ghost use Rattle.std.specs.Prelude.{None, ⊥};
+ghost use Rattle.std.specs.Prelude.{None};
 ghost use Rattle.expr_limits.specs.MeterView.{MeterView};
 ghost use Rattle.expr_limits.specs.Rooms.{unlimited};
 ghost use Rattle.expr_limits.specs.declared.limit.Limit.TheVariants.{Steps};
