@@ -1,6 +1,7 @@
 //! The items for which the predicate is still to be called.
 ghost use Rattle.std.specs.Prelude.{◌≡◌, ◌∷◌, [], MatchOption, reverse};
 ghost use Rattle.expr_arguments.specs.Arrays.{array_items};
+ghost use Rattle.expr_predicates.specs.Plains.{plain_value};
 ghost use Rattle.expr_predicates.specs.Remaining.{items_remaining};
 
 use crate::run::Plain;
@@ -45,7 +46,10 @@ impl<'s> Remaining<'s> {
 
     /// Moves out the next item, if it needs no allocation.
     #[inline(always)]
-    pub(crate) fn pop_plain(&mut self) -> Option<Plain<'s>> {
+    pub(crate) fn pop_plain(&mut self) -> Option<Plain<'s>>
+        ensures { MatchOption result (self.new ≡ self.old)
+            (λ item. items_remaining self.old ≡ plain_value item ∷ items_remaining self.new) }
+    {
         match self {
             Remaining::Owned(items) => match items.last() {
                 Some(Value::Integer(n)) => {

@@ -181,10 +181,13 @@ impl<'s> Drop for PredicateRun<'s> {
 
 impl<'s> PredicateRun<'s> {
     ghost use Rattle.expr_value.specs.declared.value.Value.{Value};
+    ghost use Rattle.expr_value.specs.declared.value.Value as value;
+    ghost use Rattle.expr_predicates.specs.Noting.{HasRoom, Notes};
+    ghost use Rattle.expr_predicates.specs.Plains.{plain_value};
     ghost use Rattle.expr_predicates.specs.Calls.{fold_of_call, fold_over_if, reduce_from_first, fold_of};
     ghost use Rattle.expr_predicates.specs.Accumulators.{Awaits, RunRepresents, StartsWith, acc_out, pending_args, index_out, remaining_items, remaining_count};
     ghost use Rattle.expr_predicates.specs.Runs.{FoldMayReturn, AnswersItself, next_args};
-    ghost use Rattle.expr_predicates.specs.Folds.{Fold, ItemAnswer, FoldOutcome, front_fold, refuses_answer};
+    ghost use Rattle.expr_predicates.specs.Folds.{Fold, ItemAnswer, FoldOutcome, first_place, front_fold, has_stopped, refuses_answer, tells_acc, tells_index};
 
     /// Begins a call with these arguments: an array, and optionally an initial value for `reduce` or a direction for
     /// `sortBy`. A borrowed array isn't copied.
@@ -392,7 +395,12 @@ impl<'s> PredicateRun<'s> {
 
     /// Hands out the next item, if it needs no allocation. The call needs more results.
     #[inline(always)]
-    pub fn next_plain(&mut self) -> Option<Plain<'s>> {
+    pub fn next_plain(&mut self) -> Option<Plain<'s>>
+        ensures out { IfSome result (λ item. (t : Fold) (rs : List ItemAnswer) → RunRepresents self.old t rs
+            → has_stopped t rs ≡ false
+            → (remaining_items self.old ≡ plain_value item ∷ remaining_items self.new) × Awaits self.new t rs) }
+        ensures none { result ≡ None → self.new ≡ self.old }
+    {
         let item = self.left.pop_plain()?;
         self.asked += 1;
         Some(item)
@@ -400,13 +408,17 @@ impl<'s> PredicateRun<'s> {
 
     /// The position in the array of the item that is out, from 0.
     #[inline(always)]
-    pub fn place(&self) -> usize {
+    pub fn place(&self) -> usize
+        ensures { (t : Fold) (rs : List ItemAnswer) → Awaits self.now t rs → result ≡ first_place t + length rs }
+    {
         self.asked.saturating_sub(1)
     }
 
     /// Whether `#index` is bound beside an item.
     #[inline(always)]
-    pub fn tells_index(&self) -> bool {
+    pub fn tells_index(&self) -> bool
+        ensures { (t : Fold) (rs : List ItemAnswer) → Awaits self.now t rs → result ≡ tells_index t }
+    {
         matches!(
             self.gathered,
             Accumulator::Values(ValueAccumulator::Map(_) | ValueAccumulator::Reduce(_))
@@ -415,7 +427,9 @@ impl<'s> PredicateRun<'s> {
 
     /// Whether `#index` and `#acc` are bound beside an item.
     #[inline(always)]
-    pub fn tells_acc(&self) -> bool {
+    pub fn tells_acc(&self) -> bool
+        ensures { (t : Fold) (rs : List ItemAnswer) → Awaits self.now t rs → result ≡ tells_acc t }
+    {
         matches!(
             self.gathered,
             Accumulator::Values(ValueAccumulator::Reduce(_))
@@ -424,7 +438,10 @@ impl<'s> PredicateRun<'s> {
 
     /// Takes a result about the item that is out, if that needs no allocation.
     #[inline(always)]
-    pub fn note(&mut self, answer: Plain<'_>) -> Noted {
+    pub fn note(&mut self, answer: Plain<'_>) -> Noted
+        ensures noted { Notes result self.old self.new (plain_value answer.entry) }
+        ensures left { remaining_items self.new ≡ remaining_items self.old }
+    {
         match (&mut self.gathered, answer) {
             (Accumulator::Scalar(noted), Plain::Bool(truth)) => {
                 noted.note_truth(self.asked.saturating_sub(1), truth)
@@ -435,7 +452,10 @@ impl<'s> PredicateRun<'s> {
                 }
                 Noted::WantsItem
             }
-            (Accumulator::Values(ValueAccumulator::Filter(_)), _) => Noted::Done,
+            (
+                Accumulator::Values(ValueAccumulator::Filter(_)),
+                Plain::Bool(_) | Plain::Integer(_),
+            ) => Noted::Done,
             (Accumulator::Values(ValueAccumulator::Map(kept)), Plain::Integer(n)) => {
                 if kept.len() == kept.capacity() {
                     return Noted::Not;
@@ -457,7 +477,12 @@ impl<'s> PredicateRun<'s> {
     /// Keeps the item that is out, for which [`note`](PredicateRun::note) found room. Copies a borrowed item. Returns
     /// false if the copy is out of memory.
     #[inline(always)]
-    pub fn keep(&mut self, item: Plain<'_>) -> bool {
+    pub fn keep(&mut self, item: Plain<'_>) -> bool
+        requires { HasRoom self.old.gathered }
+        ensures kept { result ≡ true → (t : Fold) (rs : List ItemAnswer) → Awaits self.old t rs
+            → RunRepresents self.new t (rs ++ (plain_value item.entry, value.Bool true) ∷ []) }
+        ensures left { remaining_items self.new ≡ remaining_items self.old }
+    {
         let Accumulator::Values(ValueAccumulator::Filter(kept)) = &mut self.gathered else {
             unreachable!()
         };

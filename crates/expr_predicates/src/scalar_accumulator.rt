@@ -5,6 +5,7 @@ ghost use Rattle.expr_value.specs.Values.{truth_of};
 ghost use Rattle.expr_error.specs.ErrorKind.{evaluation, RefusesWith, IsOfKind};
 ghost use Rattle.expr_value.specs.declared.value.Value.{Value as value};
 ghost use Rattle.expr_predicates.specs.Folds.{place_or_none};
+ghost use Rattle.expr_predicates.specs.Noting.{ScalarNotes};
 
 use crate::run::Noted;
 use expr_arguments::unexpected_value;
@@ -123,7 +124,10 @@ impl ScalarAccumulator {
 
     /// Takes a boolean result about the item at this position. Nothing was found before.
     #[inline(always)]
-    pub(crate) fn note_truth(&mut self, place: usize, truth: bool) -> Noted {
+    pub(crate) fn note_truth(&mut self, place: usize, truth: bool) -> Noted
+        requires { place + 1 < 2 ^ 64 }
+        ensures { ScalarNotes result self.old self.new place (value.Bool truth) }
+    {
         let ends = match self {
             ScalarAccumulator::Count(count) => {
                 *count = count_if(*count, truth);

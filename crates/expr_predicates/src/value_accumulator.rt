@@ -151,7 +151,9 @@ fn keep_copy(kept: &mut Vec<Value>, item: &Value) -> std::result::Result<(), All
 
 /// Keeps a copy of an item. Returns false if it is out of memory: a boolean takes no place in the caller.
 #[inline(never)]
-pub(crate) fn keep_lent(kept: &mut Vec<Value>, item: &Value) -> bool {
+pub(crate) fn keep_lent(kept: &mut Vec<Value>, item: &Value) -> bool
+    ensures { result ≡ true → kept.new.items ≡ kept.old.items ++ item.now ∷ [] }
+{
     match item.clone() {
         Ok(copy) => put_last(kept, copy).is_ok(),
         Err(_) => false,
