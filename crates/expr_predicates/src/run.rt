@@ -10,7 +10,7 @@ use crate::arguments::{direction, is_downward, runs_alone, takes};
 use crate::remaining::Remaining;
 use crate::scalar_accumulator::ScalarAccumulator;
 use crate::sorting::sort_items;
-use crate::value_accumulator::{ValueAccumulator, keep_lent};
+use crate::value_accumulator::{ValueAccumulator, keep_plain};
 use expr_arguments::{
     Array, CowValue, array_and_more, count_items, into_items, kind_of, missing_predicate,
     refusal_of,
@@ -29,6 +29,9 @@ enum Accumulator {
 impl Accumulator {
     ghost use Rattle.expr_predicates.specs.Folds.{Fold, ItemAnswer, FoldOutcome, first_place, front_fold, refuses_answer, has_stopped};
     ghost use Rattle.expr_predicates.specs.Accumulators.{Represents, RepresentsRest, acc_arg, index_arg};
+    ghost use Rattle.expr_predicates.specs.Noting.{Gathers, HasRoom};
+    ghost use Rattle.expr_predicates.specs.Plains.{plain_value};
+    ghost use Rattle.expr_value.specs.declared.value.Value as value;
 
     /// The accumulator before any result, for a built-in on an array alone that goes from first to last.
     fn at_start(alloc: Global, call: HigherOrderCall) -> Option<Accumulator>
@@ -96,6 +99,34 @@ impl Accumulator {
         match self {
             Accumulator::Scalar(noted) => noted.take(alloc, place, &answer),
             Accumulator::Values(kept) => kept.take(alloc, item, answer),
+        }
+    }
+
+    /// Takes a result about the item at this position, if that needs no allocation. Nothing was found before.
+    #[inline(always)]
+    fn note(&mut self, place: usize, answer: Plain<'_>) -> Noted
+        requires { place + 1 < 2 ^ 64 }
+        ensures { Gathers place result self.old self.new (plain_value answer.entry) }
+    {
+        match self {
+            Accumulator::Scalar(noted) => match answer {
+                Plain::Bool(truth) => noted.note_truth(place, truth),
+                _ => Noted::Not,
+            },
+            Accumulator::Values(kept) => kept.note(answer),
+        }
+    }
+
+    /// Keeps an item whose result was true. There is room for it. Returns false if it is out of memory.
+    #[inline(always)]
+    fn keep(&mut self, item: Plain<'_>) -> bool
+        requires { HasRoom self.old }
+        ensures { result ≡ true → (t : Fold) (rs : List ItemAnswer) → RepresentsRest self.old t rs
+            → Represents self.new t (rs ++ (plain_value item.entry, value.Bool true) ∷ []) }
+    {
+        match self {
+            Accumulator::Values(ValueAccumulator::Filter(kept)) => keep_plain(kept, item),
+            _ => unreachable!(),
         }
     }
 
@@ -442,36 +473,8 @@ impl<'s> PredicateRun<'s> {
         ensures noted { Notes result self.old self.new (plain_value answer.entry) }
         ensures left { remaining_items self.new ≡ remaining_items self.old }
     {
-        match (&mut self.gathered, answer) {
-            (Accumulator::Scalar(noted), Plain::Bool(truth)) => {
-                noted.note_truth(self.asked.saturating_sub(1), truth)
-            }
-            (Accumulator::Values(ValueAccumulator::Filter(kept)), Plain::Bool(true)) => {
-                if kept.len() == kept.capacity() {
-                    return Noted::Not;
-                }
-                Noted::WantsItem
-            }
-            (
-                Accumulator::Values(ValueAccumulator::Filter(_)),
-                Plain::Bool(_) | Plain::Integer(_),
-            ) => Noted::Done,
-            (Accumulator::Values(ValueAccumulator::Map(kept)), Plain::Integer(n)) => {
-                if kept.len() == kept.capacity() {
-                    return Noted::Not;
-                }
-                kept.push_reserved(Value::Integer(n));
-                Noted::Kept
-            }
-            (Accumulator::Values(ValueAccumulator::Reduce(acc)), Plain::Integer(n)) => {
-                if let Value::Nil | Value::Integer(_) = acc {
-                    *acc = Value::Integer(n);
-                    return Noted::Replaced;
-                }
-                Noted::Not
-            }
-            _ => Noted::Not,
-        }
+        let place = self.asked.saturating_sub(1);
+        self.gathered.note(place, answer)
     }
 
     /// Keeps the item that is out, for which [`note`](PredicateRun::note) found room. Copies a borrowed item. Returns
@@ -483,15 +486,7 @@ impl<'s> PredicateRun<'s> {
             → RunRepresents self.new t (rs ++ (plain_value item.entry, value.Bool true) ∷ []) }
         ensures left { remaining_items self.new ≡ remaining_items self.old }
     {
-        let Accumulator::Values(ValueAccumulator::Filter(kept)) = &mut self.gathered else {
-            unreachable!()
-        };
-        match item {
-            Plain::Integer(n) => kept.push_reserved(Value::Integer(n)),
-            Plain::Bool(truth) => kept.push_reserved(Value::Bool(truth)),
-            Plain::Lent(value) => return keep_lent(kept, value),
-        }
-        true
+        self.gathered.keep(item)
     }
 
     /// Takes back the item that was handed out, as the predicate's result for itself.
