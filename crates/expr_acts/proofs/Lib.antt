@@ -1,0 +1,8 @@
+pub mod Acting
+pub mod Copying
+pub mod Counting
+pub mod Deciding
+pub mod Flat
+pub mod Holding
+pub mod Paying
+pub mod Uncounted

@@ -3,8 +3,8 @@ use Rattle.std.specs.Prelude.{MatchBool}
 use Rattle.expr_operators.specs.Operators.{truth}
 use Rattle.expr_stack.specs.Pushes.{HasPushed, OnOne}
 use Rattle.expr_value.specs.declared.value.Value.{Value}
-use Rattle.expr_machine.proofs.Deciding.{bool_made}
-use Rattle.expr_machine.proofs.conditions.is_bool.Goals as goal
+use Rattle.expr_acts.proofs.Deciding.{bool_made}
+use Rattle.expr_acts.proofs.conditions.is_bool.Goals as goal
 
 pub returns : goal.returns
 returns g c =

@@ -3,9 +3,9 @@ use Rattle.expr_operators.specs.Operators.{truth}
 use Rattle.expr_stack.specs.Cells.{cell_value}
 use Rattle.expr_stack.specs.declared.cell.Cell.TheVariants as cell
 use Rattle.expr_value.specs.declared.value.Value as value
-use Rattle.expr_machine.proofs.Deciding.{decides_holds, decides_same_fails}
-use Rattle.expr_machine.proofs.conditions.or_else.Goals as goal
-use Rattle.expr_machine.proofs.conditions.or_else.Goals.{then-holds+in_ok-push_bool, else-holds}
+use Rattle.expr_acts.proofs.Deciding.{decides_holds, decides_same_fails}
+use Rattle.expr_acts.proofs.conditions.or_else.Goals as goal
+use Rattle.expr_acts.proofs.conditions.or_else.Goals.{then-holds+in_ok-push_bool, else-holds}
 
 pub returns : goal.returns
 returns g c = λ x rest e.
