@@ -5,4 +5,7 @@ pub mod Walking
 pub mod Made
 pub mod Arms
 pub mod Branches
+pub mod Storing
 pub mod Frames
+pub mod Calling
+pub mod Starting

@@ -1,0 +1,61 @@
+-- Where a run begins, and where it ends.
+use Rattle.std.proofs.Common.{◌≡◌, Bool, ℕ, ◌≤◌, List, [], ◌∷◌, Result, Ok, Err, refl, sym, ap, ◌∙◌, subst, length, arith}
+use Rattle.expr_code.specs.Held.{Held}
+use Rattle.expr_code.specs.Instructions.{Op}
+use Rattle.expr_code.specs.Safe.{IsSafe, IsSafeCode}
+use Rattle.expr_costs.specs.Costs.{costs_in}
+use Rattle.expr_frames.specs.Machines.{Allowed, Comes, Passes, Rest}
+use Rattle.expr_frames.specs.Ready.{AllWait, IsReady, RestFinds, entered, ops_of}
+use Rattle.expr_frames.specs.Runs.{State}
+use Rattle.expr_frames.proofs.Frames.{end_comes}
+use Rattle.expr_frames.proofs.Walking.{runs_block, safe_block}
+use Rattle.expr_limits.specs.Counting.{ChargeThen, Ending, ThenIfGives, gives, stops}
+use Rattle.expr_limits.specs.Rooms.{Room, rooms, size_left, with_size}
+use Rattle.expr_limits.specs.declared.limit.Limit.{Limit}
+use Rattle.expr_meaning.specs.Counts.{CodeCounts, CountsRuns}
+use Rattle.expr_meaning.specs.World.{World}
+use Rattle.expr_stack.specs.Cells.{AreWithin, cell_value}
+use Rattle.expr_stack.specs.Memories.{MemoryView}
+use Rattle.expr_stack.specs.declared.cell.Cell.{Cell}
+use Rattle.expr_value.specs.declared.value.Value.{Value}
+
+-- before its first instruction
+abbrev pub fresh : List (List Op) → ℕ → State
+fresh blocks begun = record { number = 0; at = length (ops_of blocks 0); stack = []; memory = record { kept = []; slots = [] }; frames = []; begun = begun }
+
+module _ (blocks : List (List Op)) (safe : IsSafeCode blocks) (begun : ℕ) where
+  pub fresh_ready : (counted : Bool) → IsReady counted blocks (fresh blocks begun)
+  fresh_ready counted =
+      let first = safe_block blocks 0 0 safe in
+      record { place = record { block = first.0; place = omega arith }; finds = first.1; stack = tt; slots = tt; waits = tt }
+
+  module _ (world : World) (now : Room) (marks : begun ≡ size_left now) where
+    -- what it may come to, code may come to
+    pub fresh_comes : (after : Room) → rooms.enters (length (ops_of blocks 0)) now (Ok after) → (e : Ending Room) → Comes world blocks (fresh blocks begun) after e → CodeCounts rooms (costs_in world.host) world blocks now e
+    fresh_comes after enters e p =
+        let first = safe_block blocks 0 0 safe in (
+          p.0,
+          runs_block world blocks 0 first.0 [] now p.0 (Ok after, enters, p.1),
+          subst (λ k. ThenIfGives p.0 (λ v ran. ChargeThen (rooms.keeps v) (with_size k ran) (λ last e. e ≡ gives v last)) e) marks p.2,
+        )
+
+    pub fresh_stops : (limit : Limit) → rooms.enters (length (ops_of blocks 0)) now (Err limit) → CodeCounts rooms (costs_in world.host) world blocks now (stops limit)
+    fresh_stops limit enters =
+        let first = safe_block blocks 0 0 safe in
+        (stops limit, runs_block world blocks 0 first.0 [] now (stops limit) (Err limit, enters, refl), refl)
+
+-- at the end of its first block a run has its answer, of all that it made
+module _ (world : World) (blocks : List (List Op)) (s : State) (c : Cell) (now : Room) (ends : s.at ≡ 0) (is : s.stack ≡ c ∷ []) (alone : s.frames ≡ []) where
+  pub last_gives : (after : Room) → rooms.keeps (cell_value s.memory.kept c) (with_size s.begun now) (Ok after) → Comes world blocks s now (gives (cell_value s.memory.kept c) after)
+  last_gives after keeps =
+      let v : Value = cell_value s.memory.kept c in
+      end_comes world blocks s c now ends is (gives v after) (
+      subst (λ fs. Passes world blocks s.begun s.number fs s.memory (λ x. x ≡ gives v now) (gives v after)) (sym alone) (gives v now, refl, (Ok after, keeps, refl))
+      )
+
+  pub last_stops : (limit : Limit) → rooms.keeps (cell_value s.memory.kept c) (with_size s.begun now) (Err limit) → Comes world blocks s now (stops limit)
+  last_stops limit keeps =
+      let v : Value = cell_value s.memory.kept c in
+      end_comes world blocks s c now ends is (stops limit) (
+      subst (λ fs. Passes world blocks s.begun s.number fs s.memory (λ x. x ≡ gives v now) (stops limit)) (sym alone) (gives v now, refl, (Err limit, keeps, refl))
+      )
