@@ -14,6 +14,7 @@ pub mod Exact
 pub mod Faults
 pub mod Forgotten
 pub mod HigherOrder
+pub mod Holding
 pub mod Independent
 pub mod Kept
 pub mod Lowering
@@ -23,6 +24,5 @@ pub mod Slotted
 pub mod Stays
 pub mod Steps
 pub mod Stopping
-pub mod Turning
 pub mod Turns
 pub mod Wrong
