@@ -3,9 +3,12 @@ pub mod Memories
 pub mod Reversed
 pub mod Walking
 pub mod Made
+pub mod Limiting
 pub mod Arms
 pub mod Branches
 pub mod Storing
+pub mod Stopping
+pub mod Retaining
 pub mod Frames
 pub mod Calling
 pub mod Starting
