@@ -82,6 +82,7 @@ impl Paid {
 ///
 /// Returns the limit that the cost exceeds.
 #[inline(always)]
+#[tactic(auto, using(crate::proofs::Charging::overrun_begins, crate::proofs::Charging::counts_nothing))]
 pub fn charge<M: Meter>(meter: &mut M, cost: Option<Cost>, bound: u64) -> Result<Paid, M::Stop>
     requires { bound ≡ least_steps (M.metered meter.old).room }
     ensures counts { (work room : ℕ) → CostUpTo bound work room cost
