@@ -7,4 +7,5 @@ pub mod Noting
 pub mod OneOrder
 pub mod Opposite
 pub mod Own
+pub mod Stopped
 pub mod Turns

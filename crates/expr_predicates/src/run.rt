@@ -218,7 +218,7 @@ impl<'s> PredicateRun<'s> {
     ghost use Rattle.expr_predicates.specs.Calls.{fold_of_call, fold_over_if, reduce_from_first, fold_of};
     ghost use Rattle.expr_predicates.specs.Accumulators.{Awaits, RunRepresents, StartsWith, acc_out, pending_args, index_out, remaining_items, remaining_count};
     ghost use Rattle.expr_predicates.specs.Runs.{FoldMayReturn, AnswersItself, next_args};
-    ghost use Rattle.expr_predicates.specs.Folds.{Fold, ItemAnswer, FoldOutcome, first_place, front_fold, has_stopped, refuses_answer, tells_acc, tells_index};
+    ghost use Rattle.expr_predicates.specs.Folds.{Fold, ItemAnswer, FoldOutcome, args_about, first_place, front_fold, has_stopped, refuses_answer, tells_acc, tells_index};
 
     /// Begins a call with these arguments: an array, and optionally an initial value for `reduce` or a direction for
     /// `sortBy`. A borrowed array isn't copied.
@@ -430,6 +430,8 @@ impl<'s> PredicateRun<'s> {
         ensures out { IfSome result (λ item. (t : Fold) (rs : List ItemAnswer) → RunRepresents self.old t rs
             → has_stopped t rs ≡ false
             → (remaining_items self.old ≡ plain_value item ∷ remaining_items self.new) × Awaits self.new t rs) }
+        ensures question { IfSome result (λ item. (t : Fold) (rs : List ItemAnswer) → RunRepresents self.old t rs
+            → args_about t rs (plain_value item) ≡ pending_args self.new (plain_value item)) }
         ensures none { result ≡ None → self.new ≡ self.old }
     {
         let item = self.left.pop_plain()?;
