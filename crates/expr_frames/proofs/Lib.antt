@@ -11,4 +11,5 @@ pub mod Stopping
 pub mod Retaining
 pub mod Frames
 pub mod Calling
+pub mod Binding
 pub mod Starting
