@@ -1,7 +1,6 @@
 //! Runs that stop at calls of a host's functions.
 ghost use Rattle.std.specs.Prelude.{◌≡◌, ◌⊎◌};
-ghost use Rattle.expr_frames.specs.Halts.{IsMemory, is_named};
-ghost use Rattle.expr_frames.specs.declared.halt.Halt.TheVariants.{Asks};
+ghost use Rattle.expr_frames.specs.Halts.{IsAt, IsMemory, is_named};
 
 use crate::halt::{Asked, Halt, RunMeter};
 use expr_limits::{Budget, Meter, NoMeter};
@@ -104,7 +103,7 @@ impl<'n, M> Asking<'n, M> {
 
 /// The halt at this call.
 fn halt_at(alloc: Global, asked: Asked) -> Halt
-    ensures { IsMemory result ⊎ (result ≡ Asks asked) }
+    ensures { IsMemory result ⊎ IsAt asked result }
 {
     match Box::new(alloc, asked) {
         Ok(asked) => Halt::Asks(asked),

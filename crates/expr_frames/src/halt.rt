@@ -1,8 +1,8 @@
 //! Why a run stops without a value.
 ghost use Rattle.std.specs.Prelude.{◌≡◌, ◌⊎◌, ℕ, Bool, List, false, true, string_bytes};
-ghost use Rattle.expr_frames.specs.Halts.{IsMemory};
+ghost use Rattle.expr_frames.specs.Halts.{IsAt, IsMemory};
 ghost use Rattle.expr_frames.specs.declared.halt.Halt.{Halt as declared};
-ghost use Rattle.expr_frames.specs.declared.halt.Halt.TheVariants.{Asks, Paused, Refused};
+ghost use Rattle.expr_frames.specs.declared.halt.Halt.TheVariants.{Paused, Refused};
 
 use expr_limits::{Budget, Limit, Meter, NoLimit, NoMeter};
 use expr_meaning::ExprCall;
@@ -95,7 +95,7 @@ pub trait RunMeter: Meter {
     /// The halt at this call.
     fn asks(&self, alloc: Global, asked: Asked) -> Self::Halt
         requires { stops self.now (string_bytes asked.call.ident) ≡ true }
-        ensures { IsMemory (halt result) ⊎ (halt result ≡ Asks asked) };
+        ensures { IsMemory (halt result) ⊎ IsAt asked (halt result) };
 
     /// The halt of a run that pauses. A run that counts nothing pauses only after 2^64 turns of the loop, which take
     /// centuries.

@@ -4,4 +4,4 @@ use Rattle.std.specs.List.{list_any}
 use Rattle.expr_frames.proofs.asking.Asking.has.Given as goal
 
 abbrev pub invariant-loop-it : goal.invariant-loop-it
-invariant-loop-it l = list_any (bytes_eq l.name.now) (map string_bytes (take l.it-index l.self.now.names.now)) ≡ false
+invariant-loop-it g l = list_any (bytes_eq l.name.now) (map string_bytes (take l.it-index l.self.now.names.now)) ≡ false
