@@ -3,7 +3,7 @@ use Rattle.std.proofs.Common.{◌≡◌, ◌+◌, ℕ, List, [], ◌∷◌, ◌+
 use Rattle.std.proofs.lemmas.List.Sums.{fold-append}
 use Rattle.std.specs.Option.{is_some, option_map}
 use Rattle.expr_value.specs.declared.value.Value.{Value}
-use Rattle.expr_predicates.specs.Accumulators.{Represents, RunRepresents, ScalarRepresents, ValuesRepresent}
+use Rattle.expr_predicates.specs.Accumulators.{Represents, RepresentsRest, RunRepresents, ScalarRepresents, ValuesRepresent}
 use Rattle.expr_predicates.specs.Folds.{Fold, ItemAnswer, acc_after, args_about, first_place, has_stopped, holds, mapping, number, reducing, tells_acc, tells_index}
 use Rattle.expr_predicates.specs.declared.run.Accumulator.{Accumulator}
 use Rattle.expr_predicates.specs.declared.run.Accumulator.TheVariants as accumulator
@@ -75,3 +75,13 @@ acc_told t rs x y v e = cc
 pub acc_tells_index : (t : Fold) → tells_acc t ≡ true → tells_index t ≡ true
 acc_tells_index (reducing init first) e = refl
 acc_tells_index t e = cc
+
+-- what stands for what is kept stands for it while an item is out
+pub represents_rest : (g : Accumulator) (t : Fold) (rs : List ItemAnswer) → Represents g t rs → RepresentsRest g t rs
+represents_rest (accumulator.Scalar k) t rs h = h
+represents_rest (accumulator.Values (value_accumulator.Reduce acc)) t rs h = (h.0, h.1, h.2)
+represents_rest (accumulator.Values (value_accumulator.Map values)) t rs h = h
+represents_rest (accumulator.Values (value_accumulator.Filter values)) t rs h = h
+represents_rest (accumulator.Values (value_accumulator.Find found)) t rs h = h
+represents_rest (accumulator.Values (value_accumulator.GroupBy pairs)) t rs h = h
+represents_rest (accumulator.Values (value_accumulator.SortBy down pairs composite)) t rs h = h
