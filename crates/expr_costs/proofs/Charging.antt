@@ -1,5 +1,5 @@
 -- What is counted of a cost that was computed up to a bound.
-use Rattle.std.proofs.Common.{◌≡◌, ℕ, ◌+◌, ◌<◌, Bool, false, Result, Ok, Err, refl, subst, arith}
+use Rattle.std.proofs.Common.{◌≡◌, ℕ, ◌+◌, ◌<◌, false, Result, Ok, Err, refl, subst, arith}
 use Rattle.expr_limits.specs.Counting.{Charge}
 use Rattle.expr_limits.specs.MeterView.{Charges, MeterView}
 use Rattle.expr_limits.specs.Rooms.{TakesWork, Overruns, Room, is_limited, least_steps, unlimited, limited}

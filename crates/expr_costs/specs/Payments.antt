@@ -1,5 +1,5 @@
 -- What was paid for.
-use Rattle.std.specs.Prelude.{◌≤◌, ℕ, true, IsTrue}
+use Rattle.std.specs.Prelude.{◌≤◌, ℕ, IsTrue}
 use Rattle.expr_costs.specs.declared.cost.Paid.{Paid}
 
 -- it pays for so much work, and for so much room; where nothing is counted, it pays for all
