@@ -13,4 +13,4 @@ pub mod Frames
 pub mod Calling
 pub mod Binding
 pub mod Starting
-pub mod Named
+pub mod Doing

@@ -1,11 +1,11 @@
 -- Where a run begins, and where it ends.
-use Rattle.std.proofs.Common.{◌≡◌, Bool, ℕ, ◌≤◌, List, [], ◌∷◌, Result, Ok, Err, refl, sym, ap, ◌∙◌, subst, length, drop, arith}
+use Rattle.std.proofs.Common.{◌≡◌, Bool, ℕ, ◌≤◌, List, [], ◌∷◌, Ok, Err, refl, sym, ap, ◌∙◌, subst, length, drop, arith}
 use Rattle.expr_code.specs.Held.{Held, made}
 use Rattle.expr_code.specs.Instructions.{Act, Op, act, takes}
-use Rattle.expr_code.specs.Safe.{IsSafe, IsSafeCode}
+use Rattle.expr_code.specs.Safe.{IsSafeCode}
 use Rattle.expr_costs.specs.Costs.{costs_in}
-use Rattle.expr_frames.specs.Machines.{Allowed, Comes, ComesFor, Passes, Rest}
-use Rattle.expr_frames.specs.Ready.{AllWait, IsReady, RestFinds, entered, ops_of}
+use Rattle.expr_frames.specs.Machines.{Comes, ComesFor, Passes}
+use Rattle.expr_frames.specs.Ready.{IsReady, ops_of}
 use Rattle.expr_frames.specs.Runs.{State}
 use Rattle.expr_frames.proofs.Arms.{act_gives, act_stops, taken, taken_values, with_stack}
 use Rattle.expr_frames.proofs.Frames.{end_comes}
@@ -16,10 +16,9 @@ use Rattle.expr_limits.specs.Rooms.{Holds, Room, rooms, size_left, with_size}
 use Rattle.expr_limits.specs.Sizes.{depth, inner_weight}
 use Rattle.expr_limits.specs.declared.limit.Limit.{Limit}
 use Rattle.expr_meaning.specs.CodeRuns.{AllowsAct}
-use Rattle.expr_meaning.specs.Counts.{CodeCounts, CountsRuns, act_held}
+use Rattle.expr_meaning.specs.Counts.{CodeCounts, act_held}
 use Rattle.expr_meaning.specs.World.{World}
-use Rattle.expr_stack.specs.Cells.{AreWithin, cell_value, made_cell}
-use Rattle.expr_stack.specs.Memories.{MemoryView}
+use Rattle.expr_stack.specs.Cells.{cell_value, made_cell}
 use Rattle.expr_stack.specs.declared.cell.Cell.{Cell}
 use Rattle.expr_value.specs.declared.value.Value.{Value}
 
