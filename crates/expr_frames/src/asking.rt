@@ -118,6 +118,12 @@ impl<'n> RunMeter for Asking<'n, Budget> {
 
     ghost halt = { λ h. h };
 
+    ghost refuses = { λ _ _ made. made };
+
+    ghost lacks_memory = { λ _ _ made. made };
+
+    ghost passes = { λ _ _ made. made };
+
     fn stops_at(&self, name: &str) -> bool {
         self.has(name)
     }
@@ -138,6 +144,12 @@ impl<'n> RunMeter for Asking<'n, NoMeter> {
     ghost stops = { λ asking. is_named asking.names.now };
 
     ghost halt = { λ h. h };
+
+    ghost refuses = { λ _ _ made. made };
+
+    ghost lacks_memory = { λ _ _ made. made };
+
+    ghost passes = { λ _ _ never. absurd never };
 
     fn stops_at(&self, name: &str) -> bool {
         self.has(name)

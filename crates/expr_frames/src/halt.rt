@@ -1,8 +1,12 @@
 //! Why a run stops without a value.
+ghost use Rattle.std.proofs.Common.{rules};
 ghost use Rattle.std.specs.Prelude.{◌≡◌, ◌⊎◌, ℕ, Bool, List, false, true, string_bytes};
 ghost use Rattle.expr_frames.specs.Halts.{IsAt, IsMemory};
 ghost use Rattle.expr_frames.specs.declared.halt.Halt.{Halt as declared};
-ghost use Rattle.expr_frames.specs.declared.halt.Halt.TheVariants.{Paused, Refused};
+ghost use Rattle.expr_frames.specs.declared.halt.Halt.TheVariants.{Limit as Limits, Paused, Refused};
+ghost use Rattle.expr_error.specs.declared.error.Error.{Error as error};
+ghost use Rattle.expr_error.specs.declared.error.Error.TheVariants.{MemoryError as no_memory};
+ghost use Rattle.std.specs.declared.alloc.AllocError.{AllocError as lack};
 
 use expr_limits::{Budget, Limit, Meter, NoLimit, NoMeter};
 use expr_meaning::ExprCall;
@@ -101,6 +105,15 @@ pub trait RunMeter: Meter {
     /// centuries.
     fn pauses(&self) -> Self::Halt
         ensures { IsMemory (halt result) ⊎ (halt result ≡ Paused) };
+
+    // What `?` makes of an error, of a lack of memory and of a limit.
+    ghost refuses: { (e : error) (h : Self.Halt) → ⟦<Self::Halt as From<Error>>⟧.from_gives e h → halt h ≡ Refused e };
+
+    ghost lacks_memory: { (e : lack) (h : Self.Halt) → ⟦<Self::Halt as From<AllocError>>⟧.from_gives e h
+        → halt h ≡ Refused no_memory };
+
+    ghost passes: { (stop : Self.Stop) (h : Self.Halt) → ⟦<Self::Halt as From<Self::Stop>>⟧.from_gives stop h
+        → halt h ≡ Limits (Self.limit stop) };
 }
 
 impl RunMeter for NoMeter {
@@ -109,6 +122,12 @@ impl RunMeter for NoMeter {
     ghost stops = { λ _ _. false };
 
     ghost halt = { λ e. Refused e };
+
+    ghost refuses = { Prim.search rules };
+
+    ghost lacks_memory = { Prim.search rules };
+
+    ghost passes = { λ _ _ never. absurd never };
 
     #[inline(always)]
     fn stops_at(&self, _name: &str) -> bool {
@@ -131,6 +150,12 @@ impl RunMeter for Budget {
     ghost stops = { λ _ _. false };
 
     ghost halt = { λ h. h };
+
+    ghost refuses = { λ _ _ made. made };
+
+    ghost lacks_memory = { λ _ _ made. made };
+
+    ghost passes = { λ _ _ made. made };
 
     #[inline(always)]
     fn stops_at(&self, _name: &str) -> bool {
