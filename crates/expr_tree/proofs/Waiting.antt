@@ -87,9 +87,10 @@ module _ (ws left more : List Term) (t : Term) where
       ap (λ l. has env (operands_of l)) pushed ∙ ap (has env) (operands_of-append left (children t)) ∙ list_any-append (bytes_eq env) (operands_of left) (operands_of (children t))
       ∙ sym (popped_has ws left t popped env ∙ ap (λ x. has env (operands_of left) || (x || has env (operands_of (children t)))) other) ∙ s
 
-  pub sought_found : (b : Block) → Seeks ws b → ws ≡ left ++ t ∷ [] → has env (own_name t) ≡ true → has env (block_operands b) ≡ true
-  sought_found b s popped here =
-      sym s ∙ popped_has ws left t popped env ∙ ap (λ x. has env (operands_of left) || (x || has env (operands_of (children t)))) here ∙ or_true (has env (operands_of left))
+-- one of them is `$env`
+pub sought_found : (ws left : List Term) (t : Term) (b : Block) → Seeks ws b → ws ≡ left ++ t ∷ [] → has env (own_name t) ≡ true → has env (block_operands b) ≡ true
+sought_found ws left t b s popped here =
+    sym s ∙ popped_has ws left t popped env ∙ ap (λ x. has env (operands_of left) || (x || has env (operands_of (children t)))) here ∙ or_true (has env (operands_of left))
 
 -- once none waits, the names so far are the program's
 pub gathered_names : (names : List Bytes) (ws : List Term) (b : Block) → IsStrictlySortedBy (slice_cmp nat_cmp) names → Gathers names ws b → ws ≡ [] → AreNamesOf names b

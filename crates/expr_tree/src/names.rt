@@ -33,7 +33,8 @@ impl Program {
     ///
     /// Returns `MemoryError` if an allocation fails.
     pub fn uses_env(&self, alloc: Global) -> Result<bool>
-        ensures ok { IfOk result (λ uses. IsTrue uses ↔ Contains (block_operands (program_term self.now)) env) }
+        ensures ok { IfOk result (λ uses. IsTrue uses
+            ↔ Contains (block_operands (program_term self.now)) env) }
         ensures err { OnlyMemory result }
     {
         env_is_within(self, Vec::new(alloc))
@@ -63,7 +64,8 @@ fn names_within<'a>(
 // Looks for `$env` in a program. `waiting` has room for the nodes that are still to be visited, and is empty.
 fn env_is_within<'a>(program: &'a Program, mut waiting: Vec<&'a Node>) -> Result<bool>
     requires { waiting.items ≡ [] }
-    ensures ok { IfOk result (λ uses. IsTrue uses ↔ Contains (block_operands (program_term program.now)) env) }
+    ensures ok { IfOk result (λ uses. IsTrue uses
+        ↔ Contains (block_operands (program_term program.now)) env) }
     ensures err { OnlyMemory result }
 {
     wait_for_program(program, &mut waiting)?;
