@@ -382,8 +382,8 @@ expr_status expr_refuse(expr_engine *engine, const char *text, size_t length, ex
  *     expr_set_limits                                             MISUSE
  *     expr_compile                                                SYNTAX LITERAL MEMORY MISUSE and LIMIT_NESTING LIMIT_PATTERNS
  *     expr_names, expr_functions, expr_fill_missing               UNKNOWN MEMORY
- *     expr_program_text                                           UNKNOWN MEMORY
- *     expr_uses_env, expr_add_versions, expr_drop_..              UNKNOWN
+ *     expr_program_text, expr_uses_env                            UNKNOWN MEMORY
+ *     expr_add_versions, expr_drop_..                             UNKNOWN
  *     expr_context_new, expr_environment_new                      MEMORY
  *     expr_context_json                                           EVALUATION MEMORY MISUSE
  *     expr_context_built                                          EVALUATION MEMORY MISUSE

@@ -191,7 +191,8 @@ static void work(expr_engine *engine) {
         if (count != (is_done ? 3 : 0) || strcmp(names, is_done ? "filter\nmap\nstring" : "")) FAIL("functions");
         is_done = ok(expr_program_text(engine, rule, &count, &names));
         if (count != strlen(names) || strcmp(names, is_done ? NORMAL : "")) FAIL("the text of a program");
-        if (expr_uses_env(engine, rule, &uses) != EXPR_OK || uses) FAIL("uses_env takes no memory");
+        ok(expr_uses_env(engine, rule, &uses));
+        if (uses) FAIL("uses_env");
     }
     if (has_rule && ok(expr_context_new(engine, &sparse))) fill(engine, rule, sparse);
     if (has_rule && has_context && has_host && ok(expr_run(engine, rule, host, context, &answer))) look(engine, context);

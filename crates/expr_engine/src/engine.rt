@@ -174,17 +174,17 @@ impl Engine {
     ///
     /// # Errors
     ///
-    /// Returns `Unknown` if the handle finds nothing.
+    /// Returns `Unknown` if the handle finds nothing, and `MemoryError` if an allocation fails.
     pub fn uses_env(&self, program: Handle) -> Result<i64, HostError>
         ensures told { MatchOption (thing_at self.now.rules program) (result ≡ Err HostError.Unknown)
             (λ rule. IfOk result (λ n. TellsWhether
             (Contains (block_operands (program_term rule.program)) env) n)) }
         ensures unknown { thing_at self.now.rules program ≡ None → result ≡ Err HostError.Unknown }
         ensures known { result ≡ Err HostError.Unknown → thing_at self.now.rules program ≡ None }
-        ensures why { IfErr result (λ e. e ≡ HostError.Unknown) }
+        ensures why { IfErr result IsUnknownOrForMemory }
     {
         match self.rules.get(program) {
-            Some(rule) => Ok(rule.uses_env()),
+            Some(rule) => Ok(rule.uses_env(self.alloc)?),
             None => Err(HostError::Unknown),
         }
     }

@@ -107,10 +107,16 @@ impl Rule {
     }
 
     /// Whether the program uses `$env` as an operand: 1 or 0.
-    pub fn uses_env(&self) -> i64
-        ensures { TellsWhether (Contains (block_operands (program_term self.now.program)) env) result }
+    ///
+    /// # Errors
+    ///
+    /// Returns `MemoryError` if an allocation fails.
+    pub fn uses_env(&self, alloc: Global) -> Result<i64>
+        ensures ok { IfOk result (λ n. TellsWhether (Contains
+            (block_operands (program_term self.now.program)) env) n) }
+        ensures err { OnlyMemory result }
     {
-        i64::from(self.program.uses_env())
+        Ok(i64::from(self.program.uses_env(alloc)?))
     }
 
     /// The names that the program's code looks up only outside of predicates, and that a context doesn't

@@ -83,7 +83,7 @@ pub fn uses_env(engine: &mut Engine, call: &mut Call<'_>) -> Result<(), HostErro
     ensures kept { KeepsThings engine.old engine.new }
     ensures rest { KeepsRest engine.old engine.new }
     ensures room { call.new.room.now ≡ call.old.room.now }
-    ensures why { IfErr result (λ e. e ≡ HostError.Unknown) }
+    ensures why { IfErr result IsUnknownOrForMemory }
 {
     call.number = engine.uses_env(call.program)?;
     Ok(())

@@ -7,7 +7,7 @@ ghost use Rattle.expr_text.specs.Steps.{literal_steps, values_steps};
 ghost use Rattle.expr_text.specs.Texts.{literal_has_text};
 
 use crate::part::{Part, put, put_three};
-use crate::word::is_word;
+use expr_tokens::is_word;
 use expr_value::{Text, Value};
 use std::alloc::AllocError;
 

@@ -14,7 +14,7 @@ ghost use Rattle.expr_tree.specs.TermOf.{term_of, terms_of, postfix_term, bound_
 
 use crate::node_parts::{infix_needs_brackets, put_infix};
 use crate::part::{Ban, Part, Place, put, put_three};
-use crate::word::is_word;
+use expr_tokens::is_word;
 use expr_tokens::operator_sign::InfixSign;
 use expr_tree::node::{Node, PostfixOperator};
 use expr_value::Value;

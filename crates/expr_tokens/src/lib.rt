@@ -31,6 +31,7 @@ mod word;
 
 pub use laws::{lexer_gives_the_reading, one_reading, printed_text_reads};
 pub use reading::{NextToken, Reading, next_token, read};
-pub use reserved::Reserved;
+pub use reserved::{Reserved, reserved_of};
 pub use sign::Sign;
 pub use token::Token;
+pub use word::{are_word_bytes, is_word};

@@ -64,7 +64,7 @@ impl Reserved {
 }
 
 /// The reserved word with this spelling, or `None`.
-pub(crate) fn reserved_of(word: &str) -> Option<Reserved>
+pub fn reserved_of(word: &str) -> Option<Reserved>
     ensures { result ≡ reserved_of word.now }
 {
     ALL.iter()

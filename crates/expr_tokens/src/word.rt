@@ -1,9 +1,9 @@
 //! Words.
 ghost use Rattle.std.specs.Prelude.{◌≡◌, ◌≤◌, length};
 ghost use Rattle.std.specs.Char.{is_ascii_digit};
-ghost use Rattle.std.specs.List.{prefix_len};
+ghost use Rattle.std.specs.List.{list_all, prefix_len};
 ghost use Rattle.expr_tokens.specs.Kinds.{first_is, is_word_byte};
-ghost use Rattle.expr_tokens.specs.Tokens.{is_raw_byte};
+ghost use Rattle.expr_tokens.specs.Tokens.{is_raw_byte, is_word};
 
 /// Whether a byte may be in a word: an ASCII letter, a digit, `_` or `$`.
 pub(crate) fn is_word_byte(byte: u8) -> bool
@@ -54,4 +54,24 @@ pub(crate) fn raw_len(bytes: &[u8]) -> usize
         len += 1;
     }
     len
+}
+
+fn all_are_word_bytes(bytes: &[u8]) -> bool
+    ensures { result ≡ list_all is_word_byte bytes.now }
+{
+    bytes.iter().all(|byte| is_word_byte(*byte))
+}
+
+/// Whether these bytes are a word, reserved or not: letters, digits, `_` and `$`, and no digit first.
+pub fn are_word_bytes(bytes: &[u8]) -> bool
+    ensures { result ≡ is_word bytes.now }
+{
+    begins_with_word_byte(bytes) && !begins_with_digit(bytes) && all_are_word_bytes(bytes)
+}
+
+/// Whether this is a word, reserved or not.
+pub fn is_word(text: &str) -> bool
+    ensures { result ≡ is_word text.now }
+{
+    are_word_bytes(text.as_bytes())
 }

@@ -6,6 +6,5 @@ pub mod Programs
 pub mod Rising
 pub mod Shapes
 pub mod Texts
-pub mod Uses
 pub mod Waiting
 pub mod Weights

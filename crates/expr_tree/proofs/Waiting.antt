@@ -16,6 +16,7 @@ use Rattle.expr_tree.specs.Term.{Term, Block}
 use Rattle.expr_tree.specs.TermOf.{term_of}
 use Rattle.expr_tree.specs.declared.node.Node.{Node}
 use Rattle.expr_tree.proofs.NodeChildren.{operands_of, weight_of, operands_of-append, weight_of-append, operands-block, operands-inside, weight-inside}
+use Rattle.expr_tree.proofs.Gathered.{or_true}
 use Rattle.expr_tree.proofs.Rising.{all-other, all-env, or_false, Contains-from_has, has-from_Contains}
 
 abbrev Bytes : Type 0
@@ -43,6 +44,14 @@ or_gathered false true false n = refl
 or_gathered false false true n = refl
 or_gathered false false false n = refl
 
+-- a name is in trees whose last is taken, if it is in the others, is that tree, or is in its children
+popped_has : (ws left : List Term) (t : Term) → ws ≡ left ++ t ∷ [] → (q : Bytes)
+    → has q (operands_of ws) ≡ (has q (operands_of left) || (has q (own_name t) || has q (operands_of (children t))))
+popped_has ws left t popped q =
+    ap (λ l. has q (operands_of l)) popped ∙ ap (has q) (operands_of-append left (t ∷ []) ∙ ap (λ l. operands_of left ++ l) (append-nil (operands t) ∙ operands-inside t))
+    ∙ list_any-append (bytes_eq q) (operands_of left) (own_name t ++ operands_of (children t))
+    ∙ ap (λ x. has q (operands_of left) || x) (list_any-append (bytes_eq q) (own_name t) (operands_of (children t)))
+
 module _ (names next : List Bytes) (ws left more : List Term) (t : Term) (b : Block) where
   pub gathers_next : Gathers names ws b → ws ≡ left ++ t ∷ [] → next ≡ with_names names (own_name t) → more ≡ left ++ children t → Gathers next more b
   gathers_next g popped named pushed = record { others = others; no_env = ap (has env) named ∙ all-env names (own_name t) ∙ g.no_env }
@@ -52,20 +61,36 @@ module _ (names next : List Bytes) (ws left more : List Term) (t : Term) (b : Bl
           (λ i. has q (operands_of (pushed i)) || has q (named i))
           ∙ (λ i. (ap (has q) (operands_of-append left (children t)) ∙ list_any-append (bytes_eq q) (operands_of left) (operands_of (children t))) i || all-other q names (own_name t) other i)
 
-      whole : (q : Bytes) → has q (operands_of ws) ≡ (has q (operands_of left) || (has q (own_name t) || has q (operands_of (children t))))
-      whole q =
-          ap (λ l. has q (operands_of l)) popped ∙ ap (has q) (operands_of-append left (t ∷ []) ∙ ap (λ l. operands_of left ++ l) (append-nil (operands t) ∙ operands-inside t))
-          ∙ list_any-append (bytes_eq q) (operands_of left) (own_name t ++ operands_of (children t))
-          ∙ ap (λ x. has q (operands_of left) || x) (list_any-append (bytes_eq q) (own_name t) (operands_of (children t)))
-
       others : (q : Bytes) → bytes_eq q env ≡ false → (has q (operands_of more) || has q next) ≡ has q (block_operands b)
       others q other =
           after q other ∙ or_gathered (has q (operands_of left)) (has q (operands_of (children t))) (has q (own_name t)) (has q names)
-          ∙ ap (λ x. x || has q names) (sym (whole q)) ∙ g.others q other
+          ∙ ap (λ x. x || has q names) (sym (popped_has ws left t popped q)) ∙ g.others q other
 
+-- `$env` is in the trees that wait, if it is in the program
+abbrev pub Seeks : List Term → Block → Type 0
+Seeks ws b = has env (operands_of ws) ≡ has env (block_operands b)
+
+pub seeks_at_first : (ws : List Term) (b : Block) → ws ≡ block_children b → Seeks ws b
+seeks_at_first ws b all = ap (λ l. has env (operands_of l)) all ∙ ap (has env) (sym (operands-block b))
+
+-- once none waits, it is nowhere
+pub sought_in_vain : (ws : List Term) (b : Block) → Seeks ws b → ws ≡ [] → has env (block_operands b) ≡ false
+sought_in_vain ws b s none = sym s ∙ ap (λ l. has env (operands_of l)) none
+
+module _ (ws left more : List Term) (t : Term) where
   pub weight_falls : ws ≡ left ++ t ∷ [] → more ≡ left ++ children t → weight_of more < weight_of ws
   weight_falls popped pushed =
       omega (arith, ap weight_of popped, weight_of-append left (t ∷ []), ap weight_of pushed, weight_of-append left (children t), weight-inside t)
+
+  pub seeks_next : (b : Block) → Seeks ws b → ws ≡ left ++ t ∷ [] → has env (own_name t) ≡ false → more ≡ left ++ children t → Seeks more b
+  seeks_next b s popped other pushed =
+      ap (λ l. has env (operands_of l)) pushed ∙ ap (has env) (operands_of-append left (children t)) ∙ list_any-append (bytes_eq env) (operands_of left) (operands_of (children t))
+      ∙ sym (popped_has ws left t popped env ∙ ap (λ x. has env (operands_of left) || (x || has env (operands_of (children t)))) other) ∙ s
+
+-- one of them is `$env`
+pub sought_found : (ws left : List Term) (t : Term) (b : Block) → Seeks ws b → ws ≡ left ++ t ∷ [] → has env (own_name t) ≡ true → has env (block_operands b) ≡ true
+sought_found ws left t b s popped here =
+    sym s ∙ popped_has ws left t popped env ∙ ap (λ x. has env (operands_of left) || (x || has env (operands_of (children t)))) here ∙ or_true (has env (operands_of left))
 
 -- once none waits, the names so far are the program's
 pub gathered_names : (names : List Bytes) (ws : List Term) (b : Block) → IsStrictlySortedBy (slice_cmp nat_cmp) names → Gathers names ws b → ws ≡ [] → AreNamesOf names b

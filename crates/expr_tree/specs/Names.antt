@@ -5,7 +5,7 @@ use Rattle.std.specs.List.Sorted.{IsStrictlySortedBy}
 use Rattle.std.specs.Cmp.Lexicographic.{slice_cmp}
 use Rattle.std.specs.Ordering.{nat_cmp}
 use Rattle.std.specs.BTreeSet.{insert_key}
-use Rattle.expr_tree.specs.Term.{Term, name, literal, list, mapping, range, call, unary, operation, postfix, choice, Postfix, index, slice, coalesce, pipe, ternary, method, Bound, unbounded, bound, Terms, no_terms, term, TermPairs, pairs_end, pair, Predicate, no_predicate, predicate, Block, answers, line, LineTerms}
+use Rattle.expr_tree.specs.Term.{Term, name, literal, list, mapping, range, call, unary, operation, postfix, choice, Postfix, index, slice, coalesce, pipe, ternary, method, Bound, unbounded, bound, Terms, no_terms, term, TermPairs, pairs_end, pair, Predicate, no_predicate, predicate, Block, answers, line}
 
 -- the names that are operands, with or without `#`, in order
 abbrev mutual
@@ -48,11 +48,6 @@ abbrev mutual
   pub block_operands : Block → List (List ℕ)
   block_operands (answers t) = operands t
   block_operands (line key t b) = operands t ++ block_operands b
-
--- those of the values of lines
-abbrev pub lines_operands : LineTerms → List (List ℕ)
-lines_operands [] = []
-lines_operands (l ∷ ls) = operands l.1 ++ lines_operands ls
 
 -- the name of the whole context
 abbrev pub env : List ℕ

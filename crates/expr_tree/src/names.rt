@@ -6,8 +6,8 @@ ghost use Rattle.std.specs.Cmp.Lexicographic.{slice_cmp};
 ghost use Rattle.std.specs.Ordering.{nat_cmp};
 ghost use Rattle.expr_tree.specs.Children.{children, own_name};
 ghost use Rattle.expr_tree.specs.LentChildren.{lent_terms, maybe_child, program_children};
-ghost use Rattle.expr_tree.specs.Names.{operands, all_operands, block_operands, lines_operands, env, has_env, AreNamesOf, with_name, with_names};
-ghost use Rattle.expr_tree.specs.TermOf.{term_of, program_term, line_term, terms_of};
+ghost use Rattle.expr_tree.specs.Names.{block_operands, env, has_env, AreNamesOf, with_name, with_names};
+ghost use Rattle.expr_tree.specs.TermOf.{term_of, program_term};
 ghost use Rattle.expr_error.specs.ErrorKind.{OnlyMemory};
 
 use crate::children::{Children, children_of};
@@ -28,10 +28,16 @@ impl Program {
     }
 
     /// Whether `$env` is an operand anywhere in the program.
-    pub fn uses_env(&self) -> bool
-        ensures { IsTrue result ↔ Contains (block_operands (program_term self.now)) env }
+    ///
+    /// # Errors
+    ///
+    /// Returns `MemoryError` if an allocation fails.
+    pub fn uses_env(&self, alloc: Global) -> Result<bool>
+        ensures ok { IfOk result (λ uses. IsTrue uses
+            ↔ Contains (block_operands (program_term self.now)) env) }
+        ensures err { OnlyMemory result }
     {
-        program_uses_env(self)
+        env_is_within(self, Vec::new(alloc))
     }
 }
 
@@ -53,6 +59,32 @@ fn names_within<'a>(
         gather(node, &mut names, &mut waiting)?;
     }
     Ok(names.into_vec()?)
+}
+
+// Looks for `$env` in a program. `waiting` has room for the nodes that are still to be visited, and is empty.
+fn env_is_within<'a>(program: &'a Program, mut waiting: Vec<&'a Node>) -> Result<bool>
+    requires { waiting.items ≡ [] }
+    ensures ok { IfOk result (λ uses. IsTrue uses
+        ↔ Contains (block_operands (program_term program.now)) env) }
+    ensures err { OnlyMemory result }
+{
+    wait_for_program(program, &mut waiting)?;
+    while let Some(node) = waiting.pop() {
+        if is_env(node) {
+            return Ok(true);
+        }
+        wait_for_children(node, &mut waiting)?;
+    }
+    Ok(false)
+}
+
+fn is_env(node: &Node) -> bool
+    ensures { result ≡ has_env (own_name (term_of node.now)) }
+{
+    match children_of(node) {
+        Children::Name(name) => name == "$env",
+        _ => false,
+    }
 }
 
 // Distinct names in byte order.
@@ -105,7 +137,7 @@ impl Names {
     }
 }
 
-// Adds the name that the node is, or puts the children of the node in the list of waiting nodes.
+// Adds the name that the node is, and puts its children in the list of waiting nodes.
 fn gather<'a>(
     node: &'a Node,
     names: &mut Names,
@@ -115,8 +147,22 @@ fn gather<'a>(
     ensures waiting { OnOk result (lent_terms waiting.new.items
         ≡ lent_terms waiting.old.items ++ children (term_of node.now)) }
 {
+    if let Children::Name(name) = children_of(node) {
+        names.add(name)?;
+    }
+    wait_for_children(node, waiting)
+}
+
+// Puts the children of the node in the list of waiting nodes.
+fn wait_for_children<'a>(
+    node: &'a Node,
+    waiting: &mut Vec<&'a Node>,
+) -> std::result::Result<(), AllocError>
+    ensures { OnOk result (lent_terms waiting.new.items
+        ≡ lent_terms waiting.old.items ++ children (term_of node.now)) }
+{
     match children_of(node) {
-        Children::Name(name) => names.add(name),
+        Children::Name(_) => Ok(()),
         Children::Nodes(first, second, third) => {
             wait_for(first, waiting)?;
             wait_for(second, waiting)?;
@@ -191,71 +237,4 @@ fn wait_for_values<'a>(
         waiting.push(value)?;
     }
     Ok(())
-}
-
-#[cycle(uses)]
-fn node_uses_env(node: &Node) -> bool
-    ensures { result ≡ has_env (operands (term_of node.now)) }
-{
-    match children_of(node) {
-        Children::Name(name) => name == "$env",
-        Children::Nodes(first, second, third) => {
-            child_uses_env(first) || child_uses_env(second) || child_uses_env(third)
-        }
-        Children::Items(first, items, program) => {
-            child_uses_env(first)
-                || any_uses_env(items)
-                || match program {
-                    None => false,
-                    Some(program) => program_uses_env(program),
-                }
-        }
-        Children::Pairs(pairs) => values_use_env(pairs),
-        Children::Choice(condition, consequent, alternative) => {
-            node_uses_env(condition)
-                || program_uses_env(consequent)
-                || program_uses_env(alternative)
-        }
-    }
-}
-
-#[cycle(uses)]
-fn child_uses_env(child: Option<&Node>) -> bool
-    ensures { result ≡ has_env (all_operands (terms_of (maybe_child child.entry))) }
-{
-    match child {
-        None => false,
-        Some(node) => node_uses_env(node),
-    }
-}
-
-#[cycle(uses)]
-fn any_uses_env(nodes: &[Node]) -> bool
-    ensures { result ≡ has_env (all_operands (terms_of (map term_of nodes.now))) }
-{
-    for node in nodes {
-        if node_uses_env(node) {
-            return true;
-        }
-    }
-    false
-}
-
-#[cycle(uses)]
-fn program_uses_env(program: &Program) -> bool
-    ensures { result ≡ has_env (block_operands (program_term program.now)) }
-{
-    values_use_env(&program.lines) || node_uses_env(&program.expr)
-}
-
-#[cycle(uses)]
-fn values_use_env(lines: &[(String, Node)]) -> bool
-    ensures { result ≡ has_env (lines_operands (map line_term lines.now)) }
-{
-    for (_name, value) in lines {
-        if node_uses_env(value) {
-            return true;
-        }
-    }
-    false
 }

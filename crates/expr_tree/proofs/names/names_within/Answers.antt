@@ -16,7 +16,7 @@ loop-node-preserved c =
 
 pub loop-node-smaller : goal.loop-node-smaller
 loop-node-smaller c =
-    weight_falls c.loop-node.names c.gather.new.names (lent_terms c.loop-node.waiting.items) (lent_terms c.pop.new.self.items) (lent_terms c.gather.new.waiting.items) (term_of c.in-Some.node.now) (program_term c.args.program.now)
+    weight_falls (lent_terms c.loop-node.waiting.items) (lent_terms c.pop.new.self.items) (lent_terms c.gather.new.waiting.items) (term_of c.in-Some.node.now)
     (ap lent_terms c.in-Some.ensures.items ∙ lent-push c.pop.new.self.items c.in-Some.node) c.in_ok-gather.ensures.waiting
 
 pub returns-clause-ok : goal.returns-clause-ok
