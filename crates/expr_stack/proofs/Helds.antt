@@ -1,7 +1,7 @@
 -- What cells hold, and whose it is.
-use Rattle.std.proofs.Common.{◌≡◌, ℕ, zero, suc, ◌<◌, Bool, true, false, List, [], ◌∷◌, ◌++◌, length, map, take, Some, refl, ap, ◌∙◌, sym, subst, arith}
+use Rattle.std.proofs.Common.{◌≡◌, ℕ, ℤ, zero, suc, ◌<◌, Bool, true, false, List, [], ◌∷◌, ◌++◌, length, map, take, Some, refl, ap, ◌∙◌, sym, subst, arith}
 use Rattle.std.proofs.lemmas.List.{map_push, take-map}
-use Rattle.expr_code.specs.CallBinds.{bound_item}
+use Rattle.std.specs.Prelude.{IsTrue}
 use Rattle.expr_code.specs.Held.{Held, Owner, lent, own, placed, lend, made, made_owner, part_owner, settle, settled, values}
 use Rattle.expr_operators.specs.Positions.{inside}
 use Rattle.expr_stack.specs.Cells.{AreWithin, IsWithin, cell_value, cell_values, made_cell, made_cell_layer, part_cell}
@@ -14,6 +14,8 @@ use Rattle.expr_stack.specs.declared.operand.Operand.{Operand}
 use Rattle.expr_stack.specs.declared.operand.Operand.TheVariants.{Integer, Bool as Truth, Lent, Kept}
 use Rattle.expr_stack.specs.declared.operand.TopOperand.{TopOperand}
 use Rattle.expr_stack.specs.declared.operand.TopOperand.TheVariants as top_operand
+use Rattle.expr_arguments.specs.AllocFree.{is_alloc_free_value}
+use Rattle.expr_value.specs.declared.value.Value as value
 use Rattle.expr_value.specs.declared.value.Value.{Value, out-Value}
 use Rattle.expr_value.specs.declared.value.Value.TheOpen.{Value-F}
 use Rattle.expr_stack.proofs.Within.{one_shown_grown, shown_last}
@@ -88,3 +90,35 @@ held_operand kept (Integer n) = refl
 held_operand kept (Truth b) = refl
 held_operand kept (Lent r) = refl
 held_operand kept (Kept p) = refl
+
+-- integers and booleans are lent, and need no allocation
+pub made_integer : (n : ℤ) → made (value.Integer n) ≡ lend (value.Integer n)
+unfolding value.out-Value denote.Hole.Carrier.out
+made_integer n = refl
+
+pub made_truth : (b : Bool) → made (value.Bool b) ≡ lend (value.Bool b)
+unfolding value.out-Value denote.Hole.Carrier.out
+made_truth b = refl
+
+pub free_integer : (n : ℤ) → IsTrue (is_alloc_free_value (value.Integer n))
+unfolding value.out-Value denote.Hole.Carrier.out
+free_integer n = refl
+
+pub free_truth : (b : Bool) → IsTrue (is_alloc_free_value (value.Bool b))
+unfolding value.out-Value denote.Hole.Carrier.out
+free_truth b = refl
+
+pub integer_cell : (n : ℤ) → made_cell (value.Integer n) ≡ cell.Value (value.Integer n)
+integer_cell n = made_lent (value.Integer n) (made_integer n)
+
+pub truth_cell : (b : Bool) → made_cell (value.Bool b) ≡ cell.Value (value.Bool b)
+truth_cell b = made_lent (value.Bool b) (made_truth b)
+
+-- the stack owns arrays and maps
+pub array_cell : (items : List Value) → made_cell (value.Array items) ≡ cell.Own (value.Array items)
+unfolding value.out-Value denote.Hole.Carrier.out
+array_cell items = refl
+
+pub map_cell : (m : List (List ℕ × Value)) → made_cell (value.Map m) ≡ cell.Own (value.Map m)
+unfolding value.out-Value denote.Hole.Carrier.out
+map_cell m = refl

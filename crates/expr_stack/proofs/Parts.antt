@@ -20,6 +20,7 @@ given v = Ok v
 -- what was found in a borrowed value, or nil
 pub found_in : (v key : Value) (found : Option Value) (part : Cow) → inside v key ≡ is_some found → Ok (cow_value part) ≡ or_nil found
     → cell_of_cow part ≡ unwrap_or (option_map cell.Value found) (cell.Own value.Nil) → cell_of_cow part ≡ part_cell (cell.Value v) key (cow_value part)
+unfolding value.out-Value denote.Hole.Carrier.out
 found_in v key (Some x) part i a c =
     let said : given (cow_value part) ≡ given x = a in
     let same : cow_value part ≡ x = cc in
@@ -47,3 +48,13 @@ picked_in_place kept key optional place below x rest held part e h i m =
     let answer = sym (subst (λ w. index_answer w key optional ≡ Ok part) h i) in
     let stands : cell.Value part ∷ below ≡ made_cell part ∷ rest = cc in
     subst (λ c. HasPushedIn (part_cell c key) (λ a. a ≡ index_answer (cell_value kept c) key optional) rest (cell.Value part ∷ below)) x_is (part, answer, stands)
+
+-- a part that a lent value has inside
+pub picked_lent : (kept : List Value) (key : Value) (optional : Bool) (below new : List Cell) (x : Cell) (rest : List Cell) (held part : Value)
+    → cell.Value held ∷ below ≡ x ∷ rest → index_answer held key optional ≡ Ok part → inside held key ≡ true → new ≡ cell.Value part ∷ below
+    → HasPushedIn (part_cell x key) (λ a. a ≡ index_answer (cell_value kept x) key optional) rest new
+picked_lent kept key optional below new x rest held part e i within is =
+    let x_is : cell.Value held ≡ x = cc in
+    let rest_is : below ≡ rest = cc in
+    let stands : new ≡ part_cell (cell.Value held) key part ∷ rest = is ∙ (ap (λ c. c ∷ below) (lent_of held key part within) ∙ ap (λ cs. part_cell (cell.Value held) key part ∷ cs) rest_is) in
+    subst (λ c. HasPushedIn (part_cell c key) (λ a. a ≡ index_answer (cell_value kept c) key optional) rest new) x_is (part, sym i, stands)

@@ -1,14 +1,14 @@
 -- Slots that are written where an item was bound before.
 use Rattle.std.proofs.Common.{◌≡◌, ℕ, suc, ◌+◌, ◌<◌, ◌≤◌, List, [], ◌∷◌, ◌++◌, length, map, take, set, refl, ap, ◌∙◌, sym, subst, arith, append_assoc}
 use Rattle.std.proofs.lemmas.Grind.{take-set_at}
-use Rattle.std.proofs.lemmas.List.{length-set, map_push, take-map, take_more_set}
+use Rattle.std.proofs.lemmas.List.{length-map, length-set, map_push, take-map, take_more_set}
 use Rattle.expr_stack.specs.Cells.{AreWithin, IsWithin}
 use Rattle.expr_stack.specs.Operands.{cell_of}
 use Rattle.expr_stack.specs.declared.cell.Cell.TheVariants as cell
 use Rattle.expr_stack.specs.declared.cell.Cell.{Cell}
 use Rattle.expr_stack.specs.declared.operand.Operand.{Operand}
 use Rattle.expr_value.specs.declared.value.Value.{Value}
-use Rattle.expr_stack.proofs.Within.{within_push}
+use Rattle.expr_stack.proofs.Within.{within_cut, within_push, within_take}
 
 module _ (xs : List Operand) (i : ℕ) (a b d : Operand) where
   -- with one more after it
@@ -38,3 +38,33 @@ within_two n cells u v w = subst (AreWithin n) (append_assoc cells (cell.Value u
 
 pub within_three : (n : ℕ) (cells : List Cell) (u v x : Value) → AreWithin n cells → AreWithin n (cells ++ cell.Value u ∷ cell.Value v ∷ cell.Value x ∷ [])
 within_three n cells u v x w = subst (AreWithin n) (append_assoc cells (cell.Value u ∷ cell.Value v ∷ []) (cell.Value x ∷ [])) (within_one n (cells ++ cell.Value u ∷ cell.Value v ∷ []) x (within_two n cells u v w))
+
+module _ (kept now : List Value) (xs ys : List Operand) (slot places : ℕ) (cut : now ≡ take places kept) (below : AreWithin places (take slot (map cell_of xs)))
+    (all : AreWithin (length kept) (map cell_of xs)) where
+  left : AreWithin (length now) (take slot (map cell_of xs))
+  left = subst (λ ks. AreWithin (length ks) (take slot (map cell_of xs))) (sym cut) (within_cut kept places (take slot (map cell_of xs)) below (within_take (length kept) slot (map cell_of xs) all))
+
+  -- what is bound, and that it is within the kept list
+  abbrev pub Rebinds : List Cell → Type 0
+  Rebinds added = (map cell_of ys ≡ take slot (map cell_of xs) ++ added) × AreWithin (length now) (map cell_of ys)
+
+  pub rebound_one : (a : Operand) (u : Value) → slot + 1 ≤ length (map cell_of xs) → ys ≡ take (slot + 1) (set xs slot a) → cell_of a ≡ cell.Value u → Rebinds (cell.Value u ∷ [])
+  rebound_one a u l is first =
+      let long : slot < length xs = omega (arith, length-map xs cell_of, l) in
+      let cells = ap (map cell_of) is ∙ one_set xs slot a a a long ∙ ap (λ c. take slot (map cell_of xs) ++ c ∷ []) first in
+      (cells, subst (AreWithin (length now)) (sym cells) (within_one (length now) (take slot (map cell_of xs)) u left))
+
+  pub rebound_two : (a b : Operand) (u v : Value) → slot + 2 ≤ length (map cell_of xs) → ys ≡ take (slot + 2) (set (set xs slot a) (slot + 1) b) → cell_of a ≡ cell.Value u → cell_of b ≡ cell.Value v
+      → Rebinds (cell.Value u ∷ cell.Value v ∷ [])
+  rebound_two a b u v l is first second =
+      let long : slot + 1 < length xs = omega (arith, length-map xs cell_of, l) in
+      let cells = ap (map cell_of) is ∙ two_set xs slot a b b long ∙ ap (λ c. take slot (map cell_of xs) ++ c ∷ cell_of b ∷ []) first ∙ ap (λ c. take slot (map cell_of xs) ++ cell.Value u ∷ c ∷ []) second in
+      (cells, subst (AreWithin (length now)) (sym cells) (within_two (length now) (take slot (map cell_of xs)) u v left))
+
+  pub rebound_three : (a b d : Operand) (u v w : Value) → slot + 3 ≤ length (map cell_of xs) → ys ≡ take (slot + 3) (set (set (set xs slot a) (slot + 1) b) (slot + 2) d) → cell_of a ≡ cell.Value u
+      → cell_of b ≡ cell.Value v → cell_of d ≡ cell.Value w → Rebinds (cell.Value u ∷ cell.Value v ∷ cell.Value w ∷ [])
+  rebound_three a b d u v w l is first second third =
+      let long : slot + 2 < length xs = omega (arith, length-map xs cell_of, l) in
+      let cells = ap (map cell_of) is ∙ three_set xs slot a b d long ∙ ap (λ c. take slot (map cell_of xs) ++ c ∷ cell_of b ∷ cell_of d ∷ []) first
+      ∙ ap (λ c. take slot (map cell_of xs) ++ cell.Value u ∷ c ∷ cell_of d ∷ []) second ∙ ap (λ c. take slot (map cell_of xs) ++ cell.Value u ∷ cell.Value v ∷ c ∷ []) third in
+      (cells, subst (AreWithin (length now)) (sym cells) (within_three (length now) (take slot (map cell_of xs)) u v w left))
