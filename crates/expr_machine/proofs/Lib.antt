@@ -1,6 +1,7 @@
 pub mod Beginning
 pub mod Beginnings
 pub mod Counted
+pub mod Ended
 pub mod Keepings
 pub mod Lights
 pub mod Patterns

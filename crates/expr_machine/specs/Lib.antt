@@ -1,4 +1,5 @@
 pub mod Calls
+pub mod Ended
 pub mod Firsts
 pub mod Given
 pub mod Promises
