@@ -3,6 +3,7 @@ pub mod Cuts
 pub mod Entries
 pub mod Helds
 pub mod Off
+pub mod Owned
 pub mod Parts
 pub mod Places
 pub mod Puts

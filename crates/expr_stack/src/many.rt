@@ -94,7 +94,6 @@ impl<'s, A: Allocator + Copy> Stack<'s, A> {
     ///
     /// Returns `MemoryError` if an allocation fails.
     #[inline(never)]
-    #[tactic(auto, using(crate::proofs::Helds::array_cell))]
     pub fn collect(&mut self, alloc: Global, kept: &[Value], count: usize) -> Result<()>
         requires { count ≤ length self.old }
         ensures { OnMany count kept.now self.old
@@ -112,7 +111,6 @@ impl<'s, A: Allocator + Copy> Stack<'s, A> {
     ///
     /// Returns `MemoryError` if an allocation fails.
     #[inline(never)]
-    #[tactic(auto, using(crate::proofs::Helds::map_cell))]
     pub fn gather(&mut self, alloc: Global, kept: &[Value], keys: Vec<Text>) -> Result<()>
         requires { vec_len keys ≤ length self.old }
         ensures { OnMany (vec_len keys) kept.now self.old
