@@ -11,5 +11,5 @@ pub returns : goal.returns
 returns g c =
     let host = g.H.Functions.host c.args.host.now in
     let block = program_term c.in_ok-program.program in
-    Returns-under c.answer_program.result _ _ (λ a p. inl (block, c.in_ok-program.ensures.answer, p))
-    (subst (λ pairs. Returns c.answer_program.result (AllowsBlock (world_of host (context_of pairs)) block)) c.new.ensures c.answer_program.ensures.answer)
+    Returns-under c.run_with.result _ _ (λ a p. inl (block, c.in_ok-program.ensures.answer, p))
+    (subst (λ pairs. Returns c.run_with.result (AllowsBlock (world_of host (context_of pairs)) block)) c.new.ensures c.run_with.ensures.answer)
