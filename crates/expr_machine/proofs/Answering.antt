@@ -53,8 +53,8 @@ pub record BindsAgain (f : Waiting) (m n : MemoryView) (item : Plain) (place : �
 
 within_plain : (k : ℕ) (cs : List Cell) (item : Plain) (place : ℕ) (acc : Plain) (b : Binds) → AreWithin k cs → AreWithin k (cs ++ plain_cells item place acc b)
 within_plain k [] item place acc Item w = (tt, tt)
-within_plain k [] item place acc Index w = (tt, tt, tt)
-within_plain k [] item place acc Acc w = (tt, tt, tt, tt)
+within_plain k [] item place acc Index w = (tt, (tt, tt))
+within_plain k [] item place acc Acc w = (tt, (tt, (tt, tt)))
 within_plain k (c ∷ cs) item place acc b w = (w.0, within_plain k cs item place acc b w.1)
 
 get_plain : (cs : List Cell) (n : ℕ) (item : Plain) (place : ℕ) (acc : Plain) (b : Binds) (k : ℕ) → length cs ≡ n → IsBoundAt k (slice_get (cs ++ plain_cells item place acc b) n)
@@ -147,7 +147,7 @@ module _ (f : Waiting) (m n : MemoryView) (item : Plain) (place : ℕ) (acc : Pl
 -- the frame goes on with its next item
 module _ (world : World) (blocks : List (List Op)) (counted after_counted : Bool) (s : State) (f : Waiting) (fs : List Waiting) (acc : Plain) (now : Room)
     (ends : s.at ≡ 0) (stack : s.stack ≡ cell.Value (plain_value acc) ∷ []) (light : made (plain_value acc) ≡ lend (plain_value acc)) (waiting : s.frames ≡ f ∷ fs) (ready : IsReady counted blocks s) (same : IsTrue after_counted → IsTrue counted) where
-  waits : AllWait counted blocks s.number (f ∷ fs) s.memory
+  pub waits : AllWait counted blocks s.number (f ∷ fs) s.memory
   waits = subst (λ gs. AllWait counted blocks s.number gs s.memory) waiting ready.waits
 
   -- those that wait still do, by whatever is counted
@@ -179,12 +179,6 @@ module _ (world : World) (blocks : List (List Op)) (counted after_counted : Bool
   top_stands = wait_but_top after_counted blocks s.number f fs s.memory (still (f ∷ fs) s.number s.memory waits)
 
   module _ (run : PredicateRun) (is_last : Bool) (adds : Adds f.run run (item_of f s.memory) (plain_value acc) is_last) where
-    first_fold : Fold
-    first_fold = waits.0.fold
-
-    first_replies : List ItemAnswer
-    first_replies = waits.0.replies ++ (item_of f s.memory, plain_value acc) ∷ []
-
     -- these replies stand for the run now
     abbrev pub GivenNow : Type 0
     GivenNow = (t : Fold) × (rs : List ItemAnswer) × RunRepresents run t rs × (has_stopped t rs ≡ is_last) × Awaits f.run t waits.0.replies × (rs ≡ waits.0.replies ++ (item_of f s.memory, plain_value acc) ∷ [])
@@ -254,14 +248,14 @@ module _ (world : World) (blocks : List (List Op)) (counted after_counted : Bool
       quick_comes e p =
           quick_answers world blocks s f fs (plain_value acc) now ends stack waiting run after false keeps adds e
           (again_comes world blocks s (running run f) fs s.number (cut f s.memory) n lent (pending_args next (plain_value item)) (plain_value item) next after after2 next_asked cuts
-          (bound_is world blocks f (cut f s.memory) n lent (pending_args next (plain_value item)) cut_long front_bound) bound ready.place.block enters e p)
+          (bound_is f (cut f s.memory) n lent (pending_args next (plain_value item)) cut_long front_bound) bound ready.place.block enters e p)
 
       pub quick_ready : IsReady after_counted blocks Now
       quick_ready =
           let g = given_now run false adds in
           let o = next_asked g.0 g.1 g.2 in
           again_ready after_counted blocks s f fs s.number s.memory n next (size_left after) top_stands cuts
-          (bound_long world blocks f (cut f s.memory) n lent (pending_args next (plain_value item)) cut_long front_bound)
+          (bound_long f (cut f s.memory) n lent (pending_args next (plain_value item)) cut_long front_bound)
           (again_far f s.memory n item place acc b waits.0.stands.slots waits.0.stands.places)
           (again_within f s.memory n item place acc b waits.0.stands.slots waits.0.stands.places waits.0.stands.bound)
           (again_item f s.memory n item place acc b waits.0.stands.slots waits.0.stands.places)
