@@ -1,5 +1,5 @@
 -- Entries of a stack, of which an empty one has nothing under it.
-use Rattle.std.proofs.Common.{◌≡◌, ◌<◌, ◌≤◌, ℕ, List, [], ◌∷◌, ◌++◌, length, reverse, refl, sym, ap, ◌∙◌, subst, arith}
+use Rattle.std.proofs.Common.{◌≡◌, ◌<◌, ◌≤◌, List, [], ◌∷◌, ◌++◌, length, reverse, refl, sym, ap, ◌∙◌, subst, arith}
 use Rattle.std.proofs.lemmas.List.{reverse-append}
 use Rattle.expr_stack.specs.Stacked.{AreEmpty, AreFilled, HasOwnValues, cells_of_entries, entries_of}
 use Rattle.expr_stack.specs.Cells.{IsPlain, top_of}

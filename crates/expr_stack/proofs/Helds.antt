@@ -1,19 +1,16 @@
 -- What cells hold, and whose it is.
-use Rattle.std.proofs.Common.{◌≡◌, ℕ, ℤ, zero, suc, ◌<◌, Bool, true, false, List, [], ◌∷◌, ◌++◌, length, map, take, Some, refl, ap, ◌∙◌, sym, subst, arith}
-use Rattle.std.proofs.lemmas.List.{map_push, take-map}
+use Rattle.std.proofs.Common.{◌≡◌, ℕ, ℤ, Bool, true, false, List, [], ◌∷◌, ◌++◌, length, refl, ap, ◌∙◌}
+use Rattle.std.proofs.lemmas.List.{map_push}
 use Rattle.std.specs.Prelude.{IsTrue}
-use Rattle.expr_code.specs.Held.{Held, Owner, lent, own, placed, lend, made, made_owner, part_owner, settle, settled, values}
+use Rattle.expr_code.specs.Held.{lent, placed, lend, made, made_owner, part_owner, settle, values}
 use Rattle.expr_operators.specs.Positions.{inside}
 use Rattle.expr_stack.specs.Cells.{AreWithin, IsWithin, cell_value, cell_values, made_cell, made_cell_layer, part_cell}
-use Rattle.expr_stack.specs.Held.{held_of, helds, slot_helds}
-use Rattle.expr_stack.specs.Memories.{MemoryView}
-use Rattle.expr_stack.specs.Operands.{cell_of, cell_put, cell_taken, newly_kept}
+use Rattle.expr_stack.specs.Held.{held_of, helds}
+use Rattle.expr_stack.specs.Operands.{cell_of}
 use Rattle.expr_stack.specs.declared.cell.Cell.TheVariants as cell
 use Rattle.expr_stack.specs.declared.cell.Cell.{Cell}
 use Rattle.expr_stack.specs.declared.operand.Operand.{Operand}
 use Rattle.expr_stack.specs.declared.operand.Operand.TheVariants.{Integer, Bool as Truth, Lent, Kept}
-use Rattle.expr_stack.specs.declared.operand.TopOperand.{TopOperand}
-use Rattle.expr_stack.specs.declared.operand.TopOperand.TheVariants as top_operand
 use Rattle.expr_arguments.specs.AllocFree.{is_alloc_free_value}
 use Rattle.expr_value.specs.declared.value.Value as value
 use Rattle.expr_value.specs.declared.value.Value.{Value, out-Value}

@@ -10,7 +10,7 @@ use Rattle.expr_stack.specs.declared.cell.Cell.{Cell}
 use Rattle.expr_value.specs.Answers.{Answer}
 use Rattle.expr_value.specs.declared.value.Value as value
 use Rattle.expr_value.specs.declared.value.Value.{Value}
-use Rattle.expr_stack.proofs.Helds.{array_cell, integer_cell, map_cell, truth_cell}
+use Rattle.expr_stack.proofs.Helds.{integer_cell, truth_cell}
 
 pub owned_now : (allowed : Answer → Type 0) (v : Value) (mid rest new : List Cell) → made_cell v ≡ cell.Own v → mid ≡ rest → new ≡ cell.Own v ∷ mid → allowed (Ok v) → HasPushed allowed rest new
 owned_now allowed v mid rest new own e is may = (v, may, is ∙ (ap (λ c. c ∷ mid) (sym own) ∙ ap (λ cs. made_cell v ∷ cs) e))

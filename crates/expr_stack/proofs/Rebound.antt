@@ -1,8 +1,8 @@
 -- Slots that are written where an item was bound before.
-use Rattle.std.proofs.Common.{◌≡◌, ℕ, suc, ◌+◌, ◌<◌, ◌≤◌, List, [], ◌∷◌, ◌++◌, length, map, take, set, refl, ap, ◌∙◌, sym, subst, arith, append_assoc}
+use Rattle.std.proofs.Common.{◌≡◌, ℕ, ◌+◌, ◌<◌, ◌≤◌, List, [], ◌∷◌, ◌++◌, length, map, take, set, refl, ap, ◌∙◌, sym, subst, arith, append_assoc}
 use Rattle.std.proofs.lemmas.Grind.{take-set_at}
-use Rattle.std.proofs.lemmas.List.{length-map, length-set, map_push, take-map, take_more_set}
-use Rattle.expr_stack.specs.Cells.{AreWithin, IsWithin}
+use Rattle.std.proofs.lemmas.List.{length-map, length-set, map_push, take-map}
+use Rattle.expr_stack.specs.Cells.{AreWithin}
 use Rattle.expr_stack.specs.Operands.{cell_of}
 use Rattle.expr_stack.specs.declared.cell.Cell.TheVariants as cell
 use Rattle.expr_stack.specs.declared.cell.Cell.{Cell}

@@ -1,4 +1,4 @@
-use Rattle.std.proofs.Common.{◌≡◌, ◌+◌, ◌≤◌, ap, ◌∙◌, length, set, subst, sym, take}
+use Rattle.std.proofs.Common.{◌+◌, ◌≤◌, ap, ◌∙◌, length, set, subst, sym, take}
 use Rattle.expr_code.specs.CallBinds.{bound_count}
 use Rattle.expr_predicates.specs.Folds.{number}
 use Rattle.expr_predicates.specs.Plains.{plain_value}

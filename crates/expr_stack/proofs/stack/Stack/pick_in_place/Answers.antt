@@ -1,6 +1,5 @@
 use Rattle.std.proofs.Common.{◌∷◌, ◌∙◌, reverse}
 use Rattle.expr_stack.specs.Stacked.{cells_of_entries}
-use Rattle.expr_stack.proofs.Entries.{filled_rest, own_under}
 use Rattle.expr_stack.proofs.Parts.{picked_in_place}
 use Rattle.expr_stack.proofs.stack.Stack.pick_in_place.Goals as goal
 

@@ -1,4 +1,4 @@
-use Rattle.std.proofs.Common.{◌≡◌, ◌∷◌, [], ap, ◌∙◌, reverse, refl, sym, subst}
+use Rattle.std.proofs.Common.{◌≡◌, ◌∷◌, [], ap, ◌∙◌, reverse, sym, subst}
 use Rattle.std.proofs.lemmas.List.{reverse-append}
 use Rattle.expr_stack.specs.Stacked.{AreFilled, HasOwnValues, cells_of_entries, entries_of}
 use Rattle.expr_stack.specs.declared.entry.Entry.TheVariants.{Own}
