@@ -1,3 +1,5 @@
+pub mod Answered
+pub mod Answering
 pub mod Beginning
 pub mod Beginnings
 pub mod Counted
@@ -6,4 +8,5 @@ pub mod Keepings
 pub mod Lights
 pub mod Patterns
 pub mod Refused
+pub mod Taking
 pub mod Told

@@ -5,3 +5,4 @@ pub mod Given
 pub mod Promises
 pub mod Seen
 pub mod Slow
+pub mod Taking
