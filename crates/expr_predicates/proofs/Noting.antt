@@ -125,8 +125,7 @@ unfolding value.out-Value denote.Hole.Carrier.out
 place_takes found now truth place is t rs x h =
     let none : None ≡ position_from holds 0 rs = nothing (position_from holds 0 rs) (stopped_as t finding_place rs h.0.0 h.2) in
     let first : place ≡ 0 + length rs = h.1 ∙ ap (λ u. first_place u + length rs) h.0.0 in
-    let found_now : now ≡ position_from holds 0 (rs ++ (x, value.Bool truth) ∷ []) = place_push None now place rs (x, value.Bool truth) truth first none refl is in
-    (
+    let found_now : now ≡ position_from holds 0 (rs ++ (x, value.Bool truth) ∷ []) = place_push None now place rs (x, value.Bool truth) truth first none refl is in (
       (h.0.0, found_now),
       adds_as t finding_place rs x (value.Bool truth) [] truth false h.0.0 (record { accepted = refl; stops = ap is_some (sym found_now) ∙ some_if truth place now is; keeps = refl; replaces = refl }),
     )
@@ -135,8 +134,7 @@ pub count_takes : (n m : ℕ) (truth : Bool) (place : ℕ) → place + 1 < 2 ^ 6
     → Takes (IsOut ScalarRepresents place) ScalarRepresents (λ k. ⊥) (scalar_accumulator.Count n) (scalar_accumulator.Count m) (value.Bool truth) [] false false
 unfolding value.out-Value denote.Hole.Carrier.out
 count_takes n m truth place below is t rs x h =
-    let first : place ≡ 0 + length rs = h.1 ∙ ap (λ u. first_place u + length rs) h.0.0 in
-    (
+    let first : place ≡ 0 + length rs = h.1 ∙ ap (λ u. first_place u + length rs) h.0.0 in (
       (h.0.0, count_push n m place rs (x, value.Bool truth) truth below first h.0.1 refl is),
       adds_as t counting rs x (value.Bool truth) [] false false h.0.0 (record { accepted = refl; stops = refl; keeps = refl; replaces = refl }),
     )
