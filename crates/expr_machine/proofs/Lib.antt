@@ -10,3 +10,4 @@ pub mod Patterns
 pub mod Refused
 pub mod Taking
 pub mod Told
+pub mod Unpaid
