@@ -4,8 +4,11 @@ pub mod Beginning
 pub mod Beginnings
 pub mod Counted
 pub mod Ended
+pub mod Flatly
 pub mod Keepings
 pub mod Lights
+pub mod Names
+pub mod Parts
 pub mod Patterns
 pub mod Refused
 pub mod Taking
