@@ -5,6 +5,7 @@ pub mod Beginnings
 pub mod Counted
 pub mod Ended
 pub mod Flatly
+pub mod Jumps
 pub mod Keepings
 pub mod Lights
 pub mod Names
