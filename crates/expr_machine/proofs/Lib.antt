@@ -14,4 +14,5 @@ pub mod Patterns
 pub mod Refused
 pub mod Taking
 pub mod Told
+pub mod Unmatched
 pub mod Unpaid
