@@ -5,7 +5,7 @@
     hosts/border.py --write    writes the parts that are made
 
 The numbers of what may be asked, of kinds and of statuses are those of the enums `Ask`, `Kind` and
-`Status` in crates/expr_exchange/src. A part of a file is made of these if it is between the comments
+`Status` in crates/expr_exchange/src, and those of limits are in limit.rt there. A part of a file is made of these if it is between the comments
 `begin: NAME, by hosts/border.py --write` and `end: NAME`. Comments in it are kept. The layout of
 structs, limits and versions are compared. The tests in C must call each function of exprlang.h.
 bin/hosts runs it.

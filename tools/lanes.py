@@ -11,8 +11,6 @@ Task = TypeVar("Task")
 
 # A proof gains little from more jobs than this.
 MOST_JOBS = 3
-# A proof is on the critical chain where what is behind it takes more than this share of what all that is left takes.
-CRITICAL = 0.8
 
 
 def seconds_of(table: pathlib.Path, *, of_edits: bool = False) -> dict[str, int]:
@@ -26,7 +24,6 @@ class Plan(Generic[Task]):
 
     def __init__(self, seconds: Mapping[Task, float], waits: Mapping[Task, Sequence[Task]], lanes: int) -> None:
         self.seconds, self.waits, self.lanes = seconds, waits, lanes
-        self.left = sum(seconds.values())
         self.behind: dict[Task, float] = dict.fromkeys(seconds, 0.0)
         """The seconds of the longest chain that begins with a task."""
         for task in reversed(list(seconds)):
@@ -44,15 +41,13 @@ class Plan(Generic[Task]):
     def begin(self) -> tuple[Task, int] | None:
         """Returns a task that begins now, with the number of its jobs, or nothing where no lane is idle.
 
-        One on the critical chain has two jobs, though there may be one lane for it: it would go on with one job when lanes are idle.
+        A task has more than one job only where lanes would be idle: a second job costs more processor time than it saves.
         """
         idle, ready = self.lanes - sum(self.running.values()), self.ready()
         if idle <= 0 or not ready:
             return None
         task = ready[0]
         jobs = max(1, min(MOST_JOBS, idle - len(ready) + 1))
-        if self.behind[task] > CRITICAL * self.left / self.lanes:
-            jobs = max(jobs, min(2, self.lanes))
         self.order.remove(task)
         self.running[task] = jobs
         return task, jobs
@@ -61,4 +56,3 @@ class Plan(Generic[Task]):
         """Takes note that a task has ended."""
         del self.running[task]
         self.ended.add(task)
-        self.left -= self.seconds[task]

@@ -62,9 +62,13 @@ enum ask {
     /* begin: asks, by hosts/border.py --write */
     COMPILE, NAMES, RUN, CONTEXT, CONTEXT_OF, SET, PUSH, ARRAY, MAP, UNBUILD, LOOK, DOWN, UP, KEY, SHOWN, TEXT, JSON, SAID,
     ENVIRONMENT, FIXED_ZONE, ZONE_RULE, NOW, DROP_PROGRAM, DROP_CONTEXT, DROP_ENVIRONMENT, CLEAR, NAME, ANSWER, REFUSE,
-    WAITING_CALL, LIMIT, UNLIMITED, USES_ENV, FUNCTIONS, FILL_MISSING, VERSIONS, PROGRAM_TEXT
+    WAITING_CALL, LIMIT, UNLIMITED, USES_ENV, FUNCTIONS, FILL_MISSING, VERSIONS, PROGRAM_TEXT, USED
     /* end: asks */
 };
+/* The kinds of a call about limits, as `limit_numbered` of crates/expr_exchange/src/limit.rt. */
+/* begin: limits, by hosts/border.py --write */
+enum { LIMIT_NESTING, LIMIT_PATTERNS, LIMIT_STEPS, LIMIT_DEPTH, LIMIT_SIZE };
+/* end: limits */
 /* As `Kind` of crates/expr_exchange/src/kind.rt, behind those of expr_kind. */
 /* begin: kinds, by hosts/border.py --write */
 enum { KIND_JSON = EXPR_KEYED_MAP + 1, KIND_BUILT, KIND_LOOKED };

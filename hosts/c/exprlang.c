@@ -188,6 +188,22 @@ expr_status expr_set_limits(expr_engine *engine, const expr_limits *limits) {
 
 expr_status expr_set_unlimited(expr_engine *engine) { return asked_alone(engine, UNLIMITED); }
 
+/* How much of one limit the last run used. */
+static expr_status used_of(expr_engine *engine, uint32_t kind, int64_t *used) {
+    begun(engine, USED)->kind = kind;
+    expr_status status = asked(engine);
+    if (status == EXPR_OK) *used = engine->call.number;
+    return status;
+}
+
+expr_status expr_used(expr_engine *engine, int64_t *steps, int64_t *size) {
+    if (steps) *steps = 0;
+    if (size) *size = 0;
+    if (!engine) return EXPR_MISUSE;
+    expr_status status = steps ? used_of(engine, LIMIT_STEPS, steps) : EXPR_OK;
+    return status == EXPR_OK && size ? used_of(engine, LIMIT_SIZE, size) : status;
+}
+
 /* --- programs --- */
 
 expr_status expr_compile(expr_engine *engine, const char *text, size_t length, expr_program *program, expr_place *place) {

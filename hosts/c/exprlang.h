@@ -18,8 +18,9 @@
  * takes one call at a time. It may move between threads if a lock makes sure of that: tested, not proved. Two engines share
  * nothing, so each thread may also have its own.
  *
- * Stack. Within the limits for untrusted strings a call takes less than 1 MB of its thread's stack. This is measured. With
- * higher limits, or with none, a call takes as much as the string asks for.
+ * Stack. Within the limits for untrusted strings a call takes less than 1 MB of its thread's stack. This is measured. No
+ * nesting of a string takes stack, but the depth of values does. With a higher limit on depth, or with none, copying, printing
+ * and dropping a value takes as much stack as the string asks for.
  *
  * Handles. Programs, contexts and environments are named by handles. No engine gives a handle twice, and no engine takes the
  * handle of another. A handle that you dropped, or that this engine never gave, ends the call with EXPR_UNKNOWN. Handles are
@@ -39,9 +40,9 @@
  * Limits. An engine has limits, at first those for untrusted strings. Each compile bounds the height of the tree and the weight
  * of the literal patterns. Each run bounds its steps, and the depth and the size of the values that it makes. A call that
  * would pass a limit ends with the status of that limit (EXPR_IS_LIMIT), which is no error of the language. It leaves what a
- * call leaves that ends with an error. expr_set_limits sets other limits, expr_set_unlimited lifts them. It is proved of the
- * engine where a call stops, and that every other ending is one that the string may have. It is measured that time, memory
- * and stack follow what is counted.
+ * call leaves that ends with an error. expr_set_limits sets other limits, expr_set_unlimited lifts them. expr_used says what a
+ * run used of them. It is proved of the engine where a call stops, and that every other ending is one that the string may
+ * have. It is measured that time, memory and stack follow what is counted.
  *
  * What an untrusted string can still do, and what you bound yourself:
  *   - It can be long. Reading takes up to 420 nanoseconds and 190 bytes of memory for each byte, as measured.
@@ -149,7 +150,7 @@ typedef struct {
 } expr_limits;
 
 /* The limits for untrusted strings, which an engine has at first. To set others, change a copy. */
-static const expr_limits EXPR_LIMITS_UNTRUSTED = {sizeof(expr_limits), 100, 100000, 1000000, 1000, 1000000};
+static const expr_limits EXPR_LIMITS_UNTRUSTED = {sizeof(expr_limits), 5000, 100000, 1000000, 1000, 1000000};
 
 /* Returns what the library is: its version, the kit and the checksum of the sources that it was made of, and at the end `proved`
  * or `unproved`. So: "0.1.0, kit rattle-kit-13f, sources 160ede8a12d28189, proved". */
@@ -185,6 +186,12 @@ const char *expr_status_word(expr_status status);
 expr_status expr_set_limits(expr_engine *engine, const expr_limits *limits);
 /* Lifts all limits, for strings that you trust. Then a run takes the time, memory and stack that its string asks for. */
 expr_status expr_set_unlimited(expr_engine *engine);
+/* Says what the last run used of its limits, whatever it ended with: its steps, and the most that it held at once. Of a run that
+ * stopped at a limit, this is what it had used until then. After expr_reply and expr_refuse it is of that turn, which began the
+ * run again. Without limits nothing is counted, and both are 0, as they are before the first run and after expr_clear. Room
+ * that a call asks for and doesn't fill isn't in them. So the least limits that a run needs may be higher: allow ten times what
+ * your own strings use. Either pointer may be null. */
+expr_status expr_used(expr_engine *engine, int64_t *steps, int64_t *size);
 
 /* --- programs --- */
 
@@ -379,6 +386,7 @@ expr_status expr_refuse(expr_engine *engine, const char *text, size_t length, ex
  * come. The contracts of the engine say the same, but for null pointers and for zones and names that you add.
  *
  *     expr_clear, expr_unbuild, expr_set_unlimited, expr_look     nothing else
+ *     expr_used                                                   nothing else
  *     expr_set_limits                                             MISUSE
  *     expr_compile                                                SYNTAX LITERAL MEMORY MISUSE and LIMIT_NESTING LIMIT_PATTERNS
  *     expr_names, expr_functions, expr_fill_missing               UNKNOWN MEMORY

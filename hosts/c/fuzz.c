@@ -146,6 +146,13 @@ static void reply_any(void) {
     }
 }
 
+/* What the last run used is within the limits, and nothing without any. */
+static void used_within(void) {
+    int64_t steps, size;
+    if (expr_used(engine, &steps, &size) != EXPR_OK || steps < 0 || size < 0) FAIL("used");
+    if (is_unlimited ? steps || size : steps > limits.steps || size > limits.size) FAIL("a run used more than its limits");
+}
+
 /* A run that didn't stop within limits ends without any as it did: the two are loops of their own. */
 static void run_again(expr_program program, expr_environment environment, expr_context context, expr_status status) {
     size_t length, again;
@@ -190,6 +197,7 @@ static void run_any(uint32_t turn) {
     if (status == EXPR_MISUSE || status == EXPR_DIFFERS) FAIL("run"); /* memory is refused to ranges without an end */
     endings[1][status]++;
     ended(status, "run");
+    if (status != EXPR_UNKNOWN) used_within();
     if (!EXPR_IS_LIMIT(status) && next(4) == 0) run_again(program, environment, context, status);
     if (next(2)) reply_any();
     size_t names;
@@ -231,7 +239,7 @@ static void forge_any(void *forged) {
     uint8_t room[64];
     size_t length;
     char *text = any_text(&length);
-    c.ask = next(50) ? next(PROGRAM_TEXT + 3) : UINT32_MAX - next(9);
+    c.ask = next(50) ? next(USED + 3) : UINT32_MAX - next(9);
     if (c.ask == CLEAR && next(50)) c.ask = LIMIT;
     c.status = next(99);
     c.kind = next(3) ? next(16) : UINT32_MAX - next(9);
@@ -245,12 +253,15 @@ static void forge_any(void *forged) {
     c.text_length = length;
     c.room = room;
     c.room_length = next(sizeof room + 1);
-    int is_limit = c.ask == LIMIT && c.kind < 5 && c.number >= 0;
+    int is_limit = c.ask == LIMIT && c.kind <= LIMIT_SIZE && c.number >= 0;
+    int is_used = c.ask == USED && (c.kind == LIMIT_STEPS || c.kind == LIMIT_SIZE);
     expr_c_call(forged, &c);
     if (c.status > EXPR_LIMIT_SIZE) FAIL("no status");
     if (c.ask == LIMIT && c.status != (is_limit ? EXPR_OK : EXPR_MISUSE)) FAIL("a limit");
     if (c.ask == UNLIMITED && c.status != EXPR_OK) FAIL("no limits");
-    if (c.ask > PROGRAM_TEXT && c.status != EXPR_MISUSE) FAIL("nothing is asked");
+    if (c.ask == USED && c.status != (is_used ? EXPR_OK : EXPR_MISUSE)) FAIL("what was used");
+    if (is_used && c.number < 0) FAIL("what was used");
+    if (c.ask > USED && c.status != EXPR_MISUSE) FAIL("nothing is asked");
     endings[3][c.status]++;
     free(text);
 }

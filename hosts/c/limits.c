@@ -25,7 +25,7 @@ static int untrusted(expr_engine *engine) {
         {"let a = 1..10000; all(1..300000, {0 not in a})", EXPR_LIMIT_STEPS},
     };
     static const expr_limits wide = {sizeof wide, 100, 100000, INT64_MAX, 100, 100000};
-    static char wide_call[100], deep[500], heavy[10000];
+    static char wide_call[100], deep[16000], heavy[10000], many[20000], sum[4000], inside[60000];
     expr_answer answer;
     expr_program program;
     expr_place place;
@@ -46,9 +46,9 @@ static int untrusted(expr_engine *engine) {
     add(wide_call, sizeof wide_call, 15, ", a");
     add(wide_call, sizeof wide_call, 1, ", {#})");
     CHECK(expr_eval(engine, wide_call, EXPR_Z, ALONE, NULL) == EXPR_LIMIT_SIZE && *expr_message(engine));
-    add(deep, sizeof deep, 200, "(");
+    add(deep, sizeof deep, 5000, "(");
     add(deep, sizeof deep, 1, "1");
-    add(deep, sizeof deep, 200, ")");
+    add(deep, sizeof deep, 5000, ")");
     CHECK(expr_compile(engine, deep, EXPR_Z, &program, &place) == EXPR_LIMIT_NESTING && *expr_message(engine));
     CHECK(expr_run(engine, program, ALONE, NULL) == EXPR_UNKNOWN);
     CHECK(expr_eval(engine, deep, EXPR_Z, ALONE, NULL) == EXPR_LIMIT_NESTING);
@@ -56,6 +56,18 @@ static int untrusted(expr_engine *engine) {
     add(heavy, sizeof heavy, 400, "\"a\" matches \"\\\\w{20}\" or ");
     add(heavy, sizeof heavy, 1, "true");
     CHECK(expr_compile(engine, heavy, EXPR_Z, &program, &place) == EXPR_LIMIT_PATTERNS && *expr_message(engine));
+    /* a rule of 1,000 conditions, a sum of 1,000, and 2,400 predicates one inside another */
+    add(many, sizeof many, 1000, "1 == 2 or ");
+    add(many, sizeof many, 1, "true");
+    CHECK(expr_eval(engine, many, EXPR_Z, ALONE, &answer) == EXPR_OK && answer.kind == EXPR_BOOL && answer.number == 1);
+    add(sum, sizeof sum, 999, "1 + ");
+    add(sum, sizeof sum, 1, "1");
+    CHECK(expr_eval(engine, sum, EXPR_Z, ALONE, &answer) == EXPR_OK && answer.number == 1000);
+    add(inside, sizeof inside, 2400, "all([1], {");
+    add(inside, sizeof inside, 1, "true");
+    add(inside, sizeof inside, 2400, "})");
+    CHECK(expr_eval(engine, inside, EXPR_Z, ALONE, &answer) == EXPR_OK && answer.kind == EXPR_BOOL && answer.number == 1);
+    CHECK(expr_eval(engine, "40 + 2", EXPR_Z, ALONE, &answer) == EXPR_OK);
     CHECK(expr_look(engine, &answer) == EXPR_OK && answer.number == 42);
     return 0;
 }
@@ -108,7 +120,7 @@ static int settings(expr_engine *engine) {
     expr_program program, kept;
     expr_context context;
     expr_answer answer;
-    CHECK(limits.nesting == 100 && limits.patterns == 100000 && limits.steps == 1000000 && limits.depth == 1000 &&
+    CHECK(limits.nesting == 5000 && limits.patterns == 100000 && limits.steps == 1000000 && limits.depth == 1000 &&
           limits.size == 1000000);
     CHECK(expr_set_limits(NULL, &limits) == EXPR_MISUSE && expr_set_unlimited(NULL) == EXPR_MISUSE);
     CHECK(expr_set_limits(engine, NULL) == EXPR_MISUSE);
@@ -193,6 +205,109 @@ static int waiting(expr_engine *engine) {
     return expr_set_limits(engine, &EXPR_LIMITS_UNTRUSTED) != EXPR_OK;
 }
 
+/* What the last run used. */
+typedef struct { int64_t steps, size; } use;
+
+static use used(expr_engine *engine) {
+    use found = {-1, -1};
+    if (expr_used(engine, &found.steps, &found.size) != EXPR_OK) found.steps = -1;
+    return found;
+}
+
+/* What a text uses; -1 where it doesn't end so. */
+static use used_by(expr_engine *engine, const char *text, expr_status status) {
+    const use none = {-1, -1};
+    return expr_eval(engine, text, EXPR_Z, ALONE, NULL) == status ? used(engine) : none;
+}
+
+static int same(use a, use b) { return a.steps == b.steps && a.size == b.size; }
+
+/* What a run used is within its limits, and close to the one at which it stops. */
+static int uses(expr_engine *engine) {
+    static const char *const texts[] = {
+        "1", "\"a\" + \"b\"", "[1, 2, 3]", "{a: [1]}", "all(1..100, {# > 0})", "map(1..100, {string(#)})", "len(1..1000)",
+        "\"ab\" matches \"a\\\\w\"", "sort(map(1..50, {50 - #}))", "upper(repeat(\"ab\", 100))", "1 % 1 == 0 ? [[[]]] : nil"};
+    expr_limits limits = EXPR_LIMITS_UNTRUSTED;
+    use few, more;
+    for (size_t i = 0; i < sizeof texts / sizeof *texts; i++) {
+        few = used_by(engine, texts[i], EXPR_OK);
+        CHECK(few.steps > 0 && few.size > 0 && same(used_by(engine, texts[i], EXPR_OK), few));
+        CHECK(few.steps <= least(engine, texts[i], STEPS) && few.size <= least(engine, texts[i], SIZE));
+        CHECK(expr_set_limits(engine, &EXPR_LIMITS_UNTRUSTED) == EXPR_OK && same(used_by(engine, texts[i], EXPR_OK), few));
+    }
+    /* where nothing but instructions and what is made counts, a run needs what it uses */
+    few = used_by(engine, "1", EXPR_OK);
+    CHECK(few.steps == least(engine, "1", STEPS));
+    CHECK(expr_set_limits(engine, &EXPR_LIMITS_UNTRUSTED) == EXPR_OK);
+    few = used_by(engine, "map(1..100, {#})", EXPR_OK), more = used_by(engine, "map(1..300, {#})", EXPR_OK);
+    CHECK(few.steps > 100 && few.size > 100 && more.steps - few.steps >= 400 && more.size - few.size >= 200);
+    /* the most that it held at once: more than the answer, and of a predicate's lists one */
+    few = used_by(engine, "len(1..1000)", EXPR_OK), more = used_by(engine, "all(1..50, {len(1..1000) > 0})", EXPR_OK);
+    CHECK(few.size > 1000 && few.size < 1100 && more.size > few.size && more.size < 1200 && more.steps > 50000);
+    /* an error is an end like others */
+    CHECK(used_by(engine, "all(1..100, {# > 0}) and 1 % 0 == 0", EXPR_EVALUATION).steps > 200);
+    limits.steps = 5000;
+    CHECK(expr_set_limits(engine, &limits) == EXPR_OK);
+    few = used_by(engine, "let a = 1..100; all(a, {all(a, {true})})", EXPR_LIMIT_STEPS);
+    CHECK(few.steps > 4500 && few.steps <= 5000 && few.size >= 0 && few.size < 5000);
+    limits.steps = 1000000, limits.size = 5000;
+    CHECK(expr_set_limits(engine, &limits) == EXPR_OK);
+    few = used_by(engine, "map(1..2000, {string(#) + \"0123456789abcdef\"})", EXPR_LIMIT_SIZE);
+    CHECK(few.size > 4500 && few.size <= 5000 && few.steps > 5000 && few.steps <= 1000000);
+    return expr_set_limits(engine, &EXPR_LIMITS_UNTRUSTED) != EXPR_OK;
+}
+
+/* What a run used is there until the next one, whatever is called between them. */
+static int uses_of_the_last(void) {
+    expr_engine *engine = expr_open();
+    expr_environment host;
+    expr_context context;
+    expr_program program;
+    expr_answer answer;
+    int64_t steps = 1, size = 1;
+    use first, last;
+    CHECK(engine && expr_used(NULL, &steps, &size) == EXPR_MISUSE && steps == 0 && size == 0);
+    steps = size = 1;
+    CHECK(expr_used(engine, &steps, &size) == EXPR_OK && steps == 0 && size == 0);
+    CHECK(expr_compile(engine, "map(1..50, {# * 2})", EXPR_Z, &program, NULL) == EXPR_OK);
+    CHECK(used(engine).steps == 0 && used(engine).size == 0);
+    CHECK(expr_run(engine, program, ALONE, &answer) == EXPR_OK && answer.number == 50);
+    first = used(engine);
+    CHECK(first.steps > 50 && first.size > 50);
+    CHECK(expr_used(engine, NULL, NULL) == EXPR_OK && expr_used(engine, &steps, NULL) == EXPR_OK && steps == first.steps);
+    CHECK(expr_used(engine, NULL, &size) == EXPR_OK && size == first.size);
+    /* the answer and what is being built stay */
+    CHECK(expr_down(engine, 1, &answer) == EXPR_OK && expr_push_integer(engine, 7) == EXPR_OK && same(used(engine), first));
+    CHECK(expr_look(engine, &answer) == EXPR_OK && answer.kind == EXPR_INTEGER && answer.number == 4);
+    CHECK(expr_context_new(engine, &context) == EXPR_OK && expr_set_built(engine, context, "x", EXPR_Z) == EXPR_OK);
+    CHECK(expr_compile(engine, "1 +", EXPR_Z, &program, NULL) == EXPR_SYNTAX && same(used(engine), first));
+    CHECK(expr_set_limits(engine, &EXPR_LIMITS_UNTRUSTED) == EXPR_OK && same(used(engine), first));
+    /* without limits nothing is counted */
+    CHECK(expr_set_unlimited(engine) == EXPR_OK);
+    last = used_by(engine, "map(1..50, {# * 2})", EXPR_OK);
+    CHECK(last.steps == 0 && last.size == 0);
+    CHECK(expr_set_limits(engine, &EXPR_LIMITS_UNTRUSTED) == EXPR_OK);
+    CHECK(same(used_by(engine, "map(1..50, {# * 2})", EXPR_OK), first));
+    /* a run that waits is one too, and each turn begins it again */
+    CHECK(expr_environment_new(engine, &host) == EXPR_OK && expr_add_name(engine, host, "f", EXPR_Z) == EXPR_OK);
+    CHECK(expr_compile(engine, "all(1..1000, {# > 0}) and f(1) == 2 and f(2) == 3", EXPR_Z, &program, NULL) == EXPR_OK);
+    CHECK(expr_run(engine, program, host, context, &answer) == EXPR_ASKS);
+    first = used(engine);
+    CHECK(first.steps > 2000);
+    for (int64_t reply = 2; reply < 4; reply++, first = last) {
+        CHECK(expr_asked(engine, NULL, NULL) == EXPR_OK && same(used(engine), first));
+        CHECK(expr_push_integer(engine, reply) == EXPR_OK && expr_reply(engine, &answer) == (reply < 3 ? EXPR_ASKS : EXPR_OK));
+        last = used(engine);
+        CHECK(last.steps > first.steps && last.steps < first.steps + 1000);
+    }
+    CHECK(answer.kind == EXPR_BOOL && answer.number == 1);
+    CHECK(expr_run(engine, program, host, context, &answer) == EXPR_ASKS);
+    CHECK(expr_refuse(engine, "no", EXPR_Z, &answer) == EXPR_EVALUATION && used(engine).steps > 2000);
+    CHECK(expr_clear(engine) == EXPR_OK && used(engine).steps == 0 && used(engine).size == 0);
+    expr_close(engine);
+    return 0;
+}
+
 static int words(void) {
     for (int status = EXPR_OK; status <= EXPR_LIMIT_SIZE; status++) {
         CHECK(EXPR_IS_LIMIT(status) == (status >= EXPR_LIMIT_NESTING) && *expr_status_word((expr_status)status) != '?');
@@ -207,7 +322,8 @@ static int words(void) {
 int main(void) {
     expr_engine *engine = expr_open();
     CHECK(engine);
-    int failed = untrusted(engine) || exactly(engine) || settings(engine) || waiting(engine) || words();
+    int failed = untrusted(engine) || exactly(engine) || settings(engine) || waiting(engine) || uses(engine) ||
+                 uses_of_the_last() || words();
     expr_close(engine);
     if (!failed) printf("limits: ok\n");
     return failed;

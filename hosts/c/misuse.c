@@ -26,6 +26,7 @@ static int nulls(expr_engine *engine) {
     CHECK(expr_compile(engine, "1", EXPR_Z, &program, NULL) == EXPR_OK);
     CHECK(says(engine, expr_uses_env(engine, program, NULL), "null"));
     CHECK(expr_names(engine, program, NULL, NULL) == EXPR_OK && expr_functions(engine, program, NULL, NULL) == EXPR_OK);
+    CHECK(says(NULL, expr_used(NULL, NULL, NULL), "null") && expr_used(engine, NULL, NULL) == EXPR_OK);
     CHECK(!expr_json(NULL, NULL) && !expr_shown(NULL, NULL) && !expr_text(NULL, NULL) && *expr_message(NULL));
     /* like any error it drops what was being built */
     CHECK(expr_push_nil(engine) == EXPR_OK && expr_context_new(engine, NULL) == EXPR_MISUSE);

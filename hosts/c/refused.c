@@ -33,11 +33,19 @@ static int ok(expr_status status) {
     return status == EXPR_OK;
 }
 
+/* What a run used, whatever it ended with, is within the limits of `work`. */
+static void use(expr_engine *engine) {
+    int64_t steps, size;
+    if (expr_used(engine, &steps, &size) != EXPR_OK) FAIL("what a run used takes no memory");
+    if (steps < 0 || steps > 5000 || size < 0 || size > 400) FAIL("a run used more than its limits");
+}
+
 /* A run that stops at a limit, or an error, unless memory is refused. */
 static void stop(expr_engine *engine, const char *text, expr_status limit) {
     expr_status status = expr_eval(engine, text, EXPR_Z, EXPR_NO_ENVIRONMENT, EXPR_NO_CONTEXT, NULL);
     if (status != limit) ok(status == EXPR_OK ? EXPR_MISUSE : status);
     expr_message(engine);
+    use(engine);
 }
 
 /* A value of each kind under a name. */
@@ -83,6 +91,7 @@ static void reply(expr_engine *engine, expr_environment host) {
     while (status == EXPR_ASKS) {
         if (!ok(expr_asked(engine, &name, NULL)) || !ok(expr_down(engine, 0, NULL)) || !ok(expr_push_looked(engine))) break;
         status = expr_reply(engine, NULL);
+        use(engine);
     }
     if (status != EXPR_ASKS && ok(status)) expr_shown(engine, NULL);
     status = expr_run(engine, program, host, EXPR_NO_CONTEXT, NULL);

@@ -318,6 +318,7 @@ expr_status bridge_run(bridge *b, expr_program program, expr_environment environ
     expr_status status = read_record(b, record, length, is_json);
     b->is_handed_in = status == EXPR_OK;
     if (status == EXPR_OK && fills_missing) status = expr_fill_missing(b->engine, program, b->context);
+    b->is_begun = status == EXPR_OK;
     if (status == EXPR_OK) status = expr_run(b->engine, program, environment, b->context, &answer);
     return turned(b, status, &answer);
 }
@@ -329,6 +330,11 @@ expr_status bridge_reply(bridge *b, const void *value, size_t length) {
     b->is_handed_in = status == EXPR_OK;
     if (status == EXPR_OK) status = expr_reply(b->engine, &answer);
     return turned(b, status, &answer);
+}
+
+void bridge_used(bridge *b) {
+    b->steps = b->size = 0;
+    if (b->is_begun) expr_used(b->engine, &b->steps, &b->size);
 }
 
 void bridge_settle(bridge *b) {

@@ -24,6 +24,9 @@ typedef struct {
     /* The context of the run, and whether the run waits for a reply. */
     expr_context context;
     int has_context, waits;
+    /* Whether the last bridge_run began a run, and what bridge_used found of it. */
+    int is_begun;
+    int64_t steps, size;
     level *levels;
     size_t levels_room;
 } bridge;
@@ -48,6 +51,8 @@ expr_status bridge_now(bridge *b, expr_environment environment, int64_t second, 
 expr_status bridge_run(bridge *b, expr_program program, expr_environment environment, const void *record, size_t length,
                        int is_json, int fills_missing);
 expr_status bridge_reply(bridge *b, const void *value, size_t length);
+/* Finds what the last run used of its limits: 0 if it did not begin. */
+void bridge_used(bridge *b);
 /* Drops what a run has left, and the memory for it if that is more than BRIDGE_KEPT bytes. */
 enum { BRIDGE_KEPT = 1 << 16 };
 void bridge_settle(bridge *b);

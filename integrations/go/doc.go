@@ -29,5 +29,6 @@
 // # Untrusted expressions
 //
 // A program has the limits of [DefaultLimits], unless an option says otherwise. Then no expression can stall or end your program.
-// Bound the length of an expression yourself. The page docs/UNTRUSTED.md says what else to bound.
+// [RunUsed] says what a run used of them. Bound the length of an expression yourself. The page docs/UNTRUSTED.md says what else to
+// bound.
 package exprlang

@@ -230,6 +230,12 @@ func (e *engine) reply() (waits bool, err error) {
 	return status == C.EXPR_ASKS, err
 }
 
+// used returns what the last run used of its limits.
+func (e *engine) used() Used {
+	C.bridge_used(e.bridge)
+	return Used{Steps: int(e.bridge.steps), Size: int(e.bridge.size)}
+}
+
 func number(is bool) C.int {
 	if is {
 		return 1

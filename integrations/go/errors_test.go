@@ -59,7 +59,7 @@ func TestLimits(t *testing.T) {
 		source  string
 		options []Option
 	}{
-		{LimitNesting, strings.Repeat("(", 200) + "1" + strings.Repeat(")", 200), nil},
+		{LimitNesting, strings.Repeat("(", 5_000) + "1" + strings.Repeat(")", 5_000), nil},
 		{LimitNesting, "1 + 2 * 3", []Option{WithLimits(Limits{Nesting: 2})}},
 		{LimitPatterns, `'a' matches '\w{3}'`, []Option{WithLimits(Limits{Patterns: 1_000})}},
 		{LimitSteps, "len(1..2000000)", nil},
@@ -95,8 +95,114 @@ func TestLimits(t *testing.T) {
 			t.Error(out, err)
 		}
 	}
-	if got := DefaultLimits(); got != (Limits{100, 100_000, 1_000_000, 1_000, 1_000_000, 100}) {
+	if got := DefaultLimits(); got != (Limits{5_000, 100_000, 1_000_000, 1_000, 1_000_000, 100}) {
 		t.Error(got)
+	}
+}
+
+// What a run used of its limits, whatever it ended with.
+func TestUsed(t *testing.T) {
+	ctx := context.Background()
+	uses := func(source string, n int, limits Limits) (any, Used, error) {
+		p, err := Compile(source, WithLimits(limits))
+		if err != nil {
+			t.Fatal(source, err)
+		}
+		return RunUsed(ctx, p, map[string]any{"n": n})
+	}
+	// equal runs use the same, and more items use more
+	p, err := Compile("map(1..n, {# * 2})")
+	if err != nil {
+		t.Fatal(err)
+	}
+	out, few, err := RunUsed(ctx, p, map[string]any{"n": 100})
+	if list, ok := out.([]any); !ok || len(list) != 100 || err != nil || few.Steps < 100 || few.Size < 100 {
+		t.Error(out, few, err)
+	}
+	if _, err := Run(p, map[string]any{"n": 1000}); err != nil {
+		t.Error(err)
+	}
+	if _, again, err := RunUsed(ctx, p, map[string]any{"n": 100}); again != few || err != nil {
+		t.Error(again, few, err)
+	}
+	_, many, err := RunUsed(ctx, p, map[string]any{"n": 1000})
+	if many.Steps < few.Steps+900 || many.Size < few.Size+900 || err != nil {
+		t.Error(many, few, err)
+	}
+	_, used, err := uses("map(1..n, {# * 2})", 100, Limits{Steps: 2000, Size: 2000})
+	if used != few || used.Steps > 2000 || used.Size > 2000 || err != nil {
+		t.Error(used, few, err)
+	}
+	free, _ := Compile("map(1..n, {# * 2})", Unlimited())
+	if _, used, err := RunUsed(ctx, free, map[string]any{"n": 100}); used != (Used{}) || err != nil {
+		t.Error(used, err)
+	}
+	// runs that end otherwise
+	var stopped *LimitError
+	_, used, err = uses("all(1..n, {all(1..n, {true})})", 100, Limits{Steps: 5000})
+	if !errors.As(err, &stopped) || stopped.Limit != LimitSteps || used.Steps < 4500 || used.Steps > 5000 {
+		t.Error(used, err)
+	}
+	_, used, err = uses("map(1..n, {string(#) + '0123456789abcdef'})", 2000, Limits{Size: 5000})
+	if !errors.As(err, &stopped) || stopped.Limit != LimitSize || used.Size < 4500 || used.Size > 5000 {
+		t.Error(used, err)
+	}
+	var failed *Error
+	_, used, err = uses("all(1..n, {# > 0}) and 1 % 0 == 0", 100, Limits{})
+	if !errors.As(err, &failed) || used.Steps < 100 {
+		t.Error(used, err)
+	}
+	// no run: a value that the language doesn't have, and a context that is done
+	var value *ValueError
+	if _, used, err := RunUsed(ctx, p, map[string]any{"n": 1.5}); !errors.As(err, &value) || used != (Used{}) {
+		t.Error(used, err)
+	}
+	done, cancel := context.WithCancel(ctx)
+	cancel()
+	if _, used, err := RunUsed(done, p, map[string]any{"n": 1}); err != context.Canceled || used != (Used{}) {
+		t.Error(used, err)
+	}
+}
+
+// A run says nothing of what its functions used, nor of the turns before its last.
+func TestUsedByCalls(t *testing.T) {
+	ctx := context.Background()
+	inner, err := Compile("len(filter(1..5000, {# > 0})) - 4999")
+	if err != nil {
+		t.Fatal(err)
+	}
+	options := []Option{
+		Function("slow", func(...any) (any, error) { return Run(inner, nil) }),
+		Function("fast", func(...any) (any, error) { return 1, nil }),
+		Function("double", func(params ...any) (any, error) { return params[0].(int) * 2, nil }),
+		Function("fails", func(...any) (any, error) { return nil, errors.New("no such article") }),
+	}
+	uses := func(source string) Used {
+		p, err := Compile("all(1..100, {# > 0}) and "+source, options...)
+		if err != nil {
+			t.Fatal(source, err)
+		}
+		out, used, err := RunUsed(ctx, p, nil)
+		if out != true || err != nil {
+			t.Error(source, out, err)
+		}
+		return used
+	}
+	if slow, fast := uses("slow() == 1"), uses("fast() == 1"); slow != fast {
+		t.Error(slow, fast)
+	}
+	once, thrice := uses("double(1) == 2"), uses("double(double(double(1))) == 8")
+	if once.Steps < 100 || thrice.Steps <= once.Steps || thrice.Steps >= 2*once.Steps {
+		t.Error(once, thrice)
+	}
+	for _, options := range [][]Option{options, append(options, WithLimits(Limits{Calls: 1}))} {
+		p, err := Compile("all(1..100, {# > 0}) and fast() == 1 and fails()", options...)
+		if err != nil {
+			t.Fatal(err)
+		}
+		if _, used, err := RunUsed(ctx, p, nil); err == nil || used.Steps < 100 {
+			t.Error(used, err)
+		}
 	}
 }
 

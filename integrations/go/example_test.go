@@ -112,6 +112,19 @@ func ExampleWithLimits() {
 	// Output: true steps
 }
 
+func ExampleRunUsed() {
+	rule, _ := exprlang.Compile("all(prices, {# > 0})")
+	most := 0
+	for _, prices := range [][]int{{1, 2}, {1, 2, 3, 4, 5, 6, 7, 8}} {
+		_, used, err := exprlang.RunUsed(context.Background(), rule, map[string]any{"prices": prices})
+		if err == nil && used.Steps > most {
+			most = used.Steps
+		}
+	}
+	fmt.Println(most > 8, most < exprlang.DefaultLimits().Steps/10)
+	// Output: true true
+}
+
 func ExampleNow() {
 	morning := time.Date(2024, 3, 1, 9, 0, 0, 0, time.UTC)
 	fmt.Println(exprlang.Eval("now().In(timezone('Asia/Kolkata')).Hour()", nil,

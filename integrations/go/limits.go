@@ -19,7 +19,7 @@ type Limits struct {
 
 // DefaultLimits returns the limits for untrusted expressions, which a program has without options.
 func DefaultLimits() Limits {
-	return Limits{Nesting: 100, Patterns: 100_000, Steps: 1_000_000, Depth: 1_000, Size: 1_000_000, Calls: 100}
+	return Limits{Nesting: 5_000, Patterns: 100_000, Steps: 1_000_000, Depth: 1_000, Size: 1_000_000, Calls: 100}
 }
 
 // completed returns the limits with the defaults in place of zeros, and the name of one that is below 0, or "".
@@ -45,6 +45,16 @@ func (l Limits) completed() (Limits, string) {
 		}
 	}
 	return l, ""
+}
+
+// Used is what a run used of its limits. It is all 0 for a program without limits, since nothing is counted there. Room that a
+// call asks for and doesn't fill isn't in it. So the least limits that a run needs may be higher: allow ten times what your own
+// rules use.
+type Used struct {
+	// Steps is how many steps it took.
+	Steps int
+	// Size is the most that its values weighed at once.
+	Size int
 }
 
 // A LimitName names one of the [Limits].

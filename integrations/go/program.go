@@ -62,9 +62,19 @@ func Run(program *Program, env any) (any, error) {
 // RunContext runs a program as [Run] does. If ctx is done it returns ctx.Err(), which it looks at before the run and around each
 // call of a function. In between, nothing ends a run but its limits: with those of [DefaultLimits] after some tenth of a second.
 func RunContext(ctx context.Context, program *Program, env any) (any, error) {
-	result, err := program.run(ctx, env)
+	result, err := program.run(ctx, env, nil)
 	runtime.KeepAlive(program)
 	return result, err
+}
+
+// RunUsed runs a program as [RunContext] does, and says what the run used of its limits, whatever it ended with. A run that calls
+// your functions begins again after each call. Then it is the last turn that counts, which takes the most. If there was no run,
+// as with a [*ValueError], nothing was used.
+func RunUsed(ctx context.Context, program *Program, env any) (any, Used, error) {
+	var used Used
+	result, err := program.run(ctx, env, &used)
+	runtime.KeepAlive(program)
+	return result, used, err
 }
 
 // Version says what the library is: its version, the sources that it was made of, and "proved" or "unproved".
@@ -153,7 +163,8 @@ func (e *engine) check(p *Program, it *compiled) error {
 
 func (p *Program) forget() { forgetEverywhere(p.token) }
 
-func (p *Program) run(ctx context.Context, env any) (any, error) {
+// run runs the program. If used isn't nil, it gets what the run used of its limits.
+func (p *Program) run(ctx context.Context, env any, used *Used) (any, error) {
 	if err := ctx.Err(); err != nil {
 		return nil, err
 	}
@@ -197,9 +208,13 @@ func (p *Program) run(ctx context.Context, env any) (any, error) {
 	waits, err := e.run(it, environment, r, p.config.fillsMissing)
 	for calls := 0; waits; calls++ {
 		if p.config.limits != nil && calls >= p.config.limits.Calls {
-			return nil, &LimitError{LimitCalls}
+			err = &LimitError{LimitCalls}
+			break
 		}
 		waits, err = e.call(ctx, p, functions)
+	}
+	if used != nil {
+		*used = e.used()
 	}
 	if err != nil {
 		return nil, err

@@ -1,6 +1,7 @@
 package exprlang
 
 import (
+	"context"
 	"fmt"
 	"runtime"
 	"sync"
@@ -86,6 +87,37 @@ func TestGoroutines(t *testing.T) {
 		t.Error(ran)
 	}
 	runtime.KeepAlive(programs)
+}
+
+// Each goroutine gets what its own run used.
+func TestUsedByGoroutines(t *testing.T) {
+	p, err := Compile("len(filter(1..n, {# > 0})) == n")
+	if err != nil {
+		t.Fatal(err)
+	}
+	ctx := context.Background()
+	var alone []Used
+	for g := 0; g < 8; g++ {
+		_, used, err := RunUsed(ctx, p, map[string]any{"n": 10 * g})
+		if err != nil || g > 0 && used.Steps <= alone[g-1].Steps {
+			t.Error(used, err)
+		}
+		alone = append(alone, used)
+	}
+	var all sync.WaitGroup
+	for g := range alone {
+		all.Add(1)
+		go func(g int) {
+			defer all.Done()
+			for i := 0; i < 100; i++ {
+				if out, used, err := RunUsed(ctx, p, map[string]any{"n": 10 * g}); out != true || used != alone[g] || err != nil {
+					t.Error(out, used, alone[g], err)
+				}
+			}
+		}(g)
+	}
+	all.Wait()
+	runtime.KeepAlive(p)
 }
 
 // More runs at once than engines may be on threads, each inside a function of another.

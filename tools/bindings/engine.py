@@ -56,6 +56,9 @@ class Border:
     def kind_numbers(self) -> dict[str, int]:
         return {upper(it): number for number, it in enumerate(self.kinds)}
 
+    def limit_numbers(self) -> dict[str, int]:
+        return {upper(it): number for number, it in enumerate(self.limits)}
+
     def status_numbers(self) -> dict[str, int]:
         """Returns the number of each status, and of LIMITS, the first status of a limit."""
         found = {upper(it): number for number, it in enumerate(self.statuses)}

@@ -65,6 +65,10 @@ def asks_in_c(border: Border, old: str) -> str:
     return filled(", ".join(map(upper, border.asks)), "    ", "    ", 125)
 
 
+def limits_in_c(border: Border, old: str) -> str:
+    return f"enum {{ {', '.join(f'LIMIT_{upper(it)}' for it in border.limits)} }};\n"
+
+
 def other_kinds_in_c(border: Border, old: str) -> str:
     first, *others = (f"KIND_{upper(it)}" for it in border.other_kinds)
     return f"enum {{ {', '.join([f'{first} = EXPR_{upper(LAST_KIND)} + 1', *others])} }};\n"
@@ -131,12 +135,14 @@ def filled(text: str, front: str, indent: str, width: int) -> str:
 
 PARTS = [
     Part("hosts/c/border.h", "asks", asks_in_c),
+    Part("hosts/c/border.h", "limits", limits_in_c),
     Part("hosts/c/border.h", "kinds", other_kinds_in_c),
     Part("hosts/c/exprlang.h", "statuses", statuses_in_c),
     Part("hosts/c/exprlang.h", "kinds", kinds_in_c),
     Part("hosts/rust/src/raw.rs", "asks", asks_in_rust),
     Part("hosts/rust/src/raw.rs", "statuses", numbers_in_rust(Border.status_numbers)),
     Part("hosts/rust/src/raw.rs", "kinds", numbers_in_rust(Border.kind_numbers)),
+    Part("hosts/rust/src/raw.rs", "limits", numbers_in_rust(Border.limit_numbers)),
     Part("hosts/python/exprlang/_border.py", "numbers", border_in_python),
     Part(
         "hosts/python/native/engines.c", "statuses", words_in_c("STATUS", lambda it: it.statuses)

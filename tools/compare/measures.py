@@ -12,7 +12,7 @@ from compare.peers import Peer
 from compare.rows import Row
 
 BUSY = os.environ.get("CLOCK") == "0"
-TENTH = 100_000_000
+LEAST = int(os.environ.get("LEAST") or 100) * 1_000_000
 """The nanoseconds that a run takes at least."""
 VALGRIND = ["valgrind", "--tool=cachegrind", "--cache-sim=no", "--cachegrind-out-file=/dev/null"]
 
@@ -65,15 +65,15 @@ def spent(job: Job, turns: int) -> int:
 
 
 def nanoseconds(job: Job) -> float | None:
-    """Of one turn, the best of five runs, each of a tenth of a second at least."""
+    """Of one turn, the best of five runs, each of LEAST at least."""
 
     def best(turns: int, runs: int) -> int:
         return min(spent(job, turns) for _ in range(runs))
 
     start = best(1, 5) if BUSY else 0
     turns, took = 10, 0
-    while took < TENTH:
-        turns *= 10 if took < TENTH / 10 else TENTH * 6 // 5 // took + 1
+    while took < LEAST:
+        turns *= 10 if took < LEAST / 10 else LEAST * 6 // 5 // took + 1
         took = best(turns, 1) - start
     return min(took, best(turns, 4) - start) / turns
 
@@ -86,7 +86,7 @@ def instructions(job: Job) -> float | None:
     for turns in job.turns:
         words = [*VALGRIND, *job.words(turns)]
         try:
-            done = subprocess.run(words, capture_output=True, text=True, timeout=240, env=env)
+            done = subprocess.run(words, capture_output=True, text=True, timeout=900, env=env)
         except subprocess.TimeoutExpired:
             return None
         found = re.search(r"I +refs: +([\d,]+)", done.stderr)

@@ -69,8 +69,8 @@ def proved(program: str) -> Callable[[str], str]:
     return build
 
 
-def in_rust(folder: str, name: str, dependency: str, features: str) -> str:
-    """Builds original.rs over a crate that it calls `expr`."""
+def in_rust(folder: str, name: str, dependency: str, features: str, **added: str) -> str:
+    """Builds original.rs over a crate that it calls `expr`, with variables added to the environment."""
     installed("cargo", "cargo")
     os.makedirs(f"{folder}/{name}/src")
     shutil.copy(f"{TOOLS}/original.rs", f"{folder}/{name}/src/main.rs")
@@ -82,7 +82,7 @@ def in_rust(folder: str, name: str, dependency: str, features: str) -> str:
         f"{folder}/{name}/target/release/{name}",
         ["cargo", "build", "--release", "--quiet"],
         cwd=f"{folder}/{name}",
-        env=os.environ | {"CARGO_NET_RETRY": "0", "CARGO_TARGET_DIR": f"{folder}/{name}/target"},
+        env=os.environ | {"CARGO_NET_RETRY": "0", "CARGO_TARGET_DIR": f"{folder}/{name}/target"} | added,
     )
 
 
@@ -95,7 +95,7 @@ def original(folder: str) -> str:
 
 def library() -> str:
     """Returns the library for hosts."""
-    it = f"{os.environ.get('EXPRLANG_LIB') or f'{TOP}/hosts/out/lib'}/libexprlang.a"
+    it = f"{os.path.abspath(os.environ.get('EXPRLANG_LIB') or f'{TOP}/hosts/out/lib')}/libexprlang.a"
     if not os.path.isfile(it):
         raise Missing(f"no {it}; bin/hosts makes it, once .ci/run has been run")
     return it
@@ -103,9 +103,9 @@ def library() -> str:
 
 def host_in_rust(folder: str) -> str:
     """Builds the program of the crate exprlang."""
-    library()
+    found = os.path.dirname(library())
     crate = f'package = "exprlang", path = {json.dumps(f"{TOP}/hosts/rust")}'
-    return in_rust(folder, "host_rust", f"expr = {{ {crate} }}", '"ours"')
+    return in_rust(folder, "host_rust", f"expr = {{ {crate} }}", '"ours"', EXPRLANG_LIB=found)
 
 
 def in_go(folder: str, name: str, package: str, source: str) -> str:
@@ -165,13 +165,14 @@ def all_peers(program: str) -> list[Peer]:
         Peer("ours (code kept)", ours, "lower", "execute"),
         Peer("ours (program kept)", ours),
         Peer("ours (limits)", ours, "bounded", "limited", is_limited=True),
+        Peer("ours (machine kept; limits)", ours, "bounded", "kept", is_limited=True),
         Peer("ours from C", host, set="set", is_limited=True, replies=True),
         Peer("ours from C (unlimited)", host, "compile-unlimited", "run-unlimited", "set-unlimited", replies=True),
         Peer("ours from Rust", host_in_rust, is_limited=True, replies=True),
         Peer("ours from Rust (unlimited)", host_in_rust, "compile-unlimited", "run-unlimited", replies=True),
         Peer("the original", original, language="the original"),
-        Peer("Go's expr", expr, "compile-typed", "run-typed", "set-typed"),
-        Peer("Go's expr (untyped)", expr),
+        Peer("Go's expr", expr, "compile-typed", "run-typed", "set-typed", language="Go's expr"),
+        Peer("Go's expr (untyped)", expr, language="Go's expr"),
         Peer("govaluate", govaluate, language="govaluate"),
         Peer("LuaJIT", luajit, set="set", language="Lua"),
         Peer("Lua", lua, set="set", language="Lua"),

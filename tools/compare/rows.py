@@ -119,7 +119,6 @@ ROWS = [
         {"x": 199},
         {"govaluate": any_of("x == {}", "||"), "Lua": "return " + any_of("x == {}", "or")},
         shown="x == 0 or x == 1 or .. or x == 199",
-        limit="nesting",
     ),
     Row(
         "map(1..100, {twice(#)})",
@@ -130,3 +129,43 @@ ROWS = [
         },
     ),
 ]
+
+MORE = [
+    Row(
+        "map(filter(rs, {.age > 18}), {.age})",
+        " ".join(str(number) for number in range(19, 100)),
+        {"rs": [{"age": number} for number in range(100)]},
+        {
+            "the original": "map(filter(rs, {#.age > 18}), {#.age})",
+            "govaluate": None,
+            "C": None,
+            "Lua": "local f, r = {}, {} for _, it in ipairs(rs) do if it.age > 18 then f[#f + 1] = it end end "
+            "for i, it in ipairs(f) do r[i] = it.age end return r",
+        },
+    ),
+    Row(
+        "sortBy(1..100, {-#})",
+        " ".join(str(number) for number in range(100, 0, -1)),
+        others={
+            "the original": None,
+            "Go's expr": None,
+            "govaluate": None,
+            "C": None,
+            "Lua": "local r = {} for i = 1, 100 do r[i] = i end table.sort(r, function(a, b) return -a < -b end) return r",
+        },
+    ),
+    Row(
+        "groupBy(1..100, {# % 3})",
+        " ".join(f"{key} " + " ".join(str(number) for number in range(key or 3, 101, 3)) for key in (1, 2, 0)),
+        others={
+            "the original": None,
+            "Go's expr": None,
+            "govaluate": None,
+            "C": None,
+            # a list of keys and groups, since the peer in C prints lists
+            "Lua": "local g = {} for i = 1, 100 do local k = i % 3 local r = g[k] if r then r[#r + 1] = i else g[k] = {i} end end "
+            "return {1, g[1], 2, g[2], 0, g[0]}",
+        },
+    ),
+]
+"""Rows of built-ins that have a predicate, which are measured where MORE is 1."""

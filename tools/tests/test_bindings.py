@@ -50,6 +50,7 @@ class EngineTest(unittest.TestCase):
 
     def test_numbers_are_places(self) -> None:
         self.assertEqual(BORDER.kind_numbers()["KEYED_MAP"], 3)
+        self.assertEqual(BORDER.limit_numbers(), {"NESTING": 0, "STEPS": 1})
         self.assertEqual(
             BORDER.status_numbers(),
             {"DONE": 0, "SYNTAX": 1, "ASKS": 2, "NESTING": 3, "STEPS": 4, "LIMITS": 3},
@@ -77,6 +78,9 @@ class PartsTest(unittest.TestCase):
             parts.other_kinds_in_c(BORDER, ""),
             "enum { KIND_JSON = EXPR_KEYED_MAP + 1, KIND_BUILT };\n",
         )
+
+    def test_limits(self) -> None:
+        self.assertEqual(parts.limits_in_c(BORDER, ""), "enum { LIMIT_NESTING, LIMIT_STEPS };\n")
 
     def test_asks(self) -> None:
         self.assertEqual(parts.asks_in_c(BORDER, ""), "    COMPILE, CONTEXT_OF, USES_ENV\n")

@@ -8,7 +8,7 @@ import unittest
 
 from compare.measures import Job, Wrong, is_refused, spent
 from compare.peers import Missing, Peer, all_peers, installed
-from compare.rows import ROWS, Row
+from compare.rows import MORE, ROWS, Row
 
 ROW = Row("x + 1", "8", {"x": 7}, {"Lua": "return x + 1", "C": None})
 
@@ -36,11 +36,11 @@ class RowTest(unittest.TestCase):
 
     def test_there_are_ten_rows_and_lua_has_each(self) -> None:
         self.assertEqual(len(ROWS), 10)
-        for row in ROWS:
+        for row in [*ROWS, *MORE]:
             self.assertTrue((row.written("Lua") or "").startswith(("return ", "local ")), row.text)
 
     def test_two_hundred_conditions(self) -> None:
-        row = next(row for row in ROWS if row.limit)
+        row = next(row for row in ROWS if row.is_long)
         self.assertEqual(row.text.count("x == "), 200)
         self.assertTrue(row.text.endswith(" or x == 199"))
         self.assertEqual((row.written("govaluate") or "").count("||"), 199)
@@ -83,7 +83,12 @@ class PeerTest(unittest.TestCase):
         for name in ("ours from C", "ours from Rust"):
             limits = {peer.name: peer.is_limited for peer in found if peer.name.startswith(name)}
             self.assertEqual(limits, {name: True, f"{name} (unlimited)": False})
-        self.assertTrue(next(peer for peer in found if peer.name == "ours (limits)").is_limited)
+        for name in ("ours (limits)", "ours (machine kept; limits)"):
+            self.assertTrue(next(peer for peer in found if peer.name == name).is_limited)
+
+    def test_a_name_can_be_asked_for(self) -> None:
+        for peer in all_peers("expr_compare"):
+            self.assertNotIn(",", peer.name)
 
     def test_what_is_missing_is_named(self) -> None:
         with self.assertRaisesRegex(Missing, "no no-such-command here .a-package."):
@@ -102,7 +107,7 @@ class BuiltTest(unittest.TestCase):
                 program = peer.build(folder)
             except Missing as why:
                 self.skipTest(str(why))
-            for row in ROWS:
+            for row in [*ROWS, *MORE]:
                 if row.written(peer.language) is None:
                     continue
                 for part in filter(None, (peer.compile, peer.run, peer.set)):

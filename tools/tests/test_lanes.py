@@ -24,18 +24,16 @@ class PlanTest(unittest.TestCase):
             self.assertEqual(seconds_of(file), {"low": 33, "top": 1277})
             self.assertEqual(seconds_of(file, of_edits=True), {"low": 0, "top": 4})
 
-    def test_the_longest_chain_begins_with_two_jobs(self) -> None:
+    def test_the_longest_chain_comes_first(self) -> None:
         plan = chain_and_leaves(4)
         self.assertEqual(plan.behind["low"], 30)
-        self.assertEqual([plan.begin(), plan.begin(), plan.begin(), plan.begin()], [("low", 2), ("a", 1), ("b", 1), None])
+        self.assertEqual([plan.begin() for _ in range(5)], [("low", 1), ("a", 1), ("b", 1), ("c", 1), None])
 
-    def test_the_longest_chain_goes_on_with_two_jobs(self) -> None:
+    def test_a_lane_goes_to_one_task(self) -> None:
         plan = chain_and_leaves(2)
-        self.assertEqual([plan.begin(), plan.begin()], [("low", 2), None])
+        self.assertEqual([plan.begin(), plan.begin(), plan.begin()], [("low", 1), ("a", 1), None])
         plan.end("low")
-        plan.running["a"] = 1
-        plan.order.remove("a")
-        self.assertEqual(plan.begin(), ("middle", 2))
+        self.assertEqual(plan.begin(), ("middle", 1))
 
     def test_a_task_waits_for_those_below(self) -> None:
         plan = chain_and_leaves(4)
@@ -43,7 +41,7 @@ class PlanTest(unittest.TestCase):
             pass
         self.assertNotIn("middle", plan.ready())
         plan.end("low")
-        self.assertEqual(plan.begin(), ("middle", 2))
+        self.assertEqual(plan.begin(), ("middle", 1))
 
     def test_idle_lanes_go_to_who_is_alone(self) -> None:
         plan = Plan({"only": 5.0}, {"only": []}, 4)
@@ -59,7 +57,7 @@ class PlanTest(unittest.TestCase):
             plan, ended = chain_and_leaves(lanes), []
             while len(ended) < 7:
                 while plan.begin() is not None:
-                    self.assertLessEqual(sum(plan.running.values()), lanes + (lanes > 1))
+                    self.assertLessEqual(sum(plan.running.values()), lanes)
                 task = next(iter(plan.running))
                 plan.end(task)
                 ended.append(task)

@@ -26,7 +26,7 @@ use Rattle.expr_error.specs.ErrorKind.{ErrorKind, error_kind, memory}
 use Rattle.expr_error.specs.declared.error.Error.{Error}
 use Rattle.expr_error.specs.declared.error.Error.TheVariants.{PestError, ParseError, ExprError, RegexError, MemoryError}
 use Rattle.expr_value.specs.declared.value.Value.{Value}
-use Rattle.expr_limited.specs.Given.{MayGive}
+use Rattle.expr_machine.specs.Given.{MayGive}
 use Rattle.expr_syntax.specs.CompiledLimited.{IsCompiledLimited}
 use Rattle.expr.specs.Limited.{AnswersTextLimited, CodeEnds, EndsText, TextEnds, run_room}
 use Rattle.expr_syntax.specs.Refused.{IsRefused}

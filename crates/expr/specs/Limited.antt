@@ -24,7 +24,7 @@ use Rattle.expr_error.specs.declared.error.Error.TheVariants.{PestError}
 use Rattle.expr_value.specs.declared.value.Value.{Value}
 use Rattle.expr_syntax.specs.Refused.{IsRefused}
 use Rattle.expr_eval.specs.Texts.{IsOwnFault, MayAnswer}
-use Rattle.expr_limited.specs.Given.{MayGive}
+use Rattle.expr_machine.specs.Given.{MayGive}
 
 -- the room of a run within limits
 abbrev pub run_room : Limits → Room

@@ -6,13 +6,14 @@ ghost use Rattle.expr_eval.specs.Texts.{IsOwnFault};
 ghost use Rattle.expr_lowering.specs.Blocks.{blocks_of};
 ghost use Rattle.expr_meaning.specs.Host.{no_host};
 ghost use Rattle.expr_meaning.specs.World.{world_of};
-ghost use Rattle.expr_machine.specs.Here.{here};
+ghost use Rattle.expr_acts.specs.Here.{here};
 
 use crate::environment::Environment;
+use expr_acts::World;
 use expr_context::ContextProvider;
 use expr_limits::{Limits, Outcome};
 use expr_lowering::{Code, Pointer};
-use expr_machine::Machine;
+use expr_machine::execute_limited_with;
 use expr_meaning::{Functions, NoFunctions};
 use expr_syntax::compile_limited;
 use expr_tree::node::Pattern;
@@ -35,12 +36,12 @@ pub fn execute_limited<L: Pointer<Value>, N: Pointer<String>, P: Pointer<Pattern
     ensures { RunsCodeLimited (world_of no_host (context ctx.now))
         (blocks_of L.held (λ n. string_bytes (N.held n)) code.now) limits.now result }
 {
-    let machine = Machine {
+    let world = World {
         alloc,
         host: &NoFunctions,
         provider: ctx,
     };
-    expr_limited::execute_limited(&machine, code, limits)
+    execute_limited_with(&world, code, limits)
 }
 
 /// Evaluates an expression in a context within limits, with no additions of a host: [`compile_limited`], then
@@ -60,12 +61,12 @@ pub fn eval_limited(
     // No function of the host returns a syntax error.
     ensures own { IsOwnFault code.now no_host }
 {
-    let machine = Machine {
+    let world = World {
         alloc,
         host: &NoFunctions,
         provider: ctx,
     };
-    answer_text(&machine, code, limits)
+    answer_text(&world, code, limits)
 }
 
 impl Environment {
@@ -86,12 +87,12 @@ impl Environment {
         ensures { RunsCodeLimited (world_of (host_of self.now) (context ctx.now))
             (blocks_of L.held (λ n. string_bytes (N.held n)) code.now) limits.now result }
     {
-        let machine = Machine {
+        let world = World {
             alloc,
             host: self,
             provider: ctx,
         };
-        expr_limited::execute_limited(&machine, code, limits)
+        execute_limited_with(&world, code, limits)
     }
 
     /// Evaluates an expression in a context within limits, as the free function [`eval_limited`] does, with
@@ -111,12 +112,12 @@ impl Environment {
         ensures { AnswersTextLimited (world_of (host_of self.now) (context ctx.now)) code.now limits.now
             result }
     {
-        let machine = Machine {
+        let world = World {
             alloc,
             host: self,
             provider: ctx,
         };
-        answer_text(&machine, code, limits)
+        answer_text(&world, code, limits)
     }
 }
 
@@ -126,17 +127,17 @@ impl Environment {
 ///
 /// Returns the errors of [`compile_limited`] and those of the run.
 fn answer_text<H: Functions, P: ContextProvider>(
-    machine: &Machine<'_, H, P>,
+    world: &World<'_, H, P>,
     code: &str,
     limits: &Limits,
 ) -> Result<Outcome<Value>>
-    ensures { AnswersTextLimited (here H.host P.context machine.now) code.now limits.now result }
+    ensures { AnswersTextLimited (here H.host P.context world.now) code.now limits.now result }
 {
-    let compiled = compile_limited(machine.alloc, code, limits)?;
+    let compiled = compile_limited(world.alloc, code, limits)?;
     match compiled {
         Outcome::Answered(program) => {
-            let code = Code::lower_once(machine.alloc, &program)?;
-            expr_limited::execute_limited(&*machine, &code, limits)
+            let code = Code::lower_once(world.alloc, &program)?;
+            execute_limited_with(&*world, &code, limits)
         }
         Outcome::Stopped(limit) => Ok(Outcome::Stopped(limit)),
     }

@@ -177,6 +177,10 @@ fn put_code(
     page.put_call("ReusableMachine::execute", machine.execute(host, context));
     let answer = machine.execute_among(host, Context::new(alloc));
     page.put_call("ReusableMachine::execute_among", answer);
+    let outcome = machine.execute_limited(host, context, &limits);
+    page.put_call("ReusableMachine::execute_limited", within(outcome));
+    let outcome = machine.execute_limited_among(host, Context::new(alloc), &limits);
+    page.put_call("ReusableMachine::execute_limited_among", within(outcome));
 }
 
 /// Puts the calls of a parser that counts the arguments of `n`.

@@ -2,4 +2,5 @@ pub mod Calls
 pub mod Costs
 pub mod Measures
 pub mod Operators
+pub mod Payments
 pub mod Retention

@@ -11,7 +11,7 @@ mod operators;
 mod retention;
 
 pub use calls::{array_cost, call_cost, map_cost, method_cost};
-pub use cost::{Cost, charge};
+pub use cost::{Cost, Paid, charge};
 pub use cost_kind::CostKind;
 pub use measures::{length_of, look_work, lookup_work};
 pub use operators::{operator_cost, short_work, span_room};

@@ -1,7 +1,8 @@
 //! The costs of operators.
-ghost use Rattle.std.specs.Prelude.{◌≡◌, ◌+◌, ◌*◌, ◌<◌, ◌^◌, IfSome, IsTrue};
+ghost use Rattle.std.specs.Prelude.{◌≡◌, ◌+◌, ◌*◌, ◌<◌, ◌^◌, IfSome, IsTrue, is_some};
 ghost use Rattle.expr_costs.specs.Operators.{range_count, comparison_work, membership_work, sum_room, operator_room, operator_work, operand_pattern_weight, match_work};
 ghost use Rattle.expr_costs.specs.Measures.{CostUpTo, UpTo, content_work};
+ghost use Rattle.expr_operators.specs.Operators.{verdict};
 ghost use Rattle.expr_operators.specs.Positions.{how_many};
 ghost use Rattle.expr_value.specs.declared.value.Value.{out-Value};
 
@@ -36,12 +37,13 @@ pub fn operator_cost(operator: Operator, left: &Value, right: &Value, bound: u64
 }
 
 /// The work of an operator on two strings, the left one of less than 16 bytes, or of seeking such a string or
-/// an integer in an array of less than 32 items. It takes no room. Returns None for other values, and for a
-/// sum or a pattern.
+/// an integer in an array of less than 32 items. It takes no room. Returns None for other values, and for an
+/// operator that doesn't return a boolean for these.
 #[inline(always)]
 pub fn short_work(operator: Operator, left: &Value, right: &Value) -> Option<u64>
-    ensures { IfSome result (λ work. (operator_work operator left.now right.now ≡ work)
+    ensures costs { IfSome result (λ work. (operator_work operator left.now right.now ≡ work)
         × (operator_room operator left.now right.now ≡ 0)) }
+    ensures judged { IfSome result (λ work. IsTrue (is_some (verdict operator left.now right.now))) }
 {
     match right {
         Value::Array(_) => work_among_items(operator, left, right),
@@ -51,9 +53,11 @@ pub fn short_work(operator: Operator, left: &Value, right: &Value) -> Option<u64
 
 /// The work of an operator with a short array on the right, if it is known at once.
 #[inline(always)]
+#[tactic(auto, unfolding(expr_operators::specs::Operators::verdict))]
 fn work_among_items(operator: Operator, left: &Value, right: &Value) -> Option<u64>
-    ensures { IfSome result (λ work. (operator_work operator left.now right.now ≡ work)
+    ensures costs { IfSome result (λ work. (operator_work operator left.now right.now ≡ work)
         × (operator_room operator left.now right.now ≡ 0)) }
+    ensures judged { IfSome result (λ work. IsTrue (is_some (verdict operator left.now right.now))) }
 {
     let is_plain = is_text_or_integer(left);
     if !is_plain {
@@ -79,9 +83,11 @@ fn work_among_items(operator: Operator, left: &Value, right: &Value) -> Option<u
 
 /// The work of an operator on two strings, if it is known at once.
 #[inline(always)]
+#[tactic(auto, unfolding(expr_operators::specs::Operators::verdict))]
 fn work_on_texts(operator: Operator, left: &Value, right: &Value) -> Option<u64>
-    ensures { IfSome result (λ work. (operator_work operator left.now right.now ≡ work)
+    ensures costs { IfSome result (λ work. (operator_work operator left.now right.now ≡ work)
         × (operator_room operator left.now right.now ≡ 0)) }
+    ensures judged { IfSome result (λ work. IsTrue (is_some (verdict operator left.now right.now))) }
 {
     let (Value::String(left), Value::String(right)) = (left, right) else {
         return None;
@@ -90,9 +96,16 @@ fn work_on_texts(operator: Operator, left: &Value, right: &Value) -> Option<u64>
         return None;
     }
     match operator {
-        Operator::Add | Operator::Matches => None,
-        Operator::In | Operator::NotIn | Operator::Contains => Some(1),
-        _ => Some(0),
+        Operator::Equal
+        | Operator::NotEqual
+        | Operator::GreaterThan
+        | Operator::GreaterThanOrEqual
+        | Operator::LessThan
+        | Operator::LessThanOrEqual
+        | Operator::StartsWith
+        | Operator::EndsWith => Some(0),
+        Operator::Contains => Some(1),
+        _ => None,
     }
 }
 

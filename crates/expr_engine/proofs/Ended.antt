@@ -213,6 +213,7 @@ limits_on is.Functions old call done number new e l = l
 limits_on is.FillMissing old call done number new e l = l
 limits_on is.Versions old call done number new e l = l
 limits_on is.ProgramText old call done number new e l = l
+limits_on is.Used old call done number new e l = l
 
 pub limits_by : (ask : Ask) (old : Option Limits) (call : Call) (done : Result (Unit {0}) HostError) (number : ℕ) (mid new : Option Limits) → EndsCall done number
     → LimitsBy ask old call (done ≡ Ok tt) (IsErrAnd done IsMisuse) mid → new ≡ mid → LimitsBy ask old call (number ≡ 0) (number ≡ 7) new

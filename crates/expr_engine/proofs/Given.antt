@@ -1,7 +1,7 @@
 -- What is given by a code of which it is only known that it is a program's.
 use Rattle.std.proofs.Common.{◌≡◌, List, Option, None, Some, Result, Ok, Err, subst, sym}
 use Rattle.std.proofs.Math.Logic.{∥∥₁_map}
-use Rattle.expr_limited.specs.Given.{MayGive as GivesWithin}
+use Rattle.expr_machine.specs.Given.{MayGive as GivesWithin}
 use Rattle.expr_meaning.proofs.Contracts.{executed_allowed}
 use Rattle.expr_meaning.proofs.Correct.{exact_code}
 use Rattle.expr_code.specs.Codes.{IsCode}

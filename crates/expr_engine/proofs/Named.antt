@@ -1,5 +1,5 @@
 -- Names of the language among tokens.
-use Rattle.std.proofs.Common.{◌≡◌, ◌≢◌, ◌↔◌, ◌∙◌, arith, ℕ, Bool, true, false, List, [], ◌∷◌, Option, None, Some, IsSome, IsTrue, ap, bytes_eq, is_some, length, refl, slice_get, subst, sym}
+use Rattle.std.proofs.Common.{◌≡◌, ◌≢◌, ◌↔◌, ◌∙◌, arith, ℕ, Bool, true, false, List, [], ◌∷◌, Option, None, Some, IsTrue, ap, is_some, length, refl, slice_get, subst, sym}
 use Rattle.std.proofs.lemmas.Bool.{false≢true}
 use Rattle.std.proofs.lemmas.Slice.Eq.{bytes_eq-Decides}
 use Rattle.expr_engine.specs.Adding.{IsName, is_this_word, is_word_alone}

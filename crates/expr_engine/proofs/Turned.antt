@@ -19,7 +19,7 @@ use Rattle.expr_exchange.specs.declared.misuse.Misuse.TheVariants as wrong
 use Rattle.expr_exchange.specs.HandleMap.{thing_at}
 use Rattle.expr_exchange.specs.declared.handles.Handle.{Handle}
 use Rattle.expr_limits.specs.Counting.{stops}
-use Rattle.expr_stops.specs.Stops.{IsOther, IsReplied, waiting_call_of, replies_of}
+use Rattle.expr_stops.specs.Stops.{IsOther, IsReplied, UsesWithin, waiting_call_of, replies_of, used_of}
 use Rattle.expr_stops.specs.declared.replies.CallReply.{CallReply}
 use Rattle.expr_stops.specs.declared.replies.Reply.{Reply}
 use Rattle.expr_stops.specs.declared.replies.Reply.TheVariants as reply
@@ -99,6 +99,14 @@ stood_as o was is now after answer done value same kept m k none =
     (subst (λ (s : Stops). MatchOption o (done ≡ Err Unknown) (λ q. WaitsIfAsks q (replies_of s) done (waiting_call_of now))) same
     (stood o (replies_of is) answer done value (waiting_call_of now) (m (subst (λ (s : Stops). waiting_call_of s ≡ None) (sym same) none)) k))
 
+-- and what it used is noted
+pub used_as : (o : Option RunInputs) (now after : Stops) (answer : Result Value HostError) (done : Result (Unit {0}) HostError) (value : Value)
+    → after ≡ now → MatchOption o (answer ≡ Err Unknown) (λ q. UsesWithin q.limits (used_of now)) → PassesOn answer done value
+    → MatchOption o (done ≡ Err Unknown) (λ q. UsesWithin q.limits (used_of after))
+used_as None now after (Ok v) done value kept m k = let no : ⊥ = cc m in absurd no
+used_as None now after (Err e) done value kept m k = let same : e ≡ Unknown = cc m in k ∙ ap Err same
+used_as (Some q) now after answer done value kept m k = subst (λ (s : Stops). UsesWithin q.limits (used_of s)) (sym kept) m
+
 -- a run with the error of a handle that finds nothing has such a handle, and any other has none
 pub nothing_found : (o : Option RunInputs) (given : List CallReply) (answer : Result Value HostError)
     → MatchOption o (answer ≡ Err Unknown) (λ q. ReturnsToHost answer (RunMayAnswer q given) (λ limit. MayEnd q given (stops limit))) → finds_nothing answer ≡ true → o ≡ None
@@ -117,21 +125,23 @@ where_none o N P none n = subst (λ (x : Option RunInputs). MatchOption x N P) (
 -- a run that was begun
 pub begun : (o : Option RunInputs) (program environment context : Handle) (begins : Stops) (old new : WaitingRun) (answer : Result Value HostError) (done : Result (Unit {0}) HostError) (value : Value)
     → new ≡ record { program = program; environment = environment; context = context; stops = begins } → finds_nothing answer ≡ false → replies_of begins ≡ []
-    → MatchOption o (answer ≡ Err Unknown) (λ q. WaitsIfAsks q [] answer (waiting_call_of begins)) → PassesOn answer done value → MatchOption o (new ≡ old) (λ q. IsNewRun q program environment context done new)
-begun None program environment context begins old new answer done value is known given m k = absurd (false≢true (sym known ∙ ap (λ (r : Result Value HostError). finds_nothing r) m))
-begun (Some q) program environment context begins old new answer done value is known given m k = record {
+    → MatchOption o (answer ≡ Err Unknown) (λ q. WaitsIfAsks q [] answer (waiting_call_of begins)) → MatchOption o (answer ≡ Err Unknown) (λ q. UsesWithin q.limits (used_of begins))
+    → PassesOn answer done value → MatchOption o (new ≡ old) (λ q. IsNewRun q program environment context done new)
+begun None program environment context begins old new answer done value is known given m u k = absurd (false≢true (sym known ∙ ap (λ (r : Result Value HostError). finds_nothing r) m))
+begun (Some q) program environment context begins old new answer done value is known given m u k = record {
   program = ap (λ (w : WaitingRun). w.program) is;
   environment = ap (λ (w : WaitingRun). w.environment) is;
   context = ap (λ (w : WaitingRun). w.context) is;
   given = ap (λ (w : WaitingRun). replies_of w.stops) is ∙ given;
   stands = subst (λ (w : WaitingRun). WaitsIfAsks q [] done (waiting_call_of w.stops)) (sym is) (stands_kept q [] answer done value (waiting_call_of begins) m k);
+  used = subst (λ (w : WaitingRun). UsesWithin q.limits (used_of w.stops)) (sym is) u;
 }
 
 -- a reply that was given, and the run that went on
 goes_on : (Is : Reply → Type 0) (q : RunInputs) (old : WaitingRun) (mid : Stops) (new : WaitingRun) (r : Reply) (done : Result (Unit {0}) HostError) (value : Value)
     → IsReplied old.stops mid r → Is r → IsSameRun old new → replies_of new.stops ≡ replies_of mid
-    → RunServes q (replies_of mid) done value → WaitsIfAsks q (replies_of mid) done (waiting_call_of new.stops) → GoesOnWith Is q old new done value
-goes_on Is q old mid new r done value replied is run given runs stands = record {
+    → RunServes q (replies_of mid) done value → WaitsIfAsks q (replies_of mid) done (waiting_call_of new.stops) → UsesWithin q.limits (used_of new.stops) → GoesOnWith Is q old new done value
+goes_on Is q old mid new r done value replied is run given runs stands used = record {
   stop = replied.stop;
   waited = replied.waited;
   reply = r;
@@ -140,6 +150,7 @@ goes_on Is q old mid new r done value replied is run given runs stands = record 
   run = run;
   stands = subst (λ (x : List CallReply). WaitsIfAsks q x done (waiting_call_of new.stops)) (sym given) stands;
   runs = subst (λ (x : List CallReply). RunServes q x done value) (sym given) runs;
+  used = used;
 }
 
 by_ending : (Is : Reply → Type 0) (q : RunInputs) (old new : WaitingRun) (done : Result (Unit {0}) HostError) (value : Value) → GoesOnWith Is q old new done value → RunGoesOn Is (Some q) old new done value
@@ -154,10 +165,10 @@ by_ending Is q old new (Err (Stopped limit)) value g = g
 pub replied_by : (Is : Reply → Type 0) (o : Option RunInputs) (old : WaitingRun) (mid : Stops) (new : WaitingRun) (r : Reply) (done : Result (Unit {0}) HostError) (value : Value)
     → IsSome o → IsReplied old.stops mid r → Is r → IsSameRun old new → replies_of new.stops ≡ replies_of mid
     → MatchOption o (done ≡ Err Unknown) (λ q. RunServes q (replies_of mid) done value) → MatchOption o (done ≡ Err Unknown) (λ q. WaitsIfAsks q (replies_of mid) done (waiting_call_of new.stops))
-    → RunGoesOn Is o old new done value
-replied_by Is None old mid new r done value some replied is run given runs stands = absurd (false≢true some)
-replied_by Is (Some q) old mid new r done value some replied is run given runs stands =
-    by_ending Is q old new done value (goes_on Is q old mid new r done value replied is run given runs stands)
+    → MatchOption o (done ≡ Err Unknown) (λ q. UsesWithin q.limits (used_of new.stops)) → RunGoesOn Is o old new done value
+replied_by Is None old mid new r done value some replied is run given runs stands used = absurd (false≢true some)
+replied_by Is (Some q) old mid new r done value some replied is run given runs stands used =
+    by_ending Is q old new done value (goes_on Is q old mid new r done value replied is run given runs stands used)
 
 -- an error is passed on
 pub passed_on : (Is : Reply → Type 0) (o : Option RunInputs) (old new : WaitingRun) (r : Result (Unit {0}) HostError) (e : HostError) (value : Value) → IsErrAnd r (λ x. x ≡ e) → RunGoesOn Is o old new (Err e) value → RunGoesOn Is o old new r value
@@ -182,6 +193,7 @@ weaker Is Js f (Some q) old new done value g = record {
   run = g.run;
   stands = g.stands;
   runs = g.runs;
+  used = g.used;
 }
 
 pub replies_so : (Is Js : Reply → Type 0) → ((r : Reply) → Is r → Js r) → (o : Option RunInputs) (old new : WaitingRun) (done : Result (Unit {0}) HostError) (value : Value) → RunGoesOn Is o old new done value → RunGoesOn Js o old new done value

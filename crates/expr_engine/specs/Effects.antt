@@ -10,7 +10,7 @@ use Rattle.expr_encoding.specs.Reading.{json_value}
 use Rattle.expr_encoding.specs.Writing.{json_text}
 use Rattle.expr_engine.specs.Engines.{KeepsThings, KeepsRest, RunMayAnswer, run_inputs, waiting_inputs}
 use Rattle.expr_engine.specs.Adding.{AddsNothing, BecomesByRule, BecomesFixed, BecomesNow, GainsName, GainsVersions}
-use Rattle.expr_engine.specs.Limiting.{IsProgramBy, limits_asked}
+use Rattle.expr_engine.specs.Limiting.{IsProgramBy, limits_asked, most_told, used_asked}
 use Rattle.expr_exchange.specs.declared.call.Ask.{Ask}
 use Rattle.expr_exchange.specs.declared.call.Ask.TheVariants as is
 use Rattle.expr_exchange.specs.declared.call.Call.{Call}
@@ -27,7 +27,7 @@ use Rattle.expr_exchange.specs.HandleMap.{KeepsOthers, thing_at, next_number, ta
 use Rattle.expr_exchange.specs.declared.handles.Handle.{Handle}
 use Rattle.expr_exchange.specs.declared.handles.HandleMap.{HandleMap}
 use Rattle.expr_lowering.specs.HostNeeds.{AreFunctionsOf, AreMissing, with_nil}
-use Rattle.expr_stops.specs.Stops.{waiting_call_of, replies_of}
+use Rattle.expr_stops.specs.Stops.{waiting_call_of, replies_of, used_of}
 use Rattle.expr_stops.specs.declared.replay.Stop.{Stop}
 use Rattle.expr_syntax.specs.Texts.{IsProgramOf}
 use Rattle.expr_text.specs.Layout.{program_text}
@@ -374,6 +374,11 @@ pub record LetsGoOfLimits (old new : Engine) : Type 0 where
   pub answer : new.answer ≡ old.answer
   pub built : new.built ≡ old.built
 
+-- The number is how much the last run used of the limit of that number, or the greatest number if it is more.
+abbrev pub TellsUsed : Engine → Call → CallResult → Type 0
+TellsUsed engine call reply =
+    IsSomeAnd (used_asked (used_of engine.waits.stops) call.kind) (λ count. reply.number ≡ pos (most_told count))
+
 -- the effect of a call that succeeds
 abbrev pub Does : Ask → Engine → Engine → Call → CallResult → Type 0
 Does is.Compile old new call reply = Compiles old new call reply
@@ -413,6 +418,7 @@ Does is.Functions old new call reply = SaysFunctions old new call reply
 Does is.FillMissing old new call reply = FillsMissing old new call reply
 Does is.Versions old new call reply = AddsVersions old new call
 Does is.ProgramText old new call reply = SaysProgram old new call
+Does is.Used old new call reply = (new ≡ old) × TellsUsed old call reply
 
 -- A call waits, and a handle of its run finds nothing.
 abbrev pub IsStale : Engine → Type 0

@@ -1,6 +1,6 @@
 -- An engine's limits: the first ones, how one is set, and what expressions come to within them.
-use Rattle.std.specs.Prelude.{◌≡◌, ◌≢◌, ℕ, ℤ, pos, negsuc, List, Option, None, Some, MatchOption, Result, Ok, Err, option_map}
-use Rattle.std.specs.Option.{unwrap_or}
+use Rattle.std.specs.Prelude.{◌≡◌, ◌≢◌, ℕ, ℤ, pos, negsuc, List, Option, None, Some, MatchOption, Result, Ok, Err, min, option_map}
+use Rattle.std.specs.Option.{option_and_then, unwrap_or}
 use Rattle.expr_syntax.specs.Refused.{IsRefused}
 use Rattle.expr_exchange.specs.declared.call.Ask.{Ask}
 use Rattle.expr_exchange.specs.declared.call.Ask.TheVariants as is
@@ -11,6 +11,7 @@ use Rattle.expr_limits.specs.declared.limit.Limit.TheVariants.{Nesting, Patterns
 use Rattle.expr_limits.specs.declared.limits.Limits.{Limits}
 use Rattle.expr_limits.specs.declared.outcome.Outcome.{Outcome}
 use Rattle.expr_limits.specs.declared.outcome.Outcome.TheVariants.{Answered, Stopped}
+use Rattle.expr_stops.specs.declared.used.Used.{Used}
 use Rattle.expr_syntax.specs.Bounds.{IsHeavier, IsHigher, IsLight}
 use Rattle.expr_syntax.specs.Texts.{IsProgramOf, IsProgramWithin}
 use Rattle.expr_tree.specs.Term.{Block}
@@ -19,7 +20,7 @@ use Rattle.expr_error.specs.declared.error.Error.{Error}
 
 -- the limits for untrusted expressions
 abbrev pub untrusted : Limits
-untrusted = record { nesting = 100; patterns = 100000; steps = 1000000; depth = 1000; size = 1000000 }
+untrusted = record { nesting = 5000; patterns = 100000; steps = 1000000; depth = 1000; size = 1000000 }
 
 -- these limits, one of them with another number
 abbrev pub with_limit : Limit → ℕ → Limits → Limits
@@ -47,6 +48,22 @@ LimitsBy is.Limit old call Done Misused new =
     (λ limits. Done × (new ≡ Some limits))
 LimitsBy is.Unlimited old call Done Misused new = Done × (new ≡ None)
 LimitsBy ask old call Done Misused new = new ≡ old
+
+-- how much a run used of a limit: its steps are counted and its size, and nothing of the other limits
+abbrev pub used_of_limit : Used → Limit → Option ℕ
+used_of_limit used Nesting = None
+used_of_limit used Patterns = None
+used_of_limit used Steps = Some used.steps
+used_of_limit used Depth = None
+used_of_limit used Size = Some used.size
+
+-- the same of the limit of a number
+abbrev pub used_asked : Used → (kind : ℕ) → Option ℕ
+used_asked used kind = option_and_then (used_of_limit used) (limit_by_number kind)
+
+-- a count as the number of a call, which may not be as great
+abbrev pub most_told : ℕ → ℕ
+most_told count = min count 9223372036854775807
 
 -- The program is one of the expression, whose tree and whose literal patterns are within the limits, if there
 -- are any.

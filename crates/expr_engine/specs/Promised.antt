@@ -19,10 +19,10 @@ use Rattle.expr_exchange.specs.declared.host_error.HostError.{HostError}
 use Rattle.expr_exchange.specs.declared.host_error.HostError.TheVariants.{Unknown}
 use Rattle.expr_exchange.specs.HandleMap.{tag_of, thing_at}
 use Rattle.expr_exchange.specs.declared.handles.Handle.{Handle}
-use Rattle.expr_stops.specs.Stops.{waiting_call_of}
+use Rattle.expr_stops.specs.Stops.{nothing_used, used_of, waiting_call_of}
 use Rattle.expr_value.specs.declared.value.Value.{Value, Nil}
 
--- Nothing is kept or built, there is no result, the limits are those for untrusted expressions, and each
+-- Nothing is kept or built, there is no result, no run used anything, the limits are those for untrusted expressions, and each
 -- handle will have this tag.
 pub record IsNew (tag : ℕ) (engine : Engine) : Type 0 where
   pub rules : (handle : Handle) → thing_at engine.rules handle ≡ None
@@ -31,6 +31,7 @@ pub record IsNew (tag : ℕ) (engine : Engine) : Type 0 where
   pub built : values_of engine.built ≡ []
   pub part : part_of engine.answer ≡ Nil
   pub waits : waiting_call_of engine.waits.stops ≡ None
+  pub used : used_of engine.waits.stops ≡ nothing_used
   pub limits : engine.limits ≡ Some untrusted
   pub tags : (tag_of engine.rules ≡ tag) × (tag_of engine.contexts ≡ tag) × (tag_of engine.environments ≡ tag)
 

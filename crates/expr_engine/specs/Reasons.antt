@@ -6,6 +6,7 @@ use Rattle.expr_encoding.specs.Reading.{json_value}
 use Rattle.expr_encoding.specs.Writing.{json_text}
 use Rattle.expr_engine.specs.Adding.{IsName}
 use Rattle.expr_engine.specs.Engines.{CompileRefuses}
+use Rattle.expr_engine.specs.Limiting.{used_asked}
 use Rattle.expr_engine.specs.Served.{EndsCall}
 use Rattle.expr_exchange.specs.declared.call.Ask.{Ask}
 use Rattle.expr_exchange.specs.declared.call.Ask.TheVariants as is
@@ -24,7 +25,7 @@ use Rattle.expr_exchange.specs.declared.misuse.Misuse.{Misuse as Wrong}
 use Rattle.expr_exchange.specs.declared.misuse.Misuse.TheVariants as wrong
 use Rattle.expr_exchange.specs.declared.kind.Kind.{Kind}
 use Rattle.expr_exchange.specs.declared.kind.Kind.TheVariants as kinds
-use Rattle.expr_stops.specs.Stops.{waiting_call_of}
+use Rattle.expr_stops.specs.Stops.{used_of, waiting_call_of}
 
 -- A handle finds nothing, or memory is lacking.
 abbrev pub IsUnknownOrForMemory : HostError → Type 0
@@ -70,6 +71,11 @@ RefusesZone AreTexts (Stopped limit) = ⊥
 abbrev pub RefusesName : Type 0 → HostError → Type 0
 RefusesName IsMeant refused = (refused ≡ Unknown) ⊎ NotMeant IsMeant refused
 
+-- The number is that of no limit of which a run uses something.
+abbrev pub NothingIsCounted : Engine → Call → HostError → Type 0
+NothingIsCounted engine call refused =
+    (refused ≡ Misuse wrong.UnknownLimit) × (used_asked (used_of engine.waits.stops) call.kind ≡ None)
+
 -- How a call may fail. The result of a run that starts or continues says more.
 abbrev pub MayRefuse : Ask → Engine → Call → HostError → Type 0
 MayRefuse is.Compile engine call refused = CompileRefuses engine.limits call.text.now refused
@@ -113,6 +119,7 @@ MayRefuse is.Functions engine call refused = IsUnknownOrForMemory refused
 MayRefuse is.FillMissing engine call refused = IsUnknownOrForMemory refused
 MayRefuse is.Versions engine call refused = refused ≡ Unknown
 MayRefuse is.ProgramText engine call refused = IsUnknownOrForMemory refused
+MayRefuse is.Used engine call refused = NothingIsCounted engine call refused
 
 -- A call with this number succeeded, or failed as it may.
 pub record EndsWithReason (ask : Ask) (old : Engine) (call : Call) (number : ℕ) : Type 0 where

@@ -12,7 +12,7 @@ use Rattle.expr_exchange.specs.Builder.{values_of}
 use Rattle.expr_exchange.specs.declared.host_error.HostError.{HostError}
 use Rattle.expr_exchange.specs.declared.host_error.HostError.TheVariants.{Language, Unknown, Misuse, Asks, Differs, Stopped}
 use Rattle.expr_exchange.specs.declared.handles.Handle.{Handle}
-use Rattle.expr_stops.specs.Stops.{IsNext, IsOther, IsSame, waiting_call_of, replies_of}
+use Rattle.expr_stops.specs.Stops.{IsNext, IsOther, IsSame, UsesWithin, waiting_call_of, nothing_used, replies_of, used_of}
 use Rattle.expr_stops.specs.declared.replies.CallReply.{CallReply}
 use Rattle.expr_stops.specs.declared.replies.Reply.{Reply}
 use Rattle.expr_stops.specs.declared.replies.Reply.TheVariants as reply
@@ -54,13 +54,14 @@ abbrev pub finds_nothing : {A : Type 0} → Result A HostError → Bool
 finds_nothing (Ok v) = false
 finds_nothing (Err refused) = is_unknown refused
 
--- A run was started with these handles, and has no replies yet.
+-- A run was started with these handles, and has no replies yet. What it used is noted, within the limits.
 pub record IsNewRun (q : RunInputs) (of_program in_environment in_context : Handle) (done : Result (Unit {0}) HostError) (waits : WaitingRun) : Type 0 where
   pub program : waits.program ≡ of_program
   pub environment : waits.environment ≡ in_environment
   pub context : waits.context ≡ in_context
   pub given : replies_of waits.stops ≡ []
   pub stands : WaitsIfAsks q [] done (waiting_call_of waits.stops)
+  pub used : UsesWithin q.limits (used_of waits.stops)
 
 -- The run is one of the same program, with the same handles.
 pub record IsSameRun (old new : WaitingRun) : Type 0 where
@@ -68,12 +69,12 @@ pub record IsSameRun (old new : WaitingRun) : Type 0 where
   pub environment : new.environment ≡ old.environment
   pub context : new.context ≡ old.context
 
--- The same run has the same replies, and the same call waits.
+-- The same run has the same replies, the same call waits, and as much was used.
 pub record IsSameWait (old new : WaitingRun) : Type 0 where
   pub run : IsSameRun old new
   pub stops : IsSame old.stops new.stops
 
--- The call that waited has such a reply, after all others, and its run continued.
+-- The call that waited has such a reply, after all others, and its run continued. What this turn used is noted.
 pub record GoesOnWith (Is : Reply → Type 0) (q : RunInputs) (old new : WaitingRun) (done : Result (Unit {0}) HostError) (value : Value) : Type 0 where
   pub stop : Stop
   pub waited : waiting_call_of old.stops ≡ Some stop
@@ -84,6 +85,7 @@ pub record GoesOnWith (Is : Reply → Type 0) (q : RunInputs) (old new : Waiting
   pub run : IsSameRun old new
   pub stands : WaitsIfAsks q (replies_of new.stops) done (waiting_call_of new.stops)
   pub runs : RunServes q (replies_of new.stops) done value
+  pub used : UsesWithin q.limits (used_of new.stops)
 
 -- The run with these inputs continued. If memory is lacking for the reply, a handle finds nothing, or there
 -- is no reply, the call still waits.
@@ -118,7 +120,8 @@ Turns is.Run old call done waits value =
     (λ q. IsNewRun q call.program call.environment call.context done waits)
 Turns is.Answer old call done waits value = RunGoesOn (IsAnswer (values_of old.built)) (waiting_inputs old) old.waits waits done value
 Turns is.Refuse old call done waits value = RunGoesOn (IsRefusal call.text.now) (waiting_inputs old) old.waits waits done value
-Turns is.Clear old call done waits value = waiting_call_of waits.stops ≡ None
+Turns is.Clear old call done waits value =
+    (waiting_call_of waits.stops ≡ None) × (used_of waits.stops ≡ nothing_used)
 Turns ask old call done waits value = waits ≡ old.waits
 
 -- how the number of a status says that the run changed

@@ -18,7 +18,7 @@ ghost use Rattle.expr_exchange.specs.Misuses.{text_of_misuse};
 ghost use Rattle.expr_exchange.specs.Refusals.{ReturnsToHost};
 ghost use Rattle.expr_exchange.specs.HandleMap.{SameNext, SameThings, thing_at};
 ghost use Rattle.expr_limits.specs.Counting.{stops as stops_at};
-ghost use Rattle.expr_stops.specs.Stops.{waiting_call_of, replies_of};
+ghost use Rattle.expr_stops.specs.Stops.{UsesWithin, waiting_call_of, nothing_used, replies_of, used_of};
 ghost use Rattle.expr_stops.specs.declared.replies.Reply.TheVariants as reply;
 ghost use Rattle.expr_lowering.specs.OwnedCodes.{owned_blocks};
 ghost use Rattle.expr_exchange.specs.declared.misuse.Misuse.{Misuse as Wrong};
@@ -36,7 +36,7 @@ use expr_encoding::JsonReader;
 use expr_exchange::{Handle, HandleMap, HostError, Misuse, ValueBuilder, ValueCursor, limit_text};
 use expr_limits::{Limits, Outcome};
 use expr_lowering::with_nil;
-use expr_stops::{RunStatus, Stops};
+use expr_stops::{EndedRun, RunStatus, Stops, Used};
 use expr_syntax::line_column_of;
 use expr_value::{Error, Value};
 use jiff::Timestamp;
@@ -241,6 +241,8 @@ impl Engine {
             (result ≡ Err HostError.Unknown)
             (λ q. WaitsIfAsks q (replies_of stops.old) result (waiting_call_of stops.new)) }
         ensures given { replies_of stops.new ≡ replies_of stops.old }
+        ensures used { MatchOption (run_inputs self.now program environment context)
+            (result ≡ Err HostError.Unknown) (λ q. UsesWithin q.limits (used_of stops.new)) }
     {
         let Some(rule) = self.rules.get(program) else {
             return Err(HostError::Unknown);
@@ -315,30 +317,42 @@ impl Engine {
         ensures built { self.new.built ≡ self.old.built }
         ensures limits { self.new.limits ≡ self.old.limits }
     {
-        let answer = self.answer_alone(program, context);
+        let mut used = Used::nothing();
+        let answer = self.answer_alone(program, context, &mut used);
         if finds_nothing(&answer) {
             return Err(HostError::Unknown);
         }
-        self.waits.begin(program, environment, context);
+        self.waits.begin(program, environment, context, used);
         self.keep(answer)
     }
 
-    /// Runs a program in a context within the limits, without an environment.
+    /// Runs a program in a context within the limits, without an environment, and notes what it used.
     #[inline(always)]
-    fn answer_alone(&self, program: Handle, context: Handle) -> Result<Value, HostError>
+    fn answer_alone(
+        &self,
+        program: Handle,
+        context: Handle,
+        used: &mut Used,
+    ) -> Result<Value, HostError>
         ensures ended { (alone : Handle) → alone.number ≡ no_number
             → MatchOption (run_inputs self.now program alone context) (result ≡ Err HostError.Unknown)
             (λ q. ReturnsToHost result (RunMayAnswer q []) (λ limit. MayEnd q [] (stops_at limit))) }
         ensures stops { (alone : Handle) → alone.number ≡ no_number
             → MatchOption (run_inputs self.now program alone context) (result ≡ Err HostError.Unknown)
             (λ q. WaitsIfAsks q [] result None) }
+        ensures used { (alone : Handle) → alone.number ≡ no_number
+            → MatchOption (run_inputs self.now program alone context) (result ≡ Err HostError.Unknown)
+            (λ q. UsesWithin q.limits used.new) }
     {
         let Some(rule) = self.rules.get(program) else {
             return Err(HostError::Unknown);
         };
         let names = self.names_of(context)?;
         let nothing = LentHost { added: None };
-        match rule.run(self.alloc, &nothing, names, self.limits)? {
+        let ran = rule.run(self.alloc, &nothing, names, self.limits);
+        let EndedRun { went, used: took } = ran;
+        *used = took;
+        match went? {
             Outcome::Answered(value) => Ok(value),
             Outcome::Stopped(limit) => Err(HostError::Stopped(limit)),
         }
@@ -462,6 +476,8 @@ impl Engine {
             (λ q. WaitsIfAsks q (replies_of self.old.waits.stops) result
             (waiting_call_of self.new.waits.stops)) }
         ensures given { replies_of self.new.waits.stops ≡ replies_of self.old.waits.stops }
+        ensures used { MatchOption (waiting_inputs self.old) (result ≡ Err HostError.Unknown)
+            (λ q. UsesWithin q.limits (used_of self.new.waits.stops)) }
         ensures run { IsSameRun self.old.waits self.new.waits }
         ensures way { OnOk result (way_of self.new.answer ≡ []) }
         ensures err { OnErr result (self.new.answer ≡ self.old.answer) }
@@ -705,6 +721,7 @@ impl Engine {
         ensures done { ForgetsAll self.old self.new }
         ensures numbers { NumbersRise self.old self.new }
         ensures waits { waiting_call_of self.new.waits.stops ≡ None }
+        ensures used { used_of self.new.waits.stops ≡ nothing_used }
     {
         let alloc = self.alloc;
         self.rules.clear(alloc);

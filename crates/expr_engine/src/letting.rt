@@ -3,7 +3,7 @@ ghost use Rattle.std.specs.Prelude.{◌≡◌, None, Err, IfErr, IsOk, OnErr, On
 ghost use Rattle.expr_engine.specs.Effects.{DropsContext, DropsEnvironment, DropsProgram, ForgetsAll};
 ghost use Rattle.expr_engine.specs.Engines.{KeepsRest, NumbersRise, SameAdditions};
 ghost use Rattle.expr_exchange.specs.HandleMap.{SameNext, SameThings, thing_at};
-ghost use Rattle.expr_stops.specs.Stops.{waiting_call_of};
+ghost use Rattle.expr_stops.specs.Stops.{nothing_used, used_of, waiting_call_of};
 
 use crate::engine::Engine;
 use expr_exchange::{Call, HostError};
@@ -77,6 +77,7 @@ pub fn clear(engine: &mut Engine) -> Result<(), HostError>
     ensures numbers { NumbersRise engine.old engine.new }
     ensures ok { IsOk result }
     ensures waits { waiting_call_of engine.new.waits.stops ≡ None }
+    ensures used { used_of engine.new.waits.stops ≡ nothing_used }
     ensures limits { engine.new.limits ≡ engine.old.limits }
     ensures why { IfErr result (λ _. ⊥) }
 {

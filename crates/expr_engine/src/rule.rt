@@ -14,11 +14,11 @@ use expr_context::Context;
 use expr_limits::{Limits, Outcome};
 use expr_lowering::{Code, OwnedCode, functions_of, missing_names};
 use expr_meaning::Functions;
-use expr_stops::{RunStatus, Stops, execute_in};
+use expr_stops::{EndedRun, RunStatus, Stops, execute_in};
 use expr_syntax::{compile, compile_limited};
 use expr_text::to_code;
 use expr_tree::node::Program;
-use expr_value::{Result, Value};
+use expr_value::Result;
 use std::alloc::Global;
 
 /// A program and its code.
@@ -36,14 +36,14 @@ impl Rule {
     ghost use Rattle.expr_lowering.specs.HostNeeds.{AreFunctionsOf, AreMissing};
     ghost use Rattle.expr_tree.specs.Names.{AreNamesOf, block_operands, env};
     ghost use Rattle.std.specs.Option.{option_copied};
-    ghost use Rattle.expr_limited.specs.Given.{MayGive as GivesWithin};
+    ghost use Rattle.expr_machine.specs.Given.{MayGive as GivesWithin};
     ghost use Rattle.expr_engine.specs.Limiting.{IsCompiledBy};
     ghost use Rattle.expr_engine.specs.Effects.{AreSaid, IsTextOf, TellsWhether};
     ghost use Rattle.expr_error.specs.ErrorKind.{OnlyMemory};
     ghost use Rattle.expr_context.specs.Contexts.{context_of};
     ghost use Rattle.expr_engine.specs.Runs.{MeaningAllows, host_with_replies, named_by, names_or_none};
     ghost use Rattle.expr_limits.specs.Outcomes.{ReturnsOutcome};
-    ghost use Rattle.expr_stops.specs.Stops.{CodeComes, EndsTurn, IfEnded, StopsWell, waiting_call_of, replies_of};
+    ghost use Rattle.expr_stops.specs.Stops.{CodeComes, EndsTurn, IfEnded, StopsWell, UsesWithin, waiting_call_of, replies_of, used_of};
     ghost use Rattle.expr_syntax.specs.Texts.{IsPlaced};
     ghost use Rattle.expr_tree.specs.TermOf.{program_term};
     ghost use Rattle.expr_value.specs.Answers.{Returns};
@@ -135,10 +135,8 @@ impl Rule {
 
     /// Runs the program, within limits or without.
     ///
-    /// # Errors
-    ///
-    /// Returns the first error in the order of evaluation: `ExprError`, `RegexError`, or `MemoryError` if an
-    /// allocation fails. Passing a limit is not an error: it returns [`Outcome::Stopped`].
+    /// It ends with the first error in the order of evaluation: `ExprError`, `RegexError`, or `MemoryError` if an
+    /// allocation fails. Passing a limit is not an error: it ends with [`Outcome::Stopped`].
     #[inline(always)]
     pub fn run<H: Functions>(
         &self,
@@ -146,11 +144,12 @@ impl Rule {
         host: &H,
         names: LentNames<'_>,
         limits: Option<Limits>,
-    ) -> Result<Outcome<Value>>
-        ensures answer { GivesWithin result (MeaningAllows (world_of (H.host host.now)
+    ) -> EndedRun
+        ensures answer { GivesWithin result.went (MeaningAllows (world_of (H.host host.now)
             (context_of (names_or_none (option_copied names.entry.names)))) (program_term self.now.program)) }
-        ensures ends { ReturnsOutcome result (CodeComes limits (world_of (H.host host.now)
+        ensures ends { ReturnsOutcome result.went (CodeComes limits (world_of (H.host host.now)
             (context_of (names_or_none (option_copied names.entry.names)))) (owned_blocks self.now.code)) }
+        ensures used { UsesWithin limits result.used }
     {
         execute_in(alloc, host, &self.code, names, limits)
     }
@@ -180,10 +179,16 @@ impl Rule {
             → StopsWell (named_by (option_copied host.entry.added))
             (replies_of stops.old) result (waiting_call_of stops.new) }
         ensures given { replies_of stops.new ≡ replies_of stops.old }
+        // It notes what it used, which is within the limits.
+        ensures used { UsesWithin limits (used_of stops.new) }
     {
         match host.added {
             Some(added) => stops.execute(&host, added.names(), &self.code, names, limits),
-            None => RunStatus::of(self.run(alloc, &host, names, limits)),
+            None => {
+                let EndedRun { went, used } = self.run(alloc, &host, names, limits);
+                stops.note_used(used);
+                RunStatus::of(went)
+            }
         }
     }
 }

@@ -16,7 +16,7 @@ use crate::building::{make_array, make_map, push, unbuild};
 use crate::engine::{Engine, TextPlace};
 use crate::filling::{built_context, fill_missing, new_context, set};
 use crate::letting::{clear, drop_context, drop_environment, drop_program};
-use crate::limiting::{let_go_of_limits, set_limit};
+use crate::limiting::{let_go_of_limits, set_limit, tell_used};
 use crate::looking::{look, look_down, look_up, say_json, say_shown, say_text, show_key};
 use crate::replying::{answer_call, look_at_waiting_call, refuse_call};
 use crate::running::{compile, functions, names, program_text, run, uses_env};
@@ -83,6 +83,7 @@ fn act(engine: &mut Engine, call: &mut Call<'_>, ask: Ask) -> Result<(), HostErr
         Ask::FillMissing => fill_missing(engine, call),
         Ask::Versions => add_versions(engine, call),
         Ask::ProgramText => program_text(engine, call),
+        Ask::Used => tell_used(engine, call),
     }
 }
 

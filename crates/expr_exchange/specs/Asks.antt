@@ -45,6 +45,7 @@ all_asks =
     ∷ is.FillMissing
     ∷ is.Versions
     ∷ is.ProgramText
+    ∷ is.Used
     ∷ []
 
 abbrev pub ask_of : ℕ → Option Ask

@@ -118,6 +118,11 @@ pub enum Ask {
     Versions,
     /// Returns the text of a program, in the normal form.
     ProgramText,
+    /// Returns how much of a limit the last run used. `kind` is the number of the limit, steps or size, and
+    /// `number` how many steps the run took or the most size that it held at once. Without limits nothing is
+    /// counted, and before the first run and after `Clear` nothing was used: it is 0 then. A reply begins
+    /// the count anew.
+    Used,
 }
 
 /// Which string a call returns.
@@ -187,6 +192,7 @@ impl Ask {
             34 => Some(Ask::FillMissing),
             35 => Some(Ask::Versions),
             36 => Some(Ask::ProgramText),
+            37 => Some(Ask::Used),
             _ => None,
         }
     }

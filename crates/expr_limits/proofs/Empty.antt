@@ -19,8 +19,8 @@ place_held (limited s w d) (Err Size) t = t
 place_held (limited s w d) (Err limit) t = absurd t
 
 -- keeping it charges its slot
-pub place_kept : {A E : Type 0} (r : Result A E) (old new : MeterView) (n e : ℕ) → n ≡ 0 → e ≡ 0 → Charges r (Takes 1 1) old new → Charges r (Holds (suc n) e) old new
-place_kept (Ok a) old new n e none flat p =
+pub place_kept : {A E : Type 0} (limit : E → Limit) (r : Result A E) (old new : MeterView) (n e : ℕ) → n ≡ 0 → e ≡ 0 → Charges limit r (Takes 1 1) old new → Charges limit r (Holds (suc n) e) old new
+place_kept limit (Ok a) old new n e none flat p =
     (p.0, subst (λ k. Holds (suc k) e old.room (Ok new.room)) (sym none) (subst (λ k. Holds 1 k old.room (Ok new.room)) (sym flat) (place_held old.room (Ok new.room) p.1)))
-place_kept (Err x) old new n e none flat p =
-    (p.0, p.1, subst (λ k. Holds (suc k) e old.room (Err p.0)) (sym none) (subst (λ k. Holds 1 k old.room (Err p.0)) (sym flat) (place_held old.room (Err p.0) p.2)))
+place_kept limit (Err x) old new n e none flat p =
+    (p.0, subst (λ k. Holds (suc k) e old.room (Err (limit x))) (sym none) (subst (λ k. Holds 1 k old.room (Err (limit x))) (sym flat) (place_held old.room (Err (limit x)) p.1)))

@@ -1,5 +1,5 @@
 -- What is read of a pattern weighs no less as more is read.
-use Rattle.std.proofs.Common.{◌≡◌, ℕ, zero, suc, length, get_or, ◌+◌, ◌*◌, ◌≤◌, ◌<◌, Bool, true, false, List, [], ◌∷◌, ◌⊎◌, inl, inr, if◌then◌else◌, ◌==◌, max, codes, take, drop, refl, sym, ap, ◌∙◌, subst, le_trans, le_refl, lt_of_lt_of_le, le-mul_of_pos_right, mul_comm, take-append-drop, arith}
+use Rattle.std.proofs.Common.{◌≡◌, ℕ, zero, suc, length, get_or, ◌*◌, ◌≤◌, ◌<◌, Bool, true, false, List, [], ◌∷◌, ◌⊎◌, inl, inr, if◌then◌else◌, ◌==◌, max, codes, take, drop, refl, sym, ap, ◌∙◌, subst, le_trans, le_refl, lt_of_lt_of_le, le-mul_of_pos_right, mul_comm, take-append-drop, arith}
 use Rattle.std.specs.List.{fold}
 use Rattle.std.proofs.lemmas.List.Sums.{fold-append}
 use Rattle.expr_limits.specs.Patterns.{empty_sketch, with_new_part, is_one_of, escape_weight, byte_weight, with_longer_part, pattern_weight, read, read_class, read_in, read_outside, read_times, with_repeated_part, sketch_of, with_count_digit}

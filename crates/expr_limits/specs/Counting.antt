@@ -12,6 +12,8 @@ Charge T = T → Result T Limit → Type 0
 -- how runs are counted: a tally, and the charge for each thing that counts
 pub record Counting : Type 1 where
   pub Tally : Type 0
+  -- what is noted of a tally, to go back to it
+  pub Mark : Type 0
   -- a block of this many instructions is entered
   pub enters : ℕ → Charge Tally
   -- an instruction is about to do this much work, and there must be room for what it builds
@@ -20,8 +22,9 @@ pub record Counting : Type 1 where
   pub makes : Value → Charge Tally
   -- this value is kept in another value
   pub keeps : Value → Charge Tally
-  -- the tally once everything is gone that was made since the first tally
-  pub freed : (first now : Tally) → Tally
+  pub mark : Tally → Mark
+  -- the tally once everything is gone that was made since the mark
+  pub freed : Mark → Tally → Tally
 
 -- a part of a run returns a value, with a tally, or it fails, or it stops at a limit
 pub data Ending (T : Type 0) : Type 0 where

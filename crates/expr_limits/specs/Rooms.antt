@@ -1,5 +1,5 @@
 -- Counting a run within limits: what is left of them.
-use Rattle.std.specs.Prelude.{◌≡◌, ℕ, ◌+◌, ◌-◌, ◌<◌, ◌≤◌, Option, Some, None, Ok, Err}
+use Rattle.std.specs.Prelude.{◌≡◌, ℕ, ◌+◌, ◌-◌, ◌<◌, ◌≤◌, Bool, true, false, Option, Some, None, Ok, Err}
 use Rattle.expr_limits.specs.Sizes.{depth, inner_weight, weight}
 use Rattle.expr_limits.specs.Counting.{Charge, Counting}
 use Rattle.expr_limits.specs.declared.limit.Limit.TheVariants.{Steps, Size, Depth}
@@ -40,6 +40,16 @@ abbrev pub steps_left : Room → Option ℕ
 steps_left unlimited = None
 steps_left (limited s w d) = Some s
 
+-- whether anything is counted
+abbrev pub is_limited : Room → Bool
+is_limited unlimited = false
+is_limited (limited s w d) = true
+
+-- how many steps it may still take; 0, where there is no limit
+abbrev pub least_steps : Room → ℕ
+least_steps unlimited = 0
+least_steps (limited s w d) = s
+
 -- more steps are needed than are left
 abbrev pub Overruns : Charge Room
 Overruns unlimited r = r ≡ Ok unlimited
@@ -54,18 +64,17 @@ abbrev pub with_size : ℕ → Room → Room
 with_size k unlimited = unlimited
 with_size k (limited s w d) = limited s k d
 
--- what was held since the first room is gone. The steps that were taken are not.
-abbrev pub room_released : (first now : Room) → Room
-room_released first now = with_size (size_left first) now
-
+-- The mark of a room is the size that is left. What was made since then is gone, but not the steps that were taken.
 -- An instruction takes a step and holds a unit, for which its block is charged. So a value that it makes is charged
 -- without the unit of its slot, and one that is kept is charged with it.
 abbrev pub rooms : Counting
 rooms = record {
   Tally = Room;
+  Mark = ℕ;
   enters = λ n. Takes n n;
   works = TakesWork;
   makes = λ v. Holds (inner_weight v) (depth v);
   keeps = λ v. Holds (weight v) (depth v);
-  freed = room_released;
+  mark = size_left;
+  freed = with_size;
 }

@@ -1,8 +1,8 @@
 //! What is left of the limits of a run.
-ghost use Rattle.std.specs.Prelude.{◌≡◌, ◌+◌, ◌≤◌, ℕ, IfOk, IfErr, None, Some, min};
+ghost use Rattle.std.specs.Prelude.{◌≡◌, ◌+◌, ◌≤◌, ℕ, Err, IfOk, IfErr, None, Some, min};
 ghost use Rattle.expr_limits.specs.Sizes.{PassesValueLimit, depth, inner_weight, weight};
 ghost use Rattle.expr_limits.specs.MeterView.{Charges, MeterView};
-ghost use Rattle.expr_limits.specs.Rooms.{Holds, Takes, steps_left, limited};
+ghost use Rattle.expr_limits.specs.Rooms.{Holds, Takes, limited, size_left};
 
 use crate::limit::Limit;
 use crate::limits::Limits;
@@ -11,7 +11,6 @@ use crate::units::byte_units;
 use crate::value_limit::ValueLimit;
 use crate::walk::{weigh, weigh_inside, weighs_one};
 use expr_value::Value;
-use std::alloc::AllocError;
 
 /// What is left of the limits of a run, and the limit that was exceeded, if one was.
 #[derive(Clone, Copy, Debug, Drop)]
@@ -19,11 +18,15 @@ pub struct Budget {
     steps: u64,
     size: u64,
     depth: usize,
-    stopped: Option<Limit>,
+    passed: Option<Limit>,
+    /// The run pauses once fewer steps are left. 0 means that it doesn't pause.
+    pause: u64,
+    /// The least size that was left before some of it came back.
+    least: u64,
 }
 
 impl Budget {
-    /// A budget with all that `limits` allow a run.
+    /// A budget with all that `limits` allow a run. The run doesn't pause.
     #[inline(always)]
     pub fn new(limits: &Limits) -> Budget
         ensures { ⟦<Budget as Meter>⟧.metered result
@@ -33,39 +36,52 @@ impl Budget {
             steps: limits.steps,
             size: limits.size,
             depth: limits.depth,
-            stopped: None,
+            passed: None,
+            pause: 0,
+            least: limits.size,
         }
     }
 
-    /// The limit that was exceeded, or `None`.
-    #[inline(always)]
-    pub fn passed_limit(&self) -> Option<Limit>
-        ensures { result ≡ (⟦<Budget as Meter>⟧.metered self.now).stopped }
+    /// Makes the run pause once it has taken this many more steps, if it has more than that.
+    pub fn pause_after(&mut self, steps: u64)
+        ensures { ⟦<Budget as Meter>⟧.metered self.new ≡ ⟦<Budget as Meter>⟧.metered self.old }
     {
-        self.stopped
+        self.pause = if steps < self.steps {
+            (self.steps - steps).saturating_add(1)
+        } else {
+            0
+        };
     }
 
-    /// Number of steps left.
-    #[inline(always)]
-    pub fn steps_left(&self) -> u64
-        ensures { Some result ≡ steps_left (⟦<Budget as Meter>⟧.metered self.now).room }
+    /// The least size that was left so far. The run has held no more at once than what this lacks of the limit.
+    pub fn least_size(&self) -> u64
+        ensures { result ≤ size_left (⟦<Budget as Meter>⟧.metered self.now).room }
     {
-        self.steps
+        self.least.min(self.size)
+    }
+
+    /// Records the limit that is exceeded.
+    #[inline(never)]
+    fn pass(&mut self, limit: Limit) -> Result<(), Limit>
+        ensures noted { ⟦<Budget as Meter>⟧.metered self.new
+            ≡ record (⟦<Budget as Meter>⟧.metered self.old) { stopped = Some limit } }
+        ensures passed { result ≡ Err limit }
+    {
+        self.passed = Some(limit);
+        Err(limit)
     }
 
     /// Takes steps and size, unless that exceeds a limit.
     #[inline(always)]
-    fn take(&mut self, steps: u64, size: u64) -> Result<(), AllocError>
-        ensures { Charges result (Takes steps size)
+    fn take(&mut self, steps: u64, size: u64) -> Result<(), Limit>
+        ensures { Charges (λ limit. limit) result (Takes steps size)
             (⟦<Budget as Meter>⟧.metered self.old) (⟦<Budget as Meter>⟧.metered self.new) }
     {
         if self.steps < steps {
-            self.stopped = Some(Limit::Steps);
-            return Err(AllocError);
+            return self.pass(Limit::Steps);
         }
         if self.size < size {
-            self.stopped = Some(Limit::Size);
-            return Err(AllocError);
+            return self.pass(Limit::Size);
         }
         self.steps -= steps;
         self.size -= size;
@@ -74,8 +90,8 @@ impl Budget {
 
     /// Charges a value of this weight that has no parts.
     #[inline(always)]
-    fn take_both(&mut self, weight: u64) -> Result<(), AllocError>
-        ensures { Charges result (Holds weight 0)
+    fn take_both(&mut self, weight: u64) -> Result<(), Limit>
+        ensures { Charges (λ limit. limit) result (Holds weight 0)
             (⟦<Budget as Meter>⟧.metered self.old) (⟦<Budget as Meter>⟧.metered self.new) }
     {
         self.take(weight, weight)
@@ -90,14 +106,14 @@ impl Budget {
     }
 
     /// Charges a measured value. `measured` is the room that is left after it, or the limit that it exceeds.
-    fn hold(&mut self, measured: Result<u64, ValueLimit>) -> Result<(), AllocError>
+    fn hold(&mut self, measured: Result<u64, ValueLimit>) -> Result<(), Limit>
         requires { IfOk measured (λ left. left ≤ min self.old.steps self.old.size) }
         ensures { (size deep : ℕ)
             → IfOk measured (λ left. (size + left ≡ min self.old.steps self.old.size)
             × (deep ≤ self.old.depth))
             → IfErr measured (λ p. PassesValueLimit p size deep
             (min self.old.steps self.old.size) self.old.depth)
-            → Charges result (Holds size deep)
+            → Charges (λ limit. limit) result (Holds size deep)
             (⟦<Budget as Meter>⟧.metered self.old) (⟦<Budget as Meter>⟧.metered self.new) }
     {
         match measured {
@@ -105,22 +121,20 @@ impl Budget {
                 let weight = self.room() - left;
                 self.take(weight, weight)
             }
-            Err(ValueLimit::Depth) => {
-                self.stopped = Some(Limit::Depth);
-                Err(AllocError)
-            }
+            Err(ValueLimit::Depth) => self.pass(Limit::Depth),
             Err(ValueLimit::Weight) => {
-                let is_size = self.size <= self.steps;
-                self.stopped = Some(if is_size { Limit::Size } else { Limit::Steps });
-                Err(AllocError)
+                if self.size <= self.steps {
+                    return self.pass(Limit::Size);
+                }
+                self.pass(Limit::Steps)
             }
         }
     }
 
     /// Charges the content of a value, which is measured by a walk.
     #[inline(never)]
-    fn hold_inside(&mut self, value: &Value) -> Result<(), AllocError>
-        ensures { Charges result (Holds (inner_weight value.now) (depth value.now))
+    fn hold_inside(&mut self, value: &Value) -> Result<(), Limit>
+        ensures { Charges (λ limit. limit) result (Holds (inner_weight value.now) (depth value.now))
             (⟦<Budget as Meter>⟧.metered self.old) (⟦<Budget as Meter>⟧.metered self.new) }
     {
         let measured = weigh_inside(value, self.room(), self.depth);
@@ -129,41 +143,22 @@ impl Budget {
 
     /// Charges a value, which is measured by a walk.
     #[inline(never)]
-    fn hold_whole(&mut self, value: &Value) -> Result<(), AllocError>
-        ensures { Charges result (Holds (weight value.now) (depth value.now))
+    fn hold_whole(&mut self, value: &Value) -> Result<(), Limit>
+        ensures { Charges (λ limit. limit) result (Holds (weight value.now) (depth value.now))
             (⟦<Budget as Meter>⟧.metered self.old) (⟦<Budget as Meter>⟧.metered self.new) }
     {
         let measured = weigh(value, self.room(), self.depth);
         self.hold(measured)
     }
 
-    /// Charges an array of `count` scalars that was made. The slot of the array is charged already.
-    #[inline(always)]
-    pub fn count_made_array(&mut self, count: u64) -> Result<(), AllocError>
-        ensures { Charges result (Holds (3 + count) 1)
-            (⟦<Budget as Meter>⟧.metered self.old) (⟦<Budget as Meter>⟧.metered self.new) }
-    {
-        self.hold_flat(3, count)
-    }
-
-    /// Charges an array of `count` scalars that is kept in another value.
-    #[inline(always)]
-    pub fn keep_array(&mut self, count: u64) -> Result<(), AllocError>
-        ensures { Charges result (Holds (4 + count) 1)
-            (⟦<Budget as Meter>⟧.metered self.old) (⟦<Budget as Meter>⟧.metered self.new) }
-    {
-        self.hold_flat(4, count)
-    }
-
     /// Charges an array of `count` scalars, and `units` more.
     #[inline(always)]
-    fn hold_flat(&mut self, units: u64, count: u64) -> Result<(), AllocError>
-        ensures { Charges result (Holds (units + count) 1)
+    fn hold_flat(&mut self, units: u64, count: u64) -> Result<(), Limit>
+        ensures { Charges (λ limit. limit) result (Holds (units + count) 1)
             (⟦<Budget as Meter>⟧.metered self.old) (⟦<Budget as Meter>⟧.metered self.new) }
     {
         if self.depth == 0 {
-            self.stopped = Some(Limit::Depth);
-            return Err(AllocError);
+            return self.pass(Limit::Depth);
         }
         self.take(units, units)?;
         self.take(count, count)
@@ -171,35 +166,51 @@ impl Budget {
 }
 
 impl Meter for Budget {
-    ghost metered = { λ b. record { room = limited b.steps b.size b.depth; stopped = b.stopped } };
+    type Stop = Limit;
+
+    ghost metered = { λ b. record { room = limited b.steps b.size b.depth; stopped = b.passed } };
+
+    ghost limit = { λ limit. limit };
 
     #[inline(always)]
-    fn enter(&mut self, instructions: usize) -> Result<(), AllocError> {
+    fn counts(&self) -> bool {
+        true
+    }
+
+    #[inline(always)]
+    fn steps_left(&self) -> u64 {
+        self.steps
+    }
+
+    #[inline(always)]
+    fn is_due(&self) -> bool {
+        self.steps < self.pause
+    }
+
+    #[inline(always)]
+    fn enter(&mut self, instructions: usize) -> Result<(), Limit> {
         self.take(instructions as u64, instructions as u64)
     }
 
     #[inline(always)]
-    fn work(&mut self, steps: u64, room: u64) -> Result<(), AllocError> {
+    fn work(&mut self, steps: u64, room: u64) -> Result<(), Limit> {
         if self.steps < steps || self.steps - steps < room {
-            self.stopped = Some(Limit::Steps);
-            return Err(AllocError);
+            return self.pass(Limit::Steps);
         }
         if self.size < room {
-            self.stopped = Some(Limit::Size);
-            return Err(AllocError);
+            return self.pass(Limit::Size);
         }
         self.steps -= steps;
         Ok(())
     }
 
     #[inline(always)]
-    fn overrun(&mut self) -> Result<(), AllocError> {
-        self.stopped = Some(Limit::Steps);
-        Err(AllocError)
+    fn overrun(&mut self) -> Result<(), Limit> {
+        self.pass(Limit::Steps)
     }
 
     #[inline(always)]
-    fn count_made(&mut self, value: &Value) -> Result<(), AllocError> {
+    fn count_made(&mut self, value: &Value) -> Result<(), Limit> {
         if weighs_one(value) {
             return Ok(());
         }
@@ -210,7 +221,12 @@ impl Meter for Budget {
     }
 
     #[inline(always)]
-    fn keep(&mut self, value: &Value) -> Result<(), AllocError> {
+    fn count_made_array(&mut self, count: u64) -> Result<(), Limit> {
+        self.hold_flat(3, count)
+    }
+
+    #[inline(always)]
+    fn keep(&mut self, value: &Value) -> Result<(), Limit> {
         if weighs_one(value) {
             return self.take(1, 1);
         }
@@ -221,12 +237,23 @@ impl Meter for Budget {
     }
 
     #[inline(always)]
+    fn keep_one(&mut self) -> Result<(), Limit> {
+        self.take_both(1)
+    }
+
+    #[inline(always)]
+    fn keep_array(&mut self, count: u64) -> Result<(), Limit> {
+        self.hold_flat(4, count)
+    }
+
+    #[inline(always)]
     fn mark(&self) -> u64 {
         self.size
     }
 
     #[inline(always)]
     fn release(&mut self, mark: u64) {
+        self.least = self.least.min(self.size);
         self.size = mark;
     }
 }

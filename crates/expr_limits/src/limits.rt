@@ -20,17 +20,17 @@ pub struct Limits {
 }
 
 impl Limits {
-    /// Limits for untrusted expressions: a nesting of 100, patterns of 100,000, 1,000,000 steps, a depth of 1,000, and a
+    /// Limits for untrusted expressions: a nesting of 5,000, patterns of 100,000, 1,000,000 steps, a depth of 1,000, and a
     /// size of 1,000,000.
     pub fn untrusted() -> Limits
-        ensures nesting { result.nesting ≡ 100 }
+        ensures nesting { result.nesting ≡ 5000 }
         ensures patterns { result.patterns ≡ 100000 }
         ensures steps { result.steps ≡ 1000000 }
         ensures depth { result.depth ≡ 1000 }
         ensures size { result.size ≡ 1000000 }
     {
         Limits {
-            nesting: 100,
+            nesting: 5_000,
             patterns: 100_000,
             steps: 1_000_000,
             depth: 1_000,

@@ -1,44 +1,73 @@
 //! Counting what a run uses.
-ghost use Rattle.std.specs.Prelude.{◌≡◌};
+ghost use Rattle.std.specs.Prelude.{◌≡◌, ◌+◌, ◌≤◌};
 ghost use Rattle.expr_limits.specs.Sizes.{depth, inner_weight, weight};
 ghost use Rattle.expr_limits.specs.MeterView.{Charges, MeterView};
-ghost use Rattle.expr_limits.specs.Rooms.{TakesWork, Holds, Overruns, Takes, size_left, with_size};
+ghost use Rattle.expr_limits.specs.Rooms.{TakesWork, Holds, Overruns, Takes, is_limited, least_steps, size_left, with_size};
+ghost use Rattle.expr_limits.specs.declared.limit.Limit.{Limit};
 
 use expr_value::Value;
-use std::alloc::AllocError;
 
 /// Counts what a run uses, or nothing.
 ///
-/// If a charge would exceed a limit, the limit is recorded and the call returns [`AllocError`]. So a run that is
-/// stopped ends like one that is out of memory.
+/// If a charge would exceed a limit, the limit is recorded and the call returns it.
 pub trait Meter: Drop {
+    /// The limit that a charge would exceed.
+    type Stop: Drop;
+
     /// What is left of the limits, and the limit that was exceeded, if one was.
     ghost metered: { Self → MeterView };
 
+    /// Which limit that is.
+    ghost limit: { Self.Stop → Limit };
+
+    /// Whether anything is counted.
+    fn counts(&self) -> bool
+        ensures { result ≡ is_limited (metered self.now).room };
+
+    /// The steps that are left, or 0 if nothing is counted.
+    fn steps_left(&self) -> u64
+        ensures { result ≡ least_steps (metered self.now).room };
+
+    /// Whether the run pauses now, though it could go on.
+    fn is_due(&self) -> bool;
+
     /// Charges the entry of a block: one step and one unit of size for each instruction.
-    fn enter(&mut self, instructions: usize) -> Result<(), AllocError>
-        ensures { Charges result (Takes instructions instructions) (metered self.old) (metered self.new) };
+    fn enter(&mut self, instructions: usize) -> Result<(), Self::Stop>
+        ensures { Charges limit result (Takes instructions instructions) (metered self.old)
+            (metered self.new) };
 
     /// Takes steps for work that is about to be done. The work's result must fit in `room`, both of steps and of size,
     /// which isn't taken yet.
-    fn work(&mut self, steps: u64, room: u64) -> Result<(), AllocError>
-        ensures { Charges result (TakesWork steps room) (metered self.old) (metered self.new) };
+    fn work(&mut self, steps: u64, room: u64) -> Result<(), Self::Stop>
+        ensures { Charges limit result (TakesWork steps room) (metered self.old) (metered self.new) };
 
     /// Reports that more steps are needed than are left.
-    fn overrun(&mut self) -> Result<(), AllocError>
-        ensures { Charges result Overruns (metered self.old) (metered self.new) };
+    fn overrun(&mut self) -> Result<(), Self::Stop>
+        ensures { Charges limit result Overruns (metered self.old) (metered self.new) };
 
     /// Charges a value that was made. Its slot is charged already.
-    fn count_made(&mut self, value: &Value) -> Result<(), AllocError>
-        ensures { Charges result (Holds (inner_weight value.now) (depth value.now))
+    fn count_made(&mut self, value: &Value) -> Result<(), Self::Stop>
+        ensures { Charges limit result (Holds (inner_weight value.now) (depth value.now))
             (metered self.old) (metered self.new) };
+
+    /// Charges an array of `count` scalars that was made. The slot of the array is charged already.
+    fn count_made_array(&mut self, count: u64) -> Result<(), Self::Stop>
+        ensures { Charges limit result (Holds (3 + count) 1) (metered self.old) (metered self.new) };
 
     /// Charges a value that is kept in another value.
-    fn keep(&mut self, value: &Value) -> Result<(), AllocError>
-        ensures { Charges result (Holds (weight value.now) (depth value.now))
+    fn keep(&mut self, value: &Value) -> Result<(), Self::Stop>
+        ensures { Charges limit result (Holds (weight value.now) (depth value.now))
             (metered self.old) (metered self.new) };
 
-    /// The size that is left. [`release`](Meter::release) restores it.
+    /// Charges a value of weight 1 that is kept in another value.
+    fn keep_one(&mut self) -> Result<(), Self::Stop>
+        ensures { Charges limit result (Holds 1 0) (metered self.old) (metered self.new) };
+
+    /// Charges an array of `count` scalars that is kept in another value.
+    fn keep_array(&mut self, count: u64) -> Result<(), Self::Stop>
+        ensures { Charges limit result (Holds (4 + count) 1) (metered self.old) (metered self.new) };
+
+    /// The size that is left, or 0 if nothing is counted. [`release`](Meter::release) restores it.
     fn mark(&self) -> u64
         ensures { result ≡ size_left (metered self.now).room };
 

@@ -11,15 +11,15 @@ mod options;
 mod progress;
 mod reports;
 
-use expr::{Context, Environment};
+use expr::{Context, Environment, Outcome};
 use expr_records::{
-    Course, FAILED, JsonReader, LineBuffer, Query, RecordFilter, StreamEnd, Tally, bind,
-    code_of_text, finish,
+    Course, FAILED, JsonReader, LineBuffer, PassedLimit, Query, RecordFilter, StreamEnd, Tally,
+    bind, code_of_text, finish,
 };
 use jiff::Timestamp;
 use options::Options;
 use progress::{Progress, ProgressReader};
-use reports::{tell_bad_name, tell_end, tell_refused_text};
+use reports::{tell_bad_name, tell_end, tell_passed_limit, tell_refused_text};
 use std::alloc::{AllocError, Global};
 use std::io::{BufReader, BufWriter, ErrorKind, IsTerminal, Read, Stderr, Write};
 use std::process::ExitCode;
@@ -61,12 +61,17 @@ fn run(rt: &HostRuntime, options: &Options) -> u8 {
     if let Ok(now) = Timestamp::now(rt) {
         environment.set_now(now);
     }
-    let Some(names) = names_of(alloc, &environment, options.names.as_slice(), &mut err) else {
+    let Some(names) = names_of(alloc, &environment, options, &mut err) else {
         return USAGE;
     };
     let text = options.expression;
-    let code = match code_of_text(alloc, text) {
-        Ok(code) => code,
+    let code = match code_of_text(alloc, text, options.limits) {
+        Ok(Outcome::Answered(code)) => code,
+        Ok(Outcome::Stopped(limit)) => {
+            let passed = PassedLimit::of(options.limits, limit);
+            tell_passed_limit(&mut err, "the expression", passed);
+            return USAGE;
+        }
         Err(error) => {
             tell_refused_text(alloc, &mut err, text, &error);
             return USAGE;
@@ -76,7 +81,14 @@ fn run(rt: &HostRuntime, options: &Options) -> u8 {
         return FAILED;
     };
     let mut record_filter = RecordFilter {
-        judge: Query::new(alloc, &environment, &names, options.purpose, &code),
+        judge: Query::new(
+            alloc,
+            &environment,
+            &names,
+            options.purpose,
+            options.limits,
+            &code,
+        ),
         stops: options.stops,
         held: LineBuffer::new(alloc, options.bound),
         reader: JsonReader::new(alloc),
@@ -91,19 +103,26 @@ fn run(rt: &HostRuntime, options: &Options) -> u8 {
 fn names_of<E: Write>(
     alloc: Global,
     environment: &Environment,
-    words: &[&str],
+    options: &Options,
     err: &mut E,
 ) -> Option<Context> {
     let mut names = Context::new(alloc);
-    for word in words {
+    for word in &options.names {
         let (name, code) = word.split_once('=').unwrap_or(("", *word));
         if name.is_empty() {
             tell_bad_name(err, *word);
             return None;
         }
-        if let Err(error) = bind(alloc, environment, name, code, &mut names) {
-            tell_refused_text(alloc, err, code, &error);
-            return None;
+        match bind(alloc, environment, name, code, options.limits, &mut names) {
+            Ok(Outcome::Answered(())) => {}
+            Ok(Outcome::Stopped(limit)) => {
+                tell_passed_limit(err, name, PassedLimit::of(options.limits, limit));
+                return None;
+            }
+            Err(error) => {
+                tell_refused_text(alloc, err, code, &error);
+                return None;
+            }
         }
     }
     Some(names)

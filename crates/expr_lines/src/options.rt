@@ -1,5 +1,6 @@
 //! The arguments of the program.
 use clap::{Arg, ArgAction, ArgMatches, Command, Error, value_parser};
+use expr::Limits;
 use expr_records::Purpose;
 use std::alloc::{AllocError, Global};
 
@@ -11,8 +12,11 @@ const NOTES: &str = "\
 The expression sees the members of a line's JSON object as names, and the whole object as $env.
 Lines for which it is true are written as they are. Blank lines are skipped. A line with an error
 is reported on standard error, and the rest goes on. It is an error if the line is not a JSON
-object, if it has a number that isn't whole, if the expression fails, or if the result is neither
-true nor false. Put -- before an expression that begins with -.
+object, if it has a number that isn't whole, if the expression fails or passes a limit, or if the
+result is neither true nor false. Put -- before an expression that begins with -.
+
+The limits are those for untrusted expressions: on the height of the tree, the weight of patterns,
+and the steps, the size and the depth of a run. Each line's run begins with all its steps.
 
 Status: 0 if something was kept or everything was rewritten, 1 if nothing was kept, 2 for wrong
 arguments or an expression that doesn't compile, 3 if a line had an error, 4 if something can't be
@@ -27,6 +31,8 @@ pub struct Options<'a> {
     /// Arguments `NAME=CODE`.
     pub names: Vec<&'a str>,
     pub purpose: Purpose,
+    /// The limits of the expression and of each run, if there are any.
+    pub limits: Option<Limits>,
     /// Whether to stop at the first record with an error.
     pub stops: bool,
     /// The greatest length of a line, in bytes.
@@ -73,6 +79,24 @@ fn name_option<'a>(alloc: Global) -> Arg<'a> {
         .help("Set NAME to the value of CODE; it wins over a member of that name")
 }
 
+/// An option that turns limits on or off. The last of them counts.
+fn limits_option<'a>(alloc: Global, name: &'a str, help: &'a str) -> Result<Arg<'a>, AllocError> {
+    Arg::new(alloc, name)
+        .long(name)
+        .action(ArgAction::SetTrue)
+        .help(help)
+        .overrides_with_all(&["limits", "no-limits"])
+}
+
+/// The options for limits.
+fn with_limits<'a>(alloc: Global, command: Command<'a>) -> Result<Command<'a>, AllocError> {
+    let on = "Stop at the limits for untrusted expressions; this is the default";
+    let off = "Compile and run without limits, for expressions of your own";
+    command
+        .arg(limits_option(alloc, "limits", on)?)?
+        .arg(limits_option(alloc, "no-limits", off)?)
+}
+
 /// The option for the greatest length of a line.
 fn bound_option<'a>(alloc: Global) -> Arg<'a> {
     Arg::new(alloc, "max-line")
@@ -112,7 +136,8 @@ fn command<'a>(alloc: Global) -> Result<Command<'a>, AllocError> {
         .about(ABOUT)
         .after_help(NOTES);
     let command = with_operands(alloc, command)?;
-    with_manners(alloc, with_purposes(alloc, command)?)
+    let command = with_purposes(alloc, command)?;
+    with_limits(alloc, with_manners(alloc, command)?)
 }
 
 /// What to do with the records.
@@ -124,6 +149,15 @@ fn purpose_of(matches: &ArgMatches) -> Purpose {
         Purpose::Count(truth)
     } else {
         Purpose::Keep(truth)
+    }
+}
+
+/// The limits of the expression and of each run, if there are any.
+fn limits_of(matches: &ArgMatches) -> Option<Limits> {
+    if matches.get_flag("no-limits") {
+        None
+    } else {
+        Some(Limits::untrusted())
     }
 }
 
@@ -155,6 +189,7 @@ impl<'a> Options<'a> {
             files: values_of(alloc, &matches, "FILE")?,
             names: values_of(alloc, &matches, "name")?,
             purpose: purpose_of(&matches),
+            limits: limits_of(&matches),
             stops: matches.get_flag("fail-fast"),
             bound: matches.get_one::<u32>("max-line").unwrap_or(64_000_000) as usize,
             tells: matches.get_flag("progress"),

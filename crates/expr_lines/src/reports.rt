@@ -1,6 +1,6 @@
 //! Reports on standard error. If one can't be written, nothing else changes.
 use expr::{Error, line_column_of};
-use expr_records::StreamEnd;
+use expr_records::{PassedLimit, StreamEnd};
 use std::alloc::Global;
 use std::io::{self, ErrorKind, Write};
 
@@ -23,6 +23,11 @@ pub fn tell_refused_text<E: Write>(alloc: Global, err: &mut E, text: &str, error
         }
     }
     let _ = writeln!(err, "expr_lines: the expression {text} fails: {error}");
+}
+
+/// Reports that the expression, or that of a name, passes a limit before the first record is read.
+pub fn tell_passed_limit<E: Write>(err: &mut E, what: &str, passed: PassedLimit) {
+    let _ = writeln!(err, "expr_lines: {what} passes a limit: {passed}");
 }
 
 /// Reports a stream that can't be read, or output that can't be written. A closed pipe is not reported.

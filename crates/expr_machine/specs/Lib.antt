@@ -1,7 +1,11 @@
-pub mod Acts
-pub mod Decides
-pub mod Here
-pub mod Leads
+pub mod Calls
+pub mod Ended
+pub mod Firsts
+pub mod Folding
+pub mod Given
 pub mod Promises
-pub mod Stores
-pub mod Texts
+pub mod Saying
+pub mod Seen
+pub mod Slow
+pub mod Stepping
+pub mod Taking

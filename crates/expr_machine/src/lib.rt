@@ -1,16 +1,22 @@
-//! The machine that runs flat code.
+//! The machine that runs flat code, within limits or without: one loop, and a list of frames for the callers that wait.
+//!
+//! A run may be done in pieces. Make a [`Machine`] with a `Budget`, call `machine.meter.pause_after(steps)` and then
+//! [`Machine::start`]. While the halt is `Halt::Paused`, call `pause_after` again and then [`Machine::go`].
 #![tactic(auto)]
 
-mod acts;
-mod conditions;
+mod calls;
+mod frame;
 mod kept;
+mod light;
 mod list_arena;
 mod machine;
-mod names;
-mod stores;
-mod turns;
+mod perform;
+mod quick;
+mod runs;
+mod steps;
 
-pub use acts::texts;
-pub use conditions::{known_if, passed_unless, passing_on};
 pub use kept::ReusableMachine;
-pub use machine::{Machine, block_of, execute, run};
+pub use machine::Machine;
+pub use runs::{
+    LimitedRun, execute, execute_limited_with, execute_with, run, run_limited_with, run_with,
+};

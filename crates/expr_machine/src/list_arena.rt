@@ -92,13 +92,13 @@ impl ListArena {
     }
 }
 
-/// How many bytes the lists of a run may take. A later block starts with up to three more slots.
+/// How many bytes the lists of a run may take. A later block has a frame, and starts with up to three more slots.
 fn room_of<L: Pointer<Value>, N: Pointer<String>, K: Pointer<Pattern>>(
     code: &Code<L, N, K>,
 ) -> usize {
     let mut count = code.first.len();
     for block in &code.later {
-        count = count.saturating_add(block.len()).saturating_add(4);
+        count = count.saturating_add(block.len()).saturating_add(5);
     }
     count.saturating_mul(BYTES_OF_ONE)
 }

@@ -6,31 +6,38 @@ use Rattle.expr_meaning.specs.World.{World}
 use Rattle.expr_value.specs.declared.value.Value.{Value}
 use Rattle.expr_limits.specs.Counting.{ChargeThen, Ending, ThenIfGives, ThenIfCharged, gives, refuses, stops}
 use Rattle.expr_meaning.specs.Counts.{CodeCounts, Costs}
-use Rattle.expr_limits.specs.Rooms.{TakesWork, Holds, Room, Takes, room_released, rooms, unlimited, limited}
+use Rattle.expr_limits.specs.Rooms.{TakesWork, Holds, Room, Takes, rooms, unlimited, limited, with_size}
 use Rattle.expr_limits.specs.declared.limit.Limit.{Limit}
 use Rattle.expr_meaning.proofs.Endings.{not_stopped}
-use Rattle.expr_meaning.proofs.Stays.{InEnding, runs_stay}
+use Rattle.expr_meaning.proofs.Stays.{InCharge, InEnding, runs_stay}
 
 -- how deep values may be, where there is a limit of it
 abbrev IsDeepest : ℕ → Room → Type 0
 IsDeepest d unlimited = ⊥
 IsDeepest d (limited s w e) = e ≡ d
 
-takes : (d n k : ℕ) (now next : Room) → Takes n k now (Ok next) → IsDeepest d now → IsDeepest d next
-takes d n k unlimited next t h = absurd h
-takes d n k (limited s w e) next t h = subst (IsDeepest d) (sym t.2) h
+-- nothing is said of limits
+abbrev Any : Limit → Type 0
+Any limit = Unit {0}
 
-begins : (d n k : ℕ) (now next : Room) → TakesWork n k now (Ok next) → IsDeepest d now → IsDeepest d next
-begins d n k unlimited next t h = absurd h
-begins d n k (limited s w e) next t h = subst (IsDeepest d) (sym t.2) h
+takes : (d n k : ℕ) (now : Room) (r : Result Room Limit) → Takes n k now r → IsDeepest d now → InCharge (IsDeepest d) Any r
+takes d n k unlimited r t h = absurd h
+takes d n k (limited s w e) (Ok next) t h = subst (IsDeepest d) (sym t.2) h
+takes d n k (limited s w e) (Err limit) t h = tt
 
-holds : (d n k : ℕ) (now next : Room) → Holds n k now (Ok next) → IsDeepest d now → IsDeepest d next
-holds d n k unlimited next t h = absurd h
-holds d n k (limited s w e) next t h = takes d n n (limited s w e) next t.1 h
+begins : (d n k : ℕ) (now : Room) (r : Result Room Limit) → TakesWork n k now r → IsDeepest d now → InCharge (IsDeepest d) Any r
+begins d n k unlimited r t h = absurd h
+begins d n k (limited s w e) (Ok next) t h = subst (IsDeepest d) (sym t.2) h
+begins d n k (limited s w e) (Err limit) t h = tt
 
-frees : (d : ℕ) (first now : Room) → IsDeepest d now → IsDeepest d (room_released first now)
-frees d first unlimited h = absurd h
-frees d first (limited s w e) h = h
+holds : (d n k : ℕ) (now : Room) (r : Result Room Limit) → Holds n k now r → IsDeepest d now → InCharge (IsDeepest d) Any r
+holds d n k unlimited r t h = absurd h
+holds d n k (limited s w e) (Ok next) t h = takes d n n (limited s w e) (Ok next) t.1 h
+holds d n k (limited s w e) (Err limit) t h = tt
+
+frees : (d mark : ℕ) (now : Room) → IsDeepest d now → IsDeepest d (with_size mark now)
+frees d mark unlimited h = absurd h
+frees d mark (limited s w e) h = h
 
 abbrev IsGiven : Ending Room → Type 0
 IsGiven (gives v now) = Unit {0}
@@ -49,15 +56,15 @@ kept d u v left (limited s w e) (Ok now) h c p =
     omega (arith, h, c.0, same)
 kept d u v left (limited s w e) (Err limit) h c p = absurd (not_stopped (Ok v) left limit p)
 
-ended_by : (d : ℕ) (first : Room) (v : Value) (left : Room) (x : Ending Room) → InEnding (IsDeepest d) x → ThenIfGives x (λ u ran. ChargeThen (rooms.keeps u) (room_released first ran) (λ last e. e ≡ gives u last)) (gives v left) → depth v ≤ d
-ended_by d first v left (gives u ran) h (r, c, p) = kept d u v left (room_released first ran) r (frees d first ran h) c p
-ended_by d first v left (refuses e) h p = absurd (subst IsGiven p tt)
-ended_by d first v left (stops limit) h p = absurd (subst IsGiven p tt)
+ended_by : (d mark : ℕ) (v : Value) (left : Room) (x : Ending Room) → InEnding (IsDeepest d) Any x → ThenIfGives x (λ u ran. ChargeThen (rooms.keeps u) (with_size mark ran) (λ last e. e ≡ gives u last)) (gives v left) → depth v ≤ d
+ended_by d mark v left (gives u ran) h (r, c, p) = kept d u v left (with_size mark ran) r (frees d mark ran h) c p
+ended_by d mark v left (refuses e) h p = absurd (subst IsGiven p tt)
+ended_by d mark v left (stops limit) h p = absurd (subst IsGiven p tt)
 
 pub code_depth : (costs : Costs) (world : World) (blocks : List (List Op)) (s w d : ℕ) (v : Value) (left : Room) → CodeCounts rooms costs world blocks (limited s w d) (gives v left) → depth v ≤ d
 code_depth costs world blocks s w d v left (x, ran, p) =
-    ended_by d (limited s w d) v left x (
-    runs_stay rooms (IsDeepest d) (record {
+    ended_by d w v left x (
+    runs_stay rooms (IsDeepest d) Any (record {
       enters = λ n. takes d n n;
       works = λ n k. begins d n k;
       makes = λ v. holds d (inner_weight v) (depth v);

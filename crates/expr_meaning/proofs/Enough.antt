@@ -6,7 +6,7 @@ use Rattle.expr_value.specs.Answers.{Answer}
 use Rattle.expr_error.specs.ErrorKind.{ErrorKind}
 use Rattle.expr_value.specs.declared.value.Value.{Value}
 use Rattle.expr_limits.specs.Counting.{EndsWithAnswer, Charge, ChargeThen, Ending, KeepAllThen, EndingThen, ending_of, gives, refuses}
-use Rattle.expr_limits.specs.Rooms.{TakesWork, Holds, Room, Takes, room_released, rooms, unlimited, limited}
+use Rattle.expr_limits.specs.Rooms.{TakesWork, Holds, Room, Takes, rooms, size_left, unlimited, limited, with_size}
 
 -- what is left is less by no more than this, and no more than a bound
 pub record Less (need s w u d : ℕ) (P : Room → Type 0) : Type 0 where
@@ -138,7 +138,7 @@ ample_anew a part (r, one) = (r, anew r a part one)
 -- what is left once all is gone that was made since a room was the one or the other
 pub record Freed (b : Bool) (t u e s w d s' w' : ℕ) : Type 0 where
   pub size : ℕ
-  pub is : room_released (if b then limited t u e else limited s w d) (limited s' w' d) ≡ limited s' size d
+  pub is : with_size (if b then size_left (limited t u e) else size_left (limited s w d)) (limited s' w' d) ≡ limited s' size d
   pub less : w ≤ size
   pub bound : size ≤ u
 
@@ -148,7 +148,7 @@ frees false t u e s w d s' w' k = record { size = w; is = refl; less = omega ari
 
 -- first a question, then all is gone that was made for it, and then what follows
 abbrev pub AskedThen : Bool → (Room → Ending Room → Type 0) → (Value → Part) → Part
-AskedThen b asked next first now = EndingThen (asked now) (λ v ran. next v first (room_released (if b then first else now) ran))
+AskedThen b asked next first now = EndingThen (asked now) (λ v ran. next v first (with_size (if b then size_left first else size_left now) ran))
 
 asked_enough : (m r : ℕ) (b : Bool) (asked : Room → Ending Room → Type 0) (next : Value → Part) (a : Answer) (v : Value) → Enough m (Ok v) (Alone asked) → Enough r a (next v)
     → Enough (m + r) a (AskedThen b asked next)
@@ -181,47 +181,6 @@ ample_asked b asked next a v (m, one) (r, more) = (m + r, asked_enough m r b ask
 
 pub ample_refused : (b : Bool) (asked : Room → Ending Room → Type 0) (next : Value → Part) (a : Answer) (e : ErrorKind) → Ample (Err e) (Alone asked) → a ≡ Err e → Ample a (AskedThen b asked next)
 ample_refused b asked next a e (m, one) same = (m, refused_enough m b asked next a e one same)
-
--- first some work, then a call, then all is gone that was made since before the work, and then what follows
-abbrev pub CalledThen : (work room : ℕ) → (Room → Ending Room → Type 0) → (Value → Room → Ending Room → Type 0) → Part
-CalledThen n k call next first now = ChargeThen (TakesWork n k) now (λ begun. EndingThen (call begun) (λ v ran. next v (room_released now ran)))
-
-called_enough : (n k m r : ℕ) (call : Room → Ending Room → Type 0) (next : Value → Room → Ending Room → Type 0) (a : Answer) (v : Value) → Enough m (Ok v) (Alone call) → Enough r a (Alone (next v))
-    → Enough (n + k + m + r) a (CalledThen n k call next)
-called_enough n k m r call next a v one more first unlimited h = (Ok unlimited, refl, (gives v unlimited, one first unlimited tt, more first unlimited tt))
-called_enough n k m r call next a v one more unlimited (limited s w d) h = absurd h
-called_enough n k m r call next a v one more (limited t u e) (limited s w d) h =
-    let l = one (limited (s - n) w d) (limited (s - n) w d) (omega (arith, h.0), omega (arith, h.1), omega (arith, h.2), omega arith) in
-    let o = more (limited t u e) (limited l.steps w d) (omega (arith, h.0, l.fewer), omega (arith, h.1), omega (arith, h.2), h.3) in
-    less_more (n + k + m + r) s w u d (n + k + m) r l.steps w (λ left. next v (limited l.steps w d) (ending_of a left)) (λ left. CalledThen n k call next (limited t u e) (limited s w d) (ending_of a left)) (
-    λ left p. (Ok (limited (s - n) w d), (omega (arith, h.0), omega (arith, h.1), refl), (gives v (limited l.steps l.size d), l.goes, p))
-    ) (omega (arith, h.0, l.fewer)) (omega arith) (omega arith) o
-
-call_refused_enough : (n k m : ℕ) (call : Room → Ending Room → Type 0) (next : Value → Room → Ending Room → Type 0) (a : Answer) (f : ErrorKind) → Enough m (Err f) (Alone call) → a ≡ Err f
-    → Enough (n + k + m) a (CalledThen n k call next)
-call_refused_enough n k m call next a f one same first unlimited h = (Ok unlimited, refl, (refuses f, one first unlimited tt, ap (λ x. ending_of x unlimited) same))
-call_refused_enough n k m call next a f one same unlimited (limited s w d) h = absurd h
-call_refused_enough n k m call next a f one same (limited t u e) (limited s w d) h =
-    let l = one (limited (s - n) w d) (limited (s - n) w d) (omega (arith, h.0), omega (arith, h.1), omega (arith, h.2), omega arith) in
-    record {
-      steps = l.steps;
-      size = l.size;
-      goes = (
-        Ok (limited (s - n) w d),
-        (omega (arith, h.0), omega (arith, h.1), refl),
-        (refuses f, l.goes, ap (λ x. ending_of x (limited l.steps l.size d)) same),
-      );
-      fewer = omega (arith, h.0, l.fewer);
-      less = omega (arith, l.less);
-      bound = omega (arith, h.3, l.bound);
-    }
-
-pub ample_called : (n k : ℕ) (call : Room → Ending Room → Type 0) (next : Value → Room → Ending Room → Type 0) (a : Answer) (v : Value) → Ample (Ok v) (Alone call) → Ample a (Alone (next v))
-    → Ample a (CalledThen n k call next)
-ample_called n k call next a v (m, one) (r, more) = (n + k + m + r, called_enough n k m r call next a v one more)
-
-pub ample_call_refused : (n k : ℕ) (call : Room → Ending Room → Type 0) (next : Value → Room → Ending Room → Type 0) (a : Answer) (f : ErrorKind) → Ample (Err f) (Alone call) → a ≡ Err f → Ample a (CalledThen n k call next)
-ample_call_refused n k call next a f (m, one) same = (n + k + m, call_refused_enough n k m call next a f one same)
 
 -- enough within limits
 pub ample_within : (a : Answer) (part : Room → Ending Room → Type 0) → Ample a (Alone part)

@@ -14,8 +14,8 @@ pub mod Exact
 pub mod Faults
 pub mod Forgotten
 pub mod HigherOrder
+pub mod Holding
 pub mod Independent
-pub mod Kept
 pub mod Lowering
 pub mod Ran
 pub mod Shadow
@@ -23,6 +23,4 @@ pub mod Slotted
 pub mod Stays
 pub mod Steps
 pub mod Stopping
-pub mod Turning
-pub mod Turns
 pub mod Wrong

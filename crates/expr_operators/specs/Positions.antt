@@ -1,5 +1,5 @@
 -- Ranges, indices and slices on values. For kinds that no line names, the result is an error.
-use Rattle.std.specs.Prelude.{ℕ, ◌+◌, ◌-◌, min, ℤ, pos, negsuc, ◌+ℤ◌, ◌-ℤ◌, int_le, unsigned_abs, List, length, map, take, drop, Option, Result, Ok, Err, encode_utf8_all, if◌then◌else◌}
+use Rattle.std.specs.Prelude.{ℕ, Bool, false, is_some, ◌+◌, ◌-◌, min, ℤ, pos, negsuc, ◌+ℤ◌, ◌-ℤ◌, int_le, unsigned_abs, List, length, map, take, drop, Option, Result, Ok, Err, encode_utf8_all, if◌then◌else◌}
 use Rattle.std.specs.List.{range_with_len}
 use Rattle.std.specs.Option.{option_map_or}
 use Rattle.bstr.specs.Utf8.{lossy_chars}
@@ -8,7 +8,19 @@ use Rattle.expr_value.specs.declared.value.Value as value
 use Rattle.expr_value.specs.declared.value.Value.{Value, out-Value}
 use Rattle.expr_value.specs.declared.value.Value.TheOpen.{Value-F}
 use Rattle.expr_value.specs.Answers.{Answer}
+use Rattle.expr_value.specs.Names.{find}
+use Rattle.expr_value.specs.Values.{at_key}
 pub use Rattle.expr_arguments.specs.Parts.{index_answer, index_answer_layers, item_from, or_nil}
+
+-- an array has an item at this key, or a map a field
+abbrev pub inside_layers : Value-F Value → Value → Value-F Value → Bool
+inside_layers (Value-F.Array items) k (Value-F.Integer n) = is_some (item_from items n)
+inside_layers (Value-F.Map m) k (Value-F.String name) = is_some (find name m)
+inside_layers (Value-F.KeyedMap m) k key = is_some (at_key k m)
+inside_layers v k key = false
+
+abbrev pub inside : Value → Value → Bool
+inside v key = inside_layers (out-Value v) key (out-Value key)
 
 -- number of integers from the first to the last, both included: none if the first is greater
 unfoldable pub how_many : ℤ → ℤ → ℕ

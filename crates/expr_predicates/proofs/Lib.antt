@@ -3,7 +3,9 @@ pub mod Answered
 pub mod FoldStarts
 pub mod Grouped
 pub mod InTurn
+pub mod Noting
 pub mod OneOrder
 pub mod Opposite
 pub mod Own
+pub mod Stopped
 pub mod Turns

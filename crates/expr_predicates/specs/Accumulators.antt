@@ -1,5 +1,5 @@
 -- What a run keeps of the predicate's results.
-use Rattle.std.specs.Prelude.{◌≡◌, ℕ, ◌+◌, ◌-◌, List, [], length, map, count_by, option_map, Option, Some, None, Result, Ok}
+use Rattle.std.specs.Prelude.{◌≡◌, ℕ, ◌+◌, ◌-◌, false, List, [], length, map, count_by, option_map, Option, Some, None, Result, Ok}
 use Rattle.std.specs.List.{filter, find, list_any, position_from}
 use Rattle.expr_error.specs.ErrorKind.{ErrorKind}
 use Rattle.expr_value.specs.declared.value.Value.{Value}
@@ -7,7 +7,7 @@ use Rattle.expr_predicates.specs.Calls.{FoldOver}
 use Rattle.expr_predicates.specs.Remaining.{items_remaining}
 use Rattle.expr_predicates.specs.Sorting.{beside_keys}
 use Rattle.expr_context.specs.Told.{PredicateArgsView}
-use Rattle.expr_predicates.specs.Folds.{Fold, number, all_hold, any_holds, none_holds, one_holds, mapping, filtering, finding, finding_place, finding_last_place, counting, summing, reducing, grouping, sorting, ItemAnswer, holds, fails, acc_after, first_place, total, items_by_key}
+use Rattle.expr_predicates.specs.Folds.{Fold, number, all_hold, any_holds, none_holds, one_holds, mapping, filtering, finding, finding_place, finding_last_place, counting, summing, reducing, grouping, sorting, ItemAnswer, has_stopped, holds, fails, acc_after, first_place, total, items_by_key}
 use Rattle.expr_predicates.specs.declared.run.Accumulator.{Accumulator}
 use Rattle.expr_predicates.specs.declared.run.Accumulator.TheVariants as accumulator
 use Rattle.expr_predicates.specs.declared.scalar_accumulator.ScalarAccumulator.{ScalarAccumulator}
@@ -63,8 +63,9 @@ pub record RunRepresents (run : PredicateRun) (t : Fold) (rs : List ItemAnswer) 
   pub asked : run.asked ≡ first_place t + length rs
   pub gathered : Represents run.gathered t rs
 
--- a run waits for the result that follows these: an item is out
+-- a run waits for the result that follows these: an item is out, for these didn't stop it
 pub record Awaits (run : PredicateRun) (t : Fold) (rs : List ItemAnswer) : Type 0 where
+  pub goes_on : has_stopped t rs ≡ false
   pub asked : run.asked ≡ first_place t + length rs + 1
   pub gathered : RepresentsRest run.gathered t rs
 

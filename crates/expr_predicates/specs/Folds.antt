@@ -1,5 +1,5 @@
 -- What a built-in makes of the items and of the predicate's results.
-use Rattle.std.specs.Prelude.{◌≡◌, ℕ, ◌+◌, ◌-◌, ◌==◌, ℤ, pos, negsuc, nat_lt, Bool, true, false, not, List, length, map, count_by, Option, Some, None, option_map, unwrap_or, Ok}
+use Rattle.std.specs.Prelude.{◌≡◌, ℕ, ◌+◌, ◌-◌, ◌==◌, ℤ, pos, negsuc, nat_lt, Bool, true, false, not, List, [], ◌∷◌, length, map, count_by, Option, Some, None, option_map, unwrap_or, Ok, if◌then◌else◌}
 use Rattle.std.specs.Int.{w64, int_wrapping_add, cast_signed}
 use Rattle.std.specs.List.{filter, filter_map, find, fold, list_any, position_from}
 use Rattle.std.specs.Option.{is_some, option_or}
@@ -81,6 +81,16 @@ abbrev pub first_place : Fold → ℕ
 first_place (reducing init first) = first
 first_place t = 0
 
+-- whether the index is bound beside an item, and whether the last result is
+abbrev pub tells_index : Fold → Bool
+tells_index mapping = true
+tells_index (reducing init first) = true
+tells_index t = false
+
+abbrev pub tells_acc : Fold → Bool
+tells_acc (reducing init first) = true
+tells_acc t = false
+
 -- the arguments of the predicate for an item after these results
 abbrev pub args_about : Fold → List ItemAnswer → Value → PredicateArgsView
 args_about mapping rs x = record { item = x; index = Some (number (length rs)); acc = None }
@@ -104,6 +114,26 @@ refuses_answer counting v = not (is_some (truth_of v))
 refuses_answer summing v = not (is_some (integer_of v))
 refuses_answer grouping v = not (is_some (key_of v))
 refuses_answer t v = false
+
+-- what is kept of a result: the result, the item, both, or nothing
+abbrev pub retained_of : Fold → ItemAnswer → List Value
+retained_of mapping r = r.1 ∷ []
+retained_of filtering r = if holds r then r.0 ∷ [] else []
+retained_of finding r = if holds r then r.0 ∷ [] else []
+retained_of (reducing init first) r = r.1 ∷ []
+retained_of grouping r = r.0 ∷ r.1 ∷ []
+retained_of (sorting down) r = r.0 ∷ r.1 ∷ []
+retained_of t r = []
+
+-- and what is kept before the first
+abbrev pub retained_first : Fold → List Value
+retained_first (reducing init first) = init ∷ []
+retained_first t = []
+
+-- whether what is kept of a result replaces all that was kept before
+abbrev pub replaces : Fold → Bool
+replaces (reducing init first) = true
+replaces t = false
 
 abbrev pub place_or_none : Option ℕ → Value
 place_or_none (Some n) = number n

@@ -5,6 +5,8 @@ pub mod Calls
 pub mod Folds
 pub mod Grouped
 pub mod Grouping
+pub mod Noting
+pub mod Plains
 pub mod Remaining
 pub mod Runs
 pub mod Sorting

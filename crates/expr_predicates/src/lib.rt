@@ -27,5 +27,5 @@ pub use laws::{
     Predicate, a_list_has_one_stable_order, a_run_asks_about_its_items, a_run_is_a_list_of_answers,
     none_is_the_opposite_of_any,
 };
-pub use run::{PredicateRun, sort};
+pub use run::{Noted, Plain, PredicateRun, sort};
 pub use sorting::sort_items;

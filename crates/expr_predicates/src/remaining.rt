@@ -1,8 +1,10 @@
 //! The items for which the predicate is still to be called.
 ghost use Rattle.std.specs.Prelude.{◌≡◌, ◌∷◌, [], MatchOption, reverse};
 ghost use Rattle.expr_arguments.specs.Arrays.{array_items};
+ghost use Rattle.expr_predicates.specs.Plains.{plain_value};
 ghost use Rattle.expr_predicates.specs.Remaining.{items_remaining};
 
+use crate::run::Plain;
 use expr_arguments::{Array, CowValue};
 use expr_value::Value;
 
@@ -39,6 +41,39 @@ impl<'s> Remaining<'s> {
         match array {
             Array::Owned(items) => Remaining::Owned(items.into_vec()),
             Array::Borrowed(items) => Remaining::Back(items.as_slice()),
+        }
+    }
+
+    /// Moves out the next item, if it needs no allocation.
+    #[inline(always)]
+    pub(crate) fn pop_plain(&mut self) -> Option<Plain<'s>>
+        ensures { MatchOption result (self.new ≡ self.old)
+            (λ item. items_remaining self.old ≡ plain_value item ∷ items_remaining self.new) }
+    {
+        match self {
+            Remaining::Owned(items) => match items.last() {
+                Some(Value::Integer(n)) => {
+                    let n = *n;
+                    let _ = items.pop();
+                    Some(Plain::Integer(n))
+                }
+                _ => None,
+            },
+            Remaining::Front(items) => {
+                let all: &'s [Value] = *items;
+                match all.split_first() {
+                    Some((first, rest)) => {
+                        *items = rest;
+                        match first {
+                            Value::Integer(n) => Some(Plain::Integer(*n)),
+                            Value::Bool(b) => Some(Plain::Bool(*b)),
+                            _ => Some(Plain::Lent(first)),
+                        }
+                    }
+                    None => None,
+                }
+            }
+            _ => None,
         }
     }
 

@@ -10,7 +10,7 @@ use crate::arguments::{direction, is_downward, runs_alone, takes};
 use crate::remaining::Remaining;
 use crate::scalar_accumulator::ScalarAccumulator;
 use crate::sorting::sort_items;
-use crate::value_accumulator::ValueAccumulator;
+use crate::value_accumulator::{ValueAccumulator, keep_plain};
 use expr_arguments::{
     Array, CowValue, array_and_more, count_items, into_items, kind_of, missing_predicate,
     refusal_of,
@@ -29,6 +29,9 @@ enum Accumulator {
 impl Accumulator {
     ghost use Rattle.expr_predicates.specs.Folds.{Fold, ItemAnswer, FoldOutcome, first_place, front_fold, refuses_answer, has_stopped};
     ghost use Rattle.expr_predicates.specs.Accumulators.{Represents, RepresentsRest, acc_arg, index_arg};
+    ghost use Rattle.expr_predicates.specs.Noting.{Gathers, HasRoom};
+    ghost use Rattle.expr_predicates.specs.Plains.{plain_value};
+    ghost use Rattle.expr_value.specs.declared.value.Value as value;
 
     /// The accumulator before any result, for a built-in on an array alone that goes from first to last.
     fn at_start(alloc: Global, call: HigherOrderCall) -> Option<Accumulator>
@@ -99,6 +102,34 @@ impl Accumulator {
         }
     }
 
+    /// Takes a result about the item at this position, if that needs no allocation. Nothing was found before.
+    #[inline(always)]
+    fn note(&mut self, place: usize, answer: Plain<'_>) -> Noted
+        requires { place + 1 < 2 ^ 64 }
+        ensures { Gathers place result self.old self.new (plain_value answer.entry) }
+    {
+        match self {
+            Accumulator::Scalar(noted) => match answer {
+                Plain::Bool(truth) => noted.note_truth(place, truth),
+                _ => Noted::Not,
+            },
+            Accumulator::Values(kept) => kept.note(answer),
+        }
+    }
+
+    /// Keeps an item whose result was true. There is room for it. Returns false if it is out of memory.
+    #[inline(always)]
+    fn keep(&mut self, item: Plain<'_>) -> bool
+        requires { HasRoom self.old }
+        ensures { result ≡ true → (t : Fold) (rs : List ItemAnswer) → RepresentsRest self.old t rs
+            → Represents self.new t (rs ++ (plain_value item.entry, value.Bool true) ∷ []) }
+    {
+        match self {
+            Accumulator::Values(ValueAccumulator::Filter(kept)) => keep_plain(kept, item),
+            _ => unreachable!(),
+        }
+    }
+
     /// Adds the item at an index, as the predicate's result for itself.
     fn take_itself(&mut self, alloc: Global, place: usize, item: CowValue<'_>) -> Result<()>
         requires { place + 1 < 2 ^ 64 }
@@ -130,6 +161,32 @@ impl Accumulator {
     }
 }
 
+/// An item or a result that needs no allocation.
+#[derive(Clone, Copy)]
+pub enum Plain<'s> {
+    Integer(i64),
+    Bool(bool),
+    /// A borrowed value.
+    Lent(&'s Value),
+}
+
+/// What became of a result that needs no allocation.
+#[derive(Clone, Copy)]
+pub enum Noted {
+    /// Nothing: [`PredicateRun::answer`] must take it.
+    Not,
+    /// It was taken, and nothing is kept of it.
+    Done,
+    /// It was taken, and the call needs no more results.
+    Ends,
+    /// It was taken and kept.
+    Kept,
+    /// It was taken and replaces the one before.
+    Replaced,
+    /// The item must be kept. There is room for it.
+    WantsItem,
+}
+
 /// A call of a built-in between two results of its predicate. It runs no predicate: it hands out an item, takes it back
 /// with the result, and returns a value once it needs no more. Items of a borrowed array are copied only if they are
 /// kept.
@@ -155,10 +212,13 @@ impl<'s> Drop for PredicateRun<'s> {
 
 impl<'s> PredicateRun<'s> {
     ghost use Rattle.expr_value.specs.declared.value.Value.{Value};
+    ghost use Rattle.expr_value.specs.declared.value.Value as value;
+    ghost use Rattle.expr_predicates.specs.Noting.{HasRoom, Notes};
+    ghost use Rattle.expr_predicates.specs.Plains.{plain_value};
     ghost use Rattle.expr_predicates.specs.Calls.{fold_of_call, fold_over_if, reduce_from_first, fold_of};
     ghost use Rattle.expr_predicates.specs.Accumulators.{Awaits, RunRepresents, StartsWith, acc_out, pending_args, index_out, remaining_items, remaining_count};
     ghost use Rattle.expr_predicates.specs.Runs.{FoldMayReturn, AnswersItself, next_args};
-    ghost use Rattle.expr_predicates.specs.Folds.{Fold, ItemAnswer, FoldOutcome, front_fold, refuses_answer};
+    ghost use Rattle.expr_predicates.specs.Folds.{Fold, ItemAnswer, FoldOutcome, args_about, first_place, front_fold, has_stopped, refuses_answer, tells_acc, tells_index};
 
     /// Begins a call with these arguments: an array, and optionally an initial value for `reduce` or a direction for
     /// `sortBy`. A borrowed array isn't copied.
@@ -362,6 +422,76 @@ impl<'s> PredicateRun<'s> {
     {
         let place = self.asked.saturating_sub(1);
         self.gathered.take(alloc, place, item, answer)
+    }
+
+    /// Hands out the next item, if it needs no allocation. The call needs more results.
+    #[inline(always)]
+    pub fn next_plain(&mut self) -> Option<Plain<'s>>
+        ensures out { IfSome result (λ item. (t : Fold) (rs : List ItemAnswer) → RunRepresents self.old t rs
+            → has_stopped t rs ≡ false
+            → (remaining_items self.old ≡ plain_value item ∷ remaining_items self.new)
+            × Awaits self.new t rs) }
+        ensures question { IfSome result (λ item. (t : Fold) (rs : List ItemAnswer)
+            → RunRepresents self.old t rs
+            → args_about t rs (plain_value item) ≡ pending_args self.new (plain_value item)) }
+        ensures none { result ≡ None → self.new ≡ self.old }
+    {
+        let item = self.left.pop_plain()?;
+        self.asked += 1;
+        Some(item)
+    }
+
+    /// The position in the array of the item that is out, from 0.
+    #[inline(always)]
+    pub fn place(&self) -> usize
+        ensures { (t : Fold) (rs : List ItemAnswer) → Awaits self.now t rs → result ≡ first_place t
+            + length rs }
+    {
+        self.asked.saturating_sub(1)
+    }
+
+    /// Whether `#index` is bound beside an item.
+    #[inline(always)]
+    pub fn tells_index(&self) -> bool
+        ensures { (t : Fold) (rs : List ItemAnswer) → Awaits self.now t rs → result ≡ tells_index t }
+    {
+        matches!(
+            self.gathered,
+            Accumulator::Values(ValueAccumulator::Map(_) | ValueAccumulator::Reduce(_))
+        )
+    }
+
+    /// Whether `#index` and `#acc` are bound beside an item.
+    #[inline(always)]
+    pub fn tells_acc(&self) -> bool
+        ensures { (t : Fold) (rs : List ItemAnswer) → Awaits self.now t rs → result ≡ tells_acc t }
+    {
+        matches!(
+            self.gathered,
+            Accumulator::Values(ValueAccumulator::Reduce(_))
+        )
+    }
+
+    /// Takes a result about the item that is out, if that needs no allocation.
+    #[inline(always)]
+    pub fn note(&mut self, answer: Plain<'_>) -> Noted
+        ensures noted { Notes result self.old self.new (plain_value answer.entry) }
+        ensures left { remaining_items self.new ≡ remaining_items self.old }
+    {
+        let place = self.asked.saturating_sub(1);
+        self.gathered.note(place, answer)
+    }
+
+    /// Keeps the item that is out, for which [`note`](PredicateRun::note) found room. Copies a borrowed item. Returns
+    /// false if the copy is out of memory.
+    #[inline(always)]
+    pub fn keep(&mut self, item: Plain<'_>) -> bool
+        requires { HasRoom self.old.gathered }
+        ensures kept { result ≡ true → (t : Fold) (rs : List ItemAnswer) → Awaits self.old t rs
+            → RunRepresents self.new t (rs ++ (plain_value item.entry, value.Bool true) ∷ []) }
+        ensures left { remaining_items self.new ≡ remaining_items self.old }
+    {
+        self.gathered.keep(item)
     }
 
     /// Takes back the item that was handed out, as the predicate's result for itself.

@@ -5,7 +5,10 @@ ghost use Rattle.expr_value.specs.Values.{truth_of};
 ghost use Rattle.expr_error.specs.ErrorKind.{evaluation, RefusesWith, IsOfKind};
 ghost use Rattle.expr_value.specs.declared.value.Value.{Value as value};
 ghost use Rattle.expr_predicates.specs.Folds.{place_or_none};
+ghost use Rattle.expr_predicates.specs.Noting.{ScalarNotes};
+ghost use Rattle.expr_predicates.specs.declared.run.Noted.TheVariants.{Done, Ends};
 
+use crate::run::Noted;
 use expr_arguments::unexpected_value;
 use expr_functions::HigherOrderCall;
 use expr_value::{Error, Result, Value, refusal};
@@ -120,6 +123,37 @@ impl ScalarAccumulator {
         }
     }
 
+    /// Takes a boolean result about the item at this position. Nothing was found before.
+    #[inline(always)]
+    pub(crate) fn note_truth(&mut self, place: usize, truth: bool) -> Noted
+        requires { place + 1 < 2 ^ 64 }
+        ensures { ScalarNotes place result self.old self.new (value.Bool truth) }
+    {
+        match self {
+            ScalarAccumulator::Count(count) => {
+                *count = count_if(*count, truth);
+                Noted::Done
+            }
+            ScalarAccumulator::All(found) => {
+                *found = !truth;
+                noted_as(!truth)
+            }
+            ScalarAccumulator::Any(found) => {
+                *found = truth;
+                noted_as(truth)
+            }
+            ScalarAccumulator::NoneOf(found) => {
+                *found = truth;
+                noted_as(truth)
+            }
+            ScalarAccumulator::FindIndex(found) => {
+                *found = found_if(None, truth, place);
+                noted_as(truth)
+            }
+            _ => Noted::Not,
+        }
+    }
+
     /// The error for a result that isn't accepted.
     #[inline(never)]
     fn refusal(&self, alloc: Global, answer: &Value) -> Error
@@ -175,6 +209,14 @@ impl ScalarAccumulator {
             ScalarAccumulator::Sum(total) => Value::Integer(total),
         }
     }
+}
+
+/// What became of a result of which nothing is kept.
+#[inline(always)]
+fn noted_as(is_last: bool) -> Noted
+    ensures { result ≡ (if is_last then Ends else Done) }
+{
+    if is_last { Noted::Ends } else { Noted::Done }
 }
 
 /// Whether a result is `true`.

@@ -1,13 +1,17 @@
 //! Accumulators of built-ins that keep items or results.
-ghost use Rattle.std.specs.Prelude.{◌≡◌, ◌∷◌, ◌++◌, [], List, IfOk, IfSome, IsSomeAnd, OnOk, Some, None, true, false, if◌then◌else◌};
+ghost use Rattle.std.specs.Prelude.{◌≡◌, ◌<◌, ◌∷◌, ◌++◌, [], List, IfOk, IfSome, IsSomeAnd, OnOk, Some, None, true, false, if◌then◌else◌, vec_capacity, vec_len};
 ghost use Rattle.std.specs.Option.{option_or};
 ghost use Rattle.expr_value.specs.Answers.{Returns};
 ghost use Rattle.expr_value.specs.Values.{key_of};
 ghost use Rattle.expr_error.specs.ErrorKind.{evaluation, OnlyMemory, RefusesWith};
 ghost use Rattle.expr_value.specs.declared.key.Key.{Key as key};
+ghost use Rattle.expr_predicates.specs.Noting.{ValuesNote};
+ghost use Rattle.expr_predicates.specs.Plains.{plain_value};
 ghost use Rattle.expr_predicates.specs.Sorting.{sort_key};
+ghost use Rattle.expr_value.specs.declared.value.Value as value;
 
 use crate::grouping::group_by_key;
+use crate::run::{Noted, Plain};
 use crate::scalar_accumulator::is_true;
 use crate::sorting::{Composite, sort_by_keys};
 use expr_arguments::{Cow, CowValue, kind_of, unexpected};
@@ -94,6 +98,64 @@ impl ValueAccumulator {
         }
     }
 
+    /// Takes a result that needs no allocation.
+    #[inline(always)]
+    pub(crate) fn note(&mut self, answer: Plain<'_>) -> Noted
+        ensures { ValuesNote result self.old self.new (plain_value answer.entry) }
+    {
+        match answer {
+            Plain::Bool(truth) => self.note_truth(truth),
+            Plain::Integer(n) => self.note_integer(n),
+            Plain::Lent(_) => Noted::Not,
+        }
+    }
+
+    /// Takes a boolean result.
+    #[inline(always)]
+    fn note_truth(&mut self, truth: bool) -> Noted
+        ensures { ValuesNote result self.old self.new (value.Bool truth) }
+    {
+        match self {
+            ValueAccumulator::Filter(kept) => {
+                if !truth {
+                    Noted::Done
+                } else if kept.len() < kept.capacity() {
+                    Noted::WantsItem
+                } else {
+                    Noted::Not
+                }
+            }
+            _ => Noted::Not,
+        }
+    }
+
+    /// Takes an integer result.
+    #[inline(always)]
+    fn note_integer(&mut self, n: i64) -> Noted
+        ensures { ValuesNote result self.old self.new (value.Integer n) }
+    {
+        match self {
+            ValueAccumulator::Filter(_) => Noted::Done,
+            ValueAccumulator::Map(answers) => {
+                if answers.len() < answers.capacity() {
+                    answers.push_reserved(Value::Integer(n));
+                    Noted::Kept
+                } else {
+                    Noted::Not
+                }
+            }
+            ValueAccumulator::Reduce(acc) => {
+                if let Value::Nil | Value::Integer(_) = acc {
+                    *acc = Value::Integer(n);
+                    Noted::Replaced
+                } else {
+                    Noted::Not
+                }
+            }
+            _ => Noted::Not,
+        }
+    }
+
     /// The value of the call.
     pub(crate) fn outcome(self, alloc: Global) -> Result<Value>
         ensures { (t : Fold) (rs : List ItemAnswer) → ValuesRepresent self t rs
@@ -147,6 +209,31 @@ fn keep_copy(kept: &mut Vec<Value>, item: &Value) -> std::result::Result<(), All
     ensures { OnOk result (kept.new.items ≡ kept.old.items ++ item.now ∷ []) }
 {
     put_last(kept, item.clone()?)
+}
+
+/// Keeps an item. There is room for it. Returns false if a copy is out of memory.
+#[inline(always)]
+pub(crate) fn keep_plain(kept: &mut Vec<Value>, item: Plain<'_>) -> bool
+    requires { vec_len kept.old < vec_capacity kept.old }
+    ensures { result ≡ true → kept.new.items ≡ kept.old.items ++ plain_value item.entry ∷ [] }
+{
+    match item {
+        Plain::Integer(n) => kept.push_reserved(Value::Integer(n)),
+        Plain::Bool(truth) => kept.push_reserved(Value::Bool(truth)),
+        Plain::Lent(value) => return keep_lent(kept, value),
+    }
+    true
+}
+
+/// Keeps a copy of an item. Returns false if it is out of memory: a boolean takes no place in the caller.
+#[inline(never)]
+fn keep_lent(kept: &mut Vec<Value>, item: &Value) -> bool
+    ensures { result ≡ true → kept.new.items ≡ kept.old.items ++ item.now ∷ [] }
+{
+    match item.clone() {
+        Ok(copy) => put_last(kept, copy).is_ok(),
+        Err(_) => false,
+    }
 }
 
 /// Adds a value at the end.

@@ -1,11 +1,9 @@
 -- What is known of a value that a call returned, or of its error.
-use Rattle.std.proofs.Common.{◌≡◌, ◌≢◌, refl, sym, ap, subst, ◌∙◌, Result, Ok, Err}
+use Rattle.std.proofs.Common.{◌≡◌, refl, sym, ap, ◌∙◌, Result, Ok, Err}
 use Rattle.std.specs.Prelude.{Option, None, Some, option_and_then, option_map}
 use Rattle.std.proofs.lemmas.Option.{same_Some}
-use Rattle.std.specs.Result.{IsErrAnd}
 use Rattle.expr_encoding.specs.Optional.{value_or_refusal}
-use Rattle.expr_error.specs.ErrorKind.{ErrorKind, error_kind, memory, RefusesWith}
-use Rattle.expr_error.specs.declared.error.Error.{Error}
+use Rattle.expr_error.specs.ErrorKind.{ErrorKind}
 
 module _ {A : Type 0} where
   abbrev taken : Result A ErrorKind → Option A
@@ -30,9 +28,3 @@ flat f (Some a) b e = same_Some _ _ e
 pub none_before : {A B : Type 0} (f : A → Option B) (o : Option A) → option_map f o ≡ None → o ≡ None
 none_before f None e = refl
 none_before f (Some a) e = absurd (cc)
-
--- an error that a `?` passes on, of a call that may have it
-pub refused_passed : {A B : Type 0} (r : Result A Error) (e : Error) (R : Result B ErrorKind → Type 0)
-    → IsErrAnd r (λ x. x ≡ e) → (error_kind e ≢ memory → R (Err (error_kind e))) → RefusesWith r (λ k. R (Err k))
-refused_passed (Ok v) e R is p = absurd is
-refused_passed (Err x) e R is p = subst (λ y. error_kind y ≢ memory → R (Err (error_kind y))) (sym is) p

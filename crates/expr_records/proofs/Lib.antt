@@ -1,3 +1,4 @@
 pub mod Given
 pub mod LineLemmas
 pub mod RecordFilterLemmas
+pub mod RunEnding

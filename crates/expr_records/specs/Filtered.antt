@@ -9,7 +9,7 @@ use Rattle.expr_records.specs.declared.line_buffer.LineBuffer.{LineBuffer}
 use Rattle.expr_records.specs.declared.outcome.LineOutcome.{LineOutcome}
 use Rattle.expr_records.specs.declared.outcome.LineOutcome.TheVariants.{Refused}
 use Rattle.expr_records.specs.declared.outcome.Refusal.{Refusal}
-use Rattle.expr_records.specs.declared.outcome.Refusal.TheVariants.{TooLong, NoMemory, NotText, NotJson, NotObject, Expression, NotBoolean, NotWritable}
+use Rattle.expr_records.specs.declared.outcome.Refusal.TheVariants.{TooLong, NoMemory, NotText, NotJson, NotObject, Expression, Passed, NotBoolean, NotWritable}
 use Rattle.expr_records.specs.declared.record_filter.StreamEnd.{StreamEnd}
 use Rattle.expr_records.specs.declared.record_filter.StreamEnd.TheVariants.{Whole, Stopped, Unread, Unwritten}
 use Rattle.expr_records.specs.declared.tally.Tally.{Tally}
@@ -22,6 +22,7 @@ IsUnjudged bound line NotText = ⊥
 IsUnjudged bound line (NotJson error) = ⊥
 IsUnjudged bound line NotObject = ⊥
 IsUnjudged bound line (Expression error) = ⊥
+IsUnjudged bound line (Passed passed) = ⊥
 IsUnjudged bound line NotBoolean = ⊥
 IsUnjudged bound line (NotWritable error) = ⊥
 

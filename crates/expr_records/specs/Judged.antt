@@ -1,16 +1,18 @@
 -- The outcomes of a line for an expression.
-use Rattle.std.specs.Prelude.{◌≡◌, ◌≢◌, ℕ, Bool, true, false, not, List, Option, None, Some, Ok, Err, option_map, ◌⊎◌}
+use Rattle.std.specs.Prelude.{◌≡◌, ◌≢◌, ℕ, Bool, true, false, not, List, Option, None, Some, option_map, ◌⊎◌}
 use Rattle.expr_context.specs.Contexts.{NamedValues}
 use Rattle.expr_encoding.specs.Writing.{json_text}
+use Rattle.expr_limits.specs.Counting.{Ending, gives, refuses, stops}
+use Rattle.expr_limits.specs.Rooms.{Room}
 use Rattle.expr_records.specs.Lines.{is_blank_line, line_text}
 use Rattle.expr_records.specs.Records.{IsRecord, MayRefuseText}
 use Rattle.expr_records.specs.declared.outcome.LineOutcome.{LineOutcome}
 use Rattle.expr_records.specs.declared.outcome.LineOutcome.TheVariants.{Blank, Dropped, Kept, Counted, Rewritten, Refused}
+use Rattle.expr_records.specs.declared.outcome.PassedLimit.{PassedLimit}
 use Rattle.expr_records.specs.declared.outcome.Refusal.{Refusal}
-use Rattle.expr_records.specs.declared.outcome.Refusal.TheVariants.{TooLong, NoMemory, NotText, NotJson, NotObject, Expression, NotBoolean, NotWritable}
+use Rattle.expr_records.specs.declared.outcome.Refusal.TheVariants.{TooLong, NoMemory, NotText, NotJson, NotObject, Expression, Passed, NotBoolean, NotWritable}
 use Rattle.expr_records.specs.declared.query.Purpose.{Purpose}
 use Rattle.expr_records.specs.declared.query.Purpose.TheVariants.{Keep, Count, Rewrite}
-use Rattle.expr_value.specs.Answers.{Answer}
 use Rattle.expr_error.specs.ErrorKind.{error_kind, memory}
 use Rattle.expr_value.specs.Values.{truth_of}
 use Rattle.expr_error.specs.declared.error.Error.{Error}
@@ -39,6 +41,7 @@ IsUnwritable v NotText = ⊥
 IsUnwritable v (NotJson error) = ⊥
 IsUnwritable v NotObject = ⊥
 IsUnwritable v (Expression error) = ⊥
+IsUnwritable v (Passed passed) = ⊥
 IsUnwritable v NotBoolean = ⊥
 IsUnwritable v (NotWritable error) = error_kind error ≢ memory → json_text v ≡ None
 
@@ -57,23 +60,24 @@ IsOutcomeOf (Keep wanted) v outcome = outcome ≡ outcome_by Kept (is_sought wan
 IsOutcomeOf (Count wanted) v outcome = outcome ≡ outcome_by Counted (is_sought wanted v)
 IsOutcomeOf Rewrite v outcome = IsRewritten v outcome
 
--- the outcome of a record: by a value that the expression may return, or by its error
-abbrev pub ComesOfRecord : Purpose → (Answer → Type 0) → LineOutcome → Type 0
-ComesOfRecord purpose allowed outcome =
-    ((v : Value) × allowed (Ok v) × IsOutcomeOf purpose v outcome)
-    ⊎ ((error : Error) × (outcome ≡ Refused (Expression error)) × (error_kind error ≢ memory → allowed (Err (error_kind error))))
+-- the outcome of a record: by the value with which its run may end, by its error, or by the limit at which it stops
+abbrev pub ComesOfRecord : Purpose → (Ending Room → Type 0) → LineOutcome → Type 0
+ComesOfRecord purpose ends outcome =
+    ((v : Value) × (left : Room) × ends (gives v left) × IsOutcomeOf purpose v outcome)
+    ⊎ (((error : Error) × (outcome ≡ Refused (Expression error)) × (error_kind error ≢ memory → ends (refuses (error_kind error))))
+    ⊎ ((passed : PassedLimit) × (outcome ≡ Refused (Passed passed)) × ends (stops passed.limit)))
 
 -- the outcome of a string: that of its record, or the error of one that is no record
-abbrev pub ComesOfText : Purpose → (NamedValues → Answer → Type 0) → List ℕ → LineOutcome → Type 0
-ComesOfText purpose allowed text outcome =
-    ((members : NamedValues) × IsRecord text members × ComesOfRecord purpose (allowed members) outcome)
+abbrev pub ComesOfText : Purpose → (NamedValues → Ending Room → Type 0) → List ℕ → LineOutcome → Type 0
+ComesOfText purpose ends text outcome =
+    ((members : NamedValues) × IsRecord text members × ComesOfRecord purpose (ends members) outcome)
     ⊎ ((refusal : Refusal) × (outcome ≡ Refused refusal) × MayRefuseText text refusal)
 
 -- the outcome of a line, given whether it is blank
-abbrev pub ComesBy : Bool → Purpose → (NamedValues → Answer → Type 0) → List ℕ → LineOutcome → Type 0
-ComesBy true purpose allowed text outcome = outcome ≡ Blank
-ComesBy false purpose allowed text outcome = ComesOfText purpose allowed text outcome
+abbrev pub ComesOfLine : Bool → Purpose → (NamedValues → Ending Room → Type 0) → List ℕ → LineOutcome → Type 0
+ComesOfLine true purpose ends text outcome = outcome ≡ Blank
+ComesOfLine false purpose ends text outcome = ComesOfText purpose ends text outcome
 
--- the outcomes of a line, given what the expression may return for a record
-abbrev pub MayCome : Purpose → (NamedValues → Answer → Type 0) → List ℕ → LineOutcome → Type 0
-MayCome purpose allowed line outcome = ComesBy (is_blank_line line) purpose allowed (line_text line) outcome
+-- the outcomes of a line, given how the run for a record may end
+abbrev pub MayCome : Purpose → (NamedValues → Ending Room → Type 0) → List ℕ → LineOutcome → Type 0
+MayCome purpose ends line outcome = ComesOfLine (is_blank_line line) purpose ends (line_text line) outcome

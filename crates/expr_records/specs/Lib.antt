@@ -5,5 +5,6 @@ pub mod LineSteps
 pub mod Lines
 pub mod Outcomes
 pub mod RecordCode
+pub mod RecordRuns
 pub mod Records
 pub mod Filtered

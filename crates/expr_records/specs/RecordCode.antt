@@ -1,24 +1,46 @@
--- What an expression may return for a record.
-use Rattle.std.specs.Prelude.{ℕ, List, []}
-use Rattle.expr_context.specs.Contexts.{NamedValues, context_of}
-use Rattle.expr_eval.specs.Texts.{MayAnswerWithin}
+-- The code of an expression, within limits or without.
+use Rattle.std.specs.Prelude.{◌≢◌, ℕ, List, Option, None, Some, Result, Ok, Err, String}
+use Rattle.std.specs.declared.alloc.Global.{Global}
+use Rattle.std.specs.declared.boxed.Box.{Box}
 use Rattle.expr_code.specs.Codes.{IsCode}
-use Rattle.expr_code.specs.Instructions.{Op}
-use Rattle.expr_meaning.specs.Host.{Host}
-use Rattle.expr_meaning.specs.World.{world_of}
-use Rattle.expr_records.specs.Records.{record_context}
-use Rattle.expr_syntax.specs.Texts.{IsProgramWithin}
+use Rattle.expr_error.specs.ErrorKind.{error_kind, memory}
+use Rattle.expr_error.specs.declared.error.Error.{Error}
+use Rattle.expr_limits.specs.declared.limit.Limit.{Limit}
+use Rattle.expr_limits.specs.declared.limit.Limit.TheVariants.{Nesting, Patterns}
+use Rattle.expr_limits.specs.declared.limits.Limits.{Limits}
+use Rattle.expr_limits.specs.declared.outcome.Outcome.{Outcome}
+use Rattle.expr_limits.specs.declared.outcome.Outcome.TheVariants.{Answered, Stopped}
+use Rattle.expr_lowering.specs.OwnedCodes.{owned_blocks}
+use Rattle.expr_lowering.specs.declared.code.Code.{Code}
+use Rattle.expr_pattern.specs.declared.pattern.Pattern.{Pattern}
+use Rattle.expr_syntax.specs.Bounds.{IsHeavier, IsHigher, IsLight}
+use Rattle.expr_syntax.specs.Refused.{IsRefused}
+use Rattle.expr_syntax.specs.Texts.{IsProgramOf, IsProgramWithin}
 use Rattle.expr_tree.specs.Term.{Block}
-use Rattle.expr_value.specs.Answers.{Answer}
+use Rattle.expr_value.specs.declared.value.Value.{Value}
 
--- the code is one of the program of a tree of the expression, no higher than 500
-abbrev pub IsCodeOf : List ℕ → List (List Op) → Type 0
-IsCodeOf text code = (b : Block) × IsProgramWithin text 500 b × IsCode b code
+-- code that owns its parts
+abbrev pub RecordCode : Type 0
+RecordCode = Code (Box Value Global) (Box (String Global) Global) (Box Pattern Global)
 
--- what the expression may return for a record, with names that come before its members
-abbrev pub may_answer : Host → NamedValues → List ℕ → NamedValues → Answer → Type 0
-may_answer host names text members answer = MayAnswerWithin 500 text (world_of host (record_context names members)) answer
+-- The program is one of the expression. Its tree and its literal patterns are within the limits, if there are any.
+abbrev pub IsProgramIn : Option Limits → List ℕ → Block → Type 0
+IsProgramIn (Some limits) text b = IsProgramWithin text limits.nesting b × IsLight text limits.patterns
+IsProgramIn None text b = IsProgramOf text b
 
--- what the code of a name may return, without names
-abbrev pub may_name : Host → List ℕ → Answer → Type 0
-may_name host code answer = MayAnswerWithin 500 code (world_of host (context_of [])) answer
+-- the code is one of such a program
+abbrev pub IsCodeOf : Option Limits → List ℕ → RecordCode → Type 0
+IsCodeOf limits text code = (b : Block) × IsProgramIn limits text b × IsCode b (owned_blocks code)
+
+-- the expression itself passes this limit
+abbrev pub IsBeyondLimit : Option Limits → List ℕ → Limit → Type 0
+IsBeyondLimit (Some limits) text Nesting = IsHigher text limits.nesting
+IsBeyondLimit (Some limits) text Patterns = IsHeavier text limits.patterns
+IsBeyondLimit (Some limits) text limit = ⊥
+IsBeyondLimit None text limit = ⊥
+
+-- This is made of the expression, or it passes a limit, or it has an error of its own, or memory is lacking.
+abbrev pub IsMadeOf : {A : Type 0} → Option Limits → List ℕ → (A → Type 0) → Result (Outcome A) Error → Type 0
+IsMadeOf limits text made (Ok (Answered a)) = made a
+IsMadeOf limits text made (Ok (Stopped limit)) = IsBeyondLimit limits text limit
+IsMadeOf limits text made (Err e) = error_kind e ≢ memory → IsRefused text (Err (error_kind e))

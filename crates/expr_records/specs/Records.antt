@@ -3,7 +3,7 @@ use Rattle.std.specs.Prelude.{◌≡◌, ◌≢◌, ℕ, List, Option, None, Som
 use Rattle.expr_context.specs.Contexts.{NamedValues}
 use Rattle.expr_encoding.specs.Reading.{json_value}
 use Rattle.expr_records.specs.declared.outcome.Refusal.{Refusal}
-use Rattle.expr_records.specs.declared.outcome.Refusal.TheVariants.{TooLong, NoMemory, NotText, NotJson, NotObject, Expression, NotBoolean, NotWritable}
+use Rattle.expr_records.specs.declared.outcome.Refusal.TheVariants.{TooLong, NoMemory, NotText, NotJson, NotObject, Expression, Passed, NotBoolean, NotWritable}
 use Rattle.expr_context.specs.Context.{ContextView}
 use Rattle.expr_error.specs.ErrorKind.{error_kind, memory}
 use Rattle.expr_value.specs.Names.{find}
@@ -36,5 +36,6 @@ MayRefuseText text NotText = IsUtf8 text → ⊥
 MayRefuseText text (NotJson error) = error_kind error ≢ memory → json_value text ≡ None
 MayRefuseText text NotObject = members_of text ≡ None
 MayRefuseText text (Expression error) = ⊥
+MayRefuseText text (Passed passed) = ⊥
 MayRefuseText text NotBoolean = ⊥
 MayRefuseText text (NotWritable error) = ⊥

@@ -1,14 +1,15 @@
 //! The outcome of a line for an expression.
 ghost use Rattle.std.specs.Prelude.{◌≡◌, ℕ, List};
-ghost use Rattle.expr_lowering.specs.OwnedCodes.{owned_blocks};
-ghost use Rattle.expr_records.specs.RecordCode.{IsCodeOf, may_answer};
+ghost use Rattle.expr_records.specs.RecordCode.{IsCodeOf};
+ghost use Rattle.expr_records.specs.RecordRuns.{RecordEnds};
 ghost use Rattle.expr_records.specs.Judged.{ComesOfRecord, IsOutcomeOf, is_sought, same};
 
-use crate::outcome::{LineOutcome, Refusal};
+use crate::outcome::{LineOutcome, PassedLimit, Refusal};
 use crate::query::{Purpose, Query};
 use crate::record::{is_blank, record_of, text_of};
 use crate::record_filter::Judge;
 use expr_encoding::{JsonReader, Members, to_json};
+use expr_limits::Outcome;
 use expr_meaning::Functions;
 use expr_value::Value;
 use std::alloc::Global;
@@ -58,25 +59,30 @@ fn record_outcome<H: Functions>(
     query: &mut Query<H>,
     members: Members<'_>,
 ) -> LineOutcome
-    ensures comes { (text : List ℕ) → IsCodeOf text (owned_blocks query.old.machine.code.now)
+    ensures comes { (text : List ℕ) → IsCodeOf query.old.limits text query.old.machine.code.now
         → ComesOfRecord query.old.purpose
-        (may_answer (H.host query.old.host.now) query.old.names.now text members.entry) result }
+        (RecordEnds query.old.limits (H.host query.old.host.now) query.old.names.now text
+        query.old.machine.code.now members.entry) result }
     ensures same { query.new ≡ query.old }
 {
     match query.answer(members) {
-        Ok(answer) => outcome_of(alloc, query.purpose, &answer),
+        Ok(Outcome::Answered(answer)) => outcome_of(alloc, query.purpose, &answer),
+        Ok(Outcome::Stopped(limit)) => {
+            LineOutcome::Refused(Refusal::Passed(PassedLimit::of(query.limits, limit)))
+        }
         Err(error) => LineOutcome::Refused(Refusal::Expression(error)),
     }
 }
 
 impl<'h, H: Functions> Judge for Query<'h, H> {
     ghost use Rattle.std.specs.Prelude.{List, ℕ};
-    ghost use Rattle.expr_lowering.specs.OwnedCodes.{owned_blocks};
-    ghost use Rattle.expr_records.specs.RecordCode.{IsCodeOf, may_answer};
+    ghost use Rattle.expr_records.specs.RecordCode.{IsCodeOf};
+    ghost use Rattle.expr_records.specs.RecordRuns.{RecordEnds};
     ghost use Rattle.expr_records.specs.Judged.{MayCome};
 
-    ghost judged = { λ q line outcome. (text : List ℕ) → IsCodeOf text (owned_blocks q.machine.code.now)
-        → MayCome q.purpose (may_answer (H.host q.host.now) q.names.now text) line outcome };
+    ghost judged = { λ q line outcome. (text : List ℕ) → IsCodeOf q.limits text q.machine.code.now
+        → MayCome q.purpose
+        (RecordEnds q.limits (H.host q.host.now) q.names.now text q.machine.code.now) line outcome };
 
     /// Skips a byte order mark at the start of the line. A line of only spaces, tabs and carriage returns has
     /// no record.

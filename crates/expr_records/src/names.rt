@@ -1,51 +1,55 @@
 //! Names that come before those of the records.
-ghost use Rattle.std.specs.Prelude.{◌≡◌, ◌≢◌, Ok, Err, OnErr, OnOk};
-ghost use Rattle.expr_records.specs.RecordCode.{may_name};
-ghost use Rattle.expr_value.specs.Answers.{Returns};
-ghost use Rattle.expr_error.specs.ErrorKind.{RefusesWith};
-ghost use Rattle.expr_value.specs.Names.{put};
-ghost use Rattle.expr_value.specs.declared.value.Value.{Value};
+ghost use Rattle.expr_limits.specs.Outcomes.{ReturnsOutcome};
+ghost use Rattle.expr_records.specs.RecordRuns.{Binds, NameEnds};
 
-use crate::query::HEIGHT;
+use crate::query::{code_of_text, execute_by};
 use expr_context::Context;
-use expr_machine::Machine;
+use expr_limits::{Limits, Outcome};
+use expr_machine::ReusableMachine;
 use expr_meaning::Functions;
-use expr_syntax::compile_within;
 use expr_value::{Result, Value};
 use std::alloc::Global;
 
-/// Evaluates code without any names.
-fn value_of<H: Functions>(alloc: Global, host: &H, code: &str) -> Result<Value>
-    ensures { Returns result (may_name (H.host host.now) code.now) }
+/// Evaluates code without any names, within limits or without.
+fn value_of<H: Functions>(
+    alloc: Global,
+    host: &H,
+    code: &str,
+    limits: Option<Limits>,
+) -> Result<Outcome<Value>>
+    ensures { ReturnsOutcome result (NameEnds limits (H.host host.now) code.now) }
 {
-    let program = compile_within(alloc, code, HEIGHT)?;
-    let machine = Machine {
-        alloc,
-        host,
-        provider: Context::new(alloc),
-    };
-    machine.answer_program(&program)
+    match code_of_text(alloc, code, limits)? {
+        Outcome::Answered(code) => {
+            let mut machine = ReusableMachine::new(alloc, &code);
+            execute_by(&mut machine, host, Context::new(alloc), limits)
+        }
+        Outcome::Stopped(limit) => Ok(Outcome::Stopped(limit)),
+    }
 }
 
-/// Evaluates code without any names, and puts the value under a name. On an error the names stay as they
-/// were.
+/// Evaluates code without any names, within limits or without, and puts the value under a name. If there is
+/// none, the names stay as they were.
 ///
 /// # Errors
 ///
-/// Returns the errors of compiling and evaluating the code, and `MemoryError` if an allocation fails.
+/// Returns the errors of compiling and evaluating the code, and `MemoryError` if an allocation fails. Passing
+/// a limit is not an error: it returns [`Outcome::Stopped`].
 pub fn bind<H: Functions>(
     alloc: Global,
     host: &H,
     name: &str,
     code: &str,
+    limits: Option<Limits>,
     names: &mut Context,
-) -> Result<()>
-    ensures bound { OnOk result ((v : Value) × may_name (H.host host.now) code.now (Ok v)
-        × names.new ≡ put name.now v names.old) }
-    ensures refused { RefusesWith result
-        (λ k. may_name (H.host host.now) code.now (Err k)) }
-    ensures err { OnErr result (names.new ≡ names.old) }
+) -> Result<Outcome<()>>
+    ensures { Binds (NameEnds limits (H.host host.now) code.now) name.now names.old names.new result }
 {
-    let value = value_of(alloc, host, code)?;
-    names.insert(String::from_str(alloc, name)?, value)
+    match value_of(alloc, host, code, limits)? {
+        Outcome::Answered(value) => {
+            names.insert(String::from_str(alloc, name)?, value)?;
+            Ok(Outcome::Answered(()))
+        }
+        Outcome::Stopped(limit) => Ok(Outcome::Stopped(limit)),
+    }
 }

@@ -1,8 +1,13 @@
 pub mod Beside
 pub mod Cuts
+pub mod Entries
+pub mod Helds
 pub mod Off
+pub mod Owned
+pub mod Parts
 pub mod Places
 pub mod Puts
+pub mod Rebound
 pub mod Said
 pub mod Tops
 pub mod TwoIntegers

@@ -1,4 +1,6 @@
+pub mod Bindings
 pub mod Cells
+pub mod Held
 pub mod Memories
 pub mod Operands
 pub mod Pushes

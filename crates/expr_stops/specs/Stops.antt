@@ -1,5 +1,5 @@
 -- Calls of a host's functions at which a run stops, and how such a run goes.
-use Rattle.std.specs.Prelude.{◌≡◌, ◌≢◌, ◌&&◌, ◌||◌, ◌++◌, ◌∷◌, [], ℕ, Bool, true, false, List, MatchBool, Ok, Err, Option, None, Some, IsSomeAnd, Result, String, bytes_eq, length, slice_get, string_bytes}
+use Rattle.std.specs.Prelude.{◌≡◌, ◌≢◌, ◌≤◌, ◌&&◌, ◌||◌, ◌++◌, ◌∷◌, [], ℕ, Bool, true, false, List, MatchBool, Ok, Err, Option, None, Some, IsSomeAnd, Result, String, bytes_eq, length, slice_get, string_bytes}
 use Rattle.std.specs.Cmp.Lexicographic.{pointwise}
 use Rattle.std.specs.declared.alloc.Global.{Global}
 use Rattle.std.specs.HashSet.{contains_text}
@@ -10,6 +10,7 @@ use Rattle.expr_meaning.specs.Allows.{AllowsBlock}
 use Rattle.expr_meaning.specs.Host.{Host}
 use Rattle.expr_meaning.specs.Independence.{AgreeAt}
 use Rattle.expr_limits.specs.Counting.{Ending, gives, refuses, stops as stops_at}
+use Rattle.expr_machine.specs.Promises.{CountsUse}
 use Rattle.expr_meaning.specs.Counts.{CodeCounts}
 use Rattle.expr_limits.specs.Rooms.{Room, rooms, limited}
 use Rattle.expr_limits.specs.declared.limits.Limits.{Limits}
@@ -23,6 +24,7 @@ use Rattle.expr_stops.specs.declared.replies.Reply.TheVariants as reply
 use Rattle.expr_stops.specs.declared.names.StopNames.{StopNames}
 use Rattle.expr_stops.specs.declared.replay.Stop.{Stop}
 use Rattle.expr_stops.specs.declared.stops.Stops.{Stops}
+use Rattle.expr_stops.specs.declared.used.Used.{Used}
 use Rattle.expr_stops.specs.declared.stops.RunStatus.{RunStatus}
 use Rattle.expr_stops.specs.declared.stops.RunStatus.TheVariants.{Ended, Asks, Differs, Stopped}
 use Rattle.expr_tree.specs.Names.{AreNamesOf}
@@ -71,6 +73,23 @@ replies_of stops = stops.given.items
 -- the call that waits for a reply
 abbrev pub waiting_call_of : Stops → Option Stop
 waiting_call_of stops = stops.asked
+
+-- what the last turn used of its limits
+abbrev pub used_of : Stops → Used
+used_of stops = stops.used
+
+abbrev pub nothing_used : Used
+nothing_used = record { steps = 0; size = 0 }
+
+-- A run uses no more than the limits allow. Without limits nothing is counted.
+abbrev pub UsesWithin : Option Limits → Used → Type 0
+UsesWithin (Some limits) used = (used.steps ≤ limits.steps) × (used.size ≤ limits.size)
+UsesWithin None used = used ≡ nothing_used
+
+-- What it used is what a counted run of the code uses that ends so.
+abbrev pub CodeUses : Option Limits → World → List (List Op) → Result (Outcome Value) Error → Used → Type 0
+CodeUses (Some limits) world blocks result used = CountsUse world blocks limits result used.steps used.size
+CodeUses None world blocks result used = used ≡ nothing_used
 
 -- this holds of the result of a run that ended
 abbrev pub IfEnded : RunStatus → (Result Value Error → Type 0) → Type 0
@@ -131,10 +150,11 @@ StopsWell named given Asks asked = IsSomeAnd asked (IsNext named given)
 StopsWell named given (Differs stop) asked = (asked ≡ None) × IsOther named given stop
 StopsWell named given (Stopped limit) asked = asked ≡ None
 
--- There is no new reply, and the same call waits.
+-- There is no new reply, the same call waits, and as much was used.
 pub record IsSame (old new : Stops) : Type 0 where
   pub given : replies_of new ≡ replies_of old
   pub asked : waiting_call_of new ≡ waiting_call_of old
+  pub used : used_of new ≡ used_of old
 
 -- The call that waited has this reply, after all others, and none waits.
 pub record IsReplied (old new : Stops) (reply : Reply) : Type 0 where

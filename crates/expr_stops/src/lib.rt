@@ -7,10 +7,12 @@ mod replay;
 mod replays;
 mod replies;
 mod stops;
+mod used;
 
 pub use expr_meaning::ExprCall;
-pub use limited::execute_in;
+pub use limited::{EndedRun, execute_in};
 pub use names::StopNames;
 pub use replay::Stop;
 pub use replies::{CallReply, Reply};
 pub use stops::{RunStatus, Stops};
+pub use used::Used;

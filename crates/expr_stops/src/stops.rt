@@ -4,11 +4,11 @@ ghost use Rattle.std.specs.Option.{option_copied};
 ghost use Rattle.expr_meaning.specs.CodeRuns.{CodeAnswers};
 ghost use Rattle.expr_lowering.specs.Blocks.{CodeKeeps, blocks_of};
 ghost use Rattle.expr_lowering.specs.Kept.{ProgramKeeps};
-ghost use Rattle.expr_machine.specs.Texts.{text_of};
+ghost use Rattle.expr_acts.specs.Texts.{text_of};
 ghost use Rattle.expr_meaning.specs.Allows.{AllowsBlock};
 ghost use Rattle.expr_meaning.specs.Refusals.{NeverRefusesWith};
 ghost use Rattle.expr_meaning.specs.World.{world_of};
-ghost use Rattle.expr_stops.specs.Stops.{AllowedWhereAgreed, CodeComes, ComesTo, EndsTurn, IfEnded, IsAsItWent, IsRepliedRefusal, IsReplied, IsSame, StopsWell, host_replying, waiting_call_of, replies_of, is_named};
+ghost use Rattle.expr_stops.specs.Stops.{AllowedWhereAgreed, CodeComes, ComesTo, EndsTurn, IfEnded, IsAsItWent, IsRepliedRefusal, IsReplied, IsSame, StopsWell, UsesWithin, host_replying, waiting_call_of, nothing_used, replies_of, is_named, used_of};
 ghost use Rattle.expr_stops.specs.declared.replies.CallReply.{CallReply};
 ghost use Rattle.expr_stops.specs.declared.replies.Reply.{Reply};
 ghost use Rattle.expr_tree.specs.TermOf.{program_term};
@@ -19,6 +19,7 @@ use crate::names::StopNames;
 use crate::replay::Stop;
 use crate::replays::{RunOutcome, play, play_code};
 use crate::replies::{CallReply, Reply};
+use crate::used::Used;
 use expr_context::ContextProvider;
 use expr_limits::{Limit, Limits, Outcome};
 use expr_lowering::{Code, Pointer};
@@ -56,7 +57,7 @@ impl RunStatus {
 }
 
 /// A program's run that stops at the host's functions. It holds the host's replies, in the order of the
-/// calls, and the call that waits for a reply.
+/// calls, the call that waits for a reply, and what its last turn used of the limits.
 ///
 /// A run starts again after each reply. So a program that makes n calls runs n + 1 times.
 #[derive(Drop)]
@@ -64,6 +65,7 @@ pub struct Stops {
     alloc: Global,
     given: Vec<CallReply>,
     asked: Option<Stop>,
+    used: Used,
 }
 
 impl Stops {
@@ -71,11 +73,13 @@ impl Stops {
     pub fn new(alloc: Global) -> Stops
         ensures given { replies_of result ≡ [] }
         ensures asked { waiting_call_of result ≡ None }
+        ensures used { used_of result ≡ nothing_used }
     {
         Stops {
             alloc,
             given: Vec::new(alloc),
             asked: None,
+            used: Used::nothing(),
         }
     }
 
@@ -102,6 +106,7 @@ impl Stops {
         ensures stops { StopsWell (is_named names.now) (replies_of self.old) result
             (waiting_call_of self.new) }
         ensures given { replies_of self.new ≡ replies_of self.old }
+        ensures used { used_of self.new ≡ nothing_used }
     {
         let played = play(self.alloc, host, names, &self.given, program, ctx);
         self.turn(names, played)
@@ -132,25 +137,29 @@ impl Stops {
         ensures ended { IfEnded result (λ r. Returns r (CodeAnswers
             (world_of (host_replying (H.host host.now) (is_named names.now) (replies_of self.old))
             (P.context provider)) (blocks_of L.held (text_of N.held) code.now))) }
-        ensures pattern { limits ≡ None → NeverRefusesWith (H.host host.now) bad_pattern
-            → CodeKeeps L.held K.held code.now → IfEnded result (λ r. RefusesNoPattern r) }
+        ensures pattern { NeverRefusesWith (H.host host.now) bad_pattern → CodeKeeps L.held K.held code.now
+            → IfEnded result (λ r. RefusesNoPattern r) }
         ensures stops { StopsWell (is_named names.now) (replies_of self.old) result
             (waiting_call_of self.new) }
         ensures given { replies_of self.new ≡ replies_of self.old }
+        // It notes what it used, which is within the limits.
+        ensures used { UsesWithin limits (used_of self.new) }
     {
         let played = play_code(self.alloc, host, names, &self.given, code, provider, limits);
         self.turn(names, played)
     }
 
-    /// The outcome of this run. Notes the call that waits, if there is one.
+    /// The outcome of this run. Notes the call that waits, if there is one, and what the run used.
     fn turn(&mut self, names: &StopNames, played: RunOutcome) -> RunStatus
         ensures went { IsAsItWent played.went result }
         ensures stops { StopsWell (is_named names.now) (replies_of self.old) result
             (waiting_call_of self.new) }
         ensures given { replies_of self.new ≡ replies_of self.old }
+        ensures used { used_of self.new ≡ played.used }
     {
         self.asked = None;
-        let RunOutcome { went, stop } = played;
+        let RunOutcome { went, stop, used } = played;
+        self.used = used;
         let Some(stop) = stop else {
             return RunStatus::of(went);
         };
@@ -172,6 +181,22 @@ impl Stops {
         ensures { option_copied result ≡ waiting_call_of self.now }
     {
         self.asked.as_ref()
+    }
+
+    /// What the last turn used of its limits: nothing before the first one and where there were none.
+    pub fn used(&self) -> Used
+        ensures { result ≡ used_of self.now }
+    {
+        self.used
+    }
+
+    /// Notes what a run used that came to no call.
+    pub fn note_used(&mut self, used: Used)
+        ensures used { used_of self.new ≡ used }
+        ensures given { replies_of self.new ≡ replies_of self.old }
+        ensures asked { waiting_call_of self.new ≡ waiting_call_of self.old }
+    {
+        self.used = used;
     }
 
     /// The host's replies, in the order of the calls.
@@ -231,12 +256,14 @@ impl Stops {
         }
     }
 
-    /// Drops all replies and the call that waits, so that the next run starts from the beginning.
+    /// Drops all replies, the call that waits and what was used, so that the next run starts from the beginning.
     pub fn forget(&mut self)
         ensures given { replies_of self.new ≡ [] }
         ensures asked { waiting_call_of self.new ≡ None }
+        ensures used { used_of self.new ≡ nothing_used }
     {
         self.given.clear();
         self.asked = None;
+        self.used = Used::nothing();
     }
 }

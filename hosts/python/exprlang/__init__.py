@@ -38,7 +38,7 @@ from ._checks import Missing
 from ._context import Context
 from ._environment import Environment
 from ._errors import Error, LimitError, Syntax
-from ._limits import UNLIMITED, USUAL, AnyLimits, Limits, Unlimited
+from ._limits import UNLIMITED, USUAL, AnyLimits, Limits, Unlimited, Used
 from ._program import Program, Record
 from ._rule import Rule
 from ._values import Key, KeyedMap, Month, Weekday
@@ -57,7 +57,7 @@ __all__ = [
     "Rule",
     "Syntax",
 ]
-__all__ += ["UNLIMITED", "Unlimited", "Weekday", "evaluate", "library_version"]
+__all__ += ["UNLIMITED", "Unlimited", "Used", "Weekday", "evaluate", "library_version"]
 
 
 def library_version() -> str:

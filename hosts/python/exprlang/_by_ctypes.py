@@ -133,6 +133,16 @@ class Program(Copied):
         with taken() as engine:
             return _Runs(engine, self, *begun).over(context)
 
+    def _run_used(self, context: Any, environment: Any, missing: Any, used: list[int]) -> Any:
+        begun = self._begun(environment, missing)
+        with taken() as engine:
+            runs = _Runs(engine, self, *begun)
+            try:
+                return runs.over(context)
+            finally:
+                if runs.is_begun:
+                    used += engine.used()
+
     def _matches(self, context: Any, environment: Any, missing: Any) -> bool:
         begun = self._begun(environment, missing)
         with taken() as engine:
@@ -205,6 +215,7 @@ class _Runs:
         self.environment = engine.copy(environment).handle if environment else NONE
         self.functions = environment._added[1] if environment else {}
         self.kept: Optional[Context] = None
+        self.is_begun = False  # whether the engine's last run is one of these
 
     def over(self, given: Any) -> Any:
         """Runs over a record, and returns the value."""
@@ -272,6 +283,7 @@ class _Runs:
         """Runs in a context of the engine, and calls the functions that the run asks for."""
         engine, limits = self.engine, self.program._numbers
         engine.limit(limits)
+        self.is_begun = True
         status = engine.ask(
             LIBRARY.run, self.compiled, self.environment, context, engine.to_answer
         )

@@ -187,6 +187,12 @@ class Engine:
         self.ask(LIBRARY.uses_env, program, ctypes.byref(uses))
         return bool(uses.value)
 
+    def used(self) -> tuple[int, int]:
+        """Returns how many steps and how much size the last run used."""
+        steps, size = ctypes.c_int64(), ctypes.c_int64()
+        self.ask(LIBRARY.used, ctypes.byref(steps), ctypes.byref(size))
+        return steps.value, size.value
+
     def asked(self) -> str:
         """Returns the name of the function whose call waits, and looks at its arguments."""
         name = ctypes.c_char_p()

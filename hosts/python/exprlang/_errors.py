@@ -2,7 +2,9 @@
 
 from __future__ import annotations
 
-from typing import Any
+from typing import Any, Optional
+
+from ._limits import Used
 
 
 class Error(Exception):
@@ -32,6 +34,8 @@ class Error(Exception):
     """
 
     kind: str
+    used: Optional[Used] = None
+    """What the run used of its limits, if it was Program.run_used."""
 
     def __init__(self, kind: str, message: str) -> None:
         super().__init__(message or kind)

@@ -37,6 +37,7 @@ NONE = _Handle(0, 0, 2**64 - 1)
 _POINTER, _SIZE, _TEXT, _WHOLE = ctypes.c_void_p, ctypes.c_size_t, ctypes.c_char_p, ctypes.c_int64
 _TO_ANSWER, _TO_HANDLE = ctypes.POINTER(_Answer), ctypes.POINTER(_Handle)
 _TO_SIZE, _TO_TEXT = ctypes.POINTER(_SIZE), ctypes.POINTER(_TEXT)
+_TO_WHOLE = ctypes.POINTER(_WHOLE)
 
 # what each call takes behind the engine; each returns a status
 _LONG_CALLS: dict[str, list[Any]] = {
@@ -48,6 +49,7 @@ _LONG_CALLS: dict[str, list[Any]] = {
 _SHORT_CALLS: dict[str, list[Any]] = {
     "set_limits": [ctypes.POINTER(_Limits)],
     "set_unlimited": [],
+    "used": [_TO_WHOLE, _TO_WHOLE],
     "names": [_Handle, _TO_SIZE, _TO_TEXT],
     "functions": [_Handle, _TO_SIZE, _TO_TEXT],
     "program_text": [_Handle, _TO_SIZE, ctypes.POINTER(_POINTER)],

@@ -22,7 +22,7 @@ class Limits:
     exprlang.LimitError: ...
     """
 
-    nesting: int = 100
+    nesting: int = 5_000
     """How high the tree of an expression may be: the most trees one inside another."""
     patterns: int = 100_000
     """What the literal patterns of an expression may weigh together."""
@@ -45,6 +45,26 @@ class Limits:
                 raise TypeError(f"the limit {name} is a whole number, not {type(number).__name__}")
             if not 0 <= number < 2**63:
                 raise ValueError(f"the limit {name} is from 0 to 2**63 - 1, not {number}")
+
+
+@dataclasses.dataclass(frozen=True)
+class Used:
+    """What a run used of its limits: Program.run_used returns it.
+
+    It is all 0 for a program without limits, since nothing is counted there. Room that a call asks
+    for and doesn't fill isn't in it. So the least limits that a run needs may be higher: allow ten
+    times what your own rules use.
+
+    >>> rule = exprlang.compile("all(1..n, {# > 0})")
+    >>> most = max(rule.run_used({"n": n})[1].steps for n in (10, 100))
+    >>> 100 < most < 10_000
+    True
+    """
+
+    steps: int = 0
+    """How many steps it took."""
+    size: int = 0
+    """The most that its values weighed at once."""
 
 
 USUAL: Final = Limits()

@@ -10,7 +10,7 @@ from ._checks import Missing, checked_missing, record
 from ._environment import Environment
 from ._errors import Error
 from ._kept import Kept
-from ._limits import USUAL, AnyLimits, numbers_of
+from ._limits import USUAL, AnyLimits, Used, numbers_of
 
 Record = Union[None, Mapping[str, Any], Iterable[tuple[str, Any]]]
 
@@ -166,6 +166,40 @@ class Program(Kept, _core.Program):
             if why is None:
                 raise
             raise why from None
+
+    def run_used(
+        self,
+        context: Record = None,
+        environment: Optional[Environment] = None,
+        missing: Optional[Missing] = None,
+    ) -> tuple[Any, Used]:
+        """Runs the program as `run` does. Returns its value, and what it used of its limits.
+
+        A run that calls your functions begins again after each call. Then it is the last turn that
+        counts, which takes the most. What your functions run themselves isn't in it.
+
+        Errors: those of `run`. An Error of the run has what it used as `used`.
+
+        >>> rule = exprlang.compile("all(1..n, {# > 0})", exprlang.Limits(steps=2000))
+        >>> value, used = rule.run_used({"n": 100})
+        >>> value, 100 < used.steps < 2000
+        (True, True)
+        >>> try:
+        ...     rule.run_used({"n": 1900})
+        ... except exprlang.LimitError as stopped:
+        ...     print(stopped.limit, 1900 < stopped.used.steps <= 2000)
+        steps True
+        """
+        used: list[int] = []
+        try:
+            value = self._run_used(context, environment, missing, used)
+        except Error as error:
+            why = self._misplaced(error, context, environment)
+            (error if why is None else why).used = Used(*used) if used else None
+            if why is None:
+                raise
+            raise why from None
+        return value, Used(*used)
 
     def _misplaced(
         self, error: Error, context: Record, environment: Optional[Environment]

@@ -127,6 +127,20 @@ static PyObject *run_once(PyTypeObject *defining, PyObject *self, PyObject *cons
 
 METHOD(program_run) { return counted(count, names, 3) < 0 ? NULL : run_once(defining, self, given, 0); }
 
+METHOD(program_run_used) {
+    if (counted(count, names, 4) < 0) return NULL;
+    if (!PyList_Check(given[3])) {
+        PyErr_SetString(PyExc_TypeError, "what a run used goes into a list");
+        return NULL;
+    }
+    run r;
+    if (runs_begun(&r, defining, self, given[1], given[2], NULL) < 0) return NULL;
+    PyObject *value = run_over(&r, given[0], 0);
+    if (used_added(&r, given[3]) < 0) Py_CLEAR(value);
+    runs_ended(&r);
+    return value;
+}
+
 METHOD(program_matches) { return counted(count, names, 3) < 0 ? NULL : run_once(defining, self, given, 1); }
 
 /* Lets other threads run, and looks at signals, after each so many records. */
@@ -346,6 +360,7 @@ static PyMethodDef program_methods[] = {
     ENTRY("_code", program_code, "Returns its text in the normal form."),
     ENTRY("_uses_env", program_uses_env, "Returns whether it reads the whole context."),
     ENTRY("_run", program_run, "Returns the value for a record."),
+    ENTRY("_run_used", program_run_used, "Returns the value for a record, and adds what the run used to a list."),
     ENTRY("_matches", program_matches, "Returns whether it is true of a record."),
     ENTRY("_each", program_each, "Returns the values for records."),
     ENTRY("_filter", program_filter, "Returns the records for which it is true."),

@@ -7,6 +7,7 @@ static expr_status begun(run *r, expr_context context, expr_answer *answer) {
     program *it = r->it;
     expr_engine *at = r->in->at;
     expr_status status;
+    r->is_begun = 1;
     if (!it->is_long) {
         status = engine_bound(r->in, &it->brief);
         if (status == EXPR_OK) status = expr_run(at, r->compiled, r->environment, context, answer);
@@ -176,6 +177,29 @@ PyObject *run_over(run *r, PyObject *given, int is_rule) {
     return value;
 }
 
+int used_added(run *r, PyObject *list) {
+    int64_t numbers[] = {0, 0};
+    PyObject *type, *error, *trace;
+    if (!r->is_begun) return 0;
+    /* a brief run of a program without limits has some, and what it used of these is no one's concern */
+    if (!r->it->within.is_unlimited) expr_used(r->in->at, &numbers[0], &numbers[1]);
+    PyErr_Fetch(&type, &error, &trace);
+    int done = 0;
+    for (int i = 0; done == 0 && i < 2; i++) {
+        PyObject *number = PyLong_FromLongLong(numbers[i]);
+        done = number ? PyList_Append(list, number) : -1;
+        Py_XDECREF(number);
+    }
+    if (done == 0) {
+        PyErr_Restore(type, error, trace);
+        return 0;
+    }
+    Py_XDECREF(type);
+    Py_XDECREF(error);
+    Py_XDECREF(trace);
+    return -1;
+}
+
 int runs_begun(run *r, PyTypeObject *defining, PyObject *self, PyObject *environment, PyObject *missing, const char *what) {
     r->state = state_of(defining);
     if (!r->state) return -1;
@@ -183,6 +207,7 @@ int runs_begun(run *r, PyTypeObject *defining, PyObject *self, PyObject *environ
     r->functions = NULL;
     r->is_put = NULL;
     r->has_context = 0;
+    r->is_begun = 0;
     r->environment = EXPR_NO_ENVIRONMENT;
     r->is_nil = r->it->is_nil;
     r->from.what = what;

@@ -38,6 +38,7 @@ typedef struct {
     expr_context context; /* of the record, if there is one that isn't kept */
     int has_context;
     char *is_put; /* which names of the program the context has of the record; null where each run has its own context */
+    int is_begun; /* the engine's last run is one of these, unless they are over JSON lines */
 } run;
 
 typedef enum { NO_RECORD, A_DICT, A_KEPT_CONTEXT, A_MAPPING } kind_of_record;
@@ -82,6 +83,8 @@ int runs_begun(run *r, PyTypeObject *defining, PyObject *self, PyObject *environ
 void runs_ended(run *r);
 /* Runs over a record, and returns the value, or whether it is true. */
 PyObject *run_over(run *r, PyObject *given, int is_rule);
+/* Adds to a list how many steps and how much size the last run used, if there was one. An exception that is raised stays. */
+int used_added(run *r, PyObject *list);
 /* Goes on with a run until it ends, and calls the functions that it asks for. */
 int run_ended(run *r, context_object *owner, expr_status status, expr_answer *answer);
 /* Checks that the value of a rule is a boolean. */

@@ -98,7 +98,7 @@ class Calls(unittest.TestCase):
             ("len(repeat(repeat('a', 1000000), 1000000))", "steps"),
             ("len(reduce(1..10000, [#acc], 0))", "steps"),
             ("all(1..300000, {all(1..300000, {true})})", "steps"),
-            ("(" * 200 + "1" + ")" * 200, "nesting"),
+            ("(" * 5000 + "1" + ")" * 5000, "nesting"),
             (r"'a' matches '\\w{20}' or " * 400 + "true", "patterns"),
         ]:
             self.stops(limit, text)
@@ -107,6 +107,11 @@ class Calls(unittest.TestCase):
         self.stops("size", "len(1..100000000)", limits=wide)
         self.stops("depth", "len(reduce(1..10000, [#acc], 0))", limits=wide)
         self.assertEqual(exprlang.evaluate("1 + 1"), 2)
+
+    def test_long_rules(self):
+        self.assertIs(exprlang.evaluate("x == 1 or " * 1000 + "true", {"x": 2}), True)
+        self.assertEqual(exprlang.evaluate("1 + " * 999 + "1"), 1000)
+        self.assertIs(exprlang.evaluate("all([1], {" * 2400 + "true" + "})" * 2400), True)
 
     def test_limits(self):
         few = exprlang.Limits(steps=1000)
@@ -137,6 +142,83 @@ class Calls(unittest.TestCase):
                 exprlang.compile("1", wrong)
         with self.assertRaises(TypeError):
             exprlang.Limits(steps=1.5)
+
+    def test_used(self):
+        rule = exprlang.compile("map(1..n, {# * 2})")
+        value, few = rule.run_used({"n": 100})
+        self.assertEqual(value, rule.run({"n": 100}))
+        self.assertGreater(min(few.steps, few.size), 100)
+        self.assertEqual(len(rule.run({"n": 1000})), 1000)
+        self.assertEqual(rule.run_used({"n": 100})[1], few)
+        for context in [exprlang.Context({"n": 100}), {"n": 100, "m": 1.5}]:
+            self.assertEqual(rule.run_used(context, exprlang.Environment(), "nil")[1], few)
+        _, many = rule.run_used({"n": 1000})
+        self.assertGreater(many.steps, few.steps + 900)
+        self.assertGreater(many.size, few.size + 900)
+        # a run of more than 10,000 steps begins again, which isn't in it
+        _, long = rule.run_used({"n": 20_000})
+        self.assertGreater(long.steps, 10_000)
+        self.assertEqual(rule.run_used({"n": 20_000})[1], long)
+        self.assertEqual(rule.run_used({"n": 100})[1], few)
+        enough = exprlang.compile("map(1..n, {# * 2})", exprlang.Limits(steps=2000, size=2000))
+        self.assertEqual(enough.run_used({"n": 100})[1], few)
+        self.assertLessEqual(max(few.steps, few.size), 2000)
+        free = exprlang.compile("map(1..n, {# * 2})", exprlang.UNLIMITED)
+        for n in [100, 20_000]:
+            self.assertEqual(free.run_used({"n": n})[1], exprlang.Used(0, 0))
+        self.assertIs(exprlang.Rule("n > 1").run_used({"n": 2})[0], True)
+
+    def used(self, kind, text, context=None, environment=None, **limits):
+        """Returns what a run used that ends with an error of a kind."""
+        program = exprlang.compile(text, exprlang.Limits(**limits))
+        with self.assertRaises(exprlang.Error) as caught:
+            program.run_used(context, environment)
+        self.assertEqual(getattr(caught.exception, "limit", caught.exception.kind), kind)
+        return caught.exception.used
+
+    def test_used_by_runs_that_fail(self):
+        text = "all(1..100, {all(1..n, {# > 0})})"
+        for steps in [5000, 50_000]:
+            used = self.used("steps", text, {"n": steps // 10}, steps=steps)
+            self.assertTrue(steps * 0.8 < used.steps <= steps, used)
+        used = self.used("size", "map(1..2000, {string(#) + '0123456789abcdef'})", size=5000)
+        self.assertTrue(4500 < used.size <= 5000, used)
+        # the error of a function that is in the context is made again
+        for text, context in [("x", None), ("f()", {"f": len})]:
+            used = self.used("evaluation", f"all(1..100, {{# > 0}}) and {text}", context)
+            self.assertGreater(used.steps, 100)
+        # where there was no run, nothing is said
+        with self.assertRaises(TypeError):
+            exprlang.compile("x").run_used({"x": 1.5})
+        with self.assertRaises(exprlang.Error) as caught:
+            exprlang.evaluate("x")
+        self.assertIs(caught.exception.used, None)
+
+    def test_used_by_calls(self):
+        inner = exprlang.compile("len(filter(1..5000, {# > 0})) - 4999")
+
+        def fails():
+            raise exprlang.Error("evaluation", "no such article")
+
+        host = exprlang.Environment(functions={"slow": inner.run, "fast": lambda: 1})
+        host.add_function("double", lambda number: number * 2)
+        host.add_function("fails", fails)
+
+        def after_all(text):
+            program = exprlang.compile(f"all(1..n, {{# > 0}}) and {text}")
+            value, used = program.run_used({"n": 100}, host)
+            self.assertIs(value, True)
+            return used
+
+        self.assertEqual(after_all("slow() == 1"), after_all("fast() == 1"))
+        # the last turn counts, and the turns before it don't
+        once = after_all("double(1) == 2").steps
+        thrice = after_all("double(double(double(1))) == 8").steps
+        self.assertTrue(100 < once < thrice < 2 * once, (once, thrice))
+        text = "all(1..100, {# > 0}) and fails()"
+        for kind, calls in [("evaluation", 1), ("calls", 0)]:
+            used = self.used(kind, text, environment=host, calls=calls)
+            self.assertGreater(used.steps, 100)
 
     def test_limits_of_calls(self):
         inner = exprlang.compile("all(1..n, {# > 0})", exprlang.Limits(steps=1000))

@@ -518,12 +518,17 @@ class Copies(Case):
             self.assertEqual(exprlang.evaluate(text, environment=other), 2026)
 
     def test_errors(self):
+        with self.assertRaises(exprlang.LimitError) as caught:
+            exprlang.compile("len(1..2000000)").run_used()
+        stopped = caught.exception
+        self.assertIsInstance(stopped.used, exprlang.Used)
         for error in [
             self.error("x"),
             self.error("1 +"),
             self.error("len(1..2000000)"),
             self.error("9223372036854775808"),
             NotFound("pen"),
+            stopped,
         ]:
             for make in self.ways:
                 other = make(error)
@@ -537,6 +542,7 @@ class Copies(Case):
         for make in self.ways:
             self.assertIs(make(exprlang.UNLIMITED), exprlang.UNLIMITED)
             self.assertEqual(make(exprlang.Limits(steps=1)), exprlang.Limits(steps=1))
+            self.assertEqual(make(exprlang.Used(3, 4)), exprlang.Used(3, 4))
             self.assertEqual(make(exprlang.Month(3)), exprlang.Month(3))
 
 

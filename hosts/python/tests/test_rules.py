@@ -556,7 +556,8 @@ class Objects(Case):
 
     def test_arguments_of_the_backend(self):
         program = exprlang.compile("a")
-        for call in [program._run, program._each, program._lines, program._open, program._names]:
+        runs = [program._run, program._run_used, program._each, program._lines]
+        for call in [*runs, program._open, program._names]:
             with self.assertRaises((TypeError, AttributeError)):
                 call(1, 2, 3, 4, 5, 6)
         if _core.BACKEND == "extension":
@@ -580,6 +581,8 @@ class Objects(Case):
                     _core.Environment()._open(*words)
             with self.assertRaises(TypeError):
                 program._run(context=1, environment=None, missing=None)
+            with self.assertRaises(TypeError):
+                program._run_used({"a": 1}, None, None, ())
 
     def test_long_runs(self):
         """A run that takes many steps begins again without the GIL, and ends the same."""

@@ -92,6 +92,18 @@ class Threads(unittest.TestCase):
         self.assertEqual(in_threads(8, runs), [])
         self.assertLessEqual(_core.counts()[1], max(engines, 9))
 
+    def test_used(self):
+        """Each run says what it used itself, whatever runs meanwhile."""
+        rule = exprlang.compile("len(filter(1..n, {# > 0})) == n")
+        alone = [rule.run_used({"n": 10 * number})[1] for number in range(8)]
+        self.assertEqual(sorted({it.steps for it in alone}), [it.steps for it in alone])
+
+        def runs(number):
+            for _ in range(300):
+                assert rule.run_used({"n": 10 * number}) == (True, alone[number])
+
+        self.assertEqual(in_threads(8, runs), [])
+
     def test_many_at_once(self):
         together = threading.Barrier(100)
         host = exprlang.Environment(functions={"f": lambda: together.wait() >= 0})

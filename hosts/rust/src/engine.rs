@@ -1,10 +1,10 @@
 //! An engine, and the copies that it keeps of values of this crate.
 use crate::error::{Error, Place, Result};
-use crate::limits::{Limit, Limits};
+use crate::limits::{Limit, Limits, Used};
 use crate::map::Map;
 use crate::moment::DateTimeValue;
 use crate::pool::Token;
-use crate::raw::{kind, Ask, Asked, Handle, Raw, Told, ASKS, DIFFERS, LIMITS, MISUSE};
+use crate::raw::{kind, limit, Ask, Asked, Handle, Raw, Told, ASKS, DIFFERS, LIMITS, MISUSE};
 use crate::raw::{EVALUATION, LITERAL, MEMORY, PATTERN, SYNTAX};
 use crate::value::Value;
 use std::collections::HashMap;
@@ -175,6 +175,15 @@ impl Engine {
             }
         }
         Ok(())
+    }
+
+    /// What the last run used of its limits.
+    pub fn used(&mut self) -> Used {
+        let mut used_of = |kind| {
+            let told = self.raw.call(Ask::Used, Asked { kind, ..Asked::default() });
+            u64::try_from(told.number).unwrap_or(0)
+        };
+        Used { steps: used_of(limit::STEPS), size: used_of(limit::SIZE) }
     }
 
     /// Begins a run, or goes on with the one that waits. Returns the answer, or None if it waits for a reply.

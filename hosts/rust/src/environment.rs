@@ -2,7 +2,7 @@
 use crate::context::Context;
 use crate::engine::Engine;
 use crate::error::{Error, Result};
-use crate::limits::{Limit, Limits};
+use crate::limits::{Limit, Limits, Used};
 use crate::moment::DateTimeValue;
 use crate::pool::{with_engine, Token};
 use crate::program::{compile, compile_limited, compile_unlimited, Program};
@@ -20,6 +20,23 @@ use std::fmt;
 /// reads and the language doesn't have.
 pub fn run(program: &Program, ctx: &Context) -> Result<Value> {
     answer(program, ctx, None)
+}
+
+/// Runs a program as [`run`] does, and says what the run used of its limits, whatever it ended with.
+///
+/// A run that calls your functions begins again after each call. Then it is the last turn that counts, which takes the most. If
+/// there was no run, as for a value that can't be handed in, nothing was used.
+///
+/// ```
+/// use exprlang::{compile, run_used, Context};
+/// let rule = compile("all(1..n, {# > 0})").unwrap();
+/// let (value, few) = run_used(&rule, &Context::from_iter([("n", 10)]));
+/// let (_, many) = run_used(&rule, &Context::from_iter([("n", 1_000)]));
+/// assert_eq!(value.unwrap().as_bool(), Some(true));
+/// assert!(0 < few.steps && 10 * few.steps < many.steps);
+/// ```
+pub fn run_used(program: &Program, ctx: &Context) -> (Result<Value>, Used) {
+    answer_used(program, ctx, None)
 }
 
 /// Compiles a string within the limits for untrusted strings, and runs it in a context.
@@ -61,32 +78,65 @@ pub fn eval_unlimited(code: &str, ctx: &Context) -> Result<Value> {
     run(&compile_unlimited(code)?, ctx)
 }
 
-/// Runs a program in a context, and in an environment or none. The engine of the run waits while a function is called, so
-/// what the function runs has another one.
+/// Runs a program in a context, and in an environment or none.
 fn answer(program: &Program, ctx: &Context, environment: Option<&Environment>) -> Result<Value> {
     with_engine(|engine| {
-        let asked = Asked {
-            program: program.handle(engine)?,
-            environment: environment.map_or(Ok(NONE), |environment| environment.handle(engine))?,
-            context: ctx.handle(engine, program)?,
-            ..Asked::default()
-        };
-        engine.limit(program.limits())?;
-        let mut turn = engine.turn(Ask::Run, asked)?;
-        let mut calls = 0;
-        loop {
-            if let Some(told) = turn {
-                return engine.value(&told);
-            }
-            if program.limits().is_some_and(|limits| calls >= limits.calls) {
-                return Err(Error::LimitError(Limit::Calls));
-            }
-            calls += 1;
-            let (ident, args) = engine.asked()?;
-            let reply = called(environment, ExprCall { ident, args })?;
-            turn = engine.reply(&reply)?;
-        }
+        let asked = prepared(engine, program, ctx, environment)?;
+        turns(engine, program, environment, asked)
     })
+}
+
+/// The same, and what the last turn used of its limits.
+fn answer_used(program: &Program, ctx: &Context, environment: Option<&Environment>) -> (Result<Value>, Used) {
+    let mut used = Used::default();
+    let answer = with_engine(|engine| {
+        let asked = prepared(engine, program, ctx, environment)?;
+        let answer = turns(engine, program, environment, asked);
+        used = engine.used();
+        answer
+    });
+    (answer, used)
+}
+
+/// What a run asks with, for an engine that has all of it, and the limits.
+fn prepared(
+    engine: &mut Engine,
+    program: &Program,
+    ctx: &Context,
+    environment: Option<&Environment>,
+) -> Result<Asked<'static>> {
+    let asked = Asked {
+        program: program.handle(engine)?,
+        environment: environment.map_or(Ok(NONE), |environment| environment.handle(engine))?,
+        context: ctx.handle(engine, program)?,
+        ..Asked::default()
+    };
+    engine.limit(program.limits())?;
+    Ok(asked)
+}
+
+/// Runs up to the end, and calls the functions that the run asks for. The engine waits while a function is called, so what the
+/// function runs has another one.
+fn turns(
+    engine: &mut Engine,
+    program: &Program,
+    environment: Option<&Environment>,
+    asked: Asked<'_>,
+) -> Result<Value> {
+    let mut turn = engine.turn(Ask::Run, asked)?;
+    let mut calls = 0;
+    loop {
+        if let Some(told) = turn {
+            return engine.value(&told);
+        }
+        if program.limits().is_some_and(|limits| calls >= limits.calls) {
+            return Err(Error::LimitError(Limit::Calls));
+        }
+        calls += 1;
+        let (ident, args) = engine.asked()?;
+        let reply = called(environment, ExprCall { ident, args })?;
+        turn = engine.reply(&reply)?;
+    }
 }
 
 /// What a function of the host returns, or the limit that ends the run.
@@ -233,6 +283,12 @@ impl Environment {
     /// As of [`run`](crate::run()), and what your functions return.
     pub fn run(&self, program: &Program, ctx: &Context) -> Result<Value> {
         answer(program, ctx, Some(self))
+    }
+
+    /// Runs a program as [`Environment::run`] does, and says what the run used of its limits, as
+    /// [`run_used`](crate::run_used()) does.
+    pub fn run_used(&self, program: &Program, ctx: &Context) -> (Result<Value>, Used) {
+        answer_used(program, ctx, Some(self))
     }
 
     /// Compiles a string within the limits for untrusted strings, and runs it in a context.

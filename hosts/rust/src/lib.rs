@@ -21,7 +21,7 @@
 //!
 //! [`compile`] and [`eval`] take the limits for untrusted strings, [`Limits::untrusted`]. [`compile_limited`] and
 //! [`eval_limited`] take others. [`compile_unlimited`] and [`eval_unlimited`] take none. A program that would pass a limit
-//! ends with [`Error::LimitError`].
+//! ends with [`Error::LimitError`]. [`run_used`] says what a run used of its limits.
 //!
 //! # Values
 //!
@@ -53,9 +53,9 @@ mod raw;
 mod value;
 
 pub use context::Context;
-pub use environment::{eval, eval_limited, eval_unlimited, run, Environment, ExprCall};
+pub use environment::{eval, eval_limited, eval_unlimited, run, run_used, Environment, ExprCall};
 pub use error::{Error, Place, Result};
-pub use limits::{Limit, Limits};
+pub use limits::{Limit, Limits, Used};
 pub use map::Map;
 pub use moment::DateTimeValue;
 pub use program::{compile, compile_limited, compile_unlimited, Missing, Program};

@@ -32,11 +32,11 @@ pub struct Limits {
 }
 
 impl Limits {
-    /// Limits for an untrusted string: a nesting of 100, patterns of 100,000, 1,000,000 steps, a depth of 1,000, a size of
+    /// Limits for an untrusted string: a nesting of 5,000, patterns of 100,000, 1,000,000 steps, a depth of 1,000, a size of
     /// 1,000,000, and 100 calls of your functions.
     #[must_use]
     pub const fn untrusted() -> Limits {
-        Limits { nesting: 100, patterns: 100_000, steps: 1_000_000, depth: 1_000, size: 1_000_000, calls: 100 }
+        Limits { nesting: 5_000, patterns: 100_000, steps: 1_000_000, depth: 1_000, size: 1_000_000, calls: 100 }
     }
 
     /// These limits with another nesting.
@@ -87,6 +87,19 @@ impl Default for Limits {
     fn default() -> Limits {
         Limits::untrusted()
     }
+}
+
+/// What a run used of its limits. [`run_used`](crate::run_used()) returns it.
+///
+/// It is all 0 for a program without limits, since nothing is counted there. Room that a call asks for and doesn't fill isn't
+/// in it. So the least limits that a run needs may be higher: allow ten times what your own rules use.
+#[derive(Clone, Copy, Debug, Default, PartialEq, Eq, Hash)]
+#[non_exhaustive]
+pub struct Used {
+    /// How many steps it took.
+    pub steps: u64,
+    /// The most that its values weighed at once.
+    pub size: u64,
 }
 
 /// A limit that a program would have passed.

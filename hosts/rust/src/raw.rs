@@ -139,6 +139,7 @@ pub enum Ask {
     FillMissing,
     Versions,
     ProgramText,
+    Used,
     // end: asks
 }
 
@@ -177,6 +178,14 @@ pub mod kind {
     pub const KEYED_MAP: u32 = 12;
     pub const BUILT: u32 = 14;
     // end: kinds
+}
+
+/// The kinds of a call about limits, as `limit_numbered` of limit.rt.
+pub mod limit {
+    // begin: limits, by hosts/border.py --write
+    pub const STEPS: u32 = 2;
+    pub const SIZE: u32 = 4;
+    // end: limits
 }
 
 unsafe extern "C" {

@@ -1,6 +1,6 @@
 use exprlang::{
-    compile, compile_limited, compile_unlimited, eval, eval_limited, eval_unlimited, run, value, Context, Environment, Error,
-    ExprCall, Limit, Limits, Value,
+    compile, compile_limited, compile_unlimited, eval, eval_limited, eval_unlimited, run, run_used, value, Context, Environment,
+    Error, ExprCall, Limit, Limits, Used, Value,
 };
 
 fn alone(code: &str) -> exprlang::Result<Value> {
@@ -13,7 +13,7 @@ fn stops<T>(limit: Limit) -> exprlang::Result<T> {
 
 #[test]
 fn untrusted_expressions_stop() {
-    let high = format!("{}1{}", "(".repeat(200), ")".repeat(200));
+    let high = format!("{}1{}", "(".repeat(5_000), ")".repeat(5_000));
     let heavy = format!("{}true", r#""a" matches "\\w{20}" or "#.repeat(400));
     for (code, limit) in [
         ("len(1..100000000)", Limit::Steps),
@@ -30,6 +30,10 @@ fn untrusted_expressions_stop() {
         assert!(!limit.to_string().is_empty());
     }
     assert_eq!(alone("1 + 1"), Ok(Value::Integer(2)));
+    // Long rules are answered, and so are predicates inside predicates.
+    assert_eq!(alone(&format!("{}true", "1 == 2 or ".repeat(1_000))), Ok(Value::Bool(true)));
+    assert_eq!(alone(&format!("{}1", "1 + ".repeat(999))), Ok(Value::Integer(1_000)));
+    assert_eq!(alone(&format!("{}true{}", "all([1], {".repeat(2_400), "})".repeat(2_400))), Ok(Value::Bool(true)));
     // With more steps they come to what they take much of.
     let wide = Limits::untrusted().with_steps(u64::MAX);
     for (code, limit) in [
@@ -138,4 +142,85 @@ fn functions_run_programs_within_limits_of_their_own() {
     assert_eq!(env.eval("slow(10) and len(1..900000) > 0", &ctx), Ok(value!(true)));
     assert_eq!(env.eval("slow(10) and len(1..2000000) > 0", &ctx), stops(Limit::Steps));
     assert_eq!(env.eval_unlimited("slow(10) and len(1..2000000) > 0", &ctx), Ok(value!(true)));
+}
+
+fn counting(n: i64) -> Context {
+    Context::from_iter([("n", n)])
+}
+
+#[test]
+fn runs_say_how_much_they_used() {
+    let (rule, order) = (compile("map(1..n, {# * 2})").unwrap(), counting(100));
+    let (answer, few) = run_used(&rule, &order);
+    assert_eq!(answer, run(&rule, &order));
+    assert!(few.steps > 100 && few.size > 100, "{few:?}");
+    // Equal runs use the same, and more items use more, whatever ran meanwhile.
+    assert_eq!(run(&rule, &counting(1_000)).map(|_| ()), Ok(()));
+    assert_eq!(run_used(&rule, &order).1, few);
+    let (_, many) = run_used(&rule, &counting(1_000));
+    assert!(many.steps > few.steps + 900 && many.size > few.size + 900, "{many:?}");
+    // What a run used is within limits that are enough, and is the same within these.
+    let (code, enough) = ("map(1..100, {# * 2})", Limits::default().with_steps(2_000).with_size(2_000));
+    let (answer, used) = run_used(&compile_limited(code, &enough).unwrap(), &order);
+    assert!(answer.is_ok() && used.steps <= 2_000 && used.size <= 2_000, "{used:?}");
+    assert_eq!(used, run_used(&compile(code).unwrap(), &order).1);
+    // Without limits nothing is counted.
+    assert_eq!(run_used(&compile_unlimited(code).unwrap(), &order).1, Used::default());
+}
+
+#[test]
+fn runs_that_end_otherwise_say_how_much_they_used() {
+    let (low, order) = (Limits::default().with_steps(5_000), counting(100));
+    let (answer, used) = run_used(&compile_limited("all(1..n, {all(1..n, {true})})", &low).unwrap(), &order);
+    assert_eq!(answer, stops(Limit::Steps));
+    assert!(used.steps > 4_500 && used.steps <= 5_000, "{used:?}");
+    let (low, long) = (Limits::default().with_size(5_000), "map(1..n, {string(#) + '0123456789abcdef'})");
+    let (answer, used) = run_used(&compile_limited(long, &low).unwrap(), &counting(2_000));
+    assert_eq!(answer, stops(Limit::Size));
+    assert!(used.size > 4_500 && used.size <= 5_000, "{used:?}");
+    let (answer, used) = run_used(&compile("all(1..n, {# > 0}) and 1 % 0 == 0").unwrap(), &order);
+    assert!(matches!(answer, Err(Error::ExprError(_))) && used.steps > 100, "{used:?}");
+    // Where nothing was run, nothing was used, whatever the engine ran before.
+    let (answer, used) = run_used(&compile("n").unwrap(), &Context::from_iter([("n", Value::Month(13))]));
+    assert!(matches!(answer, Err(Error::MisuseError(_))));
+    assert_eq!(used, Used::default());
+}
+
+#[test]
+fn a_run_says_nothing_of_what_its_functions_used() {
+    let ctx = counting(100);
+    let mut env = Environment::new();
+    env.add_function("double", doubled);
+    env.add_function("slow", |_| eval("len(filter(1..5000, {# > 0})) - 4999", &Context::default()));
+    env.add_function("fast", |_| Ok(Value::Integer(1)));
+    let used_by = |code: &str| {
+        let (answer, used) = env.run_used(&compile(code).unwrap(), &ctx);
+        assert_eq!(answer, Ok(Value::Bool(true)), "{code}");
+        used
+    };
+    assert_eq!(used_by("all(1..n, {# > 0}) and slow() == 1"), used_by("all(1..n, {# > 0}) and fast() == 1"));
+    // The last turn counts, and the turns before it don't.
+    let once = used_by("all(1..n, {# > 0}) and double(1) == 2");
+    let thrice = used_by("all(1..n, {# > 0}) and double(double(double(1))) == 8");
+    assert!(once.steps > 100 && thrice.steps > once.steps && thrice.steps < 2 * once.steps, "{once:?} {thrice:?}");
+    let (answer, used) = env.run_used(&compile_limited("double(n) > 0", &Limits::default().with_calls(0)).unwrap(), &ctx);
+    assert_eq!(answer, stops(Limit::Calls));
+    assert!(used.steps > 0);
+}
+
+#[test]
+fn each_thread_gets_what_its_own_run_used() {
+    let rule = compile("len(filter(1..n, {# > 0})) == n").unwrap();
+    let alone: Vec<Used> = (1..=4).map(|i| run_used(&rule, &counting(10 * i)).1).collect();
+    std::thread::scope(|threads| {
+        for (i, used) in (1..=4).zip(&alone) {
+            let rule = &rule;
+            threads.spawn(move || {
+                for _ in 0..200 {
+                    assert_eq!(run_used(rule, &counting(10 * i)), (Ok(Value::Bool(true)), *used));
+                }
+            });
+        }
+    });
+    assert!(alone.windows(2).all(|pair| pair[0].steps < pair[1].steps));
 }

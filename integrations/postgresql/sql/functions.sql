@@ -35,5 +35,5 @@ SELECT expr_true('len(text) == 1000000', jsonb_build_object('text', repeat('a', 
 -- expr_check
 SELECT expr_check('price > 1') IS NULL AS is_right, expr_check(NULL) IS NULL AS no_rule;
 SELECT rule, expr_check(rule) FROM (VALUES ('price >'), (E'let x = 1;\nx +'), ('"abc'), (''), ('9223372036854775808'), ('f(1)')) AS it (rule);
-SELECT expr_check(repeat('(', 101) || '1' || repeat(')', 101)) IS NULL AS brackets, expr_check(repeat('-', 200) || '1');
+SELECT expr_check(repeat('(', 5001) || '1' || repeat(')', 5001)) IS NULL AS brackets, expr_check(repeat('-', 6000) || '1');
 SELECT expr_check('a matches "\w{500}"'), expr_check(repeat(' ', 65536)), expr_check(repeat('1', 65537));

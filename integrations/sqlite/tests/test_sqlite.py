@@ -118,7 +118,7 @@ class Errors(Case):
         most = json.dumps({"x": [1] * 999_996})
         limits = [
             ("len(1..2000000)", "the run takes more steps than the limit"),
-            ("-" * 200 + "1", "the expression nests deeper than the limit"),
+            ("-" * 6_000 + "1", "the expression nests deeper than the limit"),
             ('"a" matches "\\w{500}"', "the patterns of the expression weigh more than the limit"),
             ("1" * 65_537, "the rule has 65537 bytes, where 65536 are the most"),
         ]

@@ -2,7 +2,7 @@ use Rattle.std.proofs.Common.{Ok, ap, subst}
 use Rattle.expr_limits.specs.declared.outcome.Outcome.{Outcome}
 use Rattle.expr_meaning.specs.World.{World}
 use Rattle.expr_error.specs.ErrorKind.{error_kind}
-use Rattle.expr_machine.specs.Here.{here}
+use Rattle.expr_acts.specs.Here.{here}
 use Rattle.expr_tree.specs.TermOf.{program_term}
 use Rattle.expr_tree.specs.declared.node.Program.{Program}
 use Rattle.expr_value.specs.declared.value.Value.{Value}
@@ -16,7 +16,7 @@ use Rattle.expr.proofs.limited.answer_text.Goals as goal
 
 pub returns-in_err-compiled : goal.returns-in_err-compiled
 returns-in_err-compiled g c =
-    let world : World = here g.H.Functions.host g.P.ContextProvider.context c.args.machine.now in
+    let world : World = here g.H.Functions.host g.P.ContextProvider.context c.args.world.now in
     let text = c.args.code.now in
     let limits = c.args.limits.now in
     let e = c.in_err-compiled.field-0.0 in
@@ -28,7 +28,7 @@ returns-in_err-compiled g c =
 
 pub returns-in_err-code-in-Answered : goal.returns-in_err-code-in-Answered
 returns-in_err-code-in-Answered g c =
-    let world : World = here g.H.Functions.host g.P.ContextProvider.context c.args.machine.now in
+    let world : World = here g.H.Functions.host g.P.ContextProvider.context c.args.world.now in
     let text = c.args.code.now in
     let limits = c.args.limits.now in
     let e = c.in_err-code-in-Answered.field-0.0 in
@@ -41,26 +41,26 @@ returns-in_err-code-in-Answered g c =
 
 pub returns-in_ok-code-in-Answered : goal.returns-in_ok-code-in-Answered
 returns-in_ok-code-in-Answered g c =
-    let world : World = here g.H.Functions.host g.P.ContextProvider.context c.args.machine.now in
+    let world : World = here g.H.Functions.host g.P.ContextProvider.context c.args.world.now in
     let text = c.args.code.now in
     let limits = c.args.limits.now in
     let b = program_term c.in-Answered.program in
     let read = subst (λ o. IsCompiledLimited text limits (Ok o)) c.in-Answered.is c.in_ok-compiled.ensures.answer in
     let code = c.in_ok-code-in-Answered.ensures.code in
-    let r = c.execute_limited.result in
-    let ran = c.execute_limited.ensures.outcome in
+    let r = c.execute_limited_with.result in
+    let ran = c.execute_limited_with.ensures.outcome in
     let ends : EndsText world text limits r = text_ends world text limits b _ read.0 read.1 code r ran in
     record {
       outcome = ends;
       answer = text_answers world text limits r ends;
-      depth = c.execute_limited.ensures.depth;
+      depth = c.execute_limited_with.ensures.depth;
       place = run_place world text limits b _ read.0 read.1 code r ran;
       boundary = run_boundary world text limits b _ read.0 read.1 code r ran;
     }
 
 pub returns-in-Stopped : goal.returns-in-Stopped
 returns-in-Stopped g c =
-    let world : World = here g.H.Functions.host g.P.ContextProvider.context c.args.machine.now in
+    let world : World = here g.H.Functions.host g.P.ContextProvider.context c.args.world.now in
     let text = c.args.code.now in
     let limits = c.args.limits.now in
     let limit = c.in-Stopped.limit in

@@ -13,7 +13,7 @@ returns g c =
     let base : ContextView = asked.context c.args.ctx.now.1 in
     let blocks : List (List Op) = blocks_of g.L.Pointer.held (λ n. string_bytes (g.N.Pointer.held n)) c.args.code.now in
     record {
-      outcome = c.execute_limited.ensures.outcome;
-      answer = code_answers (world_of no_host base) blocks c.args.limits.now c.execute_limited.result c.execute_limited.ensures.outcome;
-      depth = c.execute_limited.ensures.depth;
+      outcome = c.execute_limited_with.ensures.outcome;
+      answer = code_answers (world_of no_host base) blocks c.args.limits.now c.execute_limited_with.result c.execute_limited_with.ensures.outcome;
+      depth = c.execute_limited_with.ensures.depth;
     }

@@ -1,4 +1,4 @@
-use Rattle.std.proofs.Common.{◌≡◌, ℕ, List, IsUtf8, inl, subst}
+use Rattle.std.proofs.Common.{ℕ, List, IsUtf8, inl, subst}
 use Rattle.std.specs.Result.{IfErr}
 use Rattle.std.proofs.lemmas.Result.{IfErr-weaker}
 use Rattle.expr_engine.specs.Adding.{IsName}

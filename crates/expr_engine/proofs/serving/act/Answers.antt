@@ -2,6 +2,7 @@ use Rattle.std.proofs.Common.{ap, refl}
 use Rattle.expr_engine.specs.Engines.{Leaves}
 use Rattle.expr_engine.proofs.Acting.{acts, asked, no_reason}
 use Rattle.expr_engine.proofs.Ended.{always_ok, compile_never_unknown, never_unknown, ok_never_unknown}
+use Rattle.expr_engine.proofs.Told.{then_so}
 use Rattle.expr_engine.proofs.Unchanged.{left_answer, left_contexts, left_environments, left_look, left_rules, left_same, limits_in, numbers_by_contexts, numbers_by_environments, numbers_by_rules, numbers_kept, on_err, waits_in}
 use Rattle.expr_engine.proofs.serving.act.Goals as goal
 
@@ -81,7 +82,7 @@ pub returns-in-DropEnvironment : goal.returns-in-DropEnvironment
 returns-in-DropEnvironment c = let f = c.drop_environment.ensures in asked c.in-DropEnvironment.is (acts f.done tt (ap waits_in f.rest) (ap limits_in f.rest) (left_environments c.args.engine.now c.drop_environment.new.engine c.drop_environment.result f.rules f.contexts f.err f.rest) f.why f.unknown f.known (numbers_by_environments f.rules f.contexts f.next) refl)
 
 pub returns-in-Clear : goal.returns-in-Clear
-returns-in-Clear c = let f = c.clear.ensures in asked c.in-Clear.is (acts f.done tt f.waits f.limits (always_ok (Leaves c.args.engine.now c.clear.new.engine) c.clear.result f.ok) f.why (λ m. absurd m) (λ e. absurd (ok_never_unknown c.clear.result f.ok e)) f.numbers refl)
+returns-in-Clear c = let f = c.clear.ensures in asked c.in-Clear.is (acts f.done tt (f.waits, f.used) f.limits (always_ok (Leaves c.args.engine.now c.clear.new.engine) c.clear.result f.ok) f.why (λ m. absurd m) (λ e. absurd (ok_never_unknown c.clear.result f.ok e)) f.numbers refl)
 
 pub returns-in-Name : goal.returns-in-Name
 returns-in-Name c = let f = c.add_name.ensures in asked c.in-Name.is (acts f.done tt (ap waits_in f.rest) (ap limits_in f.rest) (left_environments c.args.engine.now c.add_name.new.engine c.add_name.result f.rules f.contexts f.err f.rest) f.why f.unknown f.known (numbers_by_environments f.rules f.contexts f.next) refl)
@@ -115,3 +116,8 @@ returns-in-Versions c = let f = c.add_versions.ensures in asked c.in-Versions.is
 
 pub returns-in-ProgramText : goal.returns-in-ProgramText
 returns-in-ProgramText c = let f = c.program_text.ensures in asked c.in-ProgramText.is (acts f.done tt (ap waits_in f.rest) (ap limits_in f.rest) (left_same c.args.engine.now c.program_text.new.engine c.program_text.result f.kept f.rest) f.why f.unknown f.known (numbers_kept c.args.engine.now c.program_text.new.engine f.kept) refl)
+
+pub returns-in-Used : goal.returns-in-Used
+returns-in-Used c =
+    let f = c.tell_used.ensures in
+    asked c.in-Used.is (acts (then_so c.tell_used.result f.done (λ told. (refl, told))) tt refl refl (left_same c.args.engine.now c.args.engine.now c.tell_used.result refl refl) f.why (λ m. absurd m) (never_unknown c.tell_used.result f.found) (numbers_kept c.args.engine.now c.args.engine.now refl) f.room)

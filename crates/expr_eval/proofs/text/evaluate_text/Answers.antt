@@ -1,6 +1,6 @@
 use Rattle.std.proofs.Common.{◌≢◌, Err, inl, inr}
 use Rattle.expr_error.specs.ErrorKind.{error_kind, memory}
-use Rattle.expr_machine.specs.Here.{here}
+use Rattle.expr_acts.specs.Here.{here}
 use Rattle.expr_meaning.proofs.Independent.{AllowsBlock-keeps}
 use Rattle.expr_meaning.specs.Allows.{AllowsBlock}
 use Rattle.expr_meaning.specs.World.{World}
@@ -14,7 +14,7 @@ use Rattle.expr_eval.proofs.text.evaluate_text.Goals as goal
 
 pub returns-in_err-program : goal.returns-in_err-program
 returns-in_err-program g c =
-    let world : World = here g.H.Functions.host g.P.ContextProvider.context c.args.machine.now in
+    let world : World = here g.H.Functions.host g.P.ContextProvider.context c.args.world.now in
     let text = c.args.code.now in
     let e = c.in_err-program.field-0.0 in
     let r = c.from_residual.result in
@@ -30,13 +30,13 @@ returns-in_err-program g c =
 
 pub returns : goal.returns
 returns g c =
-    let world : World = here g.H.Functions.host g.P.ContextProvider.context c.args.machine.now in
+    let world : World = here g.H.Functions.host g.P.ContextProvider.context c.args.world.now in
     let text = c.args.code.now in
     let program = c.in_ok-program.program in
     let b = program_term program in
     let of = c.in_ok-program.ensures.answer in
-    let r = c.answer_program.result in
-    let gives = c.answer_program.ensures.answer in
+    let r = c.run_with.result in
+    let gives = c.run_with.ensures.answer in
     record {
       answer = Returns-under r (AllowsBlock world b) (MayAnswer text world) (λ a p. inl (b, of, p)) gives;
       independent = Returns-under r (AllowsBlock world b) (MayAnswerWhereAgreed text world) (λ a p other h. inl (b, of, AllowsBlock-keeps world.host world.context other b (h b of) a p)) gives;

@@ -1,6 +1,5 @@
-use Rattle.std.proofs.Common.{◌≡◌, ◌∙◌, ℕ, List, [], Some, ap, arith, length, map, rules, string_bytes, sym}
+use Rattle.std.proofs.Common.{◌≡◌, ◌∙◌, ap, arith, length, map, rules, string_bytes, sym}
 use Rattle.std.proofs.lemmas.Grind.{common_steps}
-use Rattle.expr_exchange.specs.HandleMap.{thing_at}
 use Rattle.expr_lowering.specs.HostNeeds.{with_nil}
 use Rattle.expr_engine.proofs.Filled.{fills_nothing, fills_with_nil}
 use Rattle.expr_engine.proofs.engine.Engine.fill_missing.Goals as goal

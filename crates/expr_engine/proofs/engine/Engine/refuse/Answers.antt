@@ -9,7 +9,7 @@ use Rattle.expr_engine.proofs.engine.Engine.refuse.Goals as goal
 pub returns-clause-replied : goal.returns-clause-replied
 returns-clause-replied c = λ waits found.
     replied_by (IsRefusal c.args.text.now) (waiting_inputs c.args.self.now) c.args.self.now.waits c.refuse.new.self c.go_on.new.self.waits (reply.Refusal c.in_ok-refuse.ensures.given.message) c.go_on.result (part_of c.go_on.new.self.answer) found
-    c.in_ok-refuse.ensures.given.replied c.in_ok-refuse.ensures.given.says (record { program = c.go_on.ensures.run.program; environment = c.go_on.ensures.run.environment; context = c.go_on.ensures.run.context }) c.go_on.ensures.given c.go_on.ensures.ended (c.go_on.ensures.stops c.in_ok-refuse.ensures.given.replied.asked)
+    c.in_ok-refuse.ensures.given.replied c.in_ok-refuse.ensures.given.says (record { program = c.go_on.ensures.run.program; environment = c.go_on.ensures.run.environment; context = c.go_on.ensures.run.context }) c.go_on.ensures.given c.go_on.ensures.ended (c.go_on.ensures.stops c.in_ok-refuse.ensures.given.replied.asked) c.go_on.ensures.used
 
 pub returns-clause-found : goal.returns-clause-found
 returns-clause-found c = λ waits found. found_ends (waiting_inputs c.args.self.now) (replies_of c.refuse.new.self) c.go_on.result (part_of c.go_on.new.self.answer) found c.go_on.ensures.ended

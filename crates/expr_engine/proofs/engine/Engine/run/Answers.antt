@@ -43,4 +43,4 @@ returns-clause-begun c =
     begun o c.args.program c.args.environment c.args.context begins c.args.self.now.waits c.keep.new.self.waits answer c.keep.result (part_of c.keep.new.self.answer)
     c.keep.ensures.waits (sym c.finds_nothing.ensures ∙ c.if-finds_nothing.false) (c.turn-answer.ensures.given ∙ c.new-stops.ensures.given)
     (subst (λ (given : List CallReply). MatchOption o (answer ≡ Err Unknown) (λ q. WaitsIfAsks q given answer (waiting_call_of begins))) c.new-stops.ensures.given (c.turn-answer.ensures.stops c.new-stops.ensures.asked))
-    c.keep.ensures.passed
+    c.turn-answer.ensures.used c.keep.ensures.passed

@@ -13,4 +13,4 @@ pub returns-clause-answer : goal.returns-clause-answer
 returns-clause-answer g c =
     let world : World = world_of (g.H.Functions.host c.args.host.now) (context_of (names_or_none (option_copied c.args.names.names))) in
     let code : List (List Op) = owned_blocks c.args.self.now.code in
-    given_within c.args.limits world (program_term c.args.self.now.program) code c.execute_in.result c.args.self.now.lowered c.execute_in.ensures.ends
+    given_within c.args.limits world (program_term c.args.self.now.program) code c.execute_in.result.went c.args.self.now.lowered c.execute_in.ensures.ends

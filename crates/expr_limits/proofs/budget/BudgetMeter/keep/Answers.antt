@@ -4,4 +4,4 @@ use Rattle.expr_limits.proofs.budget.BudgetMeter.keep.Goals as goal
 pub returns-then-weighs_one : goal.returns-then-weighs_one
 returns-then-weighs_one c =
     let none = c.weighs_one.ensures c.if-weighs_one.true in
-    place_kept c.take.result _ _ _ _ none.0 none.1 c.take.ensures
+    place_kept (λ l. l) c.take.result _ _ _ _ none.0 none.1 c.take.ensures

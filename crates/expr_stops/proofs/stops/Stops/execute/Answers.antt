@@ -2,7 +2,7 @@ use Rattle.std.proofs.Common.{◌≢◌, List, subst}
 use Rattle.expr_code.specs.Instructions.{Op}
 use Rattle.expr_limits.specs.Outcomes.{ReturnsOutcome}
 use Rattle.expr_lowering.specs.Blocks.{blocks_of}
-use Rattle.expr_machine.specs.Texts.{text_of}
+use Rattle.expr_acts.specs.Texts.{text_of}
 use Rattle.expr_meaning.specs.Host.{Host}
 use Rattle.expr_context.specs.Context.{ContextView}
 use Rattle.expr_meaning.specs.World.{world_of}
@@ -30,5 +30,5 @@ returns-clause-ended g c =
     answers_by c.args.limits (world_of host ctx) code c.turn.result ends
 
 pub returns-clause-pattern : goal.returns-clause-pattern
-returns-clause-pattern g c = λ none never keeps.
-    refused_as c.play_code-played.result.went c.turn.result (λ e. error_kind e ≢ pattern) (c.play_code-played.ensures.pattern none never keeps) c.turn.ensures.went
+returns-clause-pattern g c = λ never keeps.
+    refused_as c.play_code-played.result.went c.turn.result (λ e. error_kind e ≢ pattern) (c.play_code-played.ensures.pattern never keeps) c.turn.ensures.went

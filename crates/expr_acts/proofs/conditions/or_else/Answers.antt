@@ -1,0 +1,17 @@
+use Rattle.std.proofs.Common.{◌≡◌, true, false, ◌∷◌, ◌∙◌, arith}
+use Rattle.expr_operators.specs.Operators.{truth}
+use Rattle.expr_stack.specs.Cells.{cell_value}
+use Rattle.expr_stack.specs.declared.cell.Cell.TheVariants as cell
+use Rattle.expr_value.specs.declared.value.Value as value
+use Rattle.expr_acts.proofs.Deciding.{decides_holds, decides_same_fails}
+use Rattle.expr_acts.proofs.conditions.or_else.Goals as goal
+use Rattle.expr_acts.proofs.conditions.or_else.Goals.{then-holds+in_ok-push_bool, else-holds}
+
+pub returns : goal.returns
+returns g c = λ x rest e.
+    elim c.if-holds.branch [
+      | then-holds+in_ok-push_bool w ↦ let was : c.in_ok-holds.holds ≡ true = grind (arith, w.if-holds.true) in
+          decides_holds c.in_ok-holds.holds (truth (cell_value c.args.kept.now x)) rest c.condition.new.stack c.if-holds.stack (cell.Value (value.Bool true)) was (c.in_ok-holds.ensures x rest e) (w.stack-is ∙ w.in_ok-push_bool.ensures.pushed)
+      | else-holds w ↦ let was : c.in_ok-holds.holds ≡ false = grind (arith, w.if-holds.false) in
+          decides_same_fails c.in_ok-holds.holds (truth (cell_value c.args.kept.now x)) rest c.condition.new.stack c.if-holds.stack (cell.Value (value.Bool true) ∷ rest) was (c.in_ok-holds.ensures x rest e) w.stack-is
+    ]

@@ -1,0 +1,16 @@
+pub mod Passing
+pub mod Memories
+pub mod Reversed
+pub mod Walking
+pub mod Made
+pub mod Limiting
+pub mod Arms
+pub mod Branches
+pub mod Storing
+pub mod Stopping
+pub mod Retaining
+pub mod Frames
+pub mod Calling
+pub mod Binding
+pub mod Starting
+pub mod Doing

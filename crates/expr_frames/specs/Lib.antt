@@ -1,0 +1,4 @@
+pub mod Halts
+pub mod Machines
+pub mod Ready
+pub mod Runs

@@ -1,0 +1,161 @@
+//! Runs that stop at calls of a host's functions.
+ghost use Rattle.std.proofs.Common.{inl, inr};
+ghost use Rattle.std.specs.Prelude.{◌≡◌};
+ghost use Rattle.expr_frames.specs.Halts.{is_named};
+
+use crate::halt::{Asked, Halt, RunMeter, halt_at};
+use expr_limits::{Budget, Meter, NoMeter};
+use expr_value::Value;
+use std::alloc::Global;
+
+/// A meter of a run that stops at the calls of some functions of the host. Another meter counts for it.
+#[derive(Drop)]
+pub struct Asking<'n, M> {
+    pub meter: M,
+    pub names: &'n [String],
+}
+
+impl<'n, M: Meter> Meter for Asking<'n, M> {
+    type Stop = M::Stop;
+
+    ghost metered = { λ asking. M.metered asking.meter };
+
+    ghost limit = { M.limit };
+
+    #[inline(always)]
+    fn counts(&self) -> bool {
+        self.meter.counts()
+    }
+
+    #[inline(always)]
+    fn steps_left(&self) -> u64 {
+        self.meter.steps_left()
+    }
+
+    #[inline(always)]
+    fn is_due(&self) -> bool {
+        self.meter.is_due()
+    }
+
+    #[inline(always)]
+    fn enter(&mut self, instructions: usize) -> Result<(), M::Stop> {
+        self.meter.enter(instructions)
+    }
+
+    #[inline(always)]
+    fn work(&mut self, steps: u64, room: u64) -> Result<(), M::Stop> {
+        self.meter.work(steps, room)
+    }
+
+    #[inline(always)]
+    fn overrun(&mut self) -> Result<(), M::Stop> {
+        self.meter.overrun()
+    }
+
+    #[inline(always)]
+    fn count_made(&mut self, value: &Value) -> Result<(), M::Stop> {
+        self.meter.count_made(value)
+    }
+
+    #[inline(always)]
+    fn count_made_array(&mut self, count: u64) -> Result<(), M::Stop> {
+        self.meter.count_made_array(count)
+    }
+
+    #[inline(always)]
+    fn keep(&mut self, value: &Value) -> Result<(), M::Stop> {
+        self.meter.keep(value)
+    }
+
+    #[inline(always)]
+    fn keep_one(&mut self) -> Result<(), M::Stop> {
+        self.meter.keep_one()
+    }
+
+    #[inline(always)]
+    fn keep_array(&mut self, count: u64) -> Result<(), M::Stop> {
+        self.meter.keep_array(count)
+    }
+
+    #[inline(always)]
+    fn mark(&self) -> u64 {
+        self.meter.mark()
+    }
+
+    #[inline(always)]
+    fn release(&mut self, mark: u64) {
+        self.meter.release(mark);
+    }
+}
+
+impl<'n, M> Asking<'n, M> {
+    /// Whether one of the functions has this name.
+    fn has(&self, name: &str) -> bool
+        ensures { result ≡ is_named self.now.names.now name.now }
+    {
+        for it in self.names {
+            if it.as_str() == name {
+                return true;
+            }
+        }
+        false
+    }
+}
+
+impl<'n> RunMeter for Asking<'n, Budget> {
+    type Halt = Halt;
+
+    ghost stops = { λ asking. is_named asking.names.now };
+
+    ghost halt = { λ h. h };
+
+    ghost refuses = { λ _ _ made. made };
+
+    ghost lacks_memory = { λ _ _ made. made };
+
+    ghost passes = { λ _ _ _ _ made. made };
+
+    ghost halts = { λ _ _ made. inl made };
+
+    fn stops_at(&self, name: &str) -> bool {
+        self.has(name)
+    }
+
+    fn asks(&self, alloc: Global, asked: Asked) -> Halt {
+        halt_at(alloc, asked)
+    }
+
+    #[inline(always)]
+    fn pauses(&self) -> Halt {
+        Halt::Paused
+    }
+}
+
+impl<'n> RunMeter for Asking<'n, NoMeter> {
+    type Halt = Halt;
+
+    ghost stops = { λ asking. is_named asking.names.now };
+
+    ghost halt = { λ h. h };
+
+    ghost refuses = { λ _ _ made. made };
+
+    ghost lacks_memory = { λ _ _ made. made };
+
+    ghost passes = { λ _ _ never. absurd (cc never) };
+
+    ghost halts = { λ _ _ made. inr made };
+
+    fn stops_at(&self, name: &str) -> bool {
+        self.has(name)
+    }
+
+    fn asks(&self, alloc: Global, asked: Asked) -> Halt {
+        halt_at(alloc, asked)
+    }
+
+    #[inline(always)]
+    fn pauses(&self) -> Halt {
+        Halt::Paused
+    }
+}

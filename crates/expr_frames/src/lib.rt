@@ -1,0 +1,8 @@
+//! A run between two instructions: its frames, why it stops, and what it may come to.
+#![tactic(auto)]
+
+mod asking;
+mod halt;
+
+pub use asking::Asking;
+pub use halt::{Asked, Awaited, Halt, RunMeter};
