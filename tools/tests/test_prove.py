@@ -9,13 +9,24 @@ import io
 import os
 import pathlib
 import unittest
+from types import ModuleType
 from typing import Any
 from unittest import mock
 
-BIN = pathlib.Path(__file__).resolve().parents[2] / "bin"
-LOADER = importlib.machinery.SourceFileLoader("prove", str(BIN / "prove"))
-PROVE = importlib.util.module_from_spec(importlib.machinery.ModuleSpec("prove", LOADER))
-LOADER.exec_module(PROVE)
+
+
+def load(file: pathlib.Path) -> ModuleType:
+    """Loads a program of bin/ as a module."""
+    loader = importlib.machinery.SourceFileLoader(file.name, str(file))
+    spec = importlib.util.spec_from_loader(file.name, loader)
+    if spec is None:
+        raise ImportError(str(file))
+    module = importlib.util.module_from_spec(spec)
+    loader.exec_module(module)
+    return module
+
+
+PROVE = load(pathlib.Path(__file__).resolve().parents[2] / "bin" / "prove")
 
 
 class Runs(unittest.TestCase):
