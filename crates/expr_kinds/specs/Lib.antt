@@ -1,0 +1,9 @@
+pub mod Causes
+pub mod Checks
+pub mod Kinds
+pub mod Methods
+pub mod Narrowing
+pub mod Overloads
+pub mod Scopes
+pub mod Tables
+pub mod Typed

@@ -1,0 +1,24 @@
+//! Kinds: which programs return a value of which kind, and which of them never fail.
+//!
+//! A host says which kinds its names and functions have. Then a program is of a kind: it returns only values of that
+//! kind, in each context and host that keep to what was said. The law `typed_programs_do_not_go_wrong` says so. It
+//! doesn't say that a program of no kind fails, nor that a kind is the least one.
+//!
+//! - `specs/Kinds.antt` says which values a kind has, and `specs/Scopes.antt` for which contexts and hosts a scope
+//!   holds.
+//! - `specs/Typed.antt` says which programs are of a kind, `specs/Narrowing.antt` what a condition tells of the names,
+//!   and `specs/Causes.antt` which literals exclude an error.
+//! - `specs/Tables.antt`, `specs/Overloads.antt` and `specs/Methods.antt` are the tables of operators, built-ins and
+//!   methods. Each of their rows is proved.
+#![tactic(auto)]
+
+mod checking;
+mod laws;
+mod plain;
+
+pub use checking::check;
+pub use laws::{
+    conditions_narrow_fields, conditions_narrow_names, literals_exclude_errors,
+    typed_programs_do_not_go_wrong,
+};
+pub use plain::{Atom, Checked, Risk};
