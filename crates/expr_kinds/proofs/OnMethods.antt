@@ -19,7 +19,7 @@ use Rattle.expr_moment.specs.declared.fields.DateTimeField.TheVariants as field
 use Rattle.expr_time.specs.LengthMethods.{by_step, method_answer, name_of as length_method, rounded_nanos, truncated_nanos}
 use Rattle.expr_time.specs.Moments.{AddsDates, AnsweredAt, instant_rounded, instant_truncated, location_answer, moment_method, name_answer, name_method}
 use Rattle.expr_time.specs.declared.length_method.DurationMethod.{DurationMethod}
-use Rattle.expr_time.specs.declared.length_method.DurationMethod.TheVariants as length
+use Rattle.expr_time.specs.declared.length_method.DurationMethod.TheVariants as duration_method
 use Rattle.expr_time.specs.declared.moments.DateTimeMethod.{DateTimeMethod}
 use Rattle.expr_time.specs.declared.moments.DateTimeMethod.TheVariants as moment
 use Rattle.expr_time.specs.declared.moments.TextMethod.{TextMethod}
@@ -63,13 +63,13 @@ stepped f vs h =
     subst (λ o. ResultIs total (Of duration) (by_step o f)) (sym step.1) (f step.0, refl)
 
 lengths-hold : (m : DurationMethod) (n : ℤ) → Returns (of_duration m) (λ vs a. a ≡ method_answer m n vs)
-lengths-hold length.Abs n vs h = same total duration _ (alone duration _ (_, refl) vs h)
-lengths-hold length.Round n vs h = same total duration _ (stepped (rounded_nanos n) vs h)
-lengths-hold length.Truncate n vs h = same total duration _ (stepped (truncated_nanos n) vs h)
-lengths-hold length.Milliseconds n vs h = same total integer _ (alone integer _ (_, refl) vs h)
-lengths-hold length.Microseconds n vs h = same total integer _ (alone integer _ (_, refl) vs h)
-lengths-hold length.Nanoseconds n vs h = same total integer _ (alone integer _ (_, refl) vs h)
-lengths-hold length.String n vs h = same total string _ (alone string _ (_, refl) vs h)
+lengths-hold duration_method.Abs n vs h = same total duration _ (alone duration _ (_, refl) vs h)
+lengths-hold duration_method.Round n vs h = same total duration _ (stepped (rounded_nanos n) vs h)
+lengths-hold duration_method.Truncate n vs h = same total duration _ (stepped (truncated_nanos n) vs h)
+lengths-hold duration_method.Milliseconds n vs h = same total integer _ (alone integer _ (_, refl) vs h)
+lengths-hold duration_method.Microseconds n vs h = same total integer _ (alone integer _ (_, refl) vs h)
+lengths-hold duration_method.Nanoseconds n vs h = same total integer _ (alone integer _ (_, refl) vs h)
+lengths-hold duration_method.String n vs h = same total string _ (alone string _ (_, refl) vs h)
 
 -- DateTimes
 field-kind : (f : DateTimeField) (t : DateTimeValue) → Of (kind_of_field f) (field_value f t)
@@ -150,17 +150,17 @@ names-hold named.String v vs h = same total string _ (alone string _ (_, refl) v
 abbrev length_named : List ℕ → Option DurationMethod
 length_named key =
     lookup (bytes_eq key) (
-    (length_method length.Abs, length.Abs) ∷ (length_method length.Round, length.Round) ∷ (length_method length.Truncate, length.Truncate) ∷ (length_method length.Milliseconds, length.Milliseconds)
-    ∷ (length_method length.Microseconds, length.Microseconds) ∷ (length_method length.Nanoseconds, length.Nanoseconds) ∷ (length_method length.String, length.String) ∷ [])
+    (length_method duration_method.Abs, duration_method.Abs) ∷ (length_method duration_method.Round, duration_method.Round) ∷ (length_method duration_method.Truncate, duration_method.Truncate) ∷ (length_method duration_method.Milliseconds, duration_method.Milliseconds)
+    ∷ (length_method duration_method.Microseconds, duration_method.Microseconds) ∷ (length_method duration_method.Nanoseconds, duration_method.Nanoseconds) ∷ (length_method duration_method.String, duration_method.String) ∷ [])
 
 length-found : (m : DurationMethod) → length_named (length_method m) ≡ Some m
-length-found length.Abs = refl
-length-found length.Round = refl
-length-found length.Truncate = refl
-length-found length.Milliseconds = refl
-length-found length.Microseconds = refl
-length-found length.Nanoseconds = refl
-length-found length.String = refl
+length-found duration_method.Abs = refl
+length-found duration_method.Round = refl
+length-found duration_method.Truncate = refl
+length-found duration_method.Milliseconds = refl
+length-found duration_method.Microseconds = refl
+length-found duration_method.Nanoseconds = refl
+length-found duration_method.String = refl
 
 one-length : (m n : DurationMethod) → length_method m ≡ length_method n → m ≡ n
 one-length m n q = let is : Some m ≡ Some n = sym (length-found m) ∙ ap length_named q ∙ length-found n in cc is

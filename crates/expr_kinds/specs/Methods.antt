@@ -3,7 +3,7 @@ use Rattle.std.specs.Prelude.{List, [], ◌∷◌}
 use Rattle.expr_moment.specs.declared.fields.DateTimeField.{DateTimeField}
 use Rattle.expr_moment.specs.declared.fields.DateTimeField.TheVariants.{IsZero, Month, Weekday}
 use Rattle.expr_time.specs.declared.length_method.DurationMethod.{DurationMethod}
-use Rattle.expr_time.specs.declared.length_method.DurationMethod.TheVariants as length
+use Rattle.expr_time.specs.declared.length_method.DurationMethod.TheVariants as duration_method
 use Rattle.expr_time.specs.declared.moments.DateTimeMethod.{DateTimeMethod}
 use Rattle.expr_time.specs.declared.moments.DateTimeMethod.TheVariants as moment
 use Rattle.expr_time.specs.declared.moments.TextMethod.{TextMethod}
@@ -20,13 +20,13 @@ failing_method arguments gives = record { arguments = arguments; gives = gives; 
 
 -- the methods of durations
 abbrev pub of_duration : DurationMethod → Signature
-of_duration length.Abs = method [] duration
-of_duration length.Round = method (duration ∷ []) duration
-of_duration length.Truncate = method (duration ∷ []) duration
-of_duration length.Milliseconds = method [] integer
-of_duration length.Microseconds = method [] integer
-of_duration length.Nanoseconds = method [] integer
-of_duration length.String = method [] string
+of_duration duration_method.Abs = method [] duration
+of_duration duration_method.Round = method (duration ∷ []) duration
+of_duration duration_method.Truncate = method (duration ∷ []) duration
+of_duration duration_method.Milliseconds = method [] integer
+of_duration duration_method.Microseconds = method [] integer
+of_duration duration_method.Nanoseconds = method [] integer
+of_duration duration_method.String = method [] string
 
 -- the kind of a field of a DateTime
 abbrev pub kind_of_field : DateTimeField → Kind
