@@ -8,7 +8,7 @@ use Rattle.expr_kinds.specs.Kinds.{Effect, ResultIs, Yields, CoversEffect}
 pub value-yields : {A : Type 0} (e : Effect) (P : A → Type 0) (v : A) → P v → Yields e P (λ a. a ≡ Ok v)
 value-yields e P v h a p = subst (λ r. ResultIs e P r) (sym p) h
 
--- what is equal to an answer that is as wanted
+-- what equals a result that is as wanted
 pub same-yields : {A : Type 0} (e : Effect) (P : A → Type 0) (r : Result A ErrorKind) → ResultIs e P r → Yields e P (λ a. a ≡ r)
 same-yields e P r h a p = subst (λ s. ResultIs e P s) (sym p) h
 
@@ -29,12 +29,12 @@ pub Then-yields : {A B : Type 0} (e : Effect) (P : A → Type 0) (Q : B → Type
     → Yields e P first → ((v : A) → P v → Yields e Q (next v)) → Yields e Q (Then first next)
 Then-yields e P Q first next f n r p = ThenIfOk-yields e P Q p.0 next (f p.0 p.1) n r p.2
 
--- what a value is known by, and that it is allowed
+-- a value with its property, and that it is allowed
 pub with-allowed : {A : Type 0} (e : Effect) (P : A → Type 0) (allowed : Result A ErrorKind → Type 0) → Yields e P allowed → Yields e (λ v. P v × allowed (Ok v)) allowed
 with-allowed e P allowed f (Ok v) p = (f (Ok v) p, p)
 with-allowed e P allowed f (Err x) p = f (Err x) p
 
--- the value of a first step, where there is one after it
+-- the value of a first step, where a second one follows
 module _ {A B : Type 0} where
   pub then-value : (first : Result A ErrorKind → Type 0) (next : A → Result B ErrorKind → Type 0) (b : B) → Then first next (Ok b) → (x : A) × first (Ok x) × next x (Ok b)
   then-value first next b (Ok x, p, q) = (x, p, q)

@@ -1,5 +1,5 @@
 -- What the readers of arguments find where the arguments are of their kinds.
-use Rattle.std.proofs.Common.{◌≡◌, ℕ, ℤ, Bool, List, [], ◌∷◌, Option, Some, option_map, option_and_then, rules, refl, sym, ap, ◌∙◌, subst}
+use Rattle.std.proofs.Common.{◌≡◌, ℕ, ℤ, Bool, List, [], ◌∷◌, Option, Some, option_map, option_and_then, rules, refl, sym, ap, ◌∙◌, subst, None}
 use Rattle.expr_arguments.specs.Arguments.{all_of, answer_on, both, one_of, two_of, any_value}
 use Rattle.expr_arguments.specs.Times.{timezone_of}
 use Rattle.expr_datetime.specs.declared.moment.DateTimeValue.{DateTimeValue}
@@ -8,7 +8,7 @@ use Rattle.expr_value.specs.Answers.{Answer}
 use Rattle.expr_value.specs.Values.{duration_of, integer_of, items_of, map_of, moment_of, string_of, truth_of}
 use Rattle.expr_value.specs.declared.value.Value as value
 use Rattle.expr_value.specs.declared.value.Value.{Value, the_lemmas}
-use Rattle.expr_kinds.specs.Kinds.{Kind, never, bool, integer, string, duration, datetime, timezone, array, HasKind, Each, Effect, ResultIs, Yields}
+use Rattle.expr_kinds.specs.Kinds.{Kind, never, bool, integer, string, duration, datetime, timezone, array, HasKind, Each, Effect, ResultIs, Yields, failing}
 use Rattle.expr_kinds.specs.Overloads.{HaveKindsThen}
 
 -- something with a property was found
@@ -117,3 +117,8 @@ all-hold P read k f (v ∷ vs) h =
 pub answered : {A : Type 0} (e : Effect) (R : Value → Type 0) (P : A → Type 0) (o : Option A) (answers : A → Answer) → Holds o P → ((a : A) → P a → ResultIs e R (answers a)) → Yields e R (λ r. r ≡ answer_on o answers)
 answered e R P o answers (a, is, h) f r p =
     subst (λ s. ResultIs e R s) (sym (p ∙ ap (λ x. answer_on x answers) is)) (f a h)
+
+-- the result for what may not be found
+pub may-answer : {A : Type 0} (R : Value → Type 0) (o : Option A) (answers : A → Answer) → ((a : A) → ResultIs failing R (answers a)) → Yields failing R (λ r. r ≡ answer_on o answers)
+may-answer R None answers f r p = subst (λ s. ResultIs failing R s) (sym p) tt
+may-answer R (Some a) answers f r p = subst (λ s. ResultIs failing R s) (sym p) (f a)

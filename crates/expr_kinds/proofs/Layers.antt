@@ -21,7 +21,7 @@ at-layers P v w l m p q h = at-layer (λ x. P x (out-Value w)) v l p (at-layer (
 pub out-nil : out-Value value.Nil ≡ Value-F.Nil
 out-nil = search (rules, the_lemmas)
 
-out-bool : (b : Bool) → out-Value (value.Bool b) ≡ Value-F.Bool b
+pub out-bool : (b : Bool) → out-Value (value.Bool b) ≡ Value-F.Bool b
 out-bool b = search (rules, the_lemmas)
 
 out-integer : (n : ℤ) → out-Value (value.Integer n) ≡ Value-F.Integer n

@@ -1,5 +1,6 @@
 -- Facts about each item of a list.
-use Rattle.std.proofs.Common.{ℕ, zero, suc, Bool, true, false, cond, List, [], ◌∷◌, ◌++◌, map as mapped, reverse, take, drop, Option, Some, None, option_map, unwrap_or, IfSome, refl, inl, inr}
+use Rattle.std.proofs.Common.{◌≡◌, ℕ, zero, suc, Bool, true, false, cond, List, [], ◌∷◌, ◌++◌, map as mapped, reverse, take, drop, Option, Some, None, option_map, unwrap_or, IfSome, refl, inl, inr, ◌==◌, arith}
+use Rattle.std.proofs.lemmas.Bool.Decides.{nat_tests}
 use Rattle.std.specs.List.{cons_option, filter, filter_map, find as first_found, slice_get}
 use Rattle.std.specs.Map.{lookup}
 use mathlib.Core.List.{reverse_aux}
@@ -77,6 +78,9 @@ Each-filter_map {Y = Y} P f (x ∷ xs) p = before (f x) p.0 (filter_map f xs) (E
     before : (o : Option Y) → IfSome o P → (ys : List Y) → Each P ys → Each P (cons_option o ys)
     before None h ys q = q
     before (Some y) h ys q = (h, q)
+
+pub suc-not-zero : (n : ℕ) → (suc n == 0) ≡ false
+suc-not-zero n = grind (arith, nat_tests)
 
 -- what is looked for may not be there
 pub nil-or : (k : Kind) (o : Option Value) → IfSome o (λ v. HasKind k v) → HasKind (nilable k) (unwrap_or o value.Nil)

@@ -26,16 +26,13 @@ use Rattle.expr_kinds.specs.Narrowing.{Refinement, after, assuming, bind_if, hav
 use Rattle.expr_kinds.specs.Scopes.{Scope, Conforms, Hosts, at_name, bind_kind, given_at, is_absent}
 use Rattle.expr_kinds.proofs.Answered.{then-value}
 use Rattle.expr_kinds.proofs.Binding.{Hosts-bind}
-use Rattle.expr_kinds.proofs.Layers.{Layer, map-layer, nil-layer}
+use Rattle.expr_kinds.proofs.Layers.{Layer, map-layer, nil-layer, out-bool}
 use Rattle.expr_kinds.proofs.Operating.{Continues}
 use Rattle.expr_kinds.proofs.Standing.{absent-stands, at_name-stands, given-stands}
 
--- two answers are one
+-- two results are one
 abbrev Same : Answer → Answer → Type 0
 Same a b = a ≡ b
-
-pub out-bool : (b : Bool) → out-Value (value.Bool b) ≡ Value-F.Bool b
-out-bool b = search (rules, the_lemmas)
 
 nil-equals-nil : equals value.Nil value.Nil ≡ true
 nil-equals-nil = search (rules, the_lemmas)

@@ -1,6 +1,5 @@
 -- Each overload of the built-ins on arrays and maps holds.
-use Rattle.std.proofs.Common.{◌≡◌, ℕ, suc, ◌-◌, ◌==◌, ℤ, pos, negsuc, Bool, true, false, cond, List, [], ◌∷◌, length, take, reverse, map as mapped, Option, Some, None, option_map, option_and_then, IfSome, Ok, Err, arith, rules, inl, inr, refl, sym, ap, ◌∙◌, subst}
-use Rattle.std.proofs.lemmas.Bool.Decides.{nat_tests}
+use Rattle.std.proofs.Common.{◌≡◌, ℕ, ◌-◌, ◌==◌, ℤ, pos, negsuc, Bool, true, false, cond, List, [], ◌∷◌, length, take, reverse, map as mapped, Option, Some, None, option_map, option_and_then, IfSome, Ok, Err, rules, inl, inr, refl, sym, ap, ◌∙◌, subst}
 use Rattle.std.specs.List.{slice_get}
 use Rattle.std.specs.Map.{keys_of, values_of}
 use Rattle.expr_arguments.specs.Arguments.{all_of, answer_on, any_value, array_and_text, both, one_of, two_of}
@@ -25,11 +24,11 @@ use Rattle.expr_kinds.specs.Causes.{Literals, AreKnown, effect_under, negative_a
 use Rattle.expr_kinds.specs.Kinds.{Kind, any, never, nil, bool, integer, string, bytes, duration, month, weekday, datetime, timezone, array, map, keyed, nilable, others, HasKind, Each, Effect, total, failing, ResultIs, Yields}
 use Rattle.expr_kinds.specs.Overloads.{HaveKindsThen, flat_overloads, is_flat, on_collections}
 use Rattle.expr_kinds.proofs.Causes.{admits-negative}
-use Rattle.expr_kinds.proofs.Found.{Anything, Holds, integer-is, finds-items, finds-string, finds-value, all-hold, both-hold, mapped-holds, one-holds, then-holds, two-hold, answered}
+use Rattle.expr_kinds.proofs.Found.{Anything, Holds, integer-is, finds-items, finds-string, finds-value, all-hold, both-hold, mapped-holds, one-holds, then-holds, two-hold, answered, may-answer}
 use Rattle.expr_kinds.proofs.Held.{Of, OverloadHolds, exactly_one, exactly_two}
 use Rattle.expr_kinds.proofs.Indexed.{byte-of, entry-of, item-of_array, value-of_map}
 use Rattle.expr_kinds.proofs.Layers.{Layer, at-layer, string-layer, bytes-layer, array-layer, keyed-layer, map-layer}
-use Rattle.expr_kinds.proofs.Lists.{Each-all, Each-append, Each-filter, Each-get, Each-map, Each-reverse, Each-take, nil-or}
+use Rattle.expr_kinds.proofs.Lists.{Each-all, Each-append, Each-filter, Each-get, Each-map, Each-reverse, Each-take, nil-or, suc-not-zero}
 
 abbrev Items : Kind → List Value → Type 0
 Items k xs = Each (Of k) xs
@@ -79,14 +78,11 @@ concatenated-items : (k : Kind) (xss : List (List Value)) → Each (Items k) xss
 concatenated-items k [] p = tt
 concatenated-items k (xs ∷ xss) p = Each-append (Of k) xs (concatenated xss) p.0 (concatenated-items k xss p.1)
 
-some_more : (n : ℕ) → (suc n == 0) ≡ false
-some_more n = grind (arith, nat_tests)
-
 joined : (k : Kind) (vs : List Value) → HaveKindsThen (array k ∷ []) (array k) vs → Yields total (Of (array k)) (CollectionCalled collection.Concat vs)
 joined k [] h = absurd h
 joined k (v ∷ vs) h =
     let arrays = all-hold (Items k) items_of (array k) (finds-items k) (v ∷ vs) h in
-    subst (λ b. Yields total (Of (array k)) (λ r. r ≡ cond b (Err evaluation) (answer_on (option_map concatenated (all_of items_of (v ∷ vs))) (λ xs. Ok (value.Array xs))))) (sym (some_more (length vs)))
+    subst (λ b. Yields total (Of (array k)) (λ r. r ≡ cond b (Err evaluation) (answer_on (option_map concatenated (all_of items_of (v ∷ vs))) (λ xs. Ok (value.Array xs))))) (sym (suc-not-zero (length vs)))
     (answered total (Of (array k)) (Items k) (option_map concatenated (all_of items_of (v ∷ vs))) (λ xs. Ok (value.Array xs))
     (mapped-holds (Each (Items k)) (Items k) (all_of items_of (v ∷ vs)) concatenated arrays (concatenated-items k)) (λ xs p. (xs, refl, p)))
 
@@ -127,7 +123,7 @@ none-map m = search (rules, the_lemmas)
 none-keyed : (m : List (Key × Value)) → items_of (value.KeyedMap m) ≡ None
 none-keyed m = search (rules, the_lemmas)
 
-no-items : (k : Kind) → is_flat k ≡ true → (v : Value) → HasKind k v → items_of v ≡ None
+pub no-items : (k : Kind) → is_flat k ≡ true → (v : Value) → HasKind k v → items_of v ≡ None
 no-items any q v h = absurd (cc q)
 no-items never q v h = absurd h
 no-items nil q v h = ap items_of h ∙ none-nil
@@ -264,6 +260,34 @@ got : (j k gives : Kind) → ((v w : Value) → Of j v → Of k w → ResultIs t
 got j k gives f vs h =
     answered total (Of gives) (λ a. Of j a.0 × Of k a.1) (two_of any_value any_value vs) _ (two-hold (Of j) (Of k) any_value any_value j k (finds-value j) (finds-value k) vs h) (λ a p. f a.0 a.1 p.0 p.1)
 
+-- arguments of unknown kinds
+may-take : (xs : List Value) (n : ℤ) → ResultIs failing (Of (array any)) (taken_items xs n)
+may-take xs (pos n) = (take n xs, refl, anything (take n xs))
+may-take xs (negsuc n) = tt
+
+may-join_arrays : (b : Bool) (o : Option (List Value)) → ResultIs failing (Of (array any)) (cond b (Err evaluation) (answer_on o (λ xs. Ok (value.Array xs))))
+may-join_arrays true o = tt
+may-join_arrays false None = tt
+may-join_arrays false (Some xs) = (xs, refl, anything xs)
+
+may-keys : (l : Layer) → ResultIs failing (Of (array any)) (keys_layer l)
+may-keys (Value-F.Map m) = an-array failing any _ (anything _)
+may-keys (Value-F.KeyedMap m) = an-array failing any _ (anything _)
+may-keys l = tt
+
+may-values : (l : Layer) → ResultIs failing (Of (array any)) (values_layer l)
+may-values (Value-F.Map m) = an-array failing any _ (anything _)
+may-values (Value-F.KeyedMap m) = an-array failing any _ (anything _)
+may-values l = tt
+
+may-pairs : (l : Layer) → ResultIs failing (Of (array any)) (to_pairs_layer l)
+may-pairs (Value-F.Map m) = an-array failing any _ (anything _)
+may-pairs (Value-F.KeyedMap m) = an-array failing any _ (anything _)
+may-pairs l = tt
+
+any-keyed : (m : List (Key × Value)) → Of (keyed any) (value.KeyedMap m)
+any-keyed m = (m, refl, Each-all (λ e. HasKind any e.1) (λ e. tt) m)
+
 pub collections-hold : (c : CollectionCall) (k : Kind) → Each (OverloadHolds (CollectionCalled c)) (on_collections c k)
 collections-hold collection.Len k = (
   λ known vs h is. sized string vs h (λ v i. size-there v (Value-F.String i.0) _ (string-layer v i) refl),
@@ -273,7 +297,7 @@ collections-hold collection.Len k = (
       λ known vs h is. sized bytes vs h (λ v i. size-there v (Value-F.Bytes i.0) _ (bytes-layer v i) refl),
       (
         λ known vs h is. sized (map (others any)) vs h (λ v i. size-there v (Value-F.Map i.0) _ (map-layer i.0 v i.1) refl),
-        (λ known vs h is. sized (keyed any) vs h (λ v i. size-there v (Value-F.KeyedMap i.0) _ (keyed-layer any v i) refl), tt),
+        (λ known vs h is. sized (keyed any) vs h (λ v i. size-there v (Value-F.KeyedMap i.0) _ (keyed-layer any v i) refl), (λ known vs h is. may-answer (Of integer) (option_and_then size_of (one_of any_value vs)) _ (λ n. (_, refl)), tt)),
       ),
     ),
   ),
@@ -282,21 +306,21 @@ collections-hold collection.First k =
     (λ known vs h is. answered total (Of (nilable k)) (Items k) (one_of items_of vs) _ (one-array k vs h) (λ xs p. nil-or k (slice_get xs 0) (Each-get (Of k) xs 0 p)), tt)
 collections-hold collection.Last k =
     (λ known vs h is. answered total (Of (nilable k)) (Items k) (one_of items_of vs) _ (one-array k vs h) (λ xs p. nil-or k (slice_get xs (length xs - 1)) (Each-get (Of k) xs (length xs - 1) p)), tt)
-collections-hold collection.Take k = (λ known vs h is. taken k known vs h is, tt)
+collections-hold collection.Take k = (λ known vs h is. taken k known vs h is, (λ known vs h is. may-answer (Of (array any)) (two_of items_of integer_of vs) _ (λ a. may-take a.0 a.1), tt))
 collections-hold collection.Reverse k =
-    (λ known vs h is. answered total (Of (array k)) (Items k) (one_of items_of vs) _ (one-array k vs h) (λ xs p. an-array total k (reverse xs) (Each-reverse (Of k) xs p)), tt)
+    (λ known vs h is. answered total (Of (array k)) (Items k) (one_of items_of vs) _ (one-array k vs h) (λ xs p. an-array total k (reverse xs) (Each-reverse (Of k) xs p)), (λ known vs h is. may-answer (Of (array any)) (one_of items_of vs) _ (λ xs. an-array failing any _ (anything _)), tt))
 collections-hold collection.Uniq k =
-    (λ known vs h is. answered total (Of (array k)) (Items k) (one_of items_of vs) _ (one-array k vs h) (λ xs p. an-array total k (distinct xs) (distinct-items k xs p)), tt)
+    (λ known vs h is. answered total (Of (array k)) (Items k) (one_of items_of vs) _ (one-array k vs h) (λ xs p. an-array total k (distinct xs) (distinct-items k xs p)), (λ known vs h is. may-answer (Of (array any)) (one_of items_of vs) _ (λ xs. an-array failing any _ (anything _)), tt))
 collections-hold collection.Flatten k =
-    (λ known vs h is. answered total (Of (array any)) (Items any) (one_of items_of vs) _ (one-array any vs h) (λ xs p. an-array total any _ (anything _)), flat-hold k (is_flat k) refl)
-collections-hold collection.Concat k = (λ known vs h is. joined k vs h, tt)
+    (λ known vs h is. answered total (Of (array any)) (Items any) (one_of items_of vs) _ (one-array any vs h) (λ xs p. an-array total any _ (anything _)), (λ known vs h is. may-answer (Of (array any)) (one_of items_of vs) _ (λ xs. an-array failing any _ (anything _)), flat-hold k (is_flat k) refl))
+collections-hold collection.Concat k = (λ known vs h is. joined k vs h, (λ known vs h is r p. subst (λ s. ResultIs failing (Of (array any)) s) (sym p) (may-join_arrays (length vs == 0) (option_map concatenated (all_of items_of vs))), tt))
 collections-hold collection.Keys k = (
   λ known vs h is. by-layer (map (others any)) (array string) keys_layer vs h (λ v i. (Value-F.Map i.0, map-layer i.0 v i.1, an-array total string _ (names-are (keys_of i.0)))),
-  (λ known vs h is. by-layer (keyed any) (array any) keys_layer vs h (λ v i. (Value-F.KeyedMap i.0, keyed-layer any v i, an-array total any _ (anything _))), tt),
+  (λ known vs h is. by-layer (keyed any) (array any) keys_layer vs h (λ v i. (Value-F.KeyedMap i.0, keyed-layer any v i, an-array total any _ (anything _))), (λ known vs h is. may-answer (Of (array any)) (one_of any_value vs) _ (λ v. may-keys (out-Value v)), tt)),
 )
 collections-hold collection.Values k = (
   λ known vs h is. by-layer (map (others any)) (array any) values_layer vs h (λ v i. (Value-F.Map i.0, map-layer i.0 v i.1, an-array total any _ (anything _))),
-  (λ known vs h is. by-layer (keyed k) (array k) values_layer vs h (λ v i. (Value-F.KeyedMap i.0, keyed-layer k v i, an-array total k _ (values-are k i.0 i.2))), tt),
+  (λ known vs h is. by-layer (keyed k) (array k) values_layer vs h (λ v i. (Value-F.KeyedMap i.0, keyed-layer k v i, an-array total k _ (values-are k i.0 i.2))), (λ known vs h is. may-answer (Of (array any)) (one_of any_value vs) _ (λ v. may-values (out-Value v)), tt)),
 )
 collections-hold collection.ToPairs k = (
   λ known vs h is. by-layer (map (others any)) (array (array any)) to_pairs_layer vs h (λ v i.
@@ -304,7 +328,7 @@ collections-hold collection.ToPairs k = (
   (
     λ known vs h is. by-layer (keyed any) (array (array any)) to_pairs_layer vs h (λ v i.
         (Value-F.KeyedMap i.0, keyed-layer any v i, an-array total (array any) _ (Each-map (Of (array any)) keyed_pair i.0 (Each-all (λ p. Of (array any) (keyed_pair p)) (λ p. a-pair (of_key p.0) p.1) i.0)))),
-    tt,
+    (λ known vs h is. may-answer (Of (array any)) (one_of any_value vs) _ (λ v. may-pairs (out-Value v)), tt),
   ),
 )
 collections-hold collection.Get k = (
@@ -317,5 +341,5 @@ collections-hold collection.Get k = (
     ),
   ),
 )
-collections-hold collection.Join k = (λ known vs h is. glued vs (texts-of vs h), (λ known vs h is. glued vs (texts-and-separator vs h), tt))
-collections-hold collection.FromPairs k = (λ known vs h is. from-pairs k vs h, tt)
+collections-hold collection.Join k = (λ known vs h is. glued vs (texts-of vs h), (λ known vs h is. glued vs (texts-and-separator vs h), (λ known vs h is. may-answer (Of string) (array_and_text vs) _ (λ a. may-answer (Of string) (all_of string_of a.0) _ (λ ts. (_, refl)) _ refl), tt)))
+collections-hold collection.FromPairs k = (λ known vs h is. from-pairs k vs h, (λ known vs h is. may-answer (Of (keyed any)) (option_and_then (all_of pair_of) (one_of items_of vs)) _ (λ ps. may-answer (Of (keyed any)) (option_map (key_put_all []) (scalar_pairs ps)) _ any-keyed _ refl), tt))

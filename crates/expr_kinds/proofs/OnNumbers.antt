@@ -1,11 +1,10 @@
 -- Each overload of the built-ins that convert values, and of those on numbers and bits, holds.
-use Rattle.std.proofs.Common.{◌≡◌, ℕ, suc, ◌==◌, ℤ, pos, negsuc, false, cond, List, [], ◌∷◌, ◌++◌, length, None, option_map, Ok, Err, arith, rules, refl, sym, ap, ◌∙◌, subst, inl, inr}
-use Rattle.std.proofs.lemmas.Bool.Decides.{nat_tests}
+use Rattle.std.proofs.Common.{◌≡◌, ℕ, ◌==◌, ℤ, pos, negsuc, false, cond, List, [], ◌∷◌, ◌++◌, length, None, option_map, Ok, Err, refl, sym, ap, ◌∙◌, subst, inl, inr, Bool, true, Option, Some}
 use Rattle.std.specs.Int.{int_max, int_min}
 use Rattle.expr_arguments.specs.Arguments.{all_of, answer_on, any_value, both, one_integer, one_of, two_integers}
 use Rattle.expr_builtins.proofs.Opening.{flat_items-Array, flat_items-other}
-use Rattle.expr_builtins.specs.Bits.{BitCalled, shift_by_count, of_count}
-use Rattle.expr_builtins.specs.Conversions.{ConversionCalled, IntLayer, ReadsInteger}
+use Rattle.expr_builtins.specs.Bits.{BitCalled, shifted_left, shifted_right, shifted_unsigned, shift_by_count, of_count}
+use Rattle.expr_builtins.specs.Conversions.{ConversionCalled, IntLayer, ReadsInteger, IntOne}
 use Rattle.expr_builtins.specs.Nested.{all_flat_items, flat_items}
 use Rattle.expr_builtins.specs.Numbers.{NumberCalled, choice_among, choice_of}
 use Rattle.expr_error.specs.ErrorKind.{evaluation}
@@ -15,17 +14,19 @@ use Rattle.expr_functions.specs.declared.functions.ConversionCall.{ConversionCal
 use Rattle.expr_functions.specs.declared.functions.ConversionCall.TheVariants as conversion
 use Rattle.expr_functions.specs.declared.functions.NumberCall.{NumberCall}
 use Rattle.expr_functions.specs.declared.functions.NumberCall.TheVariants as number
-use Rattle.expr_value.specs.Values.{integer_of, items_of}
+use Rattle.expr_value.specs.Values.{integer_of}
 use Rattle.expr_value.specs.declared.value.Value as value
 use Rattle.expr_value.specs.declared.value.Value.{Value, out-Value, the_lemmas}
+use Rattle.expr_value.specs.declared.value.Value.TheOpen.{Value-F}
 use Rattle.expr_kinds.specs.Causes.{Literals, AreKnown, effect_under, negative_at}
 use Rattle.expr_kinds.specs.Kinds.{any, never, integer, string, array, nilable, Each, total, failing, ResultIs, Yields}
 use Rattle.expr_kinds.specs.Overloads.{HaveKindsThen, on_bits, on_conversions, on_numbers}
 use Rattle.expr_kinds.proofs.Causes.{admits-negative}
-use Rattle.expr_kinds.proofs.Found.{Anything, Holds, finds-integer, integer-is, finds-value, all-hold, both-hold, mapped-holds, one-holds, then-holds, two-hold, answered}
+use Rattle.expr_kinds.proofs.Found.{Anything, Holds, finds-integer, integer-is, finds-value, all-hold, both-hold, mapped-holds, one-holds, then-holds, two-hold, answered, may-answer}
 use Rattle.expr_kinds.proofs.Held.{Of, OverloadHolds, exactly_one, exactly_two}
-use Rattle.expr_kinds.proofs.Layers.{at-layer, integer-layer, string-layer}
-use Rattle.expr_kinds.proofs.Lists.{Each-append, Each-weaker}
+use Rattle.expr_kinds.proofs.Layers.{Layer, at-layer, integer-layer, string-layer}
+use Rattle.expr_kinds.proofs.OnCollections.{no-items}
+use Rattle.expr_kinds.proofs.Lists.{Each-append, Each-weaker, suc-not-zero}
 
 -- conversions
 int-integer : (vs : List Value) → HaveKindsThen (integer ∷ []) never vs → Yields total (Of integer) (ConversionCalled conversion.Int vs)
@@ -45,8 +46,17 @@ int-string =
 one-value : (vs : List Value) → HaveKindsThen (any ∷ []) never vs → Holds (one_of any_value vs) (Of any)
 one-value = one-holds (Of any) any_value any (finds-value any)
 
+may-int_layer : (l : Layer) → Yields failing (Of integer) (IntLayer l)
+may-int_layer (Value-F.Integer n) a is = subst (λ r. ResultIs failing (Of integer) r) (sym is) (n, refl)
+may-int_layer (Value-F.String s) a p = reads-integer s a p
+may-int_layer l a is = subst (λ r. ResultIs failing (Of integer) r) (sym is) tt
+
+may-int : (o : Option Value) → Yields failing (Of integer) (IntOne o)
+may-int None a is = subst (λ r. ResultIs failing (Of integer) r) (sym is) tt
+may-int (Some v) a p = may-int_layer (out-Value v) a p
+
 pub conversions-hold : (c : ConversionCall) → Each (OverloadHolds (ConversionCalled c)) (on_conversions c)
-conversions-hold conversion.Int = (λ known vs h is. int-integer vs h, (λ known vs h is. int-string vs h, tt))
+conversions-hold conversion.Int = (λ known vs h is. int-integer vs h, (λ known vs h is. int-string vs h, (λ known vs h is. may-int (one_of any_value vs), tt)))
 conversions-hold conversion.String = (λ known vs h is. answered total (Of string) _ (one_of any_value vs) _ (one-value vs h) (λ v p. (_, refl)), tt)
 conversions-hold conversion.Type = (λ known vs h is. answered total (Of string) _ (one_of any_value vs) _ (one-value vs h) (λ v p. (_, refl)), tt)
 
@@ -57,11 +67,8 @@ one-int = one-holds Anything integer_of integer finds-integer
 two-ints : (vs : List Value) → HaveKindsThen (integer ∷ integer ∷ []) never vs → Holds (two_integers vs) (λ a. Anything a.0 × Anything a.1)
 two-ints = two-hold Anything Anything integer_of integer_of integer integer finds-integer finds-integer
 
-no-items : (n : ℤ) → items_of (value.Integer n) ≡ None
-no-items n = search (rules, the_lemmas)
-
 flat-integer : (v : Value) → Of integer v → flat_items v ≡ v ∷ []
-flat-integer v h = flat_items-other v (ap items_of h.1 ∙ no-items h.0)
+flat-integer v h = flat_items-other v (no-items integer refl v h)
 
 -- what a value opens to are integers
 abbrev OpensToIntegers : Value → Type 0
@@ -97,9 +104,6 @@ integers-there (v ∷ vs) p q =
     then-holds Anything IsThere (integer_of v) (λ x. option_map (λ xs. x ∷ xs) (all_of integer_of vs)) (finds-integer v p.0) (λ x u.
     mapped-holds (Each Anything) IsThere (all_of integer_of vs) (λ xs. x ∷ xs) (all-hold Anything integer_of integer finds-integer vs p.1) (λ xs w. tt))
 
-some_more : (n : ℕ) → (suc n == 0) ≡ false
-some_more n = grind (arith, nat_tests)
-
 chosen-integer : (choice : ℤ → ℤ → ℤ) (ns : List ℤ) → IsThere ns → Of integer (choice_of choice ns)
 chosen-integer choice [] p = absurd p
 chosen-integer choice (n ∷ ns) p = (_, refl)
@@ -112,7 +116,7 @@ module _ (choice : ℤ → ℤ → ℤ) (v : Value) (vs : List Value) (opens : E
   -- with at least one argument
   not_alone : (R : Value → Type 0) → Yields total R (λ r. r ≡ answer_on (all_of integer_of (all_flat_items (v ∷ vs))) (λ ns. Ok (choice_of choice ns))) → Yields total R (λ r. r ≡ choice_among choice (v ∷ vs))
   not_alone R h =
-      subst (λ b. Yields total R (λ r. r ≡ cond b (Err evaluation) (answer_on (all_of integer_of (all_flat_items (v ∷ vs))) (λ ns. Ok (choice_of choice ns))))) (sym (some_more (length vs))) h
+      subst (λ b. Yields total R (λ r. r ≡ cond b (Err evaluation) (answer_on (all_of integer_of (all_flat_items (v ∷ vs))) (λ ns. Ok (choice_of choice ns))))) (sym (suc-not-zero (length vs))) h
 
   extreme : IsThere (all_flat_items (v ∷ vs)) → Yields total (Of integer) (λ r. r ≡ choice_among choice (v ∷ vs))
   extreme there =
@@ -146,15 +150,23 @@ module _ (choice : ℤ → ℤ → ℤ) where
   of-arrays [] h = absurd h
   of-arrays (v ∷ vs) h = extreme-or_nil choice v vs (opens-array v h.0, Each-weaker (Of (array integer)) OpensToIntegers opens-array vs h.1)
 
+may-choose : (choice : ℤ → ℤ → ℤ) (b : Bool) (o : Option (List ℤ)) → ResultIs failing (Of (nilable integer)) (cond b (Err evaluation) (answer_on o (λ ns. Ok (choice_of choice ns))))
+may-choose choice true o = tt
+may-choose choice false None = tt
+may-choose choice false (Some ns) = chosen-or_nil choice ns
+
+may-extreme : (choice : ℤ → ℤ → ℤ) (vs : List Value) → Yields failing (Of (nilable integer)) (λ r. r ≡ choice_among choice vs)
+may-extreme choice vs r p = subst (λ s. ResultIs failing (Of (nilable integer)) s) (sym p) (may-choose choice (length vs == 0) (all_of integer_of (all_flat_items vs)))
+
 fails : Yields failing (Of never) (λ r. r ≡ Err evaluation)
 fails r is = subst (λ a. ResultIs failing (Of never) a) (sym is) tt
 
 pub numbers-hold : (c : NumberCall) → Each (OverloadHolds (NumberCalled c)) (on_numbers c)
-numbers-hold number.Abs = (λ known vs h is. answered total (Of integer) _ (one_integer vs) _ (one-int vs h) (λ n p. (_, refl)), tt)
+numbers-hold number.Abs = (λ known vs h is. answered total (Of integer) _ (one_integer vs) _ (one-int vs h) (λ n p. (_, refl)), (λ known vs h is. may-answer (Of integer) (one_integer vs) _ (λ n. (_, refl)), tt))
 numbers-hold number.Max =
-    (λ known vs h is. of-integers int_max vs h, (λ known vs h is. of-integer_and_arrays int_max vs h, (λ known vs h is. of-array_and_integers int_max vs h, (λ known vs h is. of-arrays int_max vs h, tt))))
+    (λ known vs h is. of-integers int_max vs h, (λ known vs h is. of-integer_and_arrays int_max vs h, (λ known vs h is. of-array_and_integers int_max vs h, (λ known vs h is. of-arrays int_max vs h, (λ known vs h is. may-extreme int_max vs, tt)))))
 numbers-hold number.Min =
-    (λ known vs h is. of-integers int_min vs h, (λ known vs h is. of-integer_and_arrays int_min vs h, (λ known vs h is. of-array_and_integers int_min vs h, (λ known vs h is. of-arrays int_min vs h, tt))))
+    (λ known vs h is. of-integers int_min vs h, (λ known vs h is. of-integer_and_arrays int_min vs h, (λ known vs h is. of-array_and_integers int_min vs h, (λ known vs h is. of-arrays int_min vs h, (λ known vs h is. may-extreme int_min vs, tt)))))
 numbers-hold number.Float = (λ known vs h is. fails, tt)
 numbers-hold number.Mean = (λ known vs h is. fails, tt)
 numbers-hold number.Median = (λ known vs h is. fails, tt)
@@ -175,12 +187,16 @@ module _ (known : Literals) (shifted : ℤ → ℕ → ℤ) where
       (both-hold Anything (λ n. w ≡ value.Integer n) (integer_of v) (integer_of w) (finds-integer v i) (j.0, integer-is w j, j.1))
       (λ a p. shift-by v w are a.0 a.1 p.1))
 
+may-shift : (shifted : ℕ → ℤ) (n : ℤ) → ResultIs failing (Of integer) (shift_by_count shifted n)
+may-shift shifted (pos n) = (_, refl)
+may-shift shifted (negsuc n) = tt
+
 pub bits-hold : (c : BitCall) → Each (OverloadHolds (BitCalled c)) (on_bits c)
-bits-hold bit.Bitand = (λ known vs h is. answered total (Of integer) _ (two_integers vs) _ (two-ints vs h) (λ a p. (_, refl)), tt)
-bits-hold bit.Bitor = (λ known vs h is. answered total (Of integer) _ (two_integers vs) _ (two-ints vs h) (λ a p. (_, refl)), tt)
-bits-hold bit.Bitxor = (λ known vs h is. answered total (Of integer) _ (two_integers vs) _ (two-ints vs h) (λ a p. (_, refl)), tt)
-bits-hold bit.Bitnand = (λ known vs h is. answered total (Of integer) _ (two_integers vs) _ (two-ints vs h) (λ a p. (_, refl)), tt)
-bits-hold bit.Bitnot = (λ known vs h is. answered total (Of integer) _ (one_integer vs) _ (one-int vs h) (λ a p. (_, refl)), tt)
-bits-hold bit.Bitshl = (λ known vs h is. shifts known _ vs h is, tt)
-bits-hold bit.Bitshr = (λ known vs h is. shifts known _ vs h is, tt)
-bits-hold bit.Bitushr = (λ known vs h is. shifts known _ vs h is, tt)
+bits-hold bit.Bitand = (λ known vs h is. answered total (Of integer) _ (two_integers vs) _ (two-ints vs h) (λ a p. (_, refl)), (λ known vs h is. may-answer (Of integer) (two_integers vs) _ (λ a. (_, refl)), tt))
+bits-hold bit.Bitor = (λ known vs h is. answered total (Of integer) _ (two_integers vs) _ (two-ints vs h) (λ a p. (_, refl)), (λ known vs h is. may-answer (Of integer) (two_integers vs) _ (λ a. (_, refl)), tt))
+bits-hold bit.Bitxor = (λ known vs h is. answered total (Of integer) _ (two_integers vs) _ (two-ints vs h) (λ a p. (_, refl)), (λ known vs h is. may-answer (Of integer) (two_integers vs) _ (λ a. (_, refl)), tt))
+bits-hold bit.Bitnand = (λ known vs h is. answered total (Of integer) _ (two_integers vs) _ (two-ints vs h) (λ a p. (_, refl)), (λ known vs h is. may-answer (Of integer) (two_integers vs) _ (λ a. (_, refl)), tt))
+bits-hold bit.Bitnot = (λ known vs h is. answered total (Of integer) _ (one_integer vs) _ (one-int vs h) (λ a p. (_, refl)), (λ known vs h is. may-answer (Of integer) (one_integer vs) _ (λ a. (_, refl)), tt))
+bits-hold bit.Bitshl = (λ known vs h is. shifts known _ vs h is, (λ known vs h is. may-answer (Of integer) (two_integers vs) _ (λ a. may-shift (shifted_left a.0) a.1), tt))
+bits-hold bit.Bitshr = (λ known vs h is. shifts known _ vs h is, (λ known vs h is. may-answer (Of integer) (two_integers vs) _ (λ a. may-shift (shifted_right a.0) a.1), tt))
+bits-hold bit.Bitushr = (λ known vs h is. shifts known _ vs h is, (λ known vs h is. may-answer (Of integer) (two_integers vs) _ (λ a. may-shift (shifted_unsigned a.0) a.1), tt))

@@ -1,5 +1,5 @@
 -- Each overload of the built-ins on strings holds.
-use Rattle.std.proofs.Common.{ℕ, ℤ, pos, negsuc, Bool, true, false, cond, List, [], ◌∷◌, map as mapped, Option, Some, None, Ok, Err, nat_lt, ◌*◌, ◌^◌, length, refl, sym, subst}
+use Rattle.std.proofs.Common.{ℕ, ℤ, pos, negsuc, Bool, true, false, cond, List, [], ◌∷◌, map as mapped, Option, Some, None, Ok, Err, nat_lt, ◌*◌, ◌^◌, length, refl, sym, subst, ◌≡◌}
 use Rattle.std.specs.List.{repeat}
 use Rattle.expr_arguments.specs.Arguments.{both, one_text, two_texts, with_piece_limit, two_texts_and_limit, one_or_two_texts, text_and_integer, three_texts_and_limit}
 use Rattle.expr_builtins.specs.Indices.{place_or_less}
@@ -14,7 +14,7 @@ use Rattle.expr_value.specs.declared.value.Value as value
 use Rattle.expr_value.specs.declared.value.Value.{Value}
 use Rattle.expr_kinds.specs.Kinds.{never, bool, integer, string, array, Each, total, failing, ResultIs, Yields}
 use Rattle.expr_kinds.specs.Overloads.{HaveKindsThen, on_strings}
-use Rattle.expr_kinds.proofs.Found.{Anything, Holds, finds-integer, finds-string, both-hold, mapped-holds, one-holds, two-hold, answered}
+use Rattle.expr_kinds.proofs.Found.{Anything, Holds, finds-integer, finds-string, both-hold, mapped-holds, one-holds, two-hold, answered, may-answer}
 use Rattle.expr_kinds.proofs.Held.{Of, OverloadHolds, exactly_one, exactly_two, exactly_three, exactly_four}
 use Rattle.expr_kinds.proofs.Lists.{Each-all, Each-map}
 
@@ -111,32 +111,45 @@ repeated s (pos n) =
     unless-many (nat_lt 1000000 n) (cond (nat_lt (n * length s) (2 ^ 64)) (Ok (value.String (repeat n s))) (Err evaluation)) (within-limits (nat_lt (n * length s) (2 ^ 64)) (repeat n s))
 repeated s (negsuc n) = tt
 
+-- arguments of unknown kinds
+no-string : Yields failing (Of string) (λ a. a ≡ Err evaluation)
+no-string a is = subst (λ r. ResultIs failing (Of string) r) (sym is) tt
+
+may-trim : (o : Option (List ℕ)) (two : Option (List ℕ × List ℕ)) → Yields failing (Of string) (TrimOne o two)
+may-trim (Some s) two a (t, is, q) = subst (λ r. ResultIs failing (Of string) r) (sym q) (t, refl)
+may-trim None (Some p) a (t, is, q) = subst (λ r. ResultIs failing (Of string) r) (sym q) (t, refl)
+may-trim None None a is = no-string a is
+
+may-change : (changed : ℕ → ℕ) (o : Option (List ℕ)) → Yields failing (Of string) (ChangesCaseOfOne changed o)
+may-change changed None a is = no-string a is
+may-change changed (Some s) a (t, q, ascii) = subst (λ r. ResultIs failing (Of string) r) (sym q) (t, refl)
+
 pub texts-hold : (c : TextCall) → Each (OverloadHolds (TextCalled c)) (on_strings c)
-texts-hold text.HasPrefix = (λ known vs h k. answered total (Of bool) _ (two_texts vs) _ (two-strings vs h) (λ a p. (_, refl)), tt)
-texts-hold text.HasSuffix = (λ known vs h k. answered total (Of bool) _ (two_texts vs) _ (two-strings vs h) (λ a p. (_, refl)), tt)
-texts-hold text.Trim = (λ known vs h k. trim-one vs h, (λ known vs h k. trim-two vs h, tt))
+texts-hold text.HasPrefix = (λ known vs h k. answered total (Of bool) _ (two_texts vs) _ (two-strings vs h) (λ a p. (_, refl)), (λ known vs h k. may-answer (Of bool) (two_texts vs) _ (λ a. (_, refl)), tt))
+texts-hold text.HasSuffix = (λ known vs h k. answered total (Of bool) _ (two_texts vs) _ (two-strings vs h) (λ a p. (_, refl)), (λ known vs h k. may-answer (Of bool) (two_texts vs) _ (λ a. (_, refl)), tt))
+texts-hold text.Trim = (λ known vs h k. trim-one vs h, (λ known vs h k. trim-two vs h, (λ known vs h k. may-trim (one_text vs) (two_texts vs), tt)))
 texts-hold text.TrimPrefix = (
   λ known vs h k. answered total (Of string) _ (one_or_two_texts vs) _ (one_or_two-one vs h) (λ a p. (_, refl)),
-  (λ known vs h k. answered total (Of string) _ (one_or_two_texts vs) _ (one_or_two-two vs h) (λ a p. (_, refl)), tt),
+  (λ known vs h k. answered total (Of string) _ (one_or_two_texts vs) _ (one_or_two-two vs h) (λ a p. (_, refl)), (λ known vs h k. may-answer (Of string) (one_or_two_texts vs) _ (λ a. (_, refl)), tt)),
 )
 texts-hold text.TrimSuffix = (
   λ known vs h k. answered total (Of string) _ (one_or_two_texts vs) _ (one_or_two-one vs h) (λ a p. (_, refl)),
-  (λ known vs h k. answered total (Of string) _ (one_or_two_texts vs) _ (one_or_two-two vs h) (λ a p. (_, refl)), tt),
+  (λ known vs h k. answered total (Of string) _ (one_or_two_texts vs) _ (one_or_two-two vs h) (λ a p. (_, refl)), (λ known vs h k. may-answer (Of string) (one_or_two_texts vs) _ (λ a. (_, refl)), tt)),
 )
-texts-hold text.Upper = (λ known vs h k. changed-case _ (one_text vs) (one-string vs h), tt)
-texts-hold text.Lower = (λ known vs h k. changed-case _ (one_text vs) (one-string vs h), tt)
+texts-hold text.Upper = (λ known vs h k. changed-case _ (one_text vs) (one-string vs h), (λ known vs h k. may-change _ (one_text vs), tt))
+texts-hold text.Lower = (λ known vs h k. changed-case _ (one_text vs) (one-string vs h), (λ known vs h k. may-change _ (one_text vs), tt))
 texts-hold text.Split = (
   λ known vs h k. answered total (Of (array string)) _ (two_texts_and_limit vs) _ (limit-two vs h) (λ a p. strings _),
-  (λ known vs h k. answered total (Of (array string)) _ (two_texts_and_limit vs) _ (limit-three vs h) (λ a p. strings _), tt),
+  (λ known vs h k. answered total (Of (array string)) _ (two_texts_and_limit vs) _ (limit-three vs h) (λ a p. strings _), (λ known vs h k. may-answer (Of (array string)) (two_texts_and_limit vs) _ (λ a. strings _), tt)),
 )
 texts-hold text.SplitAfter = (
   λ known vs h k. answered total (Of (array string)) _ (two_texts_and_limit vs) _ (limit-two vs h) (λ a p. strings _),
-  (λ known vs h k. answered total (Of (array string)) _ (two_texts_and_limit vs) _ (limit-three vs h) (λ a p. strings _), tt),
+  (λ known vs h k. answered total (Of (array string)) _ (two_texts_and_limit vs) _ (limit-three vs h) (λ a p. strings _), (λ known vs h k. may-answer (Of (array string)) (two_texts_and_limit vs) _ (λ a. strings _), tt)),
 )
 texts-hold text.Replace = (
   λ known vs h k. answered total (Of string) _ (three_texts_and_limit vs) _ (limit-of_three vs h) (λ a p. (_, refl)),
-  (λ known vs h k. answered total (Of string) _ (three_texts_and_limit vs) _ (limit-of_four vs h) (λ a p. (_, refl)), tt),
+  (λ known vs h k. answered total (Of string) _ (three_texts_and_limit vs) _ (limit-of_four vs h) (λ a p. (_, refl)), (λ known vs h k. may-answer (Of string) (three_texts_and_limit vs) _ (λ a. (_, refl)), tt)),
 )
-texts-hold text.Repeat = (λ known vs h k. answered failing (Of string) _ (text_and_integer vs) _ (string-integer vs h) (λ a p. repeated a.0 a.1), tt)
-texts-hold text.IndexOf = (λ known vs h k. answered total (Of integer) _ (two_texts vs) _ (two-strings vs h) (λ a p. place-integer _), tt)
-texts-hold text.LastIndexOf = (λ known vs h k. answered total (Of integer) _ (two_texts vs) _ (two-strings vs h) (λ a p. place-integer _), tt)
+texts-hold text.Repeat = (λ known vs h k. answered failing (Of string) _ (text_and_integer vs) _ (string-integer vs h) (λ a p. repeated a.0 a.1), (λ known vs h k. may-answer (Of string) (text_and_integer vs) _ (λ a. repeated a.0 a.1), tt))
+texts-hold text.IndexOf = (λ known vs h k. answered total (Of integer) _ (two_texts vs) _ (two-strings vs h) (λ a p. place-integer _), (λ known vs h k. may-answer (Of integer) (two_texts vs) _ (λ a. place-integer _), tt))
+texts-hold text.LastIndexOf = (λ known vs h k. answered total (Of integer) _ (two_texts vs) _ (two-strings vs h) (λ a p. place-integer _), (λ known vs h k. may-answer (Of integer) (two_texts vs) _ (λ a. place-integer _), tt))

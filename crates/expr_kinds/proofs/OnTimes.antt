@@ -106,7 +106,7 @@ moment-now None vs = tt
 moment-now (Some t) vs = alone-moment vs _
 
 pub times-hold : (zones : List ℕ → Option TimezoneValue) (moment : Option DateTimeValue) (c : TimeCall) → Each (OverloadHolds (TimeCallMayReturn zones moment c)) (on_times c)
-times-hold zones moment time.Date = (λ known vs h is. dates zones vs, (λ known vs h is. dates zones vs, tt))
-times-hold zones moment time.Duration = (λ known vs h is. lengths (one_text vs), tt)
+times-hold zones moment time.Date = (λ known vs h is. dates zones vs, (λ known vs h is. dates zones vs, (λ known vs h is. dates zones vs, tt)))
+times-hold zones moment time.Duration = (λ known vs h is. lengths (one_text vs), (λ known vs h is. lengths (one_text vs), tt))
 times-hold zones moment time.Now = (λ known vs h is a q. subst (λ r. ResultIs failing (Of datetime) r) (sym q) (moment-now moment vs), tt)
-times-hold zones moment time.Timezone = (λ known vs h is. zones-named zones vs, tt)
+times-hold zones moment time.Timezone = (λ known vs h is. zones-named zones vs, (λ known vs h is. zones-named zones vs, tt))

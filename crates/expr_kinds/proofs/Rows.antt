@@ -40,7 +40,7 @@ said-map : {A B : Type 0} (f : A → B) (o : Option A) → Says o → Says (opti
 said-map f (Some b) p = refl
 said-map f None p = p
 
--- moments are moved, or refused
+-- a DateTime, or an error
 moved : (o : Option DateTimeValue) → ResultIs failing (λ v. HasKind datetime v) (moment_or_refusal o)
 moved None = tt
 moved (Some t) = (t, refl)
@@ -124,7 +124,7 @@ modulo-integers known x y h j is =
 abbrev Speaks : {A : Type 0} → (Value → Value → Option A) → Kind → Kind → Type 0
 Speaks test a b = (x y : Value) → HasKind a x → HasKind b y → Says (test x y)
 
--- an operator that answers yes or no
+-- an operator that returns a boolean
 abbrev Tells : Operator → Kind → Kind → Type 0
 Tells op a b = (known : Literals) (x y : Value) → HasKind a x → HasKind b y → AreKnown known (x ∷ y ∷ []) → ResultIs total (λ v. HasKind bool v) (operator_answer op x y)
 
@@ -331,6 +331,70 @@ starts x y h j = speaks begins_with_layers x y _ _ (string-layer x h) (string-la
 ends : Speaks ends_in string string
 ends x y h j = speaks ends_in_layers x y _ _ (string-layer x h) (string-layer y j) refl
 
+-- values of unknown kinds
+may-tell : (o : Option Bool) → ResultIs failing (λ v. HasKind bool v) (truth_or_refusal o)
+may-tell None = tt
+may-tell (Some b) = (b, refl)
+
+abbrev MayTell : Operator → Type 0
+MayTell op = RowHolds op (record { left = any; right = any; gives = bool; cause = content })
+
+equal-may : MayTell Equal
+unfolding operator_answer verdict
+equal-may known x y h j is = may-tell (equality x y)
+
+unequal-may : MayTell NotEqual
+unfolding operator_answer verdict
+unequal-may known x y h j is = may-tell (option_map not (equality x y))
+
+greater-may : MayTell GreaterThan
+unfolding operator_answer verdict
+greater-may known x y h j is = may-tell (option_map is_gt (order_of x y))
+
+no_less-may : MayTell GreaterThanOrEqual
+unfolding operator_answer verdict
+no_less-may known x y h j is = may-tell (option_map is_ge (order_of x y))
+
+less-may : MayTell LessThan
+unfolding operator_answer verdict
+less-may known x y h j is = may-tell (option_map is_lt (order_of x y))
+
+no_greater-may : MayTell LessThanOrEqual
+unfolding operator_answer verdict
+no_greater-may known x y h j is = may-tell (option_map is_le (order_of x y))
+
+in-may : MayTell In
+unfolding operator_answer verdict
+in-may known x y h j is = may-tell (belongs x y)
+
+not_in-may : MayTell NotIn
+unfolding operator_answer verdict
+not_in-may known x y h j is = may-tell (option_map not (belongs x y))
+
+contains-may : MayTell Contains
+unfolding operator_answer verdict
+contains-may known x y h j is = may-tell (containment x y)
+
+starts-may : MayTell StartsWith
+unfolding operator_answer verdict
+starts-may known x y h j is = may-tell (begins_with x y)
+
+ends-may : MayTell EndsWith
+unfolding operator_answer verdict
+ends-may known x y h j is = may-tell (ends_in x y)
+
+some-remainder : (b : Bool) (n : ℤ) → ResultIs failing (λ v. HasKind integer v) (cond b (Err evaluation) (Ok (value.Integer n)))
+some-remainder true n = tt
+some-remainder false n = (n, refl)
+
+remainder-may : (l m : Layer) → ResultIs failing (λ v. HasKind integer v) (remainder_layers l m)
+remainder-may (Value-F.Integer a) (Value-F.Integer b) = some-remainder (int_eq b (pos 0)) (int_rem a b)
+remainder-may l m = tt
+
+modulo-may : RowHolds Modulo (record { left = any; right = any; gives = integer; cause = content })
+unfolding operator_answer
+modulo-may known x y h j is = remainder-may (out-Value x) (out-Value y)
+
 -- quotients and powers
 no-quotient : RowHolds Divide (record { left = any; right = any; gives = never; cause = content })
 unfolding operator_answer verdict
@@ -346,7 +410,7 @@ unfolding rows
 rows-hold Add = (add-integers, (add-strings, (add-durations, (add-to_moment, (add-moment, tt)))))
 rows-hold Subtract = (subtract-integers, (subtract-durations, (subtract-from_moment, (subtract-moments, tt))))
 rows-hold Multiply = (multiply-integers, (multiply-duration, (multiply-by_duration, tt)))
-rows-hold Modulo = (modulo-integers, tt)
+rows-hold Modulo = (modulo-integers, (modulo-may, tt))
 rows-hold Equal = (
   equal-by nil any (free-left nil nils),
   (
@@ -387,7 +451,7 @@ rows-hold Equal = (
                                       equal-by (nilable weekday) (nilable weekday) weekday-compared,
                                       (
                                         equal-by (nilable (map (others any))) (nilable (map (others any))) map-compared,
-                                        (equal-by (nilable (keyed any)) (nilable (keyed any)) keyed-compared, tt),
+                                        (equal-by (nilable (keyed any)) (nilable (keyed any)) keyed-compared, (equal-may, tt)),
                                       ),
                                     ),
                                   ),
@@ -448,7 +512,7 @@ rows-hold NotEqual = (
                                       unequal-by (nilable weekday) (nilable weekday) weekday-compared,
                                       (
                                         unequal-by (nilable (map (others any))) (nilable (map (others any))) map-compared,
-                                        (unequal-by (nilable (keyed any)) (nilable (keyed any)) keyed-compared, tt),
+                                        (unequal-by (nilable (keyed any)) (nilable (keyed any)) keyed-compared, (unequal-may, tt)),
                                       ),
                                     ),
                                   ),
@@ -469,15 +533,15 @@ rows-hold NotEqual = (
     ),
   ),
 )
-rows-hold GreaterThan = (greater-by integer integer order-integers, (greater-by string string order-strings, (greater-by duration duration order-durations, (greater-by datetime datetime order-moments, tt))))
-rows-hold GreaterThanOrEqual = (no_less-by integer integer order-integers, (no_less-by string string order-strings, (no_less-by duration duration order-durations, (no_less-by datetime datetime order-moments, tt))))
-rows-hold LessThan = (less-by integer integer order-integers, (less-by string string order-strings, (less-by duration duration order-durations, (less-by datetime datetime order-moments, tt))))
-rows-hold LessThanOrEqual = (no_greater-by integer integer order-integers, (no_greater-by string string order-strings, (no_greater-by duration duration order-durations, (no_greater-by datetime datetime order-moments, tt))))
-rows-hold In = (in-by any (array any) in_array, (in-by string (map (others any)) in_map, (in-by any (keyed any) in_keyed, tt)))
-rows-hold NotIn = (not_in-by any (array any) in_array, (not_in-by string (map (others any)) in_map, (not_in-by any (keyed any) in_keyed, tt)))
-rows-hold Contains = (contains-by string string string_contains, (contains-by (array any) any array_contains, (contains-by (map (others any)) string map_contains, tt)))
-rows-hold StartsWith = (starts_with-by string string starts, tt)
-rows-hold EndsWith = (ends_with-by string string ends, tt)
+rows-hold GreaterThan = (greater-by integer integer order-integers, (greater-by string string order-strings, (greater-by duration duration order-durations, (greater-by datetime datetime order-moments, (greater-may, tt)))))
+rows-hold GreaterThanOrEqual = (no_less-by integer integer order-integers, (no_less-by string string order-strings, (no_less-by duration duration order-durations, (no_less-by datetime datetime order-moments, (no_less-may, tt)))))
+rows-hold LessThan = (less-by integer integer order-integers, (less-by string string order-strings, (less-by duration duration order-durations, (less-by datetime datetime order-moments, (less-may, tt)))))
+rows-hold LessThanOrEqual = (no_greater-by integer integer order-integers, (no_greater-by string string order-strings, (no_greater-by duration duration order-durations, (no_greater-by datetime datetime order-moments, (no_greater-may, tt)))))
+rows-hold In = (in-by any (array any) in_array, (in-by string (map (others any)) in_map, (in-by any (keyed any) in_keyed, (in-may, tt))))
+rows-hold NotIn = (not_in-by any (array any) in_array, (not_in-by string (map (others any)) in_map, (not_in-by any (keyed any) in_keyed, (not_in-may, tt))))
+rows-hold Contains = (contains-by string string string_contains, (contains-by (array any) any array_contains, (contains-by (map (others any)) string map_contains, (contains-may, tt))))
+rows-hold StartsWith = (starts_with-by string string starts, (starts-may, tt))
+rows-hold EndsWith = (ends_with-by string string ends, (ends-may, tt))
 rows-hold Divide = (no-quotient, tt)
 rows-hold Pow = (no-power, tt)
 rows-hold op = tt

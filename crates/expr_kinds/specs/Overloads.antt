@@ -50,7 +50,11 @@ on_more takes more gives = record { takes = takes; more = more; gives = gives; c
 abbrev failing_on_more : List Kind → Kind → Kind → Overload
 failing_on_more takes more gives = record { takes = takes; more = more; gives = gives; cause = content }
 
--- a map with names as keys, and one with scalar keys
+-- what a call returns with arguments of unknown kinds, if it doesn't fail
+abbrev maybe : Kind → Overload
+maybe gives = failing_on_more [] any gives
+
+-- a map with names as keys
 abbrev named : Kind → Kind
 named k = map (others k)
 
@@ -77,40 +81,40 @@ flat_overloads k = on (array k ∷ []) (array k) ∷ on (array (array k) ∷ [])
 
 -- those on arrays and maps, for each kind of items
 abbrev pub on_collections : CollectionCall → Kind → List Overload
-on_collections collection.Len k = on (string ∷ []) integer ∷ on (array any ∷ []) integer ∷ on (bytes ∷ []) integer ∷ on (named any ∷ []) integer ∷ on (keyed any ∷ []) integer ∷ []
+on_collections collection.Len k = on (string ∷ []) integer ∷ on (array any ∷ []) integer ∷ on (bytes ∷ []) integer ∷ on (named any ∷ []) integer ∷ on (keyed any ∷ []) integer ∷ maybe integer ∷ []
 on_collections collection.First k = on (array k ∷ []) (nilable k) ∷ []
 on_collections collection.Last k = on (array k ∷ []) (nilable k) ∷ []
-on_collections collection.Take k = failing_on (array k ∷ integer ∷ []) (array k) (negative_at 1) ∷ []
-on_collections collection.Reverse k = on (array k ∷ []) (array k) ∷ []
-on_collections collection.Uniq k = on (array k ∷ []) (array k) ∷ []
-on_collections collection.Flatten k = on (array any ∷ []) (array any) ∷ (if is_flat k then flat_overloads k else [])
-on_collections collection.Concat k = on_more (array k ∷ []) (array k) (array k) ∷ []
-on_collections collection.Keys k = on (named any ∷ []) (array string) ∷ on (keyed any ∷ []) (array any) ∷ []
-on_collections collection.Values k = on (named any ∷ []) (array any) ∷ on (keyed k ∷ []) (array k) ∷ []
-on_collections collection.ToPairs k = on (named any ∷ []) (array (array any)) ∷ on (keyed any ∷ []) (array (array any)) ∷ []
+on_collections collection.Take k = failing_on (array k ∷ integer ∷ []) (array k) (negative_at 1) ∷ maybe (array any) ∷ []
+on_collections collection.Reverse k = on (array k ∷ []) (array k) ∷ maybe (array any) ∷ []
+on_collections collection.Uniq k = on (array k ∷ []) (array k) ∷ maybe (array any) ∷ []
+on_collections collection.Flatten k = on (array any ∷ []) (array any) ∷ maybe (array any) ∷ (if is_flat k then flat_overloads k else [])
+on_collections collection.Concat k = on_more (array k ∷ []) (array k) (array k) ∷ maybe (array any) ∷ []
+on_collections collection.Keys k = on (named any ∷ []) (array string) ∷ on (keyed any ∷ []) (array any) ∷ maybe (array any) ∷ []
+on_collections collection.Values k = on (named any ∷ []) (array any) ∷ on (keyed k ∷ []) (array k) ∷ maybe (array any) ∷ []
+on_collections collection.ToPairs k = on (named any ∷ []) (array (array any)) ∷ on (keyed any ∷ []) (array (array any)) ∷ maybe (array any) ∷ []
 on_collections collection.Get k = on (array k ∷ integer ∷ []) (nilable k) ∷ on (bytes ∷ integer ∷ []) (nilable integer) ∷ on (named k ∷ string ∷ []) (nilable k) ∷ on (keyed k ∷ any ∷ []) (nilable k) ∷ []
-on_collections collection.Join k = on (array string ∷ []) string ∷ on (array string ∷ string ∷ []) string ∷ []
-on_collections collection.FromPairs k = failing_on (array (array k) ∷ []) (keyed k) content ∷ []
+on_collections collection.Join k = on (array string ∷ []) string ∷ on (array string ∷ string ∷ []) string ∷ maybe string ∷ []
+on_collections collection.FromPairs k = failing_on (array (array k) ∷ []) (keyed k) content ∷ maybe (keyed any) ∷ []
 
 -- those on strings
 abbrev pub on_strings : TextCall → List Overload
-on_strings text.HasPrefix = on (string ∷ string ∷ []) bool ∷ []
-on_strings text.HasSuffix = on (string ∷ string ∷ []) bool ∷ []
-on_strings text.Trim = on (string ∷ []) string ∷ on (string ∷ string ∷ []) string ∷ []
-on_strings text.TrimPrefix = on (string ∷ []) string ∷ on (string ∷ string ∷ []) string ∷ []
-on_strings text.TrimSuffix = on (string ∷ []) string ∷ on (string ∷ string ∷ []) string ∷ []
-on_strings text.Upper = on (string ∷ []) string ∷ []
-on_strings text.Lower = on (string ∷ []) string ∷ []
-on_strings text.Split = on (string ∷ string ∷ []) (array string) ∷ on (string ∷ string ∷ integer ∷ []) (array string) ∷ []
-on_strings text.SplitAfter = on (string ∷ string ∷ []) (array string) ∷ on (string ∷ string ∷ integer ∷ []) (array string) ∷ []
-on_strings text.Replace = on (string ∷ string ∷ string ∷ []) string ∷ on (string ∷ string ∷ string ∷ integer ∷ []) string ∷ []
-on_strings text.Repeat = failing_on (string ∷ integer ∷ []) string content ∷ []
-on_strings text.IndexOf = on (string ∷ string ∷ []) integer ∷ []
-on_strings text.LastIndexOf = on (string ∷ string ∷ []) integer ∷ []
+on_strings text.HasPrefix = on (string ∷ string ∷ []) bool ∷ maybe bool ∷ []
+on_strings text.HasSuffix = on (string ∷ string ∷ []) bool ∷ maybe bool ∷ []
+on_strings text.Trim = on (string ∷ []) string ∷ on (string ∷ string ∷ []) string ∷ maybe string ∷ []
+on_strings text.TrimPrefix = on (string ∷ []) string ∷ on (string ∷ string ∷ []) string ∷ maybe string ∷ []
+on_strings text.TrimSuffix = on (string ∷ []) string ∷ on (string ∷ string ∷ []) string ∷ maybe string ∷ []
+on_strings text.Upper = on (string ∷ []) string ∷ maybe string ∷ []
+on_strings text.Lower = on (string ∷ []) string ∷ maybe string ∷ []
+on_strings text.Split = on (string ∷ string ∷ []) (array string) ∷ on (string ∷ string ∷ integer ∷ []) (array string) ∷ maybe (array string) ∷ []
+on_strings text.SplitAfter = on (string ∷ string ∷ []) (array string) ∷ on (string ∷ string ∷ integer ∷ []) (array string) ∷ maybe (array string) ∷ []
+on_strings text.Replace = on (string ∷ string ∷ string ∷ []) string ∷ on (string ∷ string ∷ string ∷ integer ∷ []) string ∷ maybe string ∷ []
+on_strings text.Repeat = failing_on (string ∷ integer ∷ []) string content ∷ maybe string ∷ []
+on_strings text.IndexOf = on (string ∷ string ∷ []) integer ∷ maybe integer ∷ []
+on_strings text.LastIndexOf = on (string ∷ string ∷ []) integer ∷ maybe integer ∷ []
 
 -- those that convert values
 abbrev pub on_conversions : ConversionCall → List Overload
-on_conversions conversion.Int = on (integer ∷ []) integer ∷ failing_on (string ∷ []) integer content ∷ []
+on_conversions conversion.Int = on (integer ∷ []) integer ∷ failing_on (string ∷ []) integer content ∷ maybe integer ∷ []
 on_conversions conversion.String = on (any ∷ []) string ∷ []
 on_conversions conversion.Type = on (any ∷ []) string ∷ []
 
@@ -121,40 +125,41 @@ extremes =
     ∷ on_more (integer ∷ []) (array integer) integer
     ∷ on_more (array integer ∷ integer ∷ []) integer integer
     ∷ on_more (array integer ∷ []) (array integer) (nilable integer)
+    ∷ maybe (nilable integer)
     ∷ []
 
 -- a call that always fails
 abbrev always_failing : List Overload
-always_failing = failing_on_more [] any never ∷ []
+always_failing = maybe never ∷ []
 
 -- those on numbers: the language has no fractions
 abbrev pub on_numbers : NumberCall → List Overload
-on_numbers number.Abs = on (integer ∷ []) integer ∷ []
+on_numbers number.Abs = on (integer ∷ []) integer ∷ maybe integer ∷ []
 on_numbers number.Max = extremes
 on_numbers number.Min = extremes
 on_numbers c = always_failing
 
 -- those on bits
 abbrev pub on_bits : BitCall → List Overload
-on_bits bit.Bitnot = on (integer ∷ []) integer ∷ []
-on_bits bit.Bitshl = failing_on (integer ∷ integer ∷ []) integer (negative_at 1) ∷ []
-on_bits bit.Bitshr = failing_on (integer ∷ integer ∷ []) integer (negative_at 1) ∷ []
-on_bits bit.Bitushr = failing_on (integer ∷ integer ∷ []) integer (negative_at 1) ∷ []
-on_bits c = on (integer ∷ integer ∷ []) integer ∷ []
+on_bits bit.Bitnot = on (integer ∷ []) integer ∷ maybe integer ∷ []
+on_bits bit.Bitshl = failing_on (integer ∷ integer ∷ []) integer (negative_at 1) ∷ maybe integer ∷ []
+on_bits bit.Bitshr = failing_on (integer ∷ integer ∷ []) integer (negative_at 1) ∷ maybe integer ∷ []
+on_bits bit.Bitushr = failing_on (integer ∷ integer ∷ []) integer (negative_at 1) ∷ maybe integer ∷ []
+on_bits c = on (integer ∷ integer ∷ []) integer ∷ maybe integer ∷ []
 
 -- those for encodings
 abbrev pub on_encodings : EncodingCall → List Overload
 on_encodings encoding.FromJson = failing_on (string ∷ []) any content ∷ []
 on_encodings encoding.ToJson = failing_on (any ∷ []) string content ∷ []
-on_encodings encoding.ToBase64 = on (string ∷ []) string ∷ []
-on_encodings encoding.FromBase64 = failing_on (string ∷ []) string content ∷ []
+on_encodings encoding.ToBase64 = on (string ∷ []) string ∷ maybe string ∷ []
+on_encodings encoding.FromBase64 = failing_on (string ∷ []) string content ∷ maybe string ∷ []
 
 -- those on time
 abbrev pub on_times : TimeCall → List Overload
-on_times time.Date = failing_on_more (string ∷ []) string datetime ∷ failing_on_more (timezone ∷ []) string datetime ∷ []
-on_times time.Duration = failing_on (string ∷ []) duration content ∷ []
+on_times time.Date = failing_on_more (string ∷ []) string datetime ∷ failing_on_more (timezone ∷ []) string datetime ∷ maybe datetime ∷ []
+on_times time.Duration = failing_on (string ∷ []) duration content ∷ maybe duration ∷ []
 on_times time.Now = failing_on [] datetime content ∷ []
-on_times time.Timezone = failing_on (string ∷ []) timezone content ∷ []
+on_times time.Timezone = failing_on (string ∷ []) timezone content ∷ maybe timezone ∷ []
 
 -- all overloads of a built-in, at a kind
 unfoldable pub overloads : ValueCall → Kind → List Overload
