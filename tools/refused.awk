@@ -1,4 +1,4 @@
-# Judges the runs that tools/refuse.c tells of: prints each that is neither want of memory nor its row's own answer, and a
+# Judges the runs that tools/refuse.c tells of: prints each that is neither out of memory nor its row's own answer, and a
 # last line `sum ROWS RUNS OWN MEMORY FAULTS PLAIN`.
 #
 # form: what an answer looks like, `expr` (a value on standard output, or the word for a refusal on standard error with
@@ -61,7 +61,7 @@ function is_memory(how) {
     if (form == "expr") return how == "1\t\tmemory\\n" || how == "1\t\t"
     return how == "0\t!memory\\n\t" || how == "1\t\tError: Kind(OutOfMemory)\\n"
 }
-# the row of the calls on `1 + 2`: want of memory where it is read, and where it is run, and never where its node is evaluated
+# the row of the calls on `1 + 2`: out of memory where it is read, and where it is run, and never where its node is evaluated
 function is_plain_memory(how) {
     if (how != "0\trun: !memory eval_expr: 3\\n\t") return 0
     plain += many[how]
