@@ -8,7 +8,7 @@ ghost use Rattle.expr_error.specs.declared.error.Error.{Error as error};
 ghost use Rattle.expr_error.specs.declared.error.Error.TheVariants.{MemoryError as no_memory};
 ghost use Rattle.std.specs.declared.alloc.AllocError.{AllocError as lack};
 
-use expr_limits::{Budget, Limit, Meter, NoMeter};
+use expr_limits::{Allowance, Budget, Limit, Meter, NoMeter};
 use expr_meaning::ExprCall;
 use expr_value::Error;
 use std::alloc::{AllocError, Global};
@@ -180,5 +180,75 @@ impl RunMeter for Budget {
     #[inline(always)]
     fn pauses(&self) -> Halt {
         Halt::Paused
+    }
+}
+
+impl RunMeter for Allowance {
+    type Halt = Halted;
+
+    ghost stops = { λ _ _. false };
+
+    ghost halt = { λ h. Paused };
+
+    ghost refuses = { λ _ _ made. made };
+
+    ghost lacks_memory = { λ _ _ made. made };
+
+    ghost passes = { λ _ _ _ _ made. made };
+
+    ghost halts = { λ _ _ made. inl made };
+
+    #[inline(always)]
+    fn stops_at(&self, _name: &str) -> bool {
+        false
+    }
+
+    fn asks(&self, alloc: Global, asked: Asked) -> Halted {
+        Halted::Refused(Error::MemoryError)
+    }
+
+    #[inline(always)]
+    fn pauses(&self) -> Halted {
+        Halted::Refused(Error::MemoryError)
+    }
+}
+
+/// Why a run within limits has no value.
+#[derive(Drop)]
+pub enum Halted {
+    /// It failed.
+    Refused(Error),
+    /// It would exceed a limit.
+    Limit(Limit),
+}
+
+impl From<Error> for Halted {
+    ghost use Rattle.expr_frames.specs.declared.halt.Halt.TheVariants.{Refused};
+
+    ghost from_gives = { λ e r. r ≡ Refused e };
+
+    fn from(error: Error) -> Halted {
+        Halted::Refused(error)
+    }
+}
+
+impl From<Limit> for Halted {
+    ghost use Rattle.expr_frames.specs.declared.halt.Halt.TheVariants as halt;
+
+    ghost from_gives = { λ l r. r ≡ halt.Limit l };
+
+    fn from(limit: Limit) -> Halted {
+        Halted::Limit(limit)
+    }
+}
+
+impl From<AllocError> for Halted {
+    ghost use Rattle.expr_frames.specs.declared.halt.Halt.TheVariants.{Refused};
+    ghost use Rattle.expr_error.specs.declared.error.Error.TheVariants.{MemoryError};
+
+    ghost from_gives = { λ e r. r ≡ Refused MemoryError };
+
+    fn from(_error: AllocError) -> Halted {
+        Halted::Refused(Error::MemoryError)
     }
 }

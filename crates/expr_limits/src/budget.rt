@@ -18,6 +18,7 @@ pub struct Budget {
     steps: u64,
     size: u64,
     depth: usize,
+    whole: u64,
     passed: Option<Limit>,
     /// The run pauses once fewer steps are left. 0 means that it doesn't pause.
     pause: u64,
@@ -36,6 +37,7 @@ impl Budget {
             steps: limits.steps,
             size: limits.size,
             depth: limits.depth,
+            whole: limits.size,
             passed: None,
             pause: 0,
             least: limits.size,
@@ -180,6 +182,11 @@ impl Meter for Budget {
     #[inline(always)]
     fn steps_left(&self) -> u64 {
         self.steps
+    }
+
+    #[inline(always)]
+    fn begun(&self) -> u64 {
+        self.whole
     }
 
     #[inline(always)]

@@ -9,6 +9,7 @@
 //!   a way of counting is and how a run may end, and `Rooms.antt` how a run within limits counts.
 #![tactic(auto)]
 
+mod allowance;
 mod budget;
 mod limit;
 mod limits;
@@ -20,6 +21,7 @@ mod units;
 mod value_limit;
 mod walk;
 
+pub use allowance::Allowance;
 pub use budget::Budget;
 pub use limit::Limit;
 pub use limits::Limits;

@@ -28,6 +28,9 @@ pub trait Meter: Drop {
     fn steps_left(&self) -> u64
         ensures { result ≡ least_steps (metered self.now).room };
 
+    /// How much of the size the limits allow, or 0 if nothing is counted.
+    fn begun(&self) -> u64;
+
     /// Whether the run pauses now, though it could go on.
     fn is_due(&self) -> bool;
 

@@ -31,6 +31,11 @@ impl Meter for NoMeter {
     }
 
     #[inline(always)]
+    fn begun(&self) -> u64 {
+        0
+    }
+
+    #[inline(always)]
     fn is_due(&self) -> bool {
         false
     }
