@@ -33,6 +33,11 @@ impl<'n, M: Meter> Meter for Asking<'n, M> {
     }
 
     #[inline(always)]
+    fn begun(&self) -> u64 {
+        self.meter.begun()
+    }
+
+    #[inline(always)]
     fn is_due(&self) -> bool {
         self.meter.is_due()
     }

@@ -1,7 +1,8 @@
 //! Why a run stops without a value.
 ghost use Rattle.std.proofs.Common.{ap, inl, inr, rules};
-ghost use Rattle.std.specs.Prelude.{◌≡◌, ◌⊎◌, ℕ, Bool, List, Some, false};
+ghost use Rattle.std.specs.Prelude.{◌≡◌, ◌⊎◌, ℕ, Bool, List, false, true};
 ghost use Rattle.expr_frames.specs.Halts.{IsAt, IsMemory};
+ghost use Rattle.expr_limits.specs.Rooms.{is_limited};
 ghost use Rattle.expr_frames.specs.declared.halt.Halt.{Halt as declared};
 ghost use Rattle.expr_frames.specs.declared.halt.Halt.TheVariants.{Limit as Limits, Paused, Refused};
 ghost use Rattle.expr_error.specs.declared.error.Error.{Error as error};
@@ -40,6 +41,46 @@ pub enum Halt {
     Asks(Box<Asked>),
     /// It has taken the steps that it was given for now. It goes on when asked to.
     Paused,
+}
+
+/// Why a run that stops at no call and doesn't pause has no value.
+#[derive(Drop)]
+pub enum Halted {
+    /// It failed.
+    Refused(Error),
+    /// It would exceed a limit.
+    Limit(Limit),
+}
+
+impl From<Error> for Halted {
+    ghost use Rattle.expr_frames.specs.declared.halt.Halted.TheVariants.{Refused};
+
+    ghost from_gives = { λ e r. r ≡ Refused e };
+
+    fn from(error: Error) -> Halted {
+        Halted::Refused(error)
+    }
+}
+
+impl From<Limit> for Halted {
+    ghost use Rattle.expr_frames.specs.declared.halt.Halted.TheVariants as halted;
+
+    ghost from_gives = { λ l r. r ≡ halted.Limit l };
+
+    fn from(limit: Limit) -> Halted {
+        Halted::Limit(limit)
+    }
+}
+
+impl From<AllocError> for Halted {
+    ghost use Rattle.expr_frames.specs.declared.halt.Halted.TheVariants.{Refused};
+    ghost use Rattle.expr_error.specs.declared.error.Error.TheVariants.{MemoryError};
+
+    ghost from_gives = { λ e r. r ≡ Refused MemoryError };
+
+    fn from(_error: AllocError) -> Halted {
+        Halted::Refused(Error::MemoryError)
+    }
 }
 
 impl From<Error> for Halt {
@@ -107,7 +148,7 @@ pub trait RunMeter: Meter {
     fn pauses(&self) -> Self::Halt
         ensures { IsMemory (halt result) ⊎ (halt result ≡ Paused) };
 
-    // What `?` makes of an error, of a lack of memory, and of the limit at which a meter stopped. A meter that counts
+    // What `?` makes of an error, of a lack of memory, and of the limit at which a meter stops. A meter that counts
     // nothing stops at none.
     ghost refuses: { (e : error) (h : Self.Halt) → ⟦<Self::Halt as From<Error>>⟧.from_gives e h → halt h
         ≡ Refused e };
@@ -116,7 +157,7 @@ pub trait RunMeter: Meter {
         → halt h ≡ Refused no_memory };
 
     ghost passes: { (stop : Self.Stop) (meter : Self)
-        → (Self.metered meter).stopped ≡ Some (Self.limit stop) → (h : Self.Halt)
+        → is_limited (Self.metered meter).room ≡ true → (h : Self.Halt)
         → ⟦<Self::Halt as From<Self::Stop>>⟧.from_gives stop h → halt h ≡ Limits (Self.limit stop) };
 
     ghost halts: { (stop : Self.Stop) (h : Self.Halt) → ⟦<Self::Halt as From<Self::Stop>>⟧.from_gives stop h

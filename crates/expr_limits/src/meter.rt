@@ -9,12 +9,12 @@ use expr_value::Value;
 
 /// Counts what a run uses, or nothing.
 ///
-/// If a charge would exceed a limit, the limit is recorded and the call returns it.
+/// If a charge would exceed a limit, the call returns that limit.
 pub trait Meter: Drop {
     /// The limit that a charge would exceed.
     type Stop: Drop;
 
-    /// What is left of the limits, and the limit that was exceeded, if one was.
+    /// What is left of the limits, and the size that was left before the run.
     ghost metered: { Self → MeterView };
 
     /// Which limit that is.
@@ -27,6 +27,10 @@ pub trait Meter: Drop {
     /// The steps that are left, or 0 if nothing is counted.
     fn steps_left(&self) -> u64
         ensures { result ≡ least_steps (metered self.now).room };
+
+    /// The size that was left before the run, or 0 if nothing is counted.
+    fn begun(&self) -> u64
+        ensures { result ≡ (metered self.now).begun };
 
     /// Whether the run pauses now, though it could go on.
     fn is_due(&self) -> bool;
@@ -73,6 +77,6 @@ pub trait Meter: Drop {
 
     /// Restores the size that was left at the mark, as the values made since then are gone. Steps are never restored.
     fn release(&mut self, mark: u64)
-        ensures stopped { (metered self.new).stopped ≡ (metered self.old).stopped }
+        ensures begun { (metered self.new).begun ≡ (metered self.old).begun }
         ensures room { (metered self.new).room ≡ with_size mark (metered self.old).room };
 }

@@ -1,5 +1,4 @@
 //! A meter that counts nothing.
-ghost use Rattle.std.specs.Prelude.{None};
 ghost use Rattle.expr_limits.specs.MeterView.{MeterView};
 ghost use Rattle.expr_limits.specs.Rooms.{unlimited};
 ghost use Rattle.expr_limits.specs.declared.limit.Limit.TheVariants.{Steps};
@@ -16,7 +15,7 @@ impl Meter for NoMeter {
     // No call returns it.
     type Stop = AllocError;
 
-    ghost metered = { λ _. record { room = unlimited; stopped = None } };
+    ghost metered = { λ _. record { room = unlimited; begun = 0 } };
 
     ghost limit = { λ _. Steps };
 
@@ -27,6 +26,11 @@ impl Meter for NoMeter {
 
     #[inline(always)]
     fn steps_left(&self) -> u64 {
+        0
+    }
+
+    #[inline(always)]
+    fn begun(&self) -> u64 {
         0
     }
 

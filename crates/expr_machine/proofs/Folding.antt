@@ -12,10 +12,10 @@ use Rattle.expr_costs.specs.Retention.{RetainsAs, is_last, retained_by}
 use Rattle.expr_error.specs.ErrorKind.{ErrorKind, evaluation}
 use Rattle.expr_frames.specs.Machines.{Allowed, Comes, ComesFoldingOn, ComesReplied, FrameAsks, FrameFinishes, FrameGoesOn, Halts, Passes}
 use Rattle.expr_frames.specs.Ready.{AllWait, AllWaitButTop, IsReady, ops_of}
-use Rattle.expr_frames.specs.Runs.{State, Waiting, cut, item_of}
+use Rattle.expr_frames.specs.Runs.{IsMeterOf, State, Waiting, cut, item_of}
 use Rattle.expr_frames.specs.declared.halt.Awaited.TheVariants.{Kept}
 use Rattle.expr_frames.specs.declared.halt.Halt.{Halt}
-use Rattle.expr_frames.proofs.Doing.{Done, by_top, cut_stays, done_from, folding_from, from_top, next_done, running_waits}
+use Rattle.expr_frames.proofs.Doing.{Done, by_top, counted_by, cut_stays, done_from, folding_from, from_top, next_done, running_waits}
 use Rattle.expr_frames.proofs.Binding.{next_stops}
 use Rattle.expr_frames.proofs.Frames.{Keeps, answer_denied, answer_limited, answer_taken, asking, begun_at, cut_twice, end_one, finish_comes, finish_given, fold_over, keeps_by, keeps_none, next_bound, running, wait_but_top}
 use Rattle.expr_frames.proofs.Limiting.{same_keeps, same_size}
@@ -222,7 +222,7 @@ module _ (world : World) (blocks : List (List Op)) where
         )
 
   -- a frame goes on with its next item
-  module _ (s : State) (f : Waiting) (fs : List Waiting) (was : MeterView) (waiting : s.frames ≡ f ∷ fs) (on : was.stopped ≡ None) (k : FoldsAt (is_limited was.room) blocks s f fs) where
+  module _ (s : State) (f : Waiting) (fs : List Waiting) (was : MeterView) (waiting : s.frames ≡ f ∷ fs) (on : IsMeterOf was s) (k : FoldsAt (is_limited was.room) blocks s f fs) where
     abbrev Before : State
     Before = record s { memory = k.was }
 
@@ -264,24 +264,24 @@ module _ (world : World) (blocks : List (List Op)) where
 
       -- its block begins
       module _ (run : PredicateRun) (awaits : (t : Fold) (rs : List ItemAnswer) → Awaits mid t rs → Awaits run t rs) (left : remaining_items run ≡ remaining_items mid) (n : MemoryView) (o : Owner)
-          (binds : BindsItem f.slot s.memory n (bound_helds o f.binds (pending_args mid x))) (is : MeterView) (enters : (is.stopped ≡ was.stopped) × rooms.enters (length (ops_of blocks s.number)) was.room (Ok is.room)) where
+          (binds : BindsItem f.slot s.memory n (bound_helds o f.binds (pending_args mid x))) (is : MeterView) (enters : (is.begun ≡ was.begun) × rooms.enters (length (ops_of blocks s.number)) was.room (Ok is.room)) where
         keeps_next : IsTrue (is_limited was.room) → (t : Fold) (rs : List ItemAnswer) → Awaits run t rs → RetainsAs f.keeps t
         keeps_next h t rs w =
             let first : Awaits run k.fold k.replies = awaits k.fold k.replies (out k.fold k.replies k.given).1 in
             retains_same f.keeps run k.fold t k.replies rs first w (k.keeps h k.fold k.replies k.given)
 
-        next_begins : Done world blocks (ComesFoldingOn world blocks s was.room) is (begun_at s.number (length (ops_of blocks s.number)) n (asking run (size_left was.room) f ∷ fs) s)
+        next_begins : Done world blocks (ComesFoldingOn world blocks s was.room) is (counted_by is (begun_at s.number (length (ops_of blocks s.number)) n (asking run (size_left was.room) f ∷ fs) s))
         next_begins =
             done_from world blocks (Passes world blocks s.begun f.number fs (cut f k.was) (FrameGoesOn world blocks f s.number (cut f k.was) was.room)) (ComesFoldingOn world blocks s was.room) from_frame is
-            (begun_at s.number (length (ops_of blocks s.number)) n (asking run (size_left was.room) f ∷ fs) s)
+            (counted_by is (begun_at s.number (length (ops_of blocks s.number)) n (asking run (size_left was.room) f ∷ fs) s))
             (next_done world blocks Before f fs s.memory n was is k.cuts on k.waits o (pending_args mid x) binds run (next_bound f.run mid run x question out awaits left) k.fold k.replies k.given keeps_next enters)
 
         pub next_asked : (at : ℕ) (st : List Cell) (gs : List Waiting) → at ≡ length (ops_of blocks s.number) → st ≡ [] → gs ≡ asking run (size_left was.room) f ∷ fs
-            → Done world blocks (ComesFoldingOn world blocks s was.room) is (record s { at = at; stack = st; memory = n; frames = gs })
+            → Done world blocks (ComesFoldingOn world blocks s was.room) is (record s { at = at; stack = st; memory = n; frames = gs; begun = is.begun })
         next_asked at st gs long empty put =
-            subst (λ a. Done world blocks (ComesFoldingOn world blocks s was.room) is (record s { at = a; stack = st; memory = n; frames = gs })) (sym long) (
-            subst (λ y. Done world blocks (ComesFoldingOn world blocks s was.room) is (record s { at = length (ops_of blocks s.number); stack = y; memory = n; frames = gs })) (sym empty) (
-            subst (λ hs. Done world blocks (ComesFoldingOn world blocks s was.room) is (record s { at = length (ops_of blocks s.number); stack = []; memory = n; frames = hs })) (sym put) next_begins
+            subst (λ a. Done world blocks (ComesFoldingOn world blocks s was.room) is (record s { at = a; stack = st; memory = n; frames = gs; begun = is.begun })) (sym long) (
+            subst (λ y. Done world blocks (ComesFoldingOn world blocks s was.room) is (record s { at = length (ops_of blocks s.number); stack = y; memory = n; frames = gs; begun = is.begun })) (sym empty) (
+            subst (λ hs. Done world blocks (ComesFoldingOn world blocks s was.room) is (record s { at = length (ops_of blocks s.number); stack = []; memory = n; frames = hs; begun = is.begun })) (sym put) next_begins
             )
             )
 

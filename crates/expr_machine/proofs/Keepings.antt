@@ -42,6 +42,6 @@ module _ (host : Host) (key : List ℕ) (vs : List Value) where
   named_first b is named = ap (λ a. if a then [] else firsts_of_built_in (higher_order_named key) vs) is ∙ ap (λ o. firsts_of_built_in o vs) named
 
   -- what a built-in of this name keeps is counted
-  pub first_kept : (b : HigherOrderCall) → host.is_added key ≡ false → higher_order_named key ≡ Some b → (was is : MeterView) → (is.stopped ≡ was.stopped) × KeepsAll rooms (firsts_of (fold_of_call b vs true)) was.room (Ok is.room)
-      → (is.stopped ≡ was.stopped) × KeepsAll rooms (firsts host key vs) was.room (Ok is.room)
+  pub first_kept : (b : HigherOrderCall) → host.is_added key ≡ false → higher_order_named key ≡ Some b → (was is : MeterView) → (is.begun ≡ was.begun) × KeepsAll rooms (firsts_of (fold_of_call b vs true)) was.room (Ok is.room)
+      → (is.begun ≡ was.begun) × KeepsAll rooms (firsts host key vs) was.room (Ok is.room)
   first_kept b none named was is p = (p.0, subst (λ l. KeepsAll rooms l was.room (Ok is.room)) (sym (named_first b none named)) p.1)

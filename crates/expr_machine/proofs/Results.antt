@@ -39,14 +39,14 @@ module _ {A E : Type 0} (limit : E → Limit) where
   reply_as k j x v first mark r old new is p = subst (λ i. Charges limit r (Reply i x v first mark) old new) (sym is) p
 
   -- once what was made is gone
-  module _ (size : ℕ) (old mid : MeterView) (held : mid.stopped ≡ old.stopped) (freed : mid.room ≡ with_size size old.room) where
+  module _ (size : ℕ) (old mid : MeterView) (held : mid.begun ≡ old.begun) (freed : mid.room ≡ with_size size old.room) where
     -- one value is kept
     pub one_counted : (v : Value) (r : Result A E) (new : MeterView) → Charges limit r (rooms.keeps v) mid new → Charges limit r (λ now x. KeepsAll rooms (v ∷ []) (with_size size now) x) old new
     one_counted v (Ok a) new p = (p.0 ∙ held, (Ok new.room, subst (λ k. rooms.keeps v k (Ok new.room)) freed p.1, refl))
     one_counted v (Err e) new p = (p.0, (Err (limit e), subst (λ k. rooms.keeps v k (Err (limit e))) freed p.1, refl))
 
     -- or two
-    pub two_counted : (x v : Value) (next : MeterView) → (next.stopped ≡ mid.stopped) × rooms.keeps x mid.room (Ok next.room) → (r : Result A E) (new : MeterView) → Charges limit r (rooms.keeps v) next new
+    pub two_counted : (x v : Value) (next : MeterView) → (next.begun ≡ mid.begun) × rooms.keeps x mid.room (Ok next.room) → (r : Result A E) (new : MeterView) → Charges limit r (rooms.keeps v) next new
         → Charges limit r (λ now y. KeepsAll rooms (x ∷ v ∷ []) (with_size size now) y) old new
     two_counted x v next q (Ok a) new p = (p.0 ∙ (q.0 ∙ held), (Ok next.room, subst (λ k. rooms.keeps x k (Ok next.room)) freed q.1, (Ok new.room, p.1, refl)))
     two_counted x v next q (Err e) new p = (p.0, (Ok next.room, subst (λ k. rooms.keeps x k (Ok next.room)) freed q.1, (Err (limit e), p.1, refl)))

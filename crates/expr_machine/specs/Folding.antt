@@ -1,11 +1,11 @@
 -- A run whose innermost frame has a result about its item, and whose memory was cut for it.
-use Rattle.std.specs.Prelude.{◌≡◌, ℕ, Bool, List, [], ◌∷◌, None, Result, Ok, Err}
+use Rattle.std.specs.Prelude.{◌≡◌, ℕ, Bool, List, [], ◌∷◌, Result, Ok, Err}
 use Rattle.expr_code.specs.Instructions.{Op}
 use Rattle.expr_context.specs.Context.{ContextView}
 use Rattle.expr_frames.specs.Machines as states
 use Rattle.expr_frames.specs.Machines.{Allowed, ByTop, FrameFinishes, Passes}
 use Rattle.expr_frames.specs.Ready.{AllWaitButTop, MayBeGiven}
-use Rattle.expr_frames.specs.Runs.{State, Waiting, cut}
+use Rattle.expr_frames.specs.Runs.{IsMeterOf, State, Waiting, cut}
 use Rattle.expr_frames.specs.declared.halt.Halt.{Halt}
 use Rattle.expr_limits.specs.Counting.{Ending, EndingThen, EndsWithAnswer}
 use Rattle.expr_limits.specs.MeterView.{MeterView}
@@ -63,7 +63,7 @@ module _ (world : World) (blocks : List (List Op)) where
 module _ {H P L N K A M : Type 0} (host_of : H → Host) (context_of : P → ContextView) (held : L → Value) (text : N → List ℕ) (metered : M → MeterView) where
   abbrev pub IsFolding : Machine H P L N K A M → Type 0
   IsFolding m =
-      ((metered m.meter).stopped ≡ None)
+      IsMeterOf (metered m.meter) (seen.state_of host_of context_of held text metered m)
       × FoldsOnTop (is_limited (metered m.meter).room) (seen.code_of host_of context_of held text metered m) (seen.state_of host_of context_of held text metered m) (seen.state_of host_of context_of held text metered m).frames
 
   -- it goes on with the items of that frame, or goes no further
@@ -75,7 +75,7 @@ module _ {H P L N K A M : Type 0} (host_of : H → Host) (context_of : P → Con
   -- the frame asks no more, and its caller may be given a value
   abbrev pub MayFinish : Machine H P L N K A M → Type 0
   MayFinish m =
-      ((metered m.meter).stopped ≡ None)
+      IsMeterOf (metered m.meter) (seen.state_of host_of context_of held text metered m)
       × EndsForTop (is_limited (metered m.meter).room) (seen.code_of host_of context_of held text metered m) (seen.state_of host_of context_of held text metered m) (seen.state_of host_of context_of held text metered m).frames
 
   -- what comes of that

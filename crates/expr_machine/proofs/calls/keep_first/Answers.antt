@@ -28,12 +28,12 @@ returns-clause-first g c =
     let none : host.is_added c.args.name.now ≡ false = sym c.has.ensures ∙ c.if-has.false in
     elim c.match-first_retained.branch [
       | in-Some-first_retained+in_ok-keep w ↦
-          subst (λ m. ((g.M.Meter.metered m).stopped ≡ was.stopped) × KeepsAll rooms (firsts host c.args.name.now c.args.args.now) was.room (Ok (g.M.Meter.metered m).room)) (sym w.meter-is) (
+          subst (λ m. ((g.M.Meter.metered m).begun ≡ was.begun) × KeepsAll rooms (firsts host c.args.name.now c.args.args.now) was.room (Ok (g.M.Meter.metered m).room)) (sym w.meter-is) (
           first_kept host c.args.name.now c.args.args.now call none (sym c.from_name.ensures ∙ c.in-Some.is) was (g.M.Meter.metered w.keep.new.self) (
           one_kept (fold_of_call call c.args.args.now true) w.in-Some-first_retained.value.now w.in-Some-first_retained.ensures.0 w.in-Some-first_retained.ensures.1 w.in-Some-first_retained.ensures.2 g.M.Meter.limit (Ok w.in_ok-keep.field-0) was (g.M.Meter.metered w.keep.new.self) w.in_ok-keep.ensures
           ))
       | in_default-first_retained w ↦
-          subst (λ m. ((g.M.Meter.metered m).stopped ≡ was.stopped) × KeepsAll rooms (firsts host c.args.name.now c.args.args.now) was.room (Ok (g.M.Meter.metered m).room)) (sym w.meter-is) (
+          subst (λ m. ((g.M.Meter.metered m).begun ≡ was.begun) × KeepsAll rooms (firsts host c.args.name.now c.args.args.now) was.room (Ok (g.M.Meter.metered m).room)) (sym w.meter-is) (
           first_kept host c.args.name.now c.args.args.now call none (sym c.from_name.ensures ∙ c.in-Some.is) was was (refl, none_kept (fold_of_call call c.args.args.now true) w.in_default-first_retained.ensures was.room)
           )
     ]

@@ -25,7 +25,7 @@ returns-in-Nothing g c =
     let v : Value = c.args.answer.now in
     let old : MeterView = g.M.Meter.metered c.args.meter.now in
     let mid : MeterView = g.M.Meter.metered c.release.new.self in
-    (c.release.ensures.stopped, reply_by f.keeps Nothing x v f.first f.mark old.room (Ok mid.room) c.in-Nothing.is (ap Ok c.release.ensures.room))
+    (c.release.ensures.begun, reply_by f.keeps Nothing x v f.first f.mark old.room (Ok mid.room) c.in-Nothing.is (ap Ok c.release.ensures.room))
 
 pub returns-in-Answer : goal.returns-in-Answer
 returns-in-Answer g c =
@@ -34,7 +34,7 @@ returns-in-Answer g c =
     let v : Value = c.args.answer.now in
     let old : MeterView = g.M.Meter.metered c.args.meter.now in
     let mid : MeterView = g.M.Meter.metered c.release-in-Answer.new.self in
-    reply_as g.M.Meter.limit f.keeps Answer x v f.first f.mark c.keep.result old (g.M.Meter.metered c.keep.new.self) c.in-Answer.is (one_counted g.M.Meter.limit f.mark old mid c.release-in-Answer.ensures.stopped c.release-in-Answer.ensures.room v c.keep.result (g.M.Meter.metered c.keep.new.self) c.keep.ensures)
+    reply_as g.M.Meter.limit f.keeps Answer x v f.first f.mark c.keep.result old (g.M.Meter.metered c.keep.new.self) c.in-Answer.is (one_counted g.M.Meter.limit f.mark old mid c.release-in-Answer.ensures.begun c.release-in-Answer.ensures.room v c.keep.result (g.M.Meter.metered c.keep.new.self) c.keep.ensures)
 
 pub returns-in-LastAnswer : goal.returns-in-LastAnswer
 returns-in-LastAnswer g c =
@@ -43,7 +43,7 @@ returns-in-LastAnswer g c =
     let v : Value = c.args.answer.now in
     let old : MeterView = g.M.Meter.metered c.args.meter.now in
     let mid : MeterView = g.M.Meter.metered c.release-in-LastAnswer.new.self in
-    reply_as g.M.Meter.limit f.keeps LastAnswer x v f.first f.mark c.keep-in-LastAnswer.result old (g.M.Meter.metered c.keep-in-LastAnswer.new.self) c.in-LastAnswer.is (one_counted g.M.Meter.limit f.first old mid c.release-in-LastAnswer.ensures.stopped c.release-in-LastAnswer.ensures.room v c.keep-in-LastAnswer.result (g.M.Meter.metered c.keep-in-LastAnswer.new.self) c.keep-in-LastAnswer.ensures)
+    reply_as g.M.Meter.limit f.keeps LastAnswer x v f.first f.mark c.keep-in-LastAnswer.result old (g.M.Meter.metered c.keep-in-LastAnswer.new.self) c.in-LastAnswer.is (one_counted g.M.Meter.limit f.first old mid c.release-in-LastAnswer.ensures.begun c.release-in-LastAnswer.ensures.room v c.keep-in-LastAnswer.result (g.M.Meter.metered c.keep-in-LastAnswer.new.self) c.keep-in-LastAnswer.ensures)
 
 pub returns-then-unwrap_or : goal.returns-then-unwrap_or
 returns-then-unwrap_or g c =
@@ -55,7 +55,7 @@ returns-then-unwrap_or g c =
     let h : holds (x, v) ≡ true = ap (λ o. unwrap_or o false) (sym c.as_bool.ensures) ∙ (sym c.unwrap_or.ensures ∙ c.if-unwrap_or.true) in
     let new : MeterView = g.M.Meter.metered c.keep-then-unwrap_or.new.self in
     let kept : Charges g.M.Meter.limit c.keep-then-unwrap_or.result (rooms.keeps x) mid new = subst (λ y. Charges g.M.Meter.limit c.keep-then-unwrap_or.result (rooms.keeps y) mid new) c.get.ensures c.keep-then-unwrap_or.ensures in
-    reply_as g.M.Meter.limit f.keeps Item x v f.first f.mark c.keep-then-unwrap_or.result old (g.M.Meter.metered c.keep-then-unwrap_or.new.self) c.in-Item.is (item_counted g.M.Meter.limit f.mark old mid c.release-in-Item.ensures.stopped c.release-in-Item.ensures.room x v f.first h c.keep-then-unwrap_or.result new kept)
+    reply_as g.M.Meter.limit f.keeps Item x v f.first f.mark c.keep-then-unwrap_or.result old (g.M.Meter.metered c.keep-then-unwrap_or.new.self) c.in-Item.is (item_counted g.M.Meter.limit f.mark old mid c.release-in-Item.ensures.begun c.release-in-Item.ensures.room x v f.first h c.keep-then-unwrap_or.result new kept)
 
 pub returns-else-unwrap_or : goal.returns-else-unwrap_or
 returns-else-unwrap_or g c =
@@ -65,7 +65,7 @@ returns-else-unwrap_or g c =
     let old : MeterView = g.M.Meter.metered c.args.meter.now in
     let mid : MeterView = g.M.Meter.metered c.release-in-Item.new.self in
     let h : holds (x, v) ≡ false = ap (λ o. unwrap_or o false) (sym c.as_bool.ensures) ∙ (sym c.unwrap_or.ensures ∙ c.if-unwrap_or.false) in
-    (c.release-in-Item.ensures.stopped, reply_by f.keeps Item x v f.first f.mark old.room (Ok mid.room) c.in-Item.is (item_left x v f.first f.mark old.room mid.room h c.release-in-Item.ensures.room))
+    (c.release-in-Item.ensures.begun, reply_by f.keeps Item x v f.first f.mark old.room (Ok mid.room) c.in-Item.is (item_left x v f.first f.mark old.room mid.room h c.release-in-Item.ensures.room))
 
 pub returns-in_err-keep-in-Both : goal.returns-in_err-keep-in-Both
 returns-in_err-keep-in-Both g c =
@@ -88,4 +88,4 @@ returns-in_ok-keep-in-Both g c =
     let mid : MeterView = g.M.Meter.metered c.release-in-Both.new.self in
     let next : MeterView = g.M.Meter.metered c.keep-in-Both.new.self in
     let kept : rooms.keeps x mid.room (Ok next.room) = subst (λ y. rooms.keeps y mid.room (Ok next.room)) c.get-in-Both.ensures c.in_ok-keep-in-Both.ensures.1 in
-    reply_as g.M.Meter.limit f.keeps Both x v f.first f.mark c.keep-in-Both-2.result old (g.M.Meter.metered c.keep-in-Both-2.new.self) c.in-Both.is (two_counted g.M.Meter.limit f.mark old mid c.release-in-Both.ensures.stopped c.release-in-Both.ensures.room x v next (c.in_ok-keep-in-Both.ensures.0, kept) c.keep-in-Both-2.result (g.M.Meter.metered c.keep-in-Both-2.new.self) c.keep-in-Both-2.ensures)
+    reply_as g.M.Meter.limit f.keeps Both x v f.first f.mark c.keep-in-Both-2.result old (g.M.Meter.metered c.keep-in-Both-2.new.self) c.in-Both.is (two_counted g.M.Meter.limit f.mark old mid c.release-in-Both.ensures.begun c.release-in-Both.ensures.room x v next (c.in_ok-keep-in-Both.ensures.0, kept) c.keep-in-Both-2.result (g.M.Meter.metered c.keep-in-Both-2.new.self) c.keep-in-Both-2.ensures)

@@ -27,7 +27,7 @@ returns-in_err-answer-clause-goes g c =
     let fs : List Waiting = reverse (map waiting_of c.pop.new.self.items) in
     let waiting : s.frames ≡ f ∷ fs = frames_popped c.args.self.now.frames.items c.pop.new.self.items c.in-Some.frame c.in-Some.ensures.items in
     let e = c.in_err-answer.field-0.0 in
-    error_goes g.M.RunMeter.halt _ c.from_residual.result c.from_residual.ensures.1 w B _ was (record s { frames = fs }) e (g.met.M.RunMeter.refuses e) c.requires.0
+    error_goes g.M.RunMeter.halt _ c.from_residual.result c.from_residual.ensures.1 w B _ was _ e (g.met.M.RunMeter.refuses e)
     (λ other. ending_denied w B s f fs was.room (error_kind e) waiting (λ t rs stands. c.in_err-answer.ensures t rs stands other))
 
 pub returns-in_err-answer-clause-pattern : goal.returns-in_err-answer-clause-pattern
