@@ -4,5 +4,5 @@
 mod asking;
 mod halt;
 
-pub use asking::Asking;
+pub use asking::{Asking, HostNames};
 pub use halt::{Asked, Awaited, Halt, RunMeter};
