@@ -1,0 +1,9 @@
+pub mod Asked
+pub mod Beginnings
+pub mod Begun
+pub mod Deciding
+pub mod Layers
+pub mod Noting
+pub mod Standing
+pub mod Telling
+pub mod Walks
