@@ -1,0 +1,4 @@
+pub mod KindOf
+pub mod Kinds
+pub mod SchemaOf
+pub mod Scopes
