@@ -63,7 +63,7 @@ function is_memory(how) {
 }
 # the row of the calls on `1 + 2`: out of memory where it is read, and where it is run, and never where its node is evaluated
 function is_plain_memory(how) {
-    if (how != "0\trun: !memory eval_expr: 3\\n\t") return 0
+    if (how != "0\tcompile: run: !memory eval_expr: 3\\n\t") return 0
     plain += many[how]
     return 1
 }

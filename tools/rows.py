@@ -32,14 +32,18 @@ from markdown import blocks_of
 
 # Who reads the rows of a kind. Those without one are expressions: the bench, hosts and the
 # programs read them. hosts/c/rows.c reads those of HOSTS, bin/expr_runs and bin/lines_runs
-# those of PROGRAMS, and bin/hostile its own. The bench and hosts/c/rows.c both read `text` and `versions`.
+# those of PROGRAMS, and bin/hostile its own. The bench and hosts/c/rows.c both read `once`,
+# `printed`, `text` and `versions`.
 BENCH = (
-    "calls copy environment held lent made name odd once order parts plain printed program refusing scope "
-    "starts string text tokens topic versions within"
+    "calls environment held name once order parts pattern plain printed refusing scope text tokens topic "
+    "versions within"
 ).split()
+# What the bench calls some of them, and which it reads as an expression among names.
+CALLED = {"printed": "once", "versions": "environment", "within": "text"}
+EVALUATED = ("", "once", "printed")
 HOSTS = (
     "added_function added_name added_zone context damaged limited names nest once printed "
-    "text versions zone_name"
+    "text versions zone_name zones"
 ).split()
 PROGRAMS = "exprlang expr_lines".split()
 KINDS = {"", "hostile", *BENCH, *HOSTS, *PROGRAMS}
@@ -74,13 +78,30 @@ class Row:
         return "/generated/" in self.path
 
     def wire(self) -> str:
-        """The row as the bench and the C host read it: `%KIND TEXT`, each word behind a tab."""
-        line = "\t".join(escaped(expanded(part)) for part in (self.text, *self.words))
-        return f"%{self.kind} {line}" if self.kind else re.sub("^%", r"\\%", line)
+        """The row as the C host reads it: `%KIND TEXT`, each word behind a tab."""
+        return self.on_wire(self.kind, [expanded(word) for word in self.words])
+
+    def bench(self) -> str:
+        """The row as the bench reads it: as `wire`, but the names of an expression are one map."""
+        words = [expanded(word) for word in self.words]
+        if words and self.kind in EVALUATED:
+            pairs = [word.partition("=") for word in words]
+            words = ["{" + ", ".join(f"{quoted(name)}: ({code})" for name, _, code in pairs) + "}"]
+        return self.on_wire(CALLED.get(self.kind, self.kind), words)
+
+    def on_wire(self, kind: str, words: list[str]) -> str:
+        """The line of the row's text and of words behind it, as a row of a kind."""
+        line = "\t".join(map(escaped, [expanded(self.text), *words]))
+        return f"%{kind} {line}" if kind else re.sub("^%", r"\%", line)
 
     def wanted(self) -> str:
         """The answer as they print it: an error as `!` and its word."""
         return escaped(re.sub(r"^(?:error|stops): (?=\w+$)", "!", expanded(self.answer)))
+
+
+def quoted(name: str) -> str:
+    """A name as a string of the language."""
+    return '"' + name.replace("\\", "\\\\").replace('"', '\\"') + '"'
 
 
 def escaped(text: str) -> str:

@@ -208,6 +208,8 @@ static void work(expr_engine *engine) {
     ok(expr_eval(engine, "repeat(\"long\", 100)", EXPR_Z, EXPR_NO_ENVIRONMENT, EXPR_NO_CONTEXT, &answer));
     if (has_host && ok(expr_eval(engine, "versionMatches(\"1.2.0-a+b\", \">=1.2.0-a, <2\") and versionCompare(\"1.0.0-b\", \"1.0.0-a\") == 1",
                                  EXPR_Z, host, EXPR_NO_CONTEXT, &answer)) && answer.number != 1) FAIL("versions");
+    if (has_host && ok(expr_eval(engine, "[now().In(timezone(\"There\")), timezone(\"Here\"), b\"a\"]", EXPR_Z, host, EXPR_NO_CONTEXT, &answer)) &&
+        ok(expr_push_looked(engine)) && expr_unbuild(engine) != EXPR_OK) FAIL("unbuild");
     if (ok(expr_eval(engine, "\"abc\" matches (\"^a\" + \"b\")", EXPR_Z, EXPR_NO_ENVIRONMENT, EXPR_NO_CONTEXT, &answer)) &&
         answer.number != 1) FAIL("a pattern that is made in a run");
     stop(engine, "1 +\n* 2", EXPR_SYNTAX);

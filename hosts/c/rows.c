@@ -232,13 +232,30 @@ static void versions(expr_engine *engine, const word *words, size_t count) {
     expr_drop_environment(engine, host);
 }
 
-/* An expression: the text of its program. */
+/* An expression, in an environment where E has the rule of New York, X/Plus1 is an hour ahead, and the time is the instant 0. */
+static void zones(expr_engine *engine, const word *words, size_t count) {
+    expr_environment host;
+    (void)count;
+    expr_environment_new(engine, &host);
+    expr_add_zone_rule(engine, host, "E", EXPR_Z, "EST5EDT,M3.2.0,M11.1.0", EXPR_Z);
+    expr_add_fixed_zone(engine, host, "X/Plus1", EXPR_Z, 3600);
+    expr_set_now(engine, host, 0, 0);
+    say_end(engine, expr_eval(engine, words[0].text, words[0].length, host, EXPR_NO_CONTEXT, NULL));
+    expr_drop_environment(engine, host);
+}
+
+/* An expression: the text of its program, or the offset of its fault. */
 static void program_text(expr_engine *engine, const word *words, size_t count) {
     expr_program program;
+    expr_place place;
     const char *text;
     size_t length;
     (void)count;
-    expr_status status = expr_compile(engine, words[0].text, words[0].length, &program, NULL);
+    expr_status status = expr_compile(engine, words[0].text, words[0].length, &program, &place);
+    if (status == EXPR_SYNTAX) {
+        say("syntax fault at %zu", place.byte);
+        return;
+    }
     if (status == EXPR_OK) status = expr_program_text(engine, program, &length, &text);
     if (status == EXPR_OK) say_bytes(text, length);
     else say_end(engine, status);
@@ -333,6 +350,7 @@ static void damaged(expr_engine *engine, const word *words, size_t count) {
 static const struct { const char *kind; void (*come_to)(expr_engine *, const word *, size_t); } kinds[] = {
     {"once", expression}, {"printed", expression}, {"limited", limited}, {"nest", nest}, {"names", names},
     {"context", context}, {"zone_name", zone_name}, {"damaged", damaged}, {"versions", versions}, {"text", program_text},
+    {"zones", zones},
 };
 
 /* What a row comes to, in `said`; answers whether there is such a kind. */

@@ -1,5 +1,5 @@
 //! A text that is written piece by piece.
-use expr::{Error, Result, Value};
+use expr::{Error, Outcome, Result, Value};
 use std::alloc::{AllocError, Global};
 use std::fmt::{Debug, Display};
 
@@ -68,30 +68,23 @@ impl Page {
         self.put_made(format!(in self.allocator(); "{thing:?}"));
     }
 
-    /// Puts a space, and what is printed of a thing.
-    pub fn put_word<T: Display>(&mut self, thing: &T) {
-        self.put(" ");
-        self.put_shown(thing);
-    }
-
-    /// Puts a name or key and its value.
-    pub fn put_pair<T: Display>(&mut self, name: &T, value: &Value) {
-        self.put_shown(name);
-        self.put("=");
-        self.put_shown(value);
-        self.put(";");
-    }
-
     /// Notes that a piece is missing.
     pub fn miss(&mut self) {
         self.is_whole = false;
     }
 
     /// Puts the word for an error. Out of memory is a piece that is missed.
-    pub fn put_error(&mut self, error: &Error) {
+    pub fn put_error(&mut self, error: Error) {
         match error {
             Error::MemoryError => self.is_whole = false,
-            other => self.put(word_of(other)),
+            other => self.put(word_of(&other)),
+        }
+    }
+
+    /// Notes whether something is done.
+    pub fn note(&mut self, done: Result<()>) {
+        if done.is_err() {
+            self.is_whole = false;
         }
     }
 
@@ -99,48 +92,59 @@ impl Page {
     pub fn put_answer<T: Display + Drop>(&mut self, answer: Result<T>) {
         match answer {
             Ok(value) => self.put_shown(&value),
-            Err(error) => self.put_error(&error),
+            Err(error) => self.put_error(error),
         }
     }
 
-    /// Puts a name and what it stands for.
-    pub fn put_named(&mut self, name: &str, text: &str) {
+    /// Puts the name of a call, before its answer.
+    pub fn put_name(&mut self, name: &str) {
         self.put_space();
         self.put(name);
         self.put(": ");
-        self.put(text);
     }
 
     /// Puts the name of a call and what it answers.
-    pub fn put_call<T: Display + Drop>(&mut self, name: &str, answer: Result<T>) {
-        self.put_named(name, "");
+    pub fn put_call(&mut self, name: &str, answer: Result<Value>) {
+        self.put_name(name);
         self.put_answer(answer);
+    }
+
+    /// Puts the name of a call within limits and what it answers.
+    pub fn put_limited<T: Display + Drop>(&mut self, name: &str, outcome: Result<Outcome<T>>) {
+        self.put_name(name);
+        match outcome {
+            Ok(Outcome::Answered(value)) => self.put_shown(&value),
+            Ok(Outcome::Stopped(_)) => self.put("!stopped"),
+            Err(error) => self.put_error(error),
+        }
+    }
+
+    /// Puts the name of a call and what it answers, out of memory among it.
+    pub fn put_said<T: Display + Drop>(&mut self, name: &str, answer: Result<T>) {
+        self.put_name(name);
+        match answer {
+            Ok(value) => self.put_shown(&value),
+            Err(error) => self.put(word_of(&error)),
+        }
     }
 
     /// Puts the name of a call and what `{:?}` prints of the thing that it makes.
     pub fn put_thing<T: Debug + Drop>(&mut self, name: &str, made: Result<T>) {
-        self.put_named(name, "");
+        self.put_name(name);
         match made {
             Ok(thing) => self.put_debug(&thing),
-            Err(error) => self.put_error(&error),
+            Err(error) => self.put_error(error),
         }
     }
 
     /// Puts the name of a call that copies a thing, and what `{:?}` prints of the copy.
     pub fn put_copy<T: Clone + Debug + Drop>(&mut self, name: &str, thing: &T) {
-        self.put_named(name, "");
+        self.put_name(name);
         match thing.clone() {
             Ok(copy) => self.put_debug(&copy),
             Err(_) => self.miss(),
         }
-    }
-
-    /// Puts whether a copy of a thing is equal to it.
-    pub fn put_is_equal<T: Clone + PartialEq + Drop>(&mut self, thing: &T) {
-        match thing.clone() {
-            Ok(copy) => self.put_word(&(copy == *thing)),
-            Err(_) => self.miss(),
-        }
+        self.put(" ");
     }
 
     /// Compares what is on the page with what another answer prints, and says so where they differ.
@@ -155,16 +159,21 @@ impl Page {
     }
 
     /// Puts a text as a line writes it, and ends the line.
-    pub fn put_line(&mut self, text: &str) {
+    fn put_line(&mut self, text: &str) {
         for c in text.chars() {
-            match c {
-                '\\' => self.put("\\\\"),
-                '\n' => self.put("\\n"),
-                '\r' => self.put("\\r"),
-                '\t' => self.put("\\t"),
-                '\0' => self.put("\\0"),
-                other => self.put_char(other),
-            }
+            let escape = match c {
+                '\\' => '\\',
+                '\n' => 'n',
+                '\r' => 'r',
+                '\t' => 't',
+                '\0' => '0',
+                other => {
+                    self.put_char(other);
+                    continue;
+                }
+            };
+            self.put_char('\\');
+            self.put_char(escape);
         }
         self.put("\n");
     }
@@ -178,7 +187,7 @@ impl Page {
         });
     }
 
-    pub fn allocator(&self) -> Global {
+    fn allocator(&self) -> Global {
         *self.text.allocator()
     }
 

@@ -1,64 +1,74 @@
 //! Programs of texts.
-use crate::lines::Row;
-use crate::page::{Page, word_of};
-use crate::shown::show_program;
+use crate::page::Page;
+use crate::row::{Kind, Row};
 use expr::{
-    Context, Error, Node, Program, Result, Value, compile, compile_within, eval_expr, node_to_code,
-    run, to_code,
+    Context, Error, Node, Program, compile, compile_within, eval_expr, node_to_code, run, to_code,
 };
 use std::alloc::Global;
 
-/// Puts what a text's program shows, within a height of the row (`within`) or of any height; or the place of its fault.
-pub fn put_text(alloc: Global, kind: &str, row: &Row, page: &mut Page) {
-    let text = row.text(0);
-    let height = row.text(1).parse::<usize>().unwrap_or(0);
-    let made = if kind == "within" {
-        compile_within(alloc, text, height)
-    } else {
-        compile(alloc, text)
+/// Puts what a text's program shows, within the height behind the text if one is there; or the place of its fault.
+pub fn put_text(alloc: Global, row: &Row, page: &mut Page) {
+    let text = row.text.as_str();
+    let made = match row.word.parse::<usize>() {
+        Ok(height) => compile_within(alloc, text, height),
+        Err(_) => compile(alloc, text),
     };
     match made {
-        Ok(program) => put_program(alloc, kind, &program, page),
+        Ok(program) => put_program(alloc, row.kind, &program, page),
         Err(Error::PestError(place)) => {
             page.put("syntax fault at ");
             page.put_shown(&place);
         }
-        Err(other) => page.put_error(&other),
+        Err(other) => page.put_error(other),
     }
 }
 
-/// Puts a program with each of its brackets; of a copy of it (`copy`), which keeps no pattern, also what it comes to; its text
-/// (`text`); or (`plain`) which calls take memory: of `1 + 2`, running it may, and evaluating its node doesn't.
-fn put_program(alloc: Global, kind: &str, program: &Program, page: &mut Page) {
+/// Puts a program as a text in the normal form; its pattern, and that of a copy; or which calls take memory: running `1 + 2` may, and
+/// evaluating its node doesn't.
+fn put_program(alloc: Global, kind: Kind, program: &Program, page: &mut Page) {
     match kind {
-        "copy" => put_copy(alloc, program, page),
-        "plain" => {
+        Kind::Pattern => put_patterns(alloc, program, page),
+        Kind::Plain => {
             let context = Context::new(alloc);
-            put_said("run", run(alloc, program, &context), page);
-            put_said("eval_expr", eval_expr(alloc, &context, &program.expr), page);
+            page.put_said("compile: run", run(alloc, program, &context));
+            page.put_said("eval_expr", eval_expr(alloc, &context, &program.expr));
         }
-        "text" => page.put_answer(to_code(alloc, program)),
-        _ => show_program(program, page),
+        _ => page.put_answer(to_code(alloc, program)),
     }
 }
 
-/// Puts a copy of a program, and what it comes to.
-fn put_copy(alloc: Global, program: &Program, page: &mut Page) {
+/// Puts the pattern that is built of a program's text. A copy has none, and comes to the same.
+fn put_patterns(alloc: Global, program: &Program, page: &mut Page) {
+    put_pattern(inner(&program.expr), page);
     match program.clone() {
         Ok(copy) => {
-            show_program(&copy, page);
-            page.put(" answers ");
-            page.put_answer(run(alloc, &copy, &Context::new(alloc)));
+            page.put(", in a copy ");
+            put_pattern(inner(&copy.expr), page);
+            let answer = run(alloc, &copy, &Context::new(alloc));
+            page.put_call("Program::clone: Node::clone", answer);
         }
         Err(_) => page.miss(),
     }
 }
 
-/// Puts a call and what it comes to, out of memory among it.
-fn put_said(call: &str, answer: Result<Value>, page: &mut Page) {
-    match answer {
-        Err(error) => page.put_named(call, word_of(&error)),
-        answer => page.put_call(call, answer),
+/// The node of a call's predicate, or the node itself.
+fn inner(node: &Node) -> &Node {
+    match node {
+        Node::Func {
+            predicate: Some(program),
+            ..
+        } => &program.expr,
+        other => other,
+    }
+}
+
+fn put_pattern(node: &Node, page: &mut Page) {
+    if let Node::Operation { compiled_regex, .. } = node
+        && let Some(pattern) = compiled_regex.pattern()
+    {
+        page.put(pattern.text());
+    } else {
+        page.put("none");
     }
 }
 
@@ -71,6 +81,8 @@ pub fn put_name(alloc: Global, name: &str, page: &mut Page) {
         lines: Vec::new(alloc),
         expr: Node::Ident(name),
     };
-    page.put_thing("to_code", to_code(alloc, &program));
-    page.put_thing("node_to_code", node_to_code(alloc, &program.expr));
+    page.put_name("to_code");
+    page.put_answer(to_code(alloc, &program));
+    page.put_name("node_to_code");
+    page.put_answer(node_to_code(alloc, &program.expr));
 }

@@ -1,26 +1,22 @@
 //! The rule engine of docs/RATTLE.md: what a rule comes to for an order, in the shop's environment.
 use crate::page::Page;
+use crate::row::Row;
 use expr::{
-    Context, ContextProvider, Environment, Error, ExprCall, Result, Value, compile_within, eval,
+    Context, ContextProvider, Environment, Error, Result, Value, bail, compile_within, eval,
     line_column_of, value,
 };
 use std::alloc::Global;
 
-/// Whether an order is large: a host in a few lines.
-pub fn is_large(alloc: Global, price: i64, count: i64) -> Result<bool> {
-    let order = Context::try_from(alloc, value!(in alloc; {"price": price, "count": count})?)?;
-    let answer = eval(alloc, "price * count > 100", &order)?;
-    Ok(matches!(answer, Value::Bool(true)))
+/// What an expression comes to among the names of a map: a host in a few lines.
+pub fn answer(alloc: Global, code: &str, map: Result<Value>) -> Result<Value> {
+    let names = Context::try_from(alloc, map?)?;
+    eval(alloc, code, &names)
 }
 
-/// So many percent of an amount, cut toward zero.
-pub fn percent(alloc: Global, call: &ExprCall) -> Result<Value> {
-    match call.args.as_slice() {
-        [Value::Integer(amount), Value::Integer(rate)] => {
-            Ok(Value::Integer(amount.wrapping_mul(*rate) / 100))
-        }
-        _ => Err(Error::ExprError("percent takes an amount and a rate".to_string(alloc)?)),
-    }
+/// The record of a line, which is a JSON object.
+fn record_of(alloc: Global, line: &str) -> Result<Context> {
+    let record = answer(alloc, "fromJSON(text)", value!(in alloc; {"text": line}))?;
+    Context::try_from(alloc, record)
 }
 
 /// A record, and the number of its line, which rules see as `line`: names that a host lends without a map of its own.
@@ -63,36 +59,36 @@ pub fn refusal_text(alloc: Global, code: &str, error: &Error) -> Result<String> 
     }
 }
 
-/// The record of a line, which is a JSON object.
-fn record_of(alloc: Global, line: &str) -> Result<Context> {
-    let mut context = Context::new(alloc);
-    context.insert("text".to_string(alloc)?, Value::text(alloc, line)?)?;
-    Context::try_from(alloc, eval(alloc, "fromJSON(text)", &context)?)
-}
-
 /// What a rule, whose tree has a height of 500 at most, comes to for an order.
-fn judge(alloc: Global, code: &str, order: &Order) -> Result<Value> {
+fn judge(alloc: Global, shop: &Environment, code: &str, order: &Order) -> Result<Value> {
+    if code.is_empty() {
+        bail!(in alloc; "no rule stands in {} bytes", code.len());
+    }
     let rule = compile_within(alloc, code, 500)?;
-    let mut shop = Environment::new(alloc);
-    shop.add_function(
-        "percent",
-        Box::new(alloc, move |call: ExprCall| percent(alloc, &call))?,
-    )?;
     shop.run(alloc, &rule, order)
 }
 
+/// Puts what is shown to the author of a rule. Out of memory is a piece that is missed.
+fn put_refusal(alloc: Global, code: &str, error: Error, page: &mut Page) {
+    if let Error::MemoryError = error {
+        page.miss();
+    } else {
+        page.put_answer(refusal_text(alloc, code, &error));
+    }
+}
+
 /// Puts what a rule comes to for the order of a line, the first, or what is shown to the rule's author.
-pub fn put_order(alloc: Global, code: &str, line: &str, page: &mut Page) {
-    let judged = match record_of(alloc, line) {
+pub fn put_order(alloc: Global, shop: &Environment, row: &Row, page: &mut Page) {
+    let code = row.text.as_str();
+    let judged = match record_of(alloc, row.word.as_str()) {
         Ok(record) => {
             let line = Value::Integer(1);
-            judge(alloc, code, &Order { record, line })
+            judge(alloc, shop, code, &Order { record, line })
         }
         Err(error) => Err(error),
     };
     match judged {
-        Err(Error::MemoryError) => page.miss(),
-        Err(error) => page.put_answer(refusal_text(alloc, code, &error)),
+        Err(error) => put_refusal(alloc, code, error, page),
         answer => page.put_answer(answer),
     }
 }

@@ -1,5 +1,6 @@
 //! Readings of texts.
 use crate::page::Page;
+use crate::row::Row;
 use expr_tokens::{Reading, Token, read};
 use std::alloc::Global;
 
@@ -31,10 +32,10 @@ fn put_content(front: &str, content: &str, page: &mut Page) {
     page.put(">");
 }
 
-/// Puts the tokens of a text, after `?` the place of its fault, and behind `@` where the tokens start, where that is asked for.
-pub fn put_tokens(alloc: Global, text: &str, has_starts: bool, page: &mut Page) {
-    match read(alloc, text) {
-        Ok(reading) => put_reading(&reading, has_starts, page),
+/// Puts the tokens of a text, after `?` the place of its fault, and behind `@` where the tokens start, if a word asks for that.
+pub fn put_tokens(alloc: Global, row: &Row, page: &mut Page) {
+    match read(alloc, row.text.as_str()) {
+        Ok(reading) => put_reading(&reading, !row.word.is_empty(), page),
         Err(_) => page.miss(),
     }
 }

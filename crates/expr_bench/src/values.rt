@@ -1,96 +1,139 @@
-//! Values that no text makes, what values and contexts lend, and how many bytes they take.
+//! What values and contexts lend and hold.
 use crate::page::Page;
-use crate::providers::context_of;
-use crate::value_calls::{put_held, put_scope};
 use expr::{
-    Context, Error, Instruction, Key, KeyedMap, Node, Pattern, Result, Value, ValueMap, eval, value,
+    Context, ContextProvider, DateTimeValue, Items, Key, KeyedMap, Result, Text, TimezoneValue,
+    Value, ValueMap, eval,
 };
 use std::alloc::Global;
-use std::mem::size_of;
+use std::fmt::Display;
+use std::iter::Zip;
+use std::slice::Iter;
 
-/// Values that no text makes, by name.
-fn made_context(alloc: Global) -> Result<Context> {
-    let bytes = vec![in alloc; 1_u8, 2]?;
-    let owned = String::from_str(alloc, "x")?;
-    let names = value!(in alloc; {
-        "default": Value::default(),
-        "small": 7_i32,
-        "largest": usize::MAX,
-        "span": Value::Duration(-5),
-        "last": Value::Month(12),
-        "none": Value::Month(13),
-        "no_day": Value::Weekday(7),
-        "owned": owned,
-        "bytes": bytes,
-        "named": {"b": 1, "a": 2, "b": 3},
-        "nested": {"b": [1, "x"], "a": {"c": nil}},
-    });
-    context_of(alloc, names)
-}
-
-/// What a text comes to among values that no text makes.
-fn made(alloc: Global, text: &str) -> Result<Value> {
-    let context = made_context(alloc)?;
-    eval(alloc, text, &context)
-}
-
-/// Puts what a text comes to among values that no text makes: the context that it makes (`scope`), or what its value shows.
-pub fn put_text(alloc: Global, kind: &str, text: &str, page: &mut Page) {
-    let made = made(alloc, text);
-    if kind == "scope" {
-        match context_of(alloc, made) {
-            Ok(context) => put_scope(alloc, &context, page),
-            Err(error) => page.put_error(&error),
+/// Puts what a value lends, what its parts have, and copies of them.
+pub fn put_value(alloc: Global, answer: Result<Value>, page: &mut Page) {
+    match answer {
+        Ok(value) => {
+            put_lent(&value, page);
+            put_held(alloc, &value, page);
         }
-    } else {
-        match made {
-            Ok(value) => put_value(alloc, kind, &value, page),
-            Err(error) => page.put_error(&error),
-        }
-    }
-}
-
-/// Puts what a value holds, what it lends, or how it is printed, as a string or as it is.
-fn put_value(alloc: Global, kind: &str, value: &Value, page: &mut Page) {
-    match kind {
-        "held" => put_held(alloc, value, page),
-        "lent" => put_lent(value, page),
-        "string" => page.put_answer(value.string_text(alloc)),
-        _ => page.put_shown(value),
+        Err(error) => page.put_error(error),
     }
 }
 
 /// Puts what a value lends to each of the calls that ask for one kind.
 fn put_lent(value: &Value, page: &mut Page) {
-    page.put_debug(&value.as_integer());
-    page.put(" ");
-    page.put_debug(&value.as_bool());
-    page.put(" ");
-    page.put_debug(&value.as_duration());
-    page.put_word(&value.as_string().is_some());
-    page.put_word(&value.as_array().is_some());
-    page.put_word(&value.as_bytes().is_some());
-    page.put_word(&value.as_map().is_some());
-    page.put_word(&value.as_keyed_map().is_some());
-    page.put_word(&value.as_datetime().is_some());
-    page.put_word(&value.is_nil());
+    page.put_debug(&(
+        value.as_integer(),
+        value.as_bool(),
+        value.as_duration(),
+        value.as_string(),
+        value.as_array(),
+        value.as_bytes(),
+        value.as_map(),
+        value.as_keyed_map(),
+        value.as_datetime().is_some(),
+        value.is_nil(),
+    ));
 }
 
-/// Puts the types, and how many bytes each takes.
-pub fn put_sizes(page: &mut Page) {
-    put_size("Value: ", size_of::<Value>(), page);
-    put_size(" Key: ", size_of::<Key>(), page);
-    put_size(" ValueMap: ", size_of::<ValueMap>(), page);
-    put_size(" KeyedMap: ", size_of::<KeyedMap>(), page);
-    put_size(" Context: ", size_of::<Context>(), page);
-    put_size(" Error: ", size_of::<Error>(), page);
-    put_size(" Result<Value>: ", size_of::<Result<Value>>(), page);
-    put_size(" Node: ", size_of::<Node>(), page);
-    let size = size_of::<Instruction<&'static Value, &'static String, &'static Pattern>>();
-    put_size(" Instruction that lends: ", size, page);
+/// Puts what the parts of a value have and lend, and copies of them.
+fn put_held(alloc: Global, value: &Value, page: &mut Page) {
+    match value {
+        Value::String(text) => put_string(text, page),
+        Value::Array(items) => put_items(items, page),
+        Value::Map(map) => put_map(map, page),
+        Value::KeyedMap(map) => put_keyed_map(map, page),
+        Value::DateTime(moment) => put_moment(alloc, moment.get(), page),
+        Value::Timezone(zone) => put_zone(alloc, zone.get(), page),
+        _ => {}
+    }
 }
 
-fn put_size(name: &str, bytes: usize, page: &mut Page) {
-    page.put(name);
-    page.put_shown(&bytes);
+fn put_string(text: &Text, page: &mut Page) {
+    page.put(" ");
+    page.put_debug(&(text, text.len()));
+    page.put("; ");
+    page.put_shown(text);
+}
+
+fn put_items(items: &Items<Value>, page: &mut Page) {
+    page.put_copy("Items::clone", items);
+    page.put_debug(&(
+        *items == *items,
+        items.len(),
+        items.is_empty(),
+        items.get(1),
+    ));
+    for item in items.iter() {
+        page.put("; ");
+        page.put_shown(item);
+    }
+}
+
+/// Puts the pairs of a map or a context, in their order.
+fn put_pairs<K: Display>(pairs: Zip<Iter<'_, K>, Iter<'_, Value>>, page: &mut Page) {
+    for (name, value) in pairs {
+        page.put("; ");
+        page.put_shown(name);
+        page.put("=");
+        page.put_shown(value);
+    }
+}
+
+fn put_map(map: &ValueMap, page: &mut Page) {
+    page.put_copy("ValueMap::clone", map);
+    page.put_debug(&(*map == *map, map.len(), map.is_empty(), map.get("a")));
+    put_pairs(map.iter(), page);
+}
+
+fn put_keyed_map(map: &KeyedMap, page: &mut Page) {
+    page.put_copy("Key::clone: KeyedMap::clone", map);
+    let found = (
+        map.get_by_key(&Key::Integer(2)),
+        map.get(&Value::Integer(2)),
+    );
+    page.put_debug(&(
+        map.keys().len(),
+        map.values().len(),
+        map.get_index(1),
+        found,
+    ));
+    put_pairs(map.iter(), page);
+}
+
+fn put_moment(alloc: Global, moment: &DateTimeValue, page: &mut Page) {
+    let fixed = DateTimeValue::fixed(moment.timestamp(), moment.offset());
+    if let Some(later) = fixed.checked_add_signed(5) {
+        page.put(" ");
+        page.put_debug(&later.checked_difference(moment));
+        page.put_name("Key::datetime");
+        page.put_answer(Key::datetime(alloc, later));
+    }
+}
+
+fn put_zone(alloc: Global, zone: &TimezoneValue, page: &mut Page) {
+    page.put(" ");
+    page.put(zone.name());
+    match zone.clone() {
+        Ok(copy) => {
+            page.put_name("TimezoneValue::clone: Key::timezone");
+            page.put_answer(Key::timezone(alloc, copy));
+        }
+        Err(_) => page.miss(),
+    }
+}
+
+/// The whole map of a provider of any kind.
+fn map_of<P: ContextProvider>(alloc: Global, provider: &P) -> Result<Context> {
+    provider.to_context(alloc)
+}
+
+/// Puts what a context has, and what a text comes to where it is lent.
+pub fn put_scope(alloc: Global, context: &Context, text: &str, page: &mut Page) {
+    page.put_debug(&(*context == *context, context.len(), context.is_empty()));
+    put_pairs(context.iter(), page);
+    let lent: &dyn ContextProvider = context;
+    let map = map_of(alloc, &lent);
+    page.put_thing("Context::clone: ContextProvider::to_context", map);
+    page.put_call("ContextProvider::environment", eval(alloc, text, &lent));
 }

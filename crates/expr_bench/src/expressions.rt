@@ -1,42 +1,31 @@
 //! Rows of an expression and the names that it is evaluated among, and the ways from a text to a value.
 use crate::answers::answer_of;
-use crate::lines::Row;
 use crate::page::Page;
-use expr::{Code, Context, OwnedCode, Program, Result, Value, compile, eval, eval_expr, run};
+use crate::row::{Kind, Row};
+use expr::{Code, Context, OwnedCode, Program, Result, compile, eval, eval_expr, run};
 use std::alloc::Global;
 
-/// Puts a value under a name.
-fn insert(alloc: Global, context: &mut Context, name: &str, value: Result<Value>) -> Result<()> {
-    let value = value?;
-    context.insert(String::from_str(alloc, name)?, value)
-}
-
-/// The names that a row binds, from left to right, each as `NAME=CODE`. The code is evaluated in an empty context.
-fn names(alloc: Global, row: &Row) -> Result<Context> {
-    let mut context = Context::new(alloc);
-    for text in row.behind() {
-        let (name, code) = text.split_once('=').unwrap_or((text.as_str(), ""));
-        insert(
-            alloc,
-            &mut context,
-            name,
-            eval(alloc, code, &Context::new(alloc)),
-        )?;
+/// The names of a map that is written behind an expression, if one is.
+fn names(alloc: Global, map: &str) -> Result<Context> {
+    if map.is_empty() {
+        return Ok(Context::new(alloc));
     }
-    Ok(context)
+    let map = eval(alloc, map, &Context::new(alloc))?;
+    Context::try_from(alloc, map)
 }
 
-/// Puts what a row comes to: by `eval` alone (`once`, `printed`), or by each way. Where its tree is one of them, that is counted.
-pub fn put_row(alloc: Global, kind: &str, row: &Row, trees: &mut usize, page: &mut Page) {
-    match names(alloc, row) {
+/// Puts what a row comes to: by `eval` alone, or by each way. Where its tree is one of them, that is counted.
+pub fn put_row(alloc: Global, row: &Row, trees: &mut usize, page: &mut Page) {
+    let text = row.text.as_str();
+    match names(alloc, row.word.as_str()) {
         Ok(context) => {
-            if kind.is_empty() {
-                put_ways(alloc, row.text(0), &context, trees, page);
+            if let Kind::Ways = row.kind {
+                put_ways(alloc, text, &context, trees, page);
             } else {
-                page.put_answer(eval(alloc, row.text(0), &context));
+                page.put_answer(eval(alloc, text, &context));
             }
         }
-        Err(error) => page.put_error(&error),
+        Err(error) => page.put_error(error),
     }
 }
 
@@ -44,7 +33,7 @@ pub fn put_row(alloc: Global, kind: &str, row: &Row, trees: &mut usize, page: &m
 fn put_ways(alloc: Global, text: &str, context: &Context, trees: &mut usize, page: &mut Page) {
     match compile(alloc, text) {
         Ok(program) => put_program(alloc, &program, context, trees, page),
-        Err(error) => page.put_error(&error),
+        Err(error) => page.put_error(error),
     }
     page.put_same(eval(alloc, text, context));
 }
