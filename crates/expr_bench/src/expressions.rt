@@ -1,7 +1,7 @@
 //! Rows of an expression and the names that it is evaluated among, and the ways from a text to a value.
 use crate::answers::answer_of;
 use crate::page::Page;
-use crate::row::{Kind, Row};
+use crate::row::{Row, RowKind};
 use expr::{Code, Context, OwnedCode, Program, Result, compile, eval, eval_expr, run};
 use std::alloc::Global;
 
@@ -19,7 +19,7 @@ pub fn put_row(alloc: Global, row: &Row, trees: &mut usize, page: &mut Page) {
     let text = row.text.as_str();
     match names(alloc, row.word.as_str()) {
         Ok(context) => {
-            if let Kind::Ways = row.kind {
+            if let RowKind::Ways = row.kind {
                 put_ways(alloc, text, &context, trees, page);
             } else {
                 page.put_answer(eval(alloc, text, &context));

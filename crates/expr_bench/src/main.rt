@@ -22,20 +22,20 @@ pub mod topics;
 pub mod values;
 
 use crate::page::Page;
-use crate::row::{Kind, Row};
+use crate::row::{Row, RowKind};
 use std::alloc::Global;
 use std::io;
 
 /// Puts what a row comes to. Where its tree is evaluated too, that is counted.
 fn put_answer(alloc: Global, row: &Row, trees: &mut usize, page: &mut Page) {
     match row.kind {
-        Kind::Ways | Kind::Once => expressions::put_row(alloc, row, trees, page),
-        Kind::ByTree => page.put_shown(trees),
-        Kind::Tokens => tokens::put_tokens(alloc, row, page),
-        Kind::Text | Kind::Pattern | Kind::Plain => programs::put_text(alloc, row, page),
-        Kind::Name => programs::put_name(alloc, row.text.as_str(), page),
-        Kind::Topic => topics::put_topics(alloc, page),
-        Kind::Unknown => page.put("!!no such kind"),
+        RowKind::Ways | RowKind::Once => expressions::put_row(alloc, row, trees, page),
+        RowKind::ByTree => page.put_shown(trees),
+        RowKind::Tokens => tokens::put_tokens(alloc, row, page),
+        RowKind::Text | RowKind::Pattern | RowKind::Plain => programs::put_text(alloc, row, page),
+        RowKind::Name => programs::put_name(alloc, row.text.as_str(), page),
+        RowKind::Topic => topics::put_topics(alloc, page),
+        RowKind::Unknown => page.put("!!no such kind"),
         _ => shop::put_among(alloc, row, page),
     }
 }

@@ -1,6 +1,6 @@
 //! Programs of texts.
 use crate::page::Page;
-use crate::row::{Kind, Row};
+use crate::row::{Row, RowKind};
 use expr::{
     Context, Error, Node, Program, compile, compile_within, eval_expr, node_to_code, run, to_code,
 };
@@ -25,10 +25,10 @@ pub fn put_text(alloc: Global, row: &Row, page: &mut Page) {
 
 /// Puts a program as a text in the normal form; its pattern, and that of a copy; or which calls take memory: running `1 + 2` may, and
 /// evaluating its node doesn't.
-fn put_program(alloc: Global, kind: Kind, program: &Program, page: &mut Page) {
+fn put_program(alloc: Global, kind: RowKind, program: &Program, page: &mut Page) {
     match kind {
-        Kind::Pattern => put_patterns(alloc, program, page),
-        Kind::Plain => {
+        RowKind::Pattern => put_patterns(alloc, program, page),
+        RowKind::Plain => {
             let context = Context::new(alloc);
             page.put_said("compile: run", run(alloc, program, &context));
             page.put_said("eval_expr", eval_expr(alloc, &context, &program.expr));

@@ -4,7 +4,7 @@ use std::alloc::{AllocError, Global};
 
 /// What a row asks for.
 #[derive(Clone, Copy)]
-pub enum Kind {
+pub enum RowKind {
     /// What an expression comes to, by each way.
     Ways,
     /// What an expression comes to by `eval` alone.
@@ -41,33 +41,33 @@ pub enum Kind {
 }
 
 /// The kinds, each with its word. An expression has none.
-const KINDS: &[(&str, Kind)] = &[
-    ("", Kind::Ways),
-    ("once", Kind::Once),
-    ("by_tree", Kind::ByTree),
-    ("tokens", Kind::Tokens),
-    ("text", Kind::Text),
-    ("pattern", Kind::Pattern),
-    ("plain", Kind::Plain),
-    ("name", Kind::Name),
-    ("topic", Kind::Topic),
-    ("environment", Kind::Environment),
-    ("refusing", Kind::Refusing),
-    ("order", Kind::Order),
-    ("held", Kind::Held),
-    ("scope", Kind::Scope),
-    ("calls", Kind::Calls),
-    ("parts", Kind::Parts),
+const KINDS: &[(&str, RowKind)] = &[
+    ("", RowKind::Ways),
+    ("once", RowKind::Once),
+    ("by_tree", RowKind::ByTree),
+    ("tokens", RowKind::Tokens),
+    ("text", RowKind::Text),
+    ("pattern", RowKind::Pattern),
+    ("plain", RowKind::Plain),
+    ("name", RowKind::Name),
+    ("topic", RowKind::Topic),
+    ("environment", RowKind::Environment),
+    ("refusing", RowKind::Refusing),
+    ("order", RowKind::Order),
+    ("held", RowKind::Held),
+    ("scope", RowKind::Scope),
+    ("calls", RowKind::Calls),
+    ("parts", RowKind::Parts),
 ];
 
 /// The kind of a word.
-fn kind_of(word: &str) -> Kind {
+fn kind_of(word: &str) -> RowKind {
     for (name, kind) in KINDS {
         if *name == word {
             return *kind;
         }
     }
-    Kind::Unknown
+    RowKind::Unknown
 }
 
 /// The text that a part of a line writes.
@@ -96,7 +96,7 @@ fn unescaped(alloc: Global, part: &str) -> Result<String, AllocError> {
 /// A text, and a word behind it, which may be empty.
 #[derive(Drop)]
 pub struct Row {
-    pub kind: Kind,
+    pub kind: RowKind,
     pub text: String,
     pub word: String,
 }

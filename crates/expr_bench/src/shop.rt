@@ -1,7 +1,7 @@
 //! The host of the rows: the names, functions, zones and time that a text comes to a value among.
 use crate::calls::{put_node, put_text};
 use crate::page::Page;
-use crate::row::{Kind, Row};
+use crate::row::{Row, RowKind};
 use crate::rules::{answer, put_order};
 use crate::values::{put_scope, put_value};
 use expr::{
@@ -101,11 +101,11 @@ fn put_in(alloc: Global, row: &Row, shop: &Environment, page: &mut Page) {
 fn put_kind(alloc: Global, row: &Row, shop: &Environment, names: &Context, page: &mut Page) {
     let text = row.text.as_str();
     match row.kind {
-        Kind::Refusing => page.put_answer(shop.eval(alloc, text, &Unmapped { names })),
-        Kind::Order => put_order(alloc, shop, row, page),
-        Kind::Held => put_value(alloc, shop.eval(alloc, text, names), page),
-        Kind::Scope => put_scope(alloc, names, text, page),
-        Kind::Calls | Kind::Parts => put_calls(alloc, row, shop, names, page),
+        RowKind::Refusing => page.put_answer(shop.eval(alloc, text, &Unmapped { names })),
+        RowKind::Order => put_order(alloc, shop, row, page),
+        RowKind::Held => put_value(alloc, shop.eval(alloc, text, names), page),
+        RowKind::Scope => put_scope(alloc, names, text, page),
+        RowKind::Calls | RowKind::Parts => put_calls(alloc, row, shop, names, page),
         _ => page.put_answer(shop.eval(alloc, text, names)),
     }
 }
@@ -116,7 +116,7 @@ fn put_calls(alloc: Global, row: &Row, shop: &Environment, names: &Context, page
     let text = row.text.as_str();
     match compile(alloc, text) {
         Ok(program) => {
-            if let Kind::Calls = row.kind {
+            if let RowKind::Calls = row.kind {
                 put_text(alloc, shop, names, text, &program, page);
             } else {
                 let pattern = Pattern::new(alloc, row.word.as_str()).ok();
