@@ -33,14 +33,14 @@ fn names(alloc: Global) -> Result<Context> {
 
 /// Names without a map: there is never memory for one.
 #[derive(Drop)]
-struct Unmapped<'a> {
-    names: &'a Context,
+struct Unmapped {
+    names: Context,
 }
 
-impl<'a> ContextProvider for Unmapped<'a> {
+impl ContextProvider for Unmapped {
     ghost use Rattle.expr.specs.NamedPairs.{find};
 
-    ghost context = { λ p. record { value_of = λ name. find name p.names.now; map = p.names.now } };
+    ghost context = { λ p. record { value_of = λ name. find name p.names; map = p.names } };
 
     fn get(&self, key: &str) -> Option<&Value> {
         self.names.get(key)
@@ -64,21 +64,24 @@ const FUNCTIONS: &[(&str, &str)] = &[
     ("tick", "calls"),
 ];
 
-/// What a call of a function that is an expression comes to. `calls` says how many calls there were.
-fn answer_to(alloc: Global, code: &str, call: ExprCall, calls: i64) -> Result<Value> {
-    let names = value!(in alloc; {"name": call.ident, "args": call.args, "calls": calls});
-    answer(alloc, code, names)
+/// What a call of the function at an index comes to. `calls` counts its calls.
+fn answer_to(alloc: Global, index: usize, call: ExprCall, calls: &Cell<i64>) -> Result<Value> {
+    let count = calls.get().wrapping_add(1);
+    calls.set(count);
+    let names = value!(in alloc; {"name": call.ident, "args": call.args, "calls": count});
+    match FUNCTIONS.get(index) {
+        Some((_, code)) => answer(alloc, code, names),
+        None => names,
+    }
 }
 
-/// Puts what a row comes to in the shop, which is made here, since no function may hand out boxed closures that it makes.
+/// Puts what a row comes to in the shop, which is made here, since no function may hand out boxed closures that it makes. A closure
+/// that is boxed captures no reference, so each has the index of its expression.
 pub fn put_among(alloc: Global, row: &Row, page: &mut Page) {
     let mut shop = Environment::new(alloc);
-    for (name, code) in FUNCTIONS {
+    for (index, (name, _)) in FUNCTIONS.iter().enumerate() {
         let calls = Cell::new(0_i64);
-        let function = move |call: ExprCall| {
-            calls.set(calls.get().wrapping_add(1));
-            answer_to(alloc, code, call, calls.get())
-        };
+        let function = move |call: ExprCall| answer_to(alloc, index, call, &calls);
         match Box::new(alloc, function) {
             Ok(function) => page.note(shop.add_function(name, function)),
             Err(_) => page.miss(),
@@ -93,15 +96,16 @@ pub fn put_among(alloc: Global, row: &Row, page: &mut Page) {
 /// Puts what a row comes to in the shop, among its names.
 fn put_in(alloc: Global, row: &Row, shop: &Environment, page: &mut Page) {
     match names(alloc) {
-        Ok(names) => put_kind(alloc, row, shop, &names, page),
+        Ok(names) => put_kind(alloc, row, shop, &Unmapped { names }, page),
         Err(error) => page.put_error(error),
     }
 }
 
-fn put_kind(alloc: Global, row: &Row, shop: &Environment, names: &Context, page: &mut Page) {
+fn put_kind(alloc: Global, row: &Row, shop: &Environment, unmapped: &Unmapped, page: &mut Page) {
     let text = row.text.as_str();
+    let names = &unmapped.names;
     match row.kind {
-        RowKind::Refusing => page.put_answer(shop.eval(alloc, text, &Unmapped { names })),
+        RowKind::Refusing => page.put_answer(shop.eval(alloc, text, unmapped)),
         RowKind::Order => put_order(alloc, shop, row, page),
         RowKind::Held => put_value(alloc, shop.eval(alloc, text, names), page),
         RowKind::Scope => put_scope(alloc, names, text, page),
