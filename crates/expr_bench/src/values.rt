@@ -135,5 +135,5 @@ pub fn put_scope(alloc: Global, context: &Context, text: &str, page: &mut Page) 
     let lent: &dyn ContextProvider = context;
     let map = map_of(alloc, &lent);
     page.put_thing("Context::clone: ContextProvider::to_context", map);
-    page.put_call("ContextProvider::environment", eval(alloc, text, &lent));
+    page.put_call("ContextProvider::environment", eval(alloc, text, lent));
 }
