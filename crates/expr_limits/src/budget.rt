@@ -1,24 +1,18 @@
-//! What is left of the limits of a run.
-ghost use Rattle.std.specs.Prelude.{◌≡◌, ◌+◌, ◌≤◌, ℕ, Err, IfOk, IfErr, None, Some, min};
-ghost use Rattle.expr_limits.specs.Sizes.{PassesValueLimit, depth, inner_weight, weight};
-ghost use Rattle.expr_limits.specs.MeterView.{Charges, MeterView};
-ghost use Rattle.expr_limits.specs.Rooms.{Holds, Takes, limited, size_left};
+//! What is left of the limits of a run that may pause, and whose use is told.
+ghost use Rattle.std.specs.Prelude.{◌≡◌, ◌≤◌, None};
+ghost use Rattle.expr_limits.specs.MeterView.{MeterView};
+ghost use Rattle.expr_limits.specs.Rooms.{limited, size_left};
 
+use crate::allowance::Allowance;
 use crate::limit::Limit;
 use crate::limits::Limits;
 use crate::meter::Meter;
-use crate::units::byte_units;
-use crate::value_limit::ValueLimit;
-use crate::walk::{weigh, weigh_inside, weighs_one};
 use expr_value::Value;
 
-/// What is left of the limits of a run, and the limit that was exceeded, if one was.
+/// What is left of the limits of a run that may pause, and the least size that was left.
 #[derive(Clone, Copy, Debug, Drop)]
 pub struct Budget {
-    steps: u64,
-    size: u64,
-    depth: usize,
-    passed: Option<Limit>,
+    left: Allowance,
     /// The run pauses once fewer steps are left. 0 means that it doesn't pause.
     pause: u64,
     /// The least size that was left before some of it came back.
@@ -33,10 +27,7 @@ impl Budget {
             ≡ record { room = limited limits.now.steps limits.now.size limits.now.depth; stopped = None } }
     {
         Budget {
-            steps: limits.steps,
-            size: limits.size,
-            depth: limits.depth,
-            passed: None,
+            left: Allowance::new(limits),
             pause: 0,
             least: limits.size,
         }
@@ -46,8 +37,9 @@ impl Budget {
     pub fn pause_after(&mut self, steps: u64)
         ensures { ⟦<Budget as Meter>⟧.metered self.new ≡ ⟦<Budget as Meter>⟧.metered self.old }
     {
-        self.pause = if steps < self.steps {
-            (self.steps - steps).saturating_add(1)
+        let left = self.left.steps_left();
+        self.pause = if steps < left {
+            (left - steps).saturating_add(1)
         } else {
             0
         };
@@ -57,203 +49,80 @@ impl Budget {
     pub fn least_size(&self) -> u64
         ensures { result ≤ size_left (⟦<Budget as Meter>⟧.metered self.now).room }
     {
-        self.least.min(self.size)
-    }
-
-    /// Records the limit that is exceeded.
-    #[inline(never)]
-    fn pass(&mut self, limit: Limit) -> Result<(), Limit>
-        ensures noted { ⟦<Budget as Meter>⟧.metered self.new
-            ≡ record (⟦<Budget as Meter>⟧.metered self.old) { stopped = Some limit } }
-        ensures passed { result ≡ Err limit }
-    {
-        self.passed = Some(limit);
-        Err(limit)
-    }
-
-    /// Takes steps and size, unless that exceeds a limit.
-    #[inline(always)]
-    fn take(&mut self, steps: u64, size: u64) -> Result<(), Limit>
-        ensures { Charges (λ limit. limit) result (Takes steps size)
-            (⟦<Budget as Meter>⟧.metered self.old) (⟦<Budget as Meter>⟧.metered self.new) }
-    {
-        if self.steps < steps {
-            return self.pass(Limit::Steps);
-        }
-        if self.size < size {
-            return self.pass(Limit::Size);
-        }
-        self.steps -= steps;
-        self.size -= size;
-        Ok(())
-    }
-
-    /// Charges a value of this weight that has no parts.
-    #[inline(always)]
-    fn take_both(&mut self, weight: u64) -> Result<(), Limit>
-        ensures { Charges (λ limit. limit) result (Holds weight 0)
-            (⟦<Budget as Meter>⟧.metered self.old) (⟦<Budget as Meter>⟧.metered self.new) }
-    {
-        self.take(weight, weight)
-    }
-
-    /// The greatest weight that a value may still have.
-    #[inline(always)]
-    fn room(&self) -> u64
-        ensures { result ≡ min self.now.steps self.now.size }
-    {
-        self.steps.min(self.size)
-    }
-
-    /// Charges a measured value. `measured` is the room that is left after it, or the limit that it exceeds.
-    fn hold(&mut self, measured: Result<u64, ValueLimit>) -> Result<(), Limit>
-        requires { IfOk measured (λ left. left ≤ min self.old.steps self.old.size) }
-        ensures { (size deep : ℕ)
-            → IfOk measured (λ left. (size + left ≡ min self.old.steps self.old.size)
-            × (deep ≤ self.old.depth))
-            → IfErr measured (λ p. PassesValueLimit p size deep
-            (min self.old.steps self.old.size) self.old.depth)
-            → Charges (λ limit. limit) result (Holds size deep)
-            (⟦<Budget as Meter>⟧.metered self.old) (⟦<Budget as Meter>⟧.metered self.new) }
-    {
-        match measured {
-            Ok(left) => {
-                let weight = self.room() - left;
-                self.take(weight, weight)
-            }
-            Err(ValueLimit::Depth) => self.pass(Limit::Depth),
-            Err(ValueLimit::Weight) => {
-                if self.size <= self.steps {
-                    return self.pass(Limit::Size);
-                }
-                self.pass(Limit::Steps)
-            }
-        }
-    }
-
-    /// Charges the content of a value, which is measured by a walk.
-    #[inline(never)]
-    fn hold_inside(&mut self, value: &Value) -> Result<(), Limit>
-        ensures { Charges (λ limit. limit) result (Holds (inner_weight value.now) (depth value.now))
-            (⟦<Budget as Meter>⟧.metered self.old) (⟦<Budget as Meter>⟧.metered self.new) }
-    {
-        let measured = weigh_inside(value, self.room(), self.depth);
-        self.hold(measured)
-    }
-
-    /// Charges a value, which is measured by a walk.
-    #[inline(never)]
-    fn hold_whole(&mut self, value: &Value) -> Result<(), Limit>
-        ensures { Charges (λ limit. limit) result (Holds (weight value.now) (depth value.now))
-            (⟦<Budget as Meter>⟧.metered self.old) (⟦<Budget as Meter>⟧.metered self.new) }
-    {
-        let measured = weigh(value, self.room(), self.depth);
-        self.hold(measured)
-    }
-
-    /// Charges an array of `count` scalars, and `units` more.
-    #[inline(always)]
-    fn hold_flat(&mut self, units: u64, count: u64) -> Result<(), Limit>
-        ensures { Charges (λ limit. limit) result (Holds (units + count) 1)
-            (⟦<Budget as Meter>⟧.metered self.old) (⟦<Budget as Meter>⟧.metered self.new) }
-    {
-        if self.depth == 0 {
-            return self.pass(Limit::Depth);
-        }
-        self.take(units, units)?;
-        self.take(count, count)
+        self.least.min(self.left.mark())
     }
 }
 
 impl Meter for Budget {
     type Stop = Limit;
 
-    ghost metered = { λ b. record { room = limited b.steps b.size b.depth; stopped = b.passed } };
+    ghost metered = { λ budget. ⟦<Allowance as Meter>⟧.metered budget.left };
 
     ghost limit = { λ limit. limit };
 
     #[inline(always)]
     fn counts(&self) -> bool {
-        true
+        self.left.counts()
     }
 
     #[inline(always)]
     fn steps_left(&self) -> u64 {
-        self.steps
+        self.left.steps_left()
     }
 
     #[inline(always)]
     fn is_due(&self) -> bool {
-        self.steps < self.pause
+        self.left.steps_left() < self.pause
     }
 
     #[inline(always)]
     fn enter(&mut self, instructions: usize) -> Result<(), Limit> {
-        self.take(instructions as u64, instructions as u64)
+        self.left.enter(instructions)
     }
 
     #[inline(always)]
     fn work(&mut self, steps: u64, room: u64) -> Result<(), Limit> {
-        if self.steps < steps || self.steps - steps < room {
-            return self.pass(Limit::Steps);
-        }
-        if self.size < room {
-            return self.pass(Limit::Size);
-        }
-        self.steps -= steps;
-        Ok(())
+        self.left.work(steps, room)
     }
 
     #[inline(always)]
     fn overrun(&mut self) -> Result<(), Limit> {
-        self.pass(Limit::Steps)
+        self.left.overrun()
     }
 
     #[inline(always)]
     fn count_made(&mut self, value: &Value) -> Result<(), Limit> {
-        if weighs_one(value) {
-            return Ok(());
-        }
-        if let Value::String(text) = value {
-            return self.take_both(1 + byte_units(text.len()));
-        }
-        self.hold_inside(value)
+        self.left.count_made(value)
     }
 
     #[inline(always)]
     fn count_made_array(&mut self, count: u64) -> Result<(), Limit> {
-        self.hold_flat(3, count)
+        self.left.count_made_array(count)
     }
 
     #[inline(always)]
     fn keep(&mut self, value: &Value) -> Result<(), Limit> {
-        if weighs_one(value) {
-            return self.take(1, 1);
-        }
-        if let Value::String(text) = value {
-            return self.take_both(2 + byte_units(text.len()));
-        }
-        self.hold_whole(value)
+        self.left.keep(value)
     }
 
     #[inline(always)]
     fn keep_one(&mut self) -> Result<(), Limit> {
-        self.take_both(1)
+        self.left.keep_one()
     }
 
     #[inline(always)]
     fn keep_array(&mut self, count: u64) -> Result<(), Limit> {
-        self.hold_flat(4, count)
+        self.left.keep_array(count)
     }
 
     #[inline(always)]
     fn mark(&self) -> u64 {
-        self.size
+        self.left.mark()
     }
 
     #[inline(always)]
     fn release(&mut self, mark: u64) {
-        self.least = self.least.min(self.size);
-        self.size = mark;
+        self.least = self.least_size();
+        self.left.release(mark);
     }
 }

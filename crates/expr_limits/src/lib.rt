@@ -5,10 +5,12 @@
 //!   more parts than there is room for. `specs/Sizes.antt` has the units: 1 for the slot of a value, and 1 for each 16
 //!   bytes of a string.
 //! - `patterns` weighs a regular expression by its source, before it is built (`specs/Patterns.antt`).
-//! - `Meter` is what a machine counts with: `Budget` within limits, `NoMeter` without. `specs/Counting.antt` says what
+//! - `Meter` is what a machine counts with: `Allowance` within limits, `Budget` where a run may pause and tells what it
+//!   used, `NoMeter` without limits. `specs/Counting.antt` says what
 //!   a way of counting is and how a run may end, and `Rooms.antt` how a run within limits counts.
 #![tactic(auto)]
 
+mod allowance;
 mod budget;
 mod limit;
 mod limits;
@@ -20,6 +22,7 @@ mod units;
 mod value_limit;
 mod walk;
 
+pub use allowance::Allowance;
 pub use budget::Budget;
 pub use limit::Limit;
 pub use limits::Limits;

@@ -1,6 +1,6 @@
 use Rattle.std.proofs.Common.{refl}
 use Rattle.expr_limits.proofs.Empty.{nothing_held}
-use Rattle.expr_limits.proofs.budget.BudgetMeter.count_made.Goals as goal
+use Rattle.expr_limits.proofs.allowance.AllowanceMeter.count_made.Goals as goal
 
 pub returns-then-weighs_one : goal.returns-then-weighs_one
 returns-then-weighs_one c =

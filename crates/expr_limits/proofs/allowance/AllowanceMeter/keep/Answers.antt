@@ -1,5 +1,5 @@
 use Rattle.expr_limits.proofs.Empty.{place_kept}
-use Rattle.expr_limits.proofs.budget.BudgetMeter.keep.Goals as goal
+use Rattle.expr_limits.proofs.allowance.AllowanceMeter.keep.Goals as goal
 
 pub returns-then-weighs_one : goal.returns-then-weighs_one
 returns-then-weighs_one c =
