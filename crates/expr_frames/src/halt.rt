@@ -42,6 +42,46 @@ pub enum Halt {
     Paused,
 }
 
+/// Why a run that stops at no call and doesn't pause has no value.
+#[derive(Drop)]
+pub enum Halted {
+    /// It failed.
+    Refused(Error),
+    /// It would exceed a limit.
+    Limit(Limit),
+}
+
+impl From<Error> for Halted {
+    ghost use Rattle.expr_frames.specs.declared.halt.Halted.TheVariants.{Refused};
+
+    ghost from_gives = { λ e r. r ≡ Refused e };
+
+    fn from(error: Error) -> Halted {
+        Halted::Refused(error)
+    }
+}
+
+impl From<Limit> for Halted {
+    ghost use Rattle.expr_frames.specs.declared.halt.Halted.TheVariants as halted;
+
+    ghost from_gives = { λ l r. r ≡ halted.Limit l };
+
+    fn from(limit: Limit) -> Halted {
+        Halted::Limit(limit)
+    }
+}
+
+impl From<AllocError> for Halted {
+    ghost use Rattle.expr_frames.specs.declared.halt.Halted.TheVariants.{Refused};
+    ghost use Rattle.expr_error.specs.declared.error.Error.TheVariants.{MemoryError};
+
+    ghost from_gives = { λ e r. r ≡ Refused MemoryError };
+
+    fn from(_error: AllocError) -> Halted {
+        Halted::Refused(Error::MemoryError)
+    }
+}
+
 impl From<Error> for Halt {
     ghost use Rattle.expr_frames.specs.declared.halt.Halt.TheVariants.{Refused};
 

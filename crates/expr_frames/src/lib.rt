@@ -3,6 +3,8 @@
 
 mod asking;
 mod halt;
+mod lent;
 
 pub use asking::Asking;
-pub use halt::{Asked, Awaited, Halt, RunMeter};
+pub use halt::{Asked, Awaited, Halt, Halted, RunMeter};
+pub use lent::Lent;

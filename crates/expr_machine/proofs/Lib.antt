@@ -28,3 +28,4 @@ pub mod Taking
 pub mod Told
 pub mod Unmatched
 pub mod Unpaid
+pub mod Within
