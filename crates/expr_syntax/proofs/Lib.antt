@@ -7,5 +7,6 @@ pub mod Printed
 mod Reach
 mod Refused
 mod Runs
+mod Walking
 mod Weighing
 mod Whole

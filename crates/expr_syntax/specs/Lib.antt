@@ -2,9 +2,11 @@ pub mod Bounds
 pub mod CompiledLimited
 pub mod LineColumns
 pub mod Parsed
+pub mod Places
 pub mod Printed
 pub mod Promises
 pub mod Reading
 pub mod Refused
 pub mod Texts
 pub mod Trees
+pub mod Waits
