@@ -21,21 +21,21 @@ abbrev pub IsInside : Place → Option Place → Type 0
 IsInside p None = Unit {0}
 IsInside p (Some outer) = (outer.start ≤ p.start) × (p.end ≤ outer.end) × ((outer.start < p.start) ⊎ (p.end < outer.end))
 
-abbrev pub name_of : Term → Option (List ℕ)
-name_of (name key) = Some key
-name_of (literal v) = None
-name_of (list ts) = None
-name_of (mapping ps) = None
-name_of (range first last) = None
-name_of (call key ts p) = None
-name_of (unary o t) = None
-name_of (operation o l r) = None
-name_of (postfix p t) = None
-name_of (choice c first second) = None
+abbrev pub ident_of : Term → Option (List ℕ)
+ident_of (name key) = Some key
+ident_of (literal v) = None
+ident_of (list ts) = None
+ident_of (mapping ps) = None
+ident_of (range first last) = None
+ident_of (call key ts p) = None
+ident_of (unary o t) = None
+ident_of (operation o l r) = None
+ident_of (postfix p t) = None
+ident_of (choice c first second) = None
 
 -- A name is what stands at its place. The `#` of a field stands at the dot.
 abbrev pub IsSpelledAt : List ℕ → Term → Place → Type 0
-IsSpelledAt text t p = IfSome (name_of t) (λ key. (between p.start p.end text ≡ key) ⊎ (between p.start p.end text ≡ codes "."))
+IsSpelledAt text t p = IfSome (ident_of t) (λ key. (between p.start p.end text ≡ key) ⊎ (between p.start p.end text ≡ codes "."))
 
 -- the place of a tree: between two characters, not empty, and inside the place of the tree that it is a part of
 pub record IsPlaceOf (text : List ℕ) (part : Part) (p : Place) : Type 0 where

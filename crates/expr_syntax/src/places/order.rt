@@ -102,7 +102,7 @@ fn is_spelled(text: &str, place: Place, node: &Node) -> bool
     requires { (place.start < place.end) × (place.end ≤ length text.now) }
     ensures { IsTrue result → IsSpelledAt text.now (term_of node.now) place }
 {
-    match name_of(node) {
+    match ident_of(node) {
         None => true,
         Some(name) => {
             let piece = &text.as_bytes()[place.start..place.end];
@@ -111,8 +111,9 @@ fn is_spelled(text: &str, place: Place, node: &Node) -> bool
     }
 }
 
-fn name_of(node: &Node) -> Option<&str>
-    ensures { option_map (λ t. t.now) result ≡ places.name_of (term_of node.now) }
+/// The name that a node is, if it is one.
+fn ident_of(node: &Node) -> Option<&str>
+    ensures { option_map (λ t. t.now) result ≡ places.ident_of (term_of node.now) }
 {
     match node {
         Node::Ident(name) => Some(name.as_str()),
