@@ -1,0 +1,4 @@
+pub mod KindView
+pub mod Kinds
+pub mod SchemaView
+pub mod Scopes
