@@ -5,9 +5,9 @@ use Rattle.expr_context.specs.Contexts.{context_of}
 use Rattle.expr_value.specs.Names.{find}
 use Rattle.expr_value.specs.declared.value.Value.{Value}
 use Rattle.expr_schema.specs.Kinds.{Each, Fields, Found, HasKind, Present, StandsAt}
-use Rattle.expr_schema.specs.KindView.{fields_view, named_of, others_of, entry_view}
+use Rattle.expr_schema.specs.KindView.{fields_view, others_of, entry_view}
 use Rattle.expr_schema.specs.SchemaView.{scope_of}
-use Rattle.expr_schema.specs.Scopes.{Conforms, MissingStand, ValueStands, ValuesStand}
+use Rattle.expr_schema.specs.Scopes.{AllStand, Conforms, MissingStand, ValueStands, ValuesStand}
 use Rattle.expr_schema.specs.declared.schema.Schema.{Schema}
 use Rattle.expr_schema.specs.declared.kind.Fields as memory_fields
 use Rattle.expr_schema.specs.declared.kind.Fields.{out-Fields}
@@ -17,7 +17,7 @@ use Rattle.expr_schema.proofs.Shapes.{entry_view-required}
 use Rattle.expr_schema.proofs.Standing.{Given, by, find-entries, required_stand, same_name}
 
 module _ (F : Fields) (m : List (List ℕ × Value)) where
-  pub stands : ValuesStand F m → MissingStand F m → (n : List ℕ) → StandsAt F n (find n m)
+  pub stands : ValuesStand F m → MissingStand F m → AllStand F m
   stands vs ms n = here (find n m) refl
     where
       here : (x : Option Value) → find n m ≡ x → StandsAt F n (find n m)
@@ -52,8 +52,8 @@ module _ (f : memory_fields.Fields) (m : List (List ℕ × Value)) where
       found_present (entry_view g).required (λ v. HasKind (entry_view g).kind v) (find k m)
       ((by f k (Some (entry_view g)) (others_of f) (find-entries k (out-Fields f).named ∙ ap (option_map entry_view) e) refl (find k m)).0 h)
 
-pub conforms : (s : Schema) (m : List (List ℕ × Value)) → ValuesStand (fields_view s.names) m → MissingStand (fields_view s.names) m → Conforms (scope_of s) (context_of m)
-conforms s m vs ms = record { environment = stands (fields_view s.names) m vs ms; names = stands (fields_view s.names) m vs ms }
+pub conforms : (s : Schema) (m : List (List ℕ × Value)) → AllStand (fields_view s.names) m → Conforms (scope_of s) (context_of m)
+conforms s m h = record { environment = h; names = h }
 
 -- pairs that were met so far
 abbrev pub seen : Bor (List ℕ) × Bor Value → List ℕ × Value

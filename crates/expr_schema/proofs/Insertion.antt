@@ -1,16 +1,16 @@
 -- A field that is put among others.
-use Rattle.std.proofs.Common.{◌≡◌, ◌↔◌, ℕ, zero, suc, Bool, true, false, cond, List, [], ◌∷◌, map as each, take, slice_get, Option, Some, None, option_map, Result, Ok, Err, OnOk, MatchBool, bytes_eq, refl, sym, subst, ap, ◌∙◌}
+use Rattle.std.proofs.Common.{◌≡◌, ◌↔◌, ℕ, zero, suc, Bool, true, false, cond, List, [], ◌∷◌, take, slice_get, Option, Some, None, option_map, Result, Ok, Err, OnOk, MatchBool, bytes_eq, refl, sym, subst, ap, ◌∙◌}
 use Rattle.std.specs.List.{IsDistinct, AllByRecursion}
 use Rattle.std.specs.Map.{lookup, keys_of}
 use Rattle.indexmap.specs.IndexMap.{insert_entry}
 use Rattle.expr_value.specs.Names.{find}
 use Rattle.expr_value.specs.declared.value.Value.{Value}
 use Rattle.expr_schema.specs.Kinds.{Found, HasKind, StandsAt, field}
-use Rattle.expr_schema.specs.KindView.{Entry, StandsBy, fields_view, named_of, others_of, entry_view, kind_view}
+use Rattle.expr_schema.specs.KindView.{fields_view, named_of, others_of, entry_view, kind_view}
 use Rattle.expr_schema.specs.declared.kind.Fields as memory_fields
 use Rattle.expr_schema.specs.declared.kind.Fields.{out-Fields}
 use Rattle.expr_schema.specs.declared.kind.FieldKind.{FieldKind}
-use Rattle.expr_schema.proofs.Standing.{bytes_eq-symm, by, find-entries, same_name, entries}
+use Rattle.expr_schema.proofs.Standing.{bytes_eq-symm, by, find-entries, same_name}
 use Rattle.std.proofs.lemmas.Slice.Eq.{bytes_eq-Decides}
 
 module _ {V : Type 0} (key n : List ℕ) (v : V) where

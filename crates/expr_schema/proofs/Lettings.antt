@@ -1,10 +1,10 @@
 -- Fields that let stand what others do.
-use Rattle.std.proofs.Common.{◌≡◌, ◌↔◌, ℕ, Bool, true, false, IsTrue, IsSome, List, [], ◌∷◌, map as each, Option, Some, None, option_map, bytes_eq, refl, sym, subst, ap, ◌∙◌, rules, inl, inr}
+use Rattle.std.proofs.Common.{◌≡◌, ℕ, Bool, true, false, IsSome, List, map as each, Option, Some, None, option_map, bytes_eq, refl, sym, subst, ap, ◌∙◌, inl, inr}
 use Rattle.std.specs.Map.{lookup}
 use Rattle.expr_value.specs.Names.{find}
 use Rattle.expr_value.specs.declared.value.Value as value
 use Rattle.expr_value.specs.declared.value.Value.{Value}
-use Rattle.expr_schema.specs.Kinds.{Kind, Each, Fields, Fits, Found, HasKind, Lets, StandsAt, any, never, nil, array, map, keyed, nilable}
+use Rattle.expr_schema.specs.Kinds.{Kind, Each, Fields, Fits, Found, HasKind, Lets, StandsAt, nil, array, map, keyed, nilable}
 use Rattle.expr_schema.specs.KindView.{Entry, StandsBy, LetsOthers, LetsEntry, fields_view, kind_view, named_of, others_of, entry_view}
 use Rattle.expr_schema.specs.declared.kind.Kind as memory
 use Rattle.expr_schema.specs.declared.kind.Kind.TheVariants as form

@@ -1,10 +1,10 @@
 -- The kind that each form of kind in memory stands for.
-use Rattle.std.proofs.Common.{◌≡◌, Bool, List, [], ◌∷◌, map as each, option_map, Option, refl, ap, ◌∙◌, rules}
+use Rattle.std.proofs.Common.{◌≡◌, rules}
 use Rattle.expr_schema.specs.Kinds.{any, never, nil, bool, integer, string, bytes, duration, month, weekday, datetime, timezone, array, map, keyed, nilable}
 use Rattle.expr_schema.specs.KindView.{fields_from, kind_view, fields_view, entry_view, named_of, others_of}
 use Rattle.expr_schema.specs.declared.kind.Kind.{Kind, the_lemmas}
 use Rattle.expr_schema.specs.declared.kind.Kind.TheVariants as memory
-use Rattle.expr_schema.specs.declared.kind.Fields.{Fields, out-Fields}
+use Rattle.expr_schema.specs.declared.kind.Fields.{Fields}
 use Rattle.expr_schema.specs.declared.kind.FieldKind.{FieldKind, out-FieldKind}
 
 pub kind_view-Any : kind_view memory.Any ≡ any

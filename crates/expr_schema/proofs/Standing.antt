@@ -1,12 +1,11 @@
 -- What stands at a name, by a look-up of the name.
 use Rattle.std.proofs.Common.{◌≡◌, ◌↔◌, ℕ, Bool, true, false, cond, IsTrue, List, [], ◌∷◌, map as each, Option, Some, None, option_map, MatchBool, bytes_eq, refl, sym, subst, ap, ◌∙◌, rules}
 use Rattle.std.proofs.lemmas.Cmp.{nat_list_eq_equiv}
-use Rattle.std.proofs.lemmas.Map.Entries.{lookup_from_place}
 use Rattle.std.proofs.lemmas.Slice.Eq.{bytes_eq-Decides}
 use Rattle.std.specs.Map.{lookup}
 use Rattle.expr_value.specs.Names.{find}
 use Rattle.expr_value.specs.declared.value.Value.{Value}
-use Rattle.expr_schema.specs.Kinds.{Kind, Fields, no_others, others, field, Each, Found, HasKind, Present, StandsAt}
+use Rattle.expr_schema.specs.Kinds.{Kind, Fields, Each, Found, HasKind, Present, StandsAt}
 use Rattle.expr_schema.specs.KindView.{Entry, StandsBy, fields_from, fields_view, kind_view, named_of, others_of, entry_view}
 use Rattle.expr_schema.specs.declared.kind.Kind as memory
 use Rattle.expr_schema.specs.declared.kind.Kind.{the_lemmas}

@@ -1,5 +1,5 @@
 -- The kind that a kind in memory stands for.
-use Rattle.std.specs.Prelude.{◌≡◌, ℕ, Bool, true, false, List, [], ◌∷◌, Option, Some, None, map as each, option_map}
+use Rattle.std.specs.Prelude.{◌≡◌, ℕ, Bool, false, List, [], ◌∷◌, Option, Some, None, map as each, option_map}
 use Rattle.expr_schema.specs.Kinds.{Kind, any, never, nil, bool, integer, string, bytes, duration, month, weekday, datetime, timezone, array, map, keyed, nilable, Fields, no_others, others, field, Found, HasKind, StandsAt}
 use Rattle.expr_value.specs.declared.value.Value.{Value}
 use Rattle.expr_schema.specs.declared.kind.Kind.{fold-Kind}

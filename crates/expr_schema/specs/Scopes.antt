@@ -22,6 +22,10 @@ pub record Conforms (s : Scope) (ctx : ContextView) : Type 0 where
   pub environment : (key : List ℕ) → StandsAt s.environment key (find key ctx.map)
   pub names : (key : List ℕ) → StandsAt s.names key (ctx.value_of key)
 
+-- what a map has at each name may stand there
+abbrev pub AllStand : Fields → List (List ℕ × Value) → Type 0
+AllStand fields m = (name : List ℕ) → StandsAt fields name (find name m)
+
 -- the value of a name in a map may stand there
 abbrev pub ValueStands : Fields → List (List ℕ × Value) → List ℕ → Type 0
 ValueStands fields m name = (v : Value) → find name m ≡ Some v → StandsAt fields name (Some v)

@@ -57,7 +57,7 @@ pub struct FieldKind {
 }
 
 impl Kind {
-    /// Reads a kind from a text.
+    /// Reads a kind from a text. No clause says which kind it is.
     ///
     /// # Errors
     ///

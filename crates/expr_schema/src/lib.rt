@@ -5,7 +5,9 @@
 //! - `Schema` has the names of a context with their kinds, and the functions of a host with their signatures. `admits`
 //!   says whether a context keeps to it, and `mismatch` where it doesn't. `specs/Scopes.antt` defines what keeping to it
 //!   is, and `specs/SchemaView.antt` what a schema in memory stands for.
-//! - `Schema::parse` and `Kind::parse` read texts, and `Display` prints them.
+//! - `Schema::parse` and `Kind::parse` read texts. No clause says which kind or schema a text is. `Display` prints them,
+//!   and `specs/Texts.antt` says how.
+//! - `join` makes a kind that has the values of two. `Kind::of` and `Schema::of_records` make drafts of samples.
 //!
 //! # Texts of schemas
 //!
@@ -40,14 +42,17 @@ mod copying;
 mod display;
 mod error;
 mod fitting;
+mod joining;
 mod kind;
 mod mismatch;
 mod reader;
+mod samples;
 mod schema;
 
 pub use admits::{is_of, stand};
 pub use error::{Expected, SchemaError};
 pub use fitting::fits;
+pub use joining::join;
 pub use kind::{FieldKind, Fields, Kind};
 pub use mismatch::Mismatch;
 pub use reader::MAX_DEPTH;

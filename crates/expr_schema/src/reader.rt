@@ -1,5 +1,6 @@
 //! Reads a schema from a text.
-ghost use Rattle.std.specs.Prelude.{◌≤◌, length};
+ghost use Rattle.std.specs.Prelude.{◌≡◌, ◌≤◌, length};
+ghost use Rattle.expr_schema.specs.Texts.{is_bare_byte};
 
 use crate::error::{Expected, SchemaError};
 use crate::kind::{FieldKind, Fields, Kind};
@@ -316,7 +317,9 @@ fn word_length(bytes: &[u8]) -> usize
 }
 
 /// Whether a byte may stand in a word: a letter or a digit of ASCII, an underscore, or a byte of another character.
-pub(crate) fn is_word_byte(byte: u8) -> bool {
+pub(crate) fn is_word_byte(byte: u8) -> bool
+    ensures { result ≡ is_bare_byte byte }
+{
     byte == b'_' || byte.is_ascii_alphanumeric() || byte >= 128
 }
 

@@ -5,7 +5,7 @@ ghost use Rattle.expr_error.specs.ErrorKind.{OnlyMemory};
 ghost use Rattle.expr_schema.specs.KindView.{fields_view, kind_view, entry_view};
 ghost use Rattle.expr_schema.specs.Kinds.{Present, SameFields, StandsAt, field, no_others};
 ghost use Rattle.expr_schema.specs.SchemaView.{scope_of, signature_of};
-ghost use Rattle.expr_schema.specs.Scopes.{Conforms, MissingStand, ValueStands, ValuesStand};
+ghost use Rattle.expr_schema.specs.Scopes.{AllStand, Conforms, MissingStand, ValueStands, ValuesStand};
 ghost use Rattle.expr_value.specs.Names.{find};
 
 use crate::admits::may_stand;
@@ -57,7 +57,7 @@ impl Schema {
         }
     }
 
-    /// Reads a schema from a text.
+    /// Reads a schema from a text. No clause says which schema it is.
     ///
     /// # Errors
     ///
@@ -113,10 +113,7 @@ impl Schema {
         ensures { MatchOption result (Conforms (scope_of self.now) (context_of context.now))
             (λ m. ¬ StandsAt (scope_of self.now).names m.name.now (find m.name.now context.now)) }
     {
-        match value_mismatch(context, &self.names) {
-            Some(mismatch) => Some(mismatch),
-            None => missing_mismatch(context, &self.names),
-        }
+        fields_mismatch(context, &self.names)
     }
 
     /// Whether a context keeps to the schema: at each name stands what the schema says, and nothing at any other name,
@@ -125,6 +122,17 @@ impl Schema {
         ensures { IsTrue result ↔ Conforms (scope_of self.now) (context_of context.now) }
     {
         self.mismatch(context).is_none()
+    }
+}
+
+/// The first name of which a context doesn't keep to fields.
+pub(crate) fn fields_mismatch<'a>(context: &'a Context, fields: &'a Fields) -> Option<Mismatch<'a>>
+    ensures { MatchOption result (AllStand (fields_view fields.now) context.now)
+        (λ m. ¬ StandsAt (fields_view fields.now) m.name.now (find m.name.now context.now)) }
+{
+    match value_mismatch(context, fields) {
+        Some(mismatch) => Some(mismatch),
+        None => missing_mismatch(context, fields),
     }
 }
 

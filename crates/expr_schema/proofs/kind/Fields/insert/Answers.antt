@@ -1,4 +1,4 @@
-use Rattle.std.proofs.Common.{◌≡◌, refl, sym, ap, ◌∙◌, rules}
+use Rattle.std.proofs.Common.{◌≡◌, ap, ◌∙◌, rules}
 use Rattle.expr_schema.specs.declared.kind.Kind.{Kind, the_lemmas}
 use Rattle.expr_schema.specs.declared.kind.Kind.TheOpen.{Fields-F}
 use Rattle.expr_schema.specs.declared.kind.Fields.{Fields, out-Fields, roll-Fields}

@@ -1,4 +1,4 @@
-use Rattle.std.proofs.Common.{◌≡◌, Some, cond, option_map, bytes_eq, refl, sym, ap, ◌∙◌}
+use Rattle.std.proofs.Common.{Some, cond, option_map, bytes_eq, ap, ◌∙◌}
 use Rattle.expr_value.specs.Names.{find}
 use Rattle.expr_schema.specs.SchemaView.{signature_of}
 use Rattle.expr_schema.proofs.Insertion.{cond-map, find-put, on_ok}
