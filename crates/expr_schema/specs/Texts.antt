@@ -23,13 +23,13 @@ shown_name name = if is_bare name then name else quoted_text name
 abbrev pub shown_colon : Bool → List ℕ
 shown_colon required = if required then codes ": " else codes "?: "
 
--- a text that is left out of any kind
+-- a text, but none for any kind
 abbrev pub unless_any : Kind → List ℕ → List ℕ
 unless_any any text = []
 unless_any kind text = text
 
 abbrev mutual
-  -- a kind
+  -- the text of a kind
   pub shown_kind : Kind → List ℕ
   shown_kind any = codes "any"
   shown_kind never = codes "never"
@@ -48,12 +48,12 @@ abbrev mutual
   shown_kind (keyed item) = codes "{*: " ++ shown_kind item ++ codes "}"
   shown_kind (nilable kind) = shown_kind kind ++ codes "?"
 
-  -- one text for each entry
+  -- a text for each entry, of the names in their order
   pub shown_entries : Fields → List (List ℕ)
   shown_entries no_others = []
   shown_entries (others kind) = (codes "..." ++ unless_any kind (codes ": " ++ shown_kind kind)) ∷ []
   shown_entries (field name kind required rest) = (shown_name name ++ shown_colon required ++ shown_kind kind) ∷ shown_entries rest
 
--- fields without braces
+-- the entries of fields, with commas between them
 abbrev pub shown_fields : Fields → List ℕ
 shown_fields fields = joined_text (codes ", ") (shown_entries fields)
