@@ -2,7 +2,8 @@
 use Rattle.std.proofs.Common.{◌≡◌, Bool, true, false, Result, Ok, Err, MatchBool, refl, sym, subst}
 use Rattle.expr_error.specs.ErrorKind.{ErrorKind}
 use Rattle.expr_value.specs.Answers.{Then, ThenIfOk}
-use Rattle.expr_kinds.specs.Kinds.{Effect, ResultIs, Yields, CoversEffect}
+use Rattle.expr_schema.specs.Kinds.{Effect}
+use Rattle.expr_kinds.specs.Effects.{ResultIs, Yields, CoversEffect}
 
 -- a value of what is wanted
 pub value-yields : {A : Type 0} (e : Effect) (P : A → Type 0) (v : A) → P v → Yields e P (λ a. a ≡ Ok v)

@@ -3,8 +3,9 @@ use Rattle.std.proofs.Common.{ℕ, List, bytes_eq}
 use Rattle.expr_context.specs.Context.{ContextView, override}
 use Rattle.expr_meaning.specs.Host.{Host}
 use Rattle.expr_value.specs.declared.value.Value.{Value}
-use Rattle.expr_kinds.specs.Kinds.{Kind, HasKind}
-use Rattle.expr_kinds.specs.Scopes.{Scope, Conforms, Hosts, bind_kind}
+use Rattle.expr_schema.specs.Kinds.{Kind, HasKind}
+use Rattle.expr_schema.specs.Scopes.{Scope, Conforms}
+use Rattle.expr_kinds.specs.Scopes.{Hosts, bind_kind}
 use Rattle.expr_kinds.proofs.Standing.{at_override}
 
 pub Conforms-bind : (k : Kind) (key : List ℕ) (v : Value) → HasKind k v → (s : Scope) (ctx : ContextView) → Conforms s ctx → Conforms (bind_kind key k s) (override ctx key v)

@@ -18,9 +18,11 @@ use Rattle.expr_value.specs.Answers.{Answer}
 use Rattle.expr_value.specs.declared.value.Value as value
 use Rattle.expr_value.specs.declared.value.Value.{Value}
 use Rattle.expr_kinds.specs.Causes.{Literals, AreKnown, effect_under}
-use Rattle.expr_kinds.specs.Kinds.{Kind, never, map, Fields, HasKind, Fits, Effect, ResultIs, Yields}
+use Rattle.expr_schema.specs.Kinds.{Kind, never, map, Fields, HasKind, Fits, Effect}
+use Rattle.expr_kinds.specs.Effects.{ResultIs, Yields}
 use Rattle.expr_kinds.specs.Overloads.{HaveKindsThen, overloads}
-use Rattle.expr_kinds.specs.Scopes.{Scope, Signature, Conforms, Hosts, HaveKinds, at_name}
+use Rattle.expr_schema.specs.Scopes.{Scope, Signature, Conforms}
+use Rattle.expr_kinds.specs.Scopes.{Hosts, HaveKinds, at_name}
 use Rattle.expr_kinds.specs.Typed.{AllFit, Asking, BuiltinGives, ByOverload, BySignature, CallGives, host_timed}
 use Rattle.expr_kinds.proofs.Answered.{ResultIs-under, same-yields}
 use Rattle.expr_kinds.proofs.Folding.{higher-order-yields}

@@ -5,7 +5,8 @@ use Rattle.expr_error.specs.ErrorKind.{ErrorKind, evaluation}
 use Rattle.expr_value.specs.Values.{integer_of, string_of}
 use Rattle.expr_value.specs.declared.value.Value as value
 use Rattle.expr_value.specs.declared.value.Value.{Value, the_lemmas}
-use Rattle.expr_kinds.specs.Kinds.{Effect, total, failing, AdmitsError, CoversEffect}
+use Rattle.expr_schema.specs.Kinds.{Effect, total, failing}
+use Rattle.expr_kinds.specs.Effects.{AdmitsError, CoversEffect}
 use Rattle.expr_kinds.specs.Causes.{Cause, Literals, AreKnown, literal_passes, is_direction, is_excluded, is_natural, is_not_negative, is_other_than_zero, negative_at, zero_at, direction_at, effect_under}
 
 -- a value at the place of a literal that passes a test passes it

@@ -21,8 +21,10 @@ use Rattle.expr_value.specs.declared.key.Key.{Key}
 use Rattle.expr_value.specs.declared.value.Value as value
 use Rattle.expr_value.specs.declared.value.Value.{Value}
 use Rattle.expr_kinds.specs.Causes.{Literals, AreKnown, direction_at, effect_under}
-use Rattle.expr_kinds.specs.Kinds.{Kind, bool, integer, string, array, keyed, nilable, HasKind, Each, Fits, Effect, failing, AdmitsError, ResultIs, Yields, CoversEffect}
-use Rattle.expr_kinds.specs.Scopes.{Scope, Conforms, Hosts, HaveKinds, asked, bind_kind}
+use Rattle.expr_schema.specs.Kinds.{Kind, bool, integer, string, array, keyed, nilable, HasKind, Each, Fits, Effect, failing}
+use Rattle.expr_kinds.specs.Effects.{AdmitsError, ResultIs, Yields, CoversEffect}
+use Rattle.expr_schema.specs.Scopes.{Scope, Conforms}
+use Rattle.expr_kinds.specs.Scopes.{Hosts, HaveKinds, asked, bind_kind}
 use Rattle.expr_kinds.specs.Typed.{Asking, FoldGives, HigherOrderGives, IsDirected, IsScalarKind, OrFails, StartsAs, accumulating}
 use Rattle.expr_kinds.proofs.Answered.{value-yields, same-yields, ResultIs-under, Then-yields, either-yields}
 use Rattle.expr_kinds.proofs.Binding.{Conforms-bind, Hosts-bind}

@@ -8,7 +8,8 @@ use Rattle.expr_value.specs.Answers.{Answer}
 use Rattle.expr_value.specs.Values.{duration_of, integer_of, items_of, map_of, moment_of, string_of, truth_of}
 use Rattle.expr_value.specs.declared.value.Value as value
 use Rattle.expr_value.specs.declared.value.Value.{Value, the_lemmas}
-use Rattle.expr_kinds.specs.Kinds.{Kind, never, bool, integer, string, duration, datetime, timezone, array, HasKind, Each, Effect, ResultIs, Yields, failing}
+use Rattle.expr_schema.specs.Kinds.{Kind, never, bool, integer, string, duration, datetime, timezone, array, HasKind, Each, Effect, failing}
+use Rattle.expr_kinds.specs.Effects.{ResultIs, Yields}
 use Rattle.expr_kinds.specs.Overloads.{HaveKindsThen}
 
 -- something with a property was found

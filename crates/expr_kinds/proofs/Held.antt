@@ -3,7 +3,8 @@ use Rattle.std.proofs.Common.{◌≡◌, List, [], ◌∷◌, sym, subst}
 use Rattle.expr_value.specs.Answers.{Answer}
 use Rattle.expr_value.specs.declared.value.Value.{Value}
 use Rattle.expr_kinds.specs.Causes.{Literals, AreKnown, effect_under}
-use Rattle.expr_kinds.specs.Kinds.{Kind, never, HasKind, Effect, ResultIs, Yields}
+use Rattle.expr_schema.specs.Kinds.{Kind, never, HasKind, Effect}
+use Rattle.expr_kinds.specs.Effects.{ResultIs, Yields}
 use Rattle.expr_kinds.specs.Overloads.{Overload, HaveKindsThen}
 
 abbrev pub Of : Kind → Value → Type 0

@@ -10,7 +10,8 @@ use Rattle.expr_value.specs.declared.key.Key.{Key}
 use Rattle.expr_value.specs.declared.value.Value as value
 use Rattle.expr_value.specs.declared.value.Value.{Value, out-Value}
 use Rattle.expr_value.specs.declared.value.Value.TheOpen.{Value-F}
-use Rattle.expr_kinds.specs.Kinds.{Kind, integer, string, bytes, array, map, keyed, nilable, others, Fields, HasKind, Found, Each, Effect, ResultIs}
+use Rattle.expr_schema.specs.Kinds.{Kind, integer, string, bytes, array, map, keyed, nilable, others, Fields, HasKind, Found, Each, Effect}
+use Rattle.expr_kinds.specs.Effects.{ResultIs}
 use Rattle.expr_kinds.specs.Scopes.{at_name}
 use Rattle.expr_kinds.proofs.Held.{Of}
 use Rattle.expr_kinds.proofs.Layers.{Layer, at-layer, at-layers, integer-layer, string-layer, bytes-layer, array-layer, keyed-layer, map-layer}

@@ -16,8 +16,10 @@ use Rattle.expr_value.specs.declared.value.Value.TheOpen.{Value-F}
 use Rattle.expr_functions.specs.declared.operator.UnaryOperator.{UnaryOperator}
 use Rattle.expr_kinds.specs.Causes.{Literals}
 use Rattle.expr_kinds.specs.Checks.{atom_kind, fields_of, HasRow}
-use Rattle.expr_kinds.specs.Kinds.{Kind, any, bool, string, map, HasKind, Effect, total, matching, failing, CoversEffect}
-use Rattle.expr_kinds.specs.Scopes.{Scope, given_at, is_absent}
+use Rattle.expr_schema.specs.Kinds.{Kind, any, bool, string, map, HasKind, Effect, total, matching, failing}
+use Rattle.expr_kinds.specs.Effects.{CoversEffect}
+use Rattle.expr_schema.specs.Scopes.{Scope}
+use Rattle.expr_kinds.specs.Scopes.{given_at, is_absent}
 use Rattle.expr_kinds.specs.Narrowing.{Refinement, after, assuming, bind_if, having, having_name, in_field, in_part, non_nil, refined, refining, refining_name, unlike, unlike_layer, knowing_name}
 use Rattle.expr_kinds.specs.Tables.{rows, unary_kind}
 use Rattle.expr_kinds.specs.Typed.{OneOf, Unknown, Within, literal_of, ByRow, OperationGivesBy, NameStands, Typed}

@@ -1,7 +1,8 @@
 -- What is known of a tree by way of the relation.
 use Rattle.std.proofs.Common.{List, [], ◌∷◌, Ok, Err, sym, subst, inl, inr}
 use Rattle.expr_value.specs.Answers.{Answer}
-use Rattle.expr_kinds.specs.Kinds.{Kind, HasKind, Each, Effect, AdmitsError, Yields}
+use Rattle.expr_schema.specs.Kinds.{Kind, HasKind, Each, Effect}
+use Rattle.expr_kinds.specs.Effects.{AdmitsError, Yields}
 use Rattle.expr_kinds.specs.Typed.{OneOf, Unknown, Within}
 use Rattle.expr_kinds.proofs.Answered.{ResultIs-weaker}
 

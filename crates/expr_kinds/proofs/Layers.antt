@@ -6,7 +6,7 @@ use Rattle.expr_value.specs.declared.key.Key.{Key}
 use Rattle.expr_value.specs.declared.value.Value as value
 use Rattle.expr_value.specs.declared.value.Value.{Value, out-Value, the_lemmas}
 use Rattle.expr_value.specs.declared.value.Value.TheOpen.{Value-F}
-use Rattle.expr_kinds.specs.Kinds.{Kind, nil, bool, integer, string, bytes, duration, month, weekday, datetime, timezone, array, keyed, HasKind}
+use Rattle.expr_schema.specs.Kinds.{Kind, nil, bool, integer, string, bytes, duration, month, weekday, datetime, timezone, array, keyed, HasKind}
 
 abbrev pub Layer : Type 0
 Layer = Value-F Value

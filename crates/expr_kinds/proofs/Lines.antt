@@ -4,7 +4,7 @@ use Rattle.expr_functions.specs.declared.operator.Operator.{Operator}
 use Rattle.expr_functions.specs.declared.operator.Operator.TheVariants as operator
 use Rattle.expr_kinds.specs.Causes.{nothing, content, zero_at}
 use Rattle.expr_kinds.specs.Checks.{atom_kind, HasRow}
-use Rattle.expr_kinds.specs.Kinds.{Kind, any, bool, integer, string, duration, datetime, nilable, Effect, total, failing}
+use Rattle.expr_schema.specs.Kinds.{Kind, any, bool, integer, string, duration, datetime, nilable, Effect, total, failing}
 use Rattle.expr_kinds.specs.Tables.{rows}
 use Rattle.expr_kinds.specs.declared.plain.Atom.{Atom}
 use Rattle.expr_kinds.specs.declared.plain.Atom.TheVariants as plain

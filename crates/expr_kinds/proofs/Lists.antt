@@ -6,7 +6,7 @@ use Rattle.std.specs.Map.{lookup}
 use mathlib.Core.List.{reverse_aux}
 use Rattle.expr_value.specs.declared.value.Value as value
 use Rattle.expr_value.specs.declared.value.Value.{Value}
-use Rattle.expr_kinds.specs.Kinds.{Kind, nilable, HasKind, Each}
+use Rattle.expr_schema.specs.Kinds.{Kind, nilable, HasKind, Each}
 
 module _ {X : Type 0} (P : X → Type 0) where
   pub Each-all : ((x : X) → P x) → (xs : List X) → Each P xs

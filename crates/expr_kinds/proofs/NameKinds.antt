@@ -6,8 +6,10 @@ use Rattle.expr_value.specs.Names.{find}
 use Rattle.expr_value.specs.Values.{map_of}
 use Rattle.expr_value.specs.declared.value.Value as value
 use Rattle.expr_value.specs.declared.value.Value.{Value}
-use Rattle.expr_kinds.specs.Kinds.{Kind, map, Fields, HasKind, Fits, Effect, ResultIs, Yields}
-use Rattle.expr_kinds.specs.Scopes.{Scope, Conforms, given_at, is_absent}
+use Rattle.expr_schema.specs.Kinds.{Kind, map, Fields, HasKind, Fits, Effect}
+use Rattle.expr_kinds.specs.Effects.{ResultIs, Yields}
+use Rattle.expr_schema.specs.Scopes.{Scope, Conforms}
+use Rattle.expr_kinds.specs.Scopes.{given_at, is_absent}
 use Rattle.expr_kinds.specs.Typed.{NameHas}
 use Rattle.expr_kinds.proofs.Answered.{same-yields}
 use Rattle.expr_kinds.proofs.Found.{read-map}

@@ -21,9 +21,10 @@ use Rattle.expr_value.specs.Values.{equals, map_of, string_of}
 use Rattle.expr_value.specs.declared.value.Value as value
 use Rattle.expr_value.specs.declared.value.Value.{Value, out-Value, the_lemmas}
 use Rattle.expr_value.specs.declared.value.Value.TheOpen.{Value-F}
-use Rattle.expr_kinds.specs.Kinds.{Kind, map, nilable, Fields, no_others, others, field, HasKind, StandsAt, Found}
+use Rattle.expr_schema.specs.Kinds.{Kind, map, nilable, Fields, no_others, others, field, HasKind, StandsAt, Found}
 use Rattle.expr_kinds.specs.Narrowing.{Refinement, after, assuming, bind_if, having, having_name, in_field, in_part, non_nil, present_at, refined, refining, refining_name, unlike, unlike_layer, knowing_name}
-use Rattle.expr_kinds.specs.Scopes.{Scope, Conforms, Hosts, at_name, bind_kind, given_at, is_absent}
+use Rattle.expr_schema.specs.Scopes.{Scope, Conforms}
+use Rattle.expr_kinds.specs.Scopes.{Hosts, at_name, bind_kind, given_at, is_absent}
 use Rattle.expr_kinds.proofs.Answered.{then-value}
 use Rattle.expr_kinds.proofs.Binding.{Hosts-bind}
 use Rattle.expr_kinds.proofs.Layers.{Layer, map-layer, nil-layer, out-bool}

@@ -21,7 +21,8 @@ use Rattle.expr_value.specs.declared.value.Value as value
 use Rattle.expr_value.specs.declared.value.Value.{Value, out-Value, the_lemmas}
 use Rattle.expr_value.specs.declared.value.Value.TheOpen.{Value-F}
 use Rattle.expr_kinds.specs.Causes.{Literals, AreKnown, effect_under, negative_at}
-use Rattle.expr_kinds.specs.Kinds.{Kind, any, never, nil, bool, integer, string, bytes, duration, month, weekday, datetime, timezone, array, map, keyed, nilable, others, HasKind, Each, Effect, total, failing, ResultIs, Yields}
+use Rattle.expr_schema.specs.Kinds.{Kind, any, never, nil, bool, integer, string, bytes, duration, month, weekday, datetime, timezone, array, map, keyed, nilable, others, HasKind, Each, Effect, total, failing}
+use Rattle.expr_kinds.specs.Effects.{ResultIs, Yields}
 use Rattle.expr_kinds.specs.Overloads.{HaveKindsThen, flat_overloads, is_flat, on_collections}
 use Rattle.expr_kinds.proofs.Causes.{admits-negative}
 use Rattle.expr_kinds.proofs.Found.{Anything, Holds, integer-is, finds-items, finds-string, finds-value, all-hold, both-hold, mapped-holds, one-holds, then-holds, two-hold, answered, may-answer}

@@ -12,7 +12,8 @@ use Rattle.expr_value.specs.Answers.{Answer}
 use Rattle.expr_value.specs.declared.value.Value as value
 use Rattle.expr_value.specs.declared.value.Value.{Value, out-Value}
 use Rattle.expr_value.specs.declared.value.Value.TheOpen.{Value-F}
-use Rattle.expr_kinds.specs.Kinds.{Kind, any, never, string, Each, Effect, total, failing, ResultIs, Yields}
+use Rattle.expr_schema.specs.Kinds.{Kind, any, never, string, Each, Effect, total, failing}
+use Rattle.expr_kinds.specs.Effects.{ResultIs, Yields}
 use Rattle.expr_kinds.specs.Overloads.{HaveKindsThen, on_encodings}
 use Rattle.expr_kinds.proofs.Held.{Of, OverloadHolds, exactly_one}
 use Rattle.expr_kinds.proofs.Layers.{Layer, at-layer, string-layer}

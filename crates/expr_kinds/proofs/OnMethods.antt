@@ -29,10 +29,12 @@ use Rattle.expr_value.specs.Values.{duration_of, moment_of}
 use Rattle.expr_value.specs.declared.value.Value as value
 use Rattle.expr_value.specs.declared.value.Value.{Value, out-Value}
 use Rattle.expr_value.specs.declared.value.Value.TheOpen.{Value-F}
-use Rattle.expr_kinds.specs.Kinds.{Kind, never, bool, integer, string, duration, month, weekday, datetime, timezone, HasKind, Fits, Effect, total, failing, ResultIs, Yields}
+use Rattle.expr_schema.specs.Kinds.{Kind, never, bool, integer, string, duration, month, weekday, datetime, timezone, HasKind, Fits, Effect, total, failing}
+use Rattle.expr_kinds.specs.Effects.{ResultIs, Yields}
 use Rattle.expr_kinds.specs.Methods.{kind_of_field, of_duration, of_moment, of_name}
 use Rattle.expr_kinds.specs.Overloads.{HaveKindsThen}
-use Rattle.expr_kinds.specs.Scopes.{Signature, HaveKinds}
+use Rattle.expr_schema.specs.Scopes.{Signature}
+use Rattle.expr_kinds.specs.Scopes.{HaveKinds}
 use Rattle.expr_kinds.specs.Typed.{BySignature, MethodGives, OneOf}
 use Rattle.expr_kinds.proofs.Answered.{ResultIs-under}
 use Rattle.expr_kinds.proofs.Calling.{fitting}

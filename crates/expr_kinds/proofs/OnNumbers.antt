@@ -19,7 +19,8 @@ use Rattle.expr_value.specs.declared.value.Value as value
 use Rattle.expr_value.specs.declared.value.Value.{Value, out-Value, the_lemmas}
 use Rattle.expr_value.specs.declared.value.Value.TheOpen.{Value-F}
 use Rattle.expr_kinds.specs.Causes.{Literals, AreKnown, effect_under, negative_at}
-use Rattle.expr_kinds.specs.Kinds.{any, never, integer, string, array, nilable, Each, total, failing, ResultIs, Yields}
+use Rattle.expr_schema.specs.Kinds.{any, never, integer, string, array, nilable, Each, total, failing}
+use Rattle.expr_kinds.specs.Effects.{ResultIs, Yields}
 use Rattle.expr_kinds.specs.Overloads.{HaveKindsThen, on_bits, on_conversions, on_numbers}
 use Rattle.expr_kinds.proofs.Causes.{admits-negative}
 use Rattle.expr_kinds.proofs.Found.{Anything, Holds, finds-integer, integer-is, finds-value, all-hold, both-hold, mapped-holds, one-holds, then-holds, two-hold, answered, may-answer}

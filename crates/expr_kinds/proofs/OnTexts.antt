@@ -12,7 +12,8 @@ use Rattle.expr_value.specs.Answers.{Answer}
 use Rattle.expr_value.specs.Values.{integer_of, string_of}
 use Rattle.expr_value.specs.declared.value.Value as value
 use Rattle.expr_value.specs.declared.value.Value.{Value}
-use Rattle.expr_kinds.specs.Kinds.{never, bool, integer, string, array, Each, total, failing, ResultIs, Yields}
+use Rattle.expr_schema.specs.Kinds.{never, bool, integer, string, array, Each, total, failing}
+use Rattle.expr_kinds.specs.Effects.{ResultIs, Yields}
 use Rattle.expr_kinds.specs.Overloads.{HaveKindsThen, on_strings}
 use Rattle.expr_kinds.proofs.Found.{Anything, Holds, finds-integer, finds-string, both-hold, mapped-holds, one-holds, two-hold, answered, may-answer}
 use Rattle.expr_kinds.proofs.Held.{Of, OverloadHolds, exactly_one, exactly_two, exactly_three, exactly_four}

@@ -19,7 +19,8 @@ use Rattle.expr_value.specs.Answers.{Answer}
 use Rattle.expr_value.specs.Values.{string_of}
 use Rattle.expr_value.specs.declared.value.Value as value
 use Rattle.expr_value.specs.declared.value.Value.{Value}
-use Rattle.expr_kinds.specs.Kinds.{duration, datetime, timezone, Each, failing, ResultIs, Yields}
+use Rattle.expr_schema.specs.Kinds.{duration, datetime, timezone, Each, failing}
+use Rattle.expr_kinds.specs.Effects.{ResultIs, Yields}
 use Rattle.expr_kinds.specs.Overloads.{on_times}
 use Rattle.expr_kinds.proofs.Held.{Of, OverloadHolds}
 

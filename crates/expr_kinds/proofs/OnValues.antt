@@ -6,7 +6,7 @@ use Rattle.expr_meaning.specs.Calls.{AllowsOnValues}
 use Rattle.expr_meaning.specs.Host.{Host}
 use Rattle.expr_value.specs.Answers.{Answer}
 use Rattle.expr_value.specs.declared.value.Value.{Value}
-use Rattle.expr_kinds.specs.Kinds.{Kind, Each}
+use Rattle.expr_schema.specs.Kinds.{Kind, Each}
 use Rattle.expr_kinds.specs.Overloads.{overloads}
 use Rattle.expr_kinds.specs.Typed.{host_timed}
 use Rattle.expr_kinds.proofs.Held.{OverloadHolds}

@@ -12,7 +12,8 @@ use Rattle.expr_value.specs.declared.value.Value as value
 use Rattle.expr_value.specs.declared.value.Value.{Value, out-Value}
 use Rattle.expr_value.specs.declared.value.Value.TheOpen.{Value-F}
 use Rattle.expr_kinds.specs.Causes.{Literals, AreKnown, effect_under}
-use Rattle.expr_kinds.specs.Kinds.{Kind, bool, string, nilable, HasKind, Fits, Effect, AdmitsError, ResultIs, Yields}
+use Rattle.expr_schema.specs.Kinds.{Kind, bool, string, nilable, HasKind, Fits, Effect}
+use Rattle.expr_kinds.specs.Effects.{AdmitsError, ResultIs, Yields}
 use Rattle.expr_kinds.specs.Tables.{rows}
 use Rattle.expr_kinds.specs.Typed.{ByRow, OneOf, OperationGivesBy, Within}
 use Rattle.expr_kinds.proofs.Answered.{ResultIs-under, Then-yields, same-yields, value-yields, with-allowed}

@@ -8,7 +8,8 @@ use Rattle.expr_value.specs.Answers.{Answer, Then}
 use Rattle.expr_value.specs.declared.value.Value as value
 use Rattle.expr_value.specs.declared.value.Value.{Value, out-Value}
 use Rattle.expr_value.specs.declared.value.Value.TheOpen.{Value-F}
-use Rattle.expr_kinds.specs.Kinds.{Kind, any, integer, string, bytes, array, nilable, HasKind, Each, Effect, total, ResultIs, Yields}
+use Rattle.expr_schema.specs.Kinds.{Kind, any, integer, string, bytes, array, nilable, HasKind, Each, Effect, total}
+use Rattle.expr_kinds.specs.Effects.{ResultIs, Yields}
 use Rattle.expr_kinds.specs.Scopes.{at_name}
 use Rattle.expr_kinds.specs.Typed.{IndexGives, NamedBy, OptionalPartGives, PartGives, Within}
 use Rattle.expr_kinds.proofs.Answered.{ResultIs-under, ResultIs-weaker, Then-yields, same-yields}

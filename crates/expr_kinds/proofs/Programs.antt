@@ -16,8 +16,10 @@ use Rattle.expr_value.specs.Answers.{Then}
 use Rattle.expr_value.specs.Names.{find, put, put_all}
 use Rattle.expr_value.specs.declared.value.Value as value
 use Rattle.expr_value.specs.declared.value.Value.{Value, out-Value}
-use Rattle.expr_kinds.specs.Kinds.{Kind, bool, integer, string, bytes, array, map, Fields, no_others, field, HasKind, StandsAt, Each, Fits, Effect, total, ResultIs, Yields}
-use Rattle.expr_kinds.specs.Scopes.{Scope, Conforms, Hosts, HaveKinds, bind_kind}
+use Rattle.expr_schema.specs.Kinds.{Kind, bool, integer, string, bytes, array, map, Fields, no_others, field, HasKind, StandsAt, Each, Fits, Effect, total}
+use Rattle.expr_kinds.specs.Effects.{ResultIs, Yields}
+use Rattle.expr_schema.specs.Scopes.{Scope, Conforms}
+use Rattle.expr_kinds.specs.Scopes.{Hosts, HaveKinds, bind_kind}
 use Rattle.expr_kinds.specs.Tables.{unary_kind}
 use Rattle.expr_kinds.specs.Typed.{literal_of, literals_of, Typed, TypedPostfix, TypedBound, TypedPiped, TypedPredicate, TypedAll, TypedEach, TypedPairs, TypedBlock}
 use Rattle.expr_kinds.proofs.Answered.{value-yields, same-yields, ResultIs-under, Then-yields, with-allowed}

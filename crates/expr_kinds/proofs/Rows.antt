@@ -18,7 +18,8 @@ use Rattle.expr_value.specs.Values.{equals}
 use Rattle.expr_value.specs.declared.value.Value as value
 use Rattle.expr_value.specs.declared.value.Value.{Value, out-Value}
 use Rattle.expr_value.specs.declared.value.Value.TheOpen.{Value-F}
-use Rattle.expr_kinds.specs.Kinds.{Kind, any, never, nil, bool, integer, string, bytes, duration, month, weekday, datetime, timezone, array, map, keyed, nilable, others, HasKind, Each, Effect, total, failing, ResultIs}
+use Rattle.expr_schema.specs.Kinds.{Kind, any, never, nil, bool, integer, string, bytes, duration, month, weekday, datetime, timezone, array, map, keyed, nilable, others, HasKind, Each, Effect, total, failing}
+use Rattle.expr_kinds.specs.Effects.{ResultIs}
 use Rattle.expr_kinds.specs.Causes.{Literals, AreKnown, nothing, content, zero_at, effect_under}
 use Rattle.expr_kinds.specs.Tables.{OperatorRow, rows, unary_kind}
 use Rattle.expr_kinds.proofs.Causes.{admits-zero}

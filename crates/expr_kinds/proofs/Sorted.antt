@@ -13,7 +13,8 @@ use Rattle.expr_value.specs.declared.key.Key.{Key}
 use Rattle.expr_value.specs.declared.value.Value as value
 use Rattle.expr_value.specs.declared.value.Value.{Value, the_lemmas}
 use Rattle.expr_kinds.specs.Causes.{Literals, AreKnown, direction_at, effect_under}
-use Rattle.expr_kinds.specs.Kinds.{Kind, never, integer, string, array, HasKind, Each, Effect, total, failing, ResultIs, Yields}
+use Rattle.expr_schema.specs.Kinds.{Kind, never, integer, string, array, HasKind, Each, Effect, total, failing}
+use Rattle.expr_kinds.specs.Effects.{ResultIs, Yields}
 use Rattle.expr_kinds.specs.Overloads.{HaveKindsThen, on_sorting}
 use Rattle.expr_kinds.proofs.Answered.{ThenIfOk-yields}
 use Rattle.expr_kinds.proofs.Causes.{admits-direction}

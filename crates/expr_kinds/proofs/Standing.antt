@@ -4,7 +4,7 @@ use Rattle.std.proofs.lemmas.Slice.Eq.{bytes_eq-Decides}
 use Rattle.expr_value.specs.Names.{find, put}
 use Rattle.expr_value.specs.declared.value.Value as value
 use Rattle.expr_value.specs.declared.value.Value.{Value}
-use Rattle.expr_kinds.specs.Kinds.{Kind, nilable, Fields, no_others, others, field, HasKind, StandsAt, Found}
+use Rattle.expr_schema.specs.Kinds.{Kind, nilable, Fields, no_others, others, field, HasKind, StandsAt, Found}
 use Rattle.expr_kinds.specs.Scopes.{at_name, given_at, is_absent}
 
 -- what a scope or a kind of maps says of a name

@@ -3,7 +3,7 @@ use Rattle.std.specs.Prelude.{◌≡◌, ℕ, ℤ, pos, negsuc, Bool, true, fals
 use Rattle.std.specs.Ordering.{int_eq}
 use Rattle.expr_value.specs.Values.{integer_of, string_of}
 use Rattle.expr_value.specs.declared.value.Value.{Value}
-use Rattle.expr_kinds.specs.Kinds.{Effect, total, failing}
+use Rattle.expr_schema.specs.Kinds.{Effect, total, failing}
 
 -- the cause of an error
 pub data Cause : Type 0 where

@@ -4,8 +4,9 @@ use Rattle.std.specs.declared.alloc.Global.{Global}
 use Rattle.expr_tree.specs.Term.{Term}
 use Rattle.expr_functions.specs.declared.operator.Operator.{Operator}
 use Rattle.expr_kinds.specs.Causes.{effect_under}
-use Rattle.expr_kinds.specs.Kinds.{Kind, any, nil, bool, integer, string, duration, datetime, Fields, no_others, field, Fits, Effect, total, matching, failing, CoversEffect}
-use Rattle.expr_kinds.specs.Scopes.{Scope}
+use Rattle.expr_schema.specs.Kinds.{Kind, any, nil, bool, integer, string, duration, datetime, Fields, no_others, field, Fits, Effect, total, matching, failing}
+use Rattle.expr_kinds.specs.Effects.{CoversEffect}
+use Rattle.expr_schema.specs.Scopes.{Scope}
 use Rattle.expr_kinds.specs.Tables.{OperatorRow, rows}
 use Rattle.expr_kinds.specs.Typed.{OneOf, Typed}
 use Rattle.expr_kinds.specs.declared.plain.Atom.{Atom}

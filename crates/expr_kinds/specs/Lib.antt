@@ -1,6 +1,6 @@
 pub mod Causes
 pub mod Checks
-pub mod Kinds
+pub mod Effects
 pub mod Methods
 pub mod Narrowing
 pub mod Overloads

@@ -8,8 +8,8 @@ use Rattle.expr_time.specs.declared.moments.DateTimeMethod.{DateTimeMethod}
 use Rattle.expr_time.specs.declared.moments.DateTimeMethod.TheVariants as moment
 use Rattle.expr_time.specs.declared.moments.TextMethod.{TextMethod}
 use Rattle.expr_time.specs.declared.moments.TextMethod.TheVariants as named
-use Rattle.expr_kinds.specs.Kinds.{Kind, bool, integer, string, duration, month, weekday, datetime, timezone, total, failing}
-use Rattle.expr_kinds.specs.Scopes.{Signature}
+use Rattle.expr_schema.specs.Kinds.{Kind, bool, integer, string, duration, month, weekday, datetime, timezone, total, failing}
+use Rattle.expr_schema.specs.Scopes.{Signature}
 
 -- a method with these arguments, which never fails, and one that may
 abbrev method : List Kind → Kind → Signature

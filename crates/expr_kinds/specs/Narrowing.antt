@@ -9,8 +9,9 @@ use Rattle.expr_tree.specs.Term.{Term, name, literal, unary, operation, postfix,
 use Rattle.expr_value.specs.Values.{string_of}
 use Rattle.expr_value.specs.declared.value.Value.{Value, out-Value}
 use Rattle.expr_value.specs.declared.value.Value.TheOpen.{Value-F}
-use Rattle.expr_kinds.specs.Kinds.{Kind, map, nilable, Fields, no_others, others, field}
-use Rattle.expr_kinds.specs.Scopes.{Scope, bind_kind, at_name, given_at, is_absent}
+use Rattle.expr_schema.specs.Kinds.{Kind, map, nilable, Fields, no_others, others, field}
+use Rattle.expr_schema.specs.Scopes.{Scope}
+use Rattle.expr_kinds.specs.Scopes.{bind_kind, at_name, given_at, is_absent}
 
 -- what more is known of the values of a kind, if anything
 abbrev pub Refinement : Type 0

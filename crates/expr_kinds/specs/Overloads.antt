@@ -18,7 +18,7 @@ use Rattle.expr_functions.specs.declared.functions.TimeCall.{TimeCall}
 use Rattle.expr_functions.specs.declared.functions.TimeCall.TheVariants as time
 use Rattle.expr_value.specs.declared.value.Value.{Value}
 use Rattle.expr_kinds.specs.Causes.{Cause, nothing, content, negative_at, direction_at}
-use Rattle.expr_kinds.specs.Kinds.{Kind, any, never, bool, integer, string, bytes, duration, datetime, timezone, array, map, keyed, nilable, others, HasKind, Each}
+use Rattle.expr_schema.specs.Kinds.{Kind, any, never, bool, integer, string, bytes, duration, datetime, timezone, array, map, keyed, nilable, others, HasKind, Each}
 
 -- One way to call a built-in: with arguments of these kinds, and after them any number of a further kind, which is `never`
 -- if no more may follow. The call returns a value of a kind, or an error by a cause.

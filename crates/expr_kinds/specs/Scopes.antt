@@ -1,13 +1,14 @@
--- What is known of the names and functions of a host, and for which contexts and hosts it holds.
+-- For which hosts a scope holds, and what it says of a name.
 use Rattle.std.specs.Prelude.{◌≡◌, ℕ, Bool, true, false, List, [], ◌∷◌, Option, Some, None, bytes_eq, codes, is_some, if◌then◌else◌}
 use Rattle.expr_value.specs.Answers.{Answer}
-use Rattle.expr_value.specs.Names.{find}
 use Rattle.expr_value.specs.declared.value.Value.{Value}
 use Rattle.expr_functions.specs.declared.functions.HigherOrderCall.{HigherOrderCall}
 use Rattle.expr_functions.specs.declared.functions.HigherOrderCall.TheVariants.{Map}
 use Rattle.expr_meaning.specs.Host.{Host}
-use Rattle.expr_context.specs.Context.{ContextView, hash}
-use Rattle.expr_kinds.specs.Kinds.{Kind, integer, nil, nilable, Fields, no_others, others, field, HasKind, StandsAt, Effect, Yields}
+use Rattle.expr_context.specs.Context.{hash}
+use Rattle.expr_schema.specs.Scopes.{Scope, Signature}
+use Rattle.expr_schema.specs.Kinds.{Kind, integer, nil, nilable, Fields, no_others, others, field, HasKind}
+use Rattle.expr_kinds.specs.Effects.{Yields}
 
 -- as many values as kinds, each of the kind at its place
 abbrev pub HaveKinds : List Kind → List Value → Type 0
@@ -15,23 +16,6 @@ HaveKinds [] [] = Unit {0}
 HaveKinds [] (v ∷ vs) = ⊥
 HaveKinds (k ∷ ks) [] = ⊥
 HaveKinds (k ∷ ks) (v ∷ vs) = HasKind k v × HaveKinds ks vs
-
--- A function of a host. With arguments of these kinds it returns a value of a kind, or an error that the effect admits.
-pub record Signature : Type 0 where
-  pub arguments : List Kind
-  pub gives : Kind
-  pub effect : Effect
-
--- the fields of `$env`, the names that have values, and the functions that a host has added
-pub record Scope : Type 0 where
-  pub environment : Fields
-  pub names : Fields
-  pub functions : List ℕ → Option Signature
-
--- a context has what a scope says of `$env` and of each name
-pub record Conforms (s : Scope) (ctx : ContextView) : Type 0 where
-  pub environment : (key : List ℕ) → StandsAt s.environment key (find key ctx.map)
-  pub names : (key : List ℕ) → StandsAt s.names key (ctx.value_of key)
 
 -- calls with arguments of these kinds return what the signature says
 abbrev pub KeepsTo : Signature → (List Value → Answer → Type 0) → Type 0

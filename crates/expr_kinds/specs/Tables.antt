@@ -5,7 +5,7 @@ use Rattle.expr_functions.specs.declared.operator.Operator.TheVariants.{Add, Sub
 use Rattle.expr_functions.specs.declared.operator.UnaryOperator.{UnaryOperator}
 use Rattle.expr_functions.specs.declared.operator.UnaryOperator.TheVariants.{Not, Positive, Negative}
 use Rattle.expr_kinds.specs.Causes.{Cause, nothing, content, zero_at}
-use Rattle.expr_kinds.specs.Kinds.{Kind, any, never, nil, bool, integer, string, bytes, duration, month, weekday, datetime, timezone, array, map, keyed, nilable, others}
+use Rattle.expr_schema.specs.Kinds.{Kind, any, never, nil, bool, integer, string, bytes, duration, month, weekday, datetime, timezone, array, map, keyed, nilable, others}
 
 -- A row: with values of these kinds on its sides, an operator returns one of a kind, or an error by a cause.
 pub record OperatorRow : Type 0 where

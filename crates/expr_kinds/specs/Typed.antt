@@ -30,11 +30,13 @@ use Rattle.expr_value.specs.Values.{key_of}
 use Rattle.expr_value.specs.declared.value.Value as value
 use Rattle.expr_value.specs.declared.value.Value.{Value}
 use Rattle.expr_kinds.specs.Causes.{Literals, direction_at, effect_under}
-use Rattle.expr_kinds.specs.Kinds.{Kind, any, never, bool, integer, string, bytes, duration, month, weekday, datetime, timezone, array, map, keyed, nilable, Fields, no_others, others, field, HasKind, Each, Fits, Effect, failing, AdmitsError, CoversEffect, Yields}
+use Rattle.expr_schema.specs.Kinds.{Kind, any, never, bool, integer, string, bytes, duration, month, weekday, datetime, timezone, array, map, keyed, nilable, Fields, no_others, others, field, HasKind, Each, Fits, Effect, failing}
+use Rattle.expr_kinds.specs.Effects.{AdmitsError, CoversEffect, Yields}
 use Rattle.expr_kinds.specs.Methods.{of_duration, of_moment, of_name}
 use Rattle.expr_kinds.specs.Narrowing.{after, assuming}
 use Rattle.expr_kinds.specs.Overloads.{Overload, overloads}
-use Rattle.expr_kinds.specs.Scopes.{Scope, Signature, bind_kind, asked, at_name, given_at, is_absent}
+use Rattle.expr_schema.specs.Scopes.{Scope, Signature}
+use Rattle.expr_kinds.specs.Scopes.{bind_kind, asked, at_name, given_at, is_absent}
 use Rattle.expr_kinds.specs.Tables.{OperatorRow, rows, unary_kind}
 
 -- of some kind that fits the wanted one

@@ -2,9 +2,9 @@
 ghost use Rattle.std.specs.Prelude.{◌≡◌, IfSome};
 ghost use Rattle.expr_functions.specs.Strictness.{operator_strictness};
 ghost use Rattle.expr_kinds.specs.Checks.{Checks, HasRow, atom_kind, fields_of, risk_effect};
-ghost use Rattle.expr_kinds.specs.Kinds.{HasKind};
+ghost use Rattle.expr_schema.specs.Kinds.{HasKind};
 ghost use Rattle.expr_kinds.specs.Narrowing.{after};
-ghost use Rattle.expr_kinds.specs.Scopes.{Scope};
+ghost use Rattle.expr_schema.specs.Scopes.{Scope};
 ghost use Rattle.expr_tree.specs.Term.{Term, name, operation, unary};
 ghost use Rattle.expr_tree.specs.TermOf.{term_of};
 

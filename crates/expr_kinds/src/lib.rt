@@ -4,8 +4,9 @@
 //! kind, in each context and host that keep to what was said. The law `typed_programs_do_not_go_wrong` says so. It
 //! doesn't say that a program of no kind fails, nor that a kind is the least one.
 //!
-//! - `specs/Kinds.antt` says which values a kind has, and `specs/Scopes.antt` for which contexts and hosts a scope
-//!   holds.
+//! - `specs/Kinds.antt` of `expr_schema` says which values a kind has, and `specs/Scopes.antt` there for which contexts
+//!   a scope holds. `specs/Scopes.antt` here says for which hosts it does, and `specs/Effects.antt` which errors an
+//!   effect admits.
 //! - `specs/Typed.antt` says which programs are of a kind, `specs/Narrowing.antt` what a condition tells of the names,
 //!   and `specs/Causes.antt` which literals exclude an error.
 //! - `specs/Tables.antt`, `specs/Overloads.antt` and `specs/Methods.antt` are the tables of operators, built-ins and

@@ -25,7 +25,8 @@ pub enum Risk {
 
 impl Risk {
     ghost use Rattle.expr_kinds.specs.Checks.{risk_effect};
-    ghost use Rattle.expr_kinds.specs.Kinds.{CoversEffect, Effect};
+    ghost use Rattle.expr_schema.specs.Kinds.{Effect};
+    ghost use Rattle.expr_kinds.specs.Effects.{CoversEffect};
 
     /// The risk of two parts together.
     pub fn and(self, other: Risk) -> Risk

@@ -3,9 +3,10 @@ use Rattle.expr_context.specs.Context.{hash}
 use Rattle.expr_tree.specs.Term.{name, literal, postfix, index}
 use Rattle.expr_value.specs.declared.value.Value as value
 use Rattle.expr_value.specs.declared.value.Value.{Value, out-Value}
-use Rattle.expr_kinds.specs.Kinds.{Kind, map, Fields, no_others, others, field}
+use Rattle.expr_schema.specs.Kinds.{Kind, map, Fields, no_others, others, field}
 use Rattle.expr_kinds.specs.Narrowing.{Refinement, bind_if, having_name, in_field, in_part, knowing_name, non_nil, refined, refining, refining_name, unlike_layer}
-use Rattle.expr_kinds.specs.Scopes.{Scope, given_at, is_absent}
+use Rattle.expr_schema.specs.Scopes.{Scope}
+use Rattle.expr_kinds.specs.Scopes.{given_at, is_absent}
 use Rattle.expr_kinds.proofs.Found.{read-string}
 use Rattle.expr_kinds.proofs.Layers.{out-nil}
 use Rattle.expr_kinds.proofs.laws.conditions_narrow_fields.Goals as goal

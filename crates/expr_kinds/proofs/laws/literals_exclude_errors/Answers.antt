@@ -20,9 +20,10 @@ use Rattle.expr_value.specs.declared.value.Value as value
 use Rattle.expr_value.specs.declared.value.Value.{Value}
 use Rattle.expr_value.specs.declared.value.Value.TheOpen.{Value-F}
 use Rattle.expr_kinds.specs.Causes.{Literals, is_natural, is_not_negative, is_other_than_zero}
-use Rattle.expr_kinds.specs.Kinds.{Kind, array, duration, integer, string, HasKind, total, failing, CoversEffect, Yields}
+use Rattle.expr_schema.specs.Kinds.{Kind, array, duration, integer, string, HasKind, total, failing}
+use Rattle.expr_kinds.specs.Effects.{CoversEffect, Yields}
 use Rattle.expr_kinds.specs.Overloads.{overloads}
-use Rattle.expr_kinds.specs.Scopes.{Scope}
+use Rattle.expr_schema.specs.Scopes.{Scope}
 use Rattle.expr_kinds.specs.Tables.{rows}
 use Rattle.expr_kinds.specs.Typed.{BuiltinGives, ByOverload, BySignature, OneOf, Typed, host_timed, literal_of}
 use Rattle.expr_kinds.proofs.Causes.{covers-total, integer-read}

@@ -1,7 +1,6 @@
--- The kinds of values, and what an expression of a kind may return.
-use Rattle.std.specs.Prelude.{◌≡◌, ◌⊎◌, ℕ, ℤ, Bool, true, false, List, Option, Some, None, Result, Ok, Err, MatchBool, bytes_eq}
+-- The kinds of values.
+use Rattle.std.specs.Prelude.{◌≡◌, ◌⊎◌, ◌↔◌, ℕ, ℤ, Bool, true, false, List, Option, Some, None, MatchBool, bytes_eq}
 pub use Rattle.std.specs.List.{AllByRecursion as Each}
-use Rattle.expr_error.specs.ErrorKind.{ErrorKind, pattern}
 use Rattle.expr_datetime.specs.declared.moment.DateTimeValue.{DateTimeValue}
 use Rattle.expr_datetime.specs.declared.zone.TimezoneValue.{TimezoneValue}
 use Rattle.expr_value.specs.Names.{find}
@@ -80,27 +79,26 @@ abbrev mutual
 abbrev pub Fits : Kind → Kind → Type 0
 Fits a b = (v : Value) → HasKind a v → HasKind b v
 
+-- a name that is required has a value
+abbrev pub Present : Bool → Option Value → Type 0
+Present true None = ⊥
+Present required found = Unit {0}
+
+-- a kind says that it takes nil beside others
+abbrev pub IsNilable : Kind → Type 0
+IsNilable (nilable k) = Unit {0}
+IsNilable k = ⊥
+
+-- what one list of fields lets stand at a name, another does
+abbrev pub Lets : Fields → Fields → List ℕ → Type 0
+Lets a b name = (found : Option Value) → StandsAt a name found → StandsAt b name found
+
+-- at each name, two lists of fields let the same stand
+abbrev pub SameFields : Fields → Fields → Type 0
+SameFields a b = (name : List ℕ) (found : Option Value) → StandsAt a name found ↔ StandsAt b name found
+
 -- which errors may come: none, that of a pattern, or any
 pub data Effect : Type 0 where
   total : Effect
   matching : Effect
   failing : Effect
-
--- the effect admits this error
-abbrev pub AdmitsError : Effect → ErrorKind → Type 0
-AdmitsError total f = ⊥
-AdmitsError matching f = f ≡ pattern
-AdmitsError failing f = Unit {0}
-
--- a result is a value with a property, or an error that the effect admits
-abbrev pub ResultIs : {A : Type 0} → Effect → (A → Type 0) → Result A ErrorKind → Type 0
-ResultIs e P (Ok v) = P v
-ResultIs e P (Err f) = AdmitsError e f
-
--- each allowed result is a value with a property, or an error that the effect admits
-abbrev pub Yields : {A : Type 0} → Effect → (A → Type 0) → (Result A ErrorKind → Type 0) → Type 0
-Yields {A} e P allowed = (a : Result A ErrorKind) → allowed a → ResultIs e P a
-
--- the first effect admits what the second does
-abbrev pub CoversEffect : Effect → Effect → Type 0
-CoversEffect e part = (f : ErrorKind) → AdmitsError part f → AdmitsError e f

@@ -1,0 +1,12 @@
+pub mod Contexts
+pub mod Insertion
+pub mod Joined
+pub mod Kept
+pub mod Layers
+pub mod Lettings
+pub mod Lists
+pub mod Sampled
+pub mod Shapes
+pub mod Shown
+pub mod Standing
+pub mod Unions
