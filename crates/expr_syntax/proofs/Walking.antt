@@ -8,7 +8,7 @@ use Rattle.expr_syntax.specs.declared.places.order.Waiting.{Waiting}
 use Rattle.expr_tree.specs.Children.{children, block_children}
 use Rattle.expr_tree.specs.Term.{Term, Block}
 use Rattle.expr_tree.specs.TermOf.{term_of}
-use Rattle.expr_tree.specs.Weight.{weight, block_weight}
+use Rattle.expr_tree.specs.Weight.{block_weight}
 use Rattle.expr_tree.proofs.NodeChildren.{weight_of, weight_of-append, weight-inside, weight-block}
 use Rattle.expr_tree.proofs.Waiting.{weight_falls}
 
