@@ -20,17 +20,19 @@ use expr_value::{Text, Value};
 const DISPATCH_STEPS: u128 = 8;
 
 /// The cost of a call by its name and arguments, up to a bound. A function of the host counts as reading all
-/// of its arguments.
+/// of its arguments. `added` says whether the host has added a function of this name.
 pub fn call_cost<H: Functions>(
-    host: &H,
+    _host: &H,
+    added: bool,
     name: &str,
     arguments: &[CowValue<'_>],
     bound: u64,
 ) -> Option<Cost>
-    ensures { CostUpTo bound (call_work (H.host host.now) name.now arguments.now)
-        (call_room (H.host host.now) name.now arguments.now) result }
+    requires { added ≡ (H.host _host.now).is_added name.now }
+    ensures { CostUpTo bound (call_work (H.host _host.now) name.now arguments.now)
+        (call_room (H.host _host.now) name.now arguments.now) result }
 {
-    let cost = if host.has(name) {
+    let cost = if added {
         work_cost(weights(arguments, bound)? as u128)
     } else {
         cost_of(CostKind::from_name(name), arguments, bound)?

@@ -1,8 +1,8 @@
 //! What is left of the limits of a run.
-ghost use Rattle.std.specs.Prelude.{◌≡◌, ◌+◌, ◌≤◌, ℕ, Err, IfOk, IfErr, None, Some, min};
+ghost use Rattle.std.specs.Prelude.{◌≡◌, ◌+◌, ◌≤◌, ℕ, Ok, Err, IfOk, IfErr, None, Some, min};
 ghost use Rattle.expr_limits.specs.Sizes.{PassesValueLimit, depth, inner_weight, weight};
 ghost use Rattle.expr_limits.specs.MeterView.{Charges, MeterView};
-ghost use Rattle.expr_limits.specs.Rooms.{Holds, Takes, limited};
+ghost use Rattle.expr_limits.specs.Rooms.{Holds, Room, Takes, limited, with_size};
 
 use crate::limit::Limit;
 use crate::limits::Limits;
@@ -34,6 +34,57 @@ impl Allowance {
             depth: limits.depth,
             passed: None,
         }
+    }
+
+    /// An allowance of all that `limits` allow a run, less the charge for its first block of so many instructions.
+    ///
+    /// # Errors
+    ///
+    /// Returns the limit that the charge would exceed.
+    #[inline(always)]
+    pub fn after_block(limits: &Limits, instructions: usize) -> Result<Allowance, Limit>
+        ensures left { IfOk result (λ allowance. Takes instructions instructions
+            (limited limits.now.steps limits.now.size limits.now.depth)
+            (Ok (⟦<Allowance as Meter>⟧.metered allowance).room)) }
+        ensures none { IfOk result (λ allowance. (⟦<Allowance as Meter>⟧.metered allowance).stopped ≡ None) }
+        ensures exceeded { IfErr result (λ limit. Takes instructions instructions
+            (limited limits.now.steps limits.now.size limits.now.depth) (Err limit)) }
+    {
+        let cost = instructions as u64;
+        if limits.steps < cost {
+            return Err(Limit::Steps);
+        }
+        if limits.size < cost {
+            return Err(Limit::Size);
+        }
+        Ok(Allowance {
+            steps: limits.steps - cost,
+            size: limits.size - cost,
+            depth: limits.depth,
+            passed: None,
+        })
+    }
+
+    /// Whether a value of weight 1 could be kept if this size were left. It charges nothing, so it is for the last value
+    /// of a run.
+    ///
+    /// # Errors
+    ///
+    /// Returns the limit that the value would exceed.
+    #[inline(always)]
+    pub fn check_one(&self, size: u64) -> Result<(), Limit>
+        ensures kept { IfOk result (λ _. (left : Room)
+            × Holds 1 0 (with_size size (⟦<Allowance as Meter>⟧.metered self.now).room) (Ok left)) }
+        ensures exceeded { IfErr result
+            (λ limit. Holds 1 0 (with_size size (⟦<Allowance as Meter>⟧.metered self.now).room) (Err limit)) }
+    {
+        if self.steps == 0 {
+            return Err(Limit::Steps);
+        }
+        if size == 0 {
+            return Err(Limit::Size);
+        }
+        Ok(())
     }
 
     /// Records the limit that is exceeded.

@@ -47,7 +47,28 @@ pub fn dispatch_call<'s, H: Functions>(
     ensures refused { RefusesWith result
         (λ k. Refuses (H.host host.now) ident.now args.entry given k) }
 {
-    if host.has(ident) {
+    dispatch_known(alloc, host, host.has(ident), ident, args, given)
+}
+
+/// Does the same, where `added` says whether the host has added a function of this name.
+///
+/// # Errors
+///
+/// Returns the errors of [`dispatch_call`].
+pub fn dispatch_known<'s, H: Functions>(
+    alloc: Global,
+    host: &H,
+    added: bool,
+    ident: &str,
+    args: Items<CowValue<'s>>,
+    given: bool,
+) -> Result<Dispatch<'s>>
+    requires { added ≡ (H.host host.now).is_added ident.now }
+    ensures begun { IfOk result (λ b. DispatchesTo (H.host host.now) ident.now args.entry given b) }
+    ensures refused { RefusesWith result
+        (λ k. Refuses (H.host host.now) ident.now args.entry given k) }
+{
+    if added {
         let args = values_of_cows(alloc, args.into_vec())?;
         let answer = call_added(alloc, host, ident, args)?;
         return Ok(Dispatch::Answered(answer));
@@ -116,7 +137,25 @@ pub fn call_alone<'s, H: Functions>(
 ) -> Result<CowValue<'s>>
     ensures { Returns result (AllowsCall (H.host host.now) ident.now args.entry false AnswersItself) }
 {
-    match dispatch_call(alloc, host, ident, args, false)? {
+    call_known(alloc, host, host.has(ident), ident, args)
+}
+
+/// Does the same, where `added` says whether the host has added a function of this name.
+///
+/// # Errors
+///
+/// Returns the errors of [`call_alone`].
+pub fn call_known<'s, H: Functions>(
+    alloc: Global,
+    host: &H,
+    added: bool,
+    ident: &str,
+    args: Items<CowValue<'_>>,
+) -> Result<CowValue<'s>>
+    requires { added ≡ (H.host host.now).is_added ident.now }
+    ensures { Returns result (AllowsCall (H.host host.now) ident.now args.entry false AnswersItself) }
+{
+    match dispatch_known(alloc, host, added, ident, args, false)? {
         Dispatch::Answered(answer) => Ok(CowValue::from_owned(answer)),
         Dispatch::Asks(run) => Ok(CowValue::from_owned(run.complete(alloc)?)),
     }

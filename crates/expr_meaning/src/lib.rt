@@ -6,7 +6,7 @@ mod environment;
 mod laws;
 mod methods;
 
-pub use calls::{Dispatch, call_added, call_alone, dispatch_call};
+pub use calls::{Dispatch, call_added, call_alone, call_known, dispatch_call, dispatch_known};
 pub use environment::{ExprCall, Functions, NoFunctions};
 pub use laws::{
     answers_stay_within_depth, codes_are_safe, counted_runs_are_runs, execution_answers_programs,

@@ -6,7 +6,7 @@ use Rattle.expr_predicates.specs.Runs.{AnswersItself}
 use Rattle.expr_error.specs.ErrorKind.{error_kind}
 use Rattle.expr_value.proofs.Answered.{Returns-passed}
 use Rattle.expr_meaning.proofs.Dispatching.{AllowsCall-answered, AllowsCall-refused, AllowsCall-run}
-use Rattle.expr_meaning.proofs.calls.call_alone.Goals as goal
+use Rattle.expr_meaning.proofs.calls.call_known.Goals as goal
 
 pub returns-in_err-answer : goal.returns-in_err-answer
 returns-in_err-answer g c =
