@@ -1,5 +1,5 @@
 //! The costs of calls.
-ghost use Rattle.std.specs.Prelude.{◌+◌, ◌*◌, ◌∷◌, ◌<◌, ◌^◌, IfSome, length};
+ghost use Rattle.std.specs.Prelude.{◌≡◌, ◌+◌, ◌*◌, ◌∷◌, ◌<◌, ◌^◌, IfSome, length};
 ghost use Rattle.expr_costs.specs.Calls.{call_room, call_work, room_of, work_of};
 ghost use Rattle.expr_costs.specs.Measures.{CostUpTo, all_byte_units as reads, insertion_work as puts};
 ghost use Rattle.expr_limits.specs.Sizes.{name_weights, weights as all_weigh};

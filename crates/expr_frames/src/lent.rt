@@ -1,10 +1,11 @@
 //! A meter that is borrowed.
 ghost use Rattle.std.proofs.Common.{ap, inl};
-ghost use Rattle.std.specs.Prelude.{◌≡◌, false};
+ghost use Rattle.std.specs.Prelude.{◌≡◌, Ok, Err, IfOk, IfErr, false};
 ghost use Rattle.expr_frames.specs.Halts.{halt_of};
+ghost use Rattle.expr_limits.specs.Rooms.{Holds, Room, with_size};
 
 use crate::halt::{Asked, Halted, RunMeter};
-use expr_limits::{Allowance, Meter};
+use expr_limits::{Allowance, Limit, Meter};
 use expr_value::{Error, Value};
 use std::alloc::Global;
 
@@ -85,6 +86,23 @@ impl<'n, M: Meter> Meter for Lent<'n, M> {
     #[inline(always)]
     fn release(&mut self, mark: u64) {
         self.meter.release(mark);
+    }
+}
+
+impl<'n> Lent<'n, Allowance> {
+    /// Whether a value of weight 1 could be kept if this size were left, as [`Allowance::check_one`] says it.
+    ///
+    /// # Errors
+    ///
+    /// Returns the limit that the value would exceed.
+    #[inline(always)]
+    pub fn check_one(&self, size: u64) -> Result<(), Limit>
+        ensures kept { IfOk result (λ _. (left : Room)
+            × Holds 1 0 (with_size size (⟦<Lent<'n, Allowance> as Meter>⟧.metered self.now).room) (Ok left)) }
+        ensures exceeded { IfErr result (λ limit.
+            Holds 1 0 (with_size size (⟦<Lent<'n, Allowance> as Meter>⟧.metered self.now).room) (Err limit)) }
+    {
+        self.meter.check_one(size)
     }
 }
 

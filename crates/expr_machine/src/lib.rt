@@ -10,6 +10,7 @@ mod kept;
 mod light;
 mod list_arena;
 mod machine;
+mod outcomes;
 mod perform;
 mod quick;
 mod runs;

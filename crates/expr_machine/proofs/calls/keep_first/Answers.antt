@@ -9,23 +9,23 @@ use Rattle.expr_machine.specs.Firsts.{firsts}
 use Rattle.expr_meaning.specs.Host.{Host}
 use Rattle.expr_predicates.specs.Calls.{fold_of, fold_of_call}
 use Rattle.expr_machine.proofs.calls.keep_first.Goals as goal
-use Rattle.expr_machine.proofs.calls.keep_first.Goals.{in-Some-first_retained+in_ok-keep, in_default-first_retained, then-not-counts-via-else-not-counts+then-has, then-not-counts-via-then-not-counts}
+use Rattle.expr_machine.proofs.calls.keep_first.Goals.{in-Some-first_retained+in_ok-keep, in_default-first_retained, then-not-counts-via-else-not-counts+then-added, then-not-counts-via-then-not-counts}
 
 pub returns-then-not-counts-clause-first : goal.returns-then-not-counts-clause-first
 returns-then-not-counts-clause-first g c =
-    let host : Host = g.H.Functions.host c.args.host.now in
+    let host : Host = g.H.Functions.host c.args._host.now in
     let was : MeterView = g.M.Meter.metered c.args.meter.now in
     elim c.then-not-counts.branch [
       | then-not-counts-via-then-not-counts w ↦ (refl, kept_free (firsts host c.args.name.now c.args.args.now) was.room (sym c.counts.ensures ∙ w.if-not-counts.true))
-      | then-not-counts-via-else-not-counts+then-has w ↦ (refl, nothing_first host c.args.name.now c.args.args.now (added_first host c.args.name.now c.args.args.now (sym w.has.ensures ∙ w.if-has.true)) was.room)
+      | then-not-counts-via-else-not-counts+then-added w ↦ (refl, nothing_first host c.args.name.now c.args.args.now (added_first host c.args.name.now c.args.args.now (sym c.requires ∙ w.if-added.true)) was.room)
     ]
 
 pub returns-clause-first : goal.returns-clause-first
 returns-clause-first g c =
-    let host : Host = g.H.Functions.host c.args.host.now in
+    let host : Host = g.H.Functions.host c.args._host.now in
     let was : MeterView = g.M.Meter.metered c.args.meter.now in
     let call = c.in-Some.call in
-    let none : host.is_added c.args.name.now ≡ false = sym c.has.ensures ∙ c.if-has.false in
+    let none : host.is_added c.args.name.now ≡ false = sym c.requires ∙ c.if-added.false in
     elim c.match-first_retained.branch [
       | in-Some-first_retained+in_ok-keep w ↦
           subst (λ m. ((g.M.Meter.metered m).stopped ≡ was.stopped) × KeepsAll rooms (firsts host c.args.name.now c.args.args.now) was.room (Ok (g.M.Meter.metered m).room)) (sym w.meter-is) (
