@@ -1,13 +1,15 @@
 -- The kinds of tables, and what a schema says of a name.
-use Rattle.std.proofs.Common.{◌≡◌, ◌≢◌, ◌⊎◌, ◌↔◌, ℕ, zero, suc, ◌<◌, Bool, true, false, cond, List, [], ◌∷◌, map as mapped, length, slice_index_or, Option, Some, None, bytes_eq, refl, sym, ap, ◌∙◌, subst, inl, inr, arith}
+use Rattle.std.proofs.Common.{◌≡◌, ◌≢◌, ◌⊎◌, ◌↔◌, ℕ, zero, suc, ◌<◌, Bool, true, false, cond, List, [], ◌∷◌, map as mapped, length, slice_index_or, Option, Some, None, MatchBool, bytes_eq, refl, sym, ap, ◌∙◌, subst, inl, inr, arith, rules}
 use Rattle.expr_value.specs.Names.{find}
 use Rattle.expr_value.specs.declared.key.Key.{Key}
 use Rattle.expr_value.specs.declared.value.Value as value
 use Rattle.expr_value.specs.declared.value.Value.{Value}
-use Rattle.expr_schema.specs.Kinds.{Kind, any, nil, array, map, keyed, nilable, Fields, others, HasKind, Fits, Found}
+use Rattle.expr_schema.specs.Kinds.{Kind, any, nil, array, map, keyed, nilable, Fields, others, field, HasKind, Fits, Found, Lets, StandsAt}
 use Rattle.expr_schema.specs.KindView.{Entry, fields_from, fields_view, kind_view, named_of, others_of, entry_view}
+use Rattle.expr_schema.specs.declared.kind.Kind as memory
+use Rattle.expr_schema.specs.declared.kind.Kind.{the_lemmas}
 use Rattle.expr_schema.specs.declared.kind.Fields as memory_fields
-use Rattle.expr_schema.specs.declared.kind.FieldKind.{FieldKind, out-FieldKind}
+use Rattle.expr_schema.specs.declared.kind.FieldKind.{FieldKind, out-FieldKind, roll-FieldKind}
 use Rattle.expr_schema.proofs.Shapes.{fields_view-parts}
 use Rattle.expr_schema.proofs.Standing.{bytes_eq-symm, entry_in, entry_view-parts}
 use Rattle.expr_schema.proofs.Unions.{nil_or}
@@ -31,6 +33,24 @@ anything None = tt
 
 pub map-any : (fs : Fields) → Fits (map fs) (map (others any))
 map-any fs v (m, is, stand) = (m, is, λ n. anything (find n m))
+
+-- maps, field by field
+pub map-lets : (a b : Fields) → ((n : List ℕ) → Lets a b n) → Fits (map a) (map b)
+map-lets a b lets v (m, is, stand) = (m, is, λ n. lets n (find n m) (stand n))
+
+pub field-lets : (key : List ℕ) (j k : Kind) → Fits j k → (a b : Fields) (n : List ℕ) → Lets a b n → Lets (field key j true a) (field key k true b) n
+field-lets key j k fits a b n lets o h = here (bytes_eq key n) h
+  where
+    there : (o : Option Value) → Found true (λ v. HasKind j v) o → Found true (λ v. HasKind k v) o
+    there (Some v) i = fits v i
+    there None i = i
+
+    here : (q : Bool) → MatchBool q (Found true (λ v. HasKind j v) o) (StandsAt a n o) → MatchBool q (Found true (λ v. HasKind k v) o) (StandsAt b n o)
+    here true i = there o i
+    here false i = lets o i
+
+pub entry-made : (k : memory.Kind) (b : Bool) → entry_view (roll-FieldKind (record { kind = k; required = b })) ≡ record { kind = kind_view k; required = b }
+entry-made k b = search (rules, the_lemmas)
 
 -- kinds that take nil
 pub nil-nilable : (a k : Kind) → a ≡ nil → Fits a (nilable k)

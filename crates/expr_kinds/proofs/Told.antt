@@ -1,5 +1,6 @@
 -- What is told of a tree holds, if what is told of its parts does.
-use Rattle.std.proofs.Common.{◌≡◌, ℕ, List, Bool, true, false, Some, bytes_eq, codes, sym, subst, inl, inr}
+use Rattle.std.proofs.Common.{◌≡◌, ℕ, ◌+◌, ◌<◌, List, [], ◌∷◌, ◌++◌, map as mapped, length, get_or, drop, Bool, true, false, Some, bytes_eq, codes, refl, sym, ap, ◌∙◌, subst, inl, inr}
+use Rattle.std.proofs.lemmas.List.{drop_more}
 use Rattle.expr_functions.specs.Strictness.{operator_strictness}
 use Rattle.expr_functions.specs.declared.operator.Operator.{Operator}
 use Rattle.expr_functions.specs.declared.operator.UnaryOperator.{UnaryOperator}
@@ -10,6 +11,7 @@ use Rattle.expr_value.specs.declared.value.Value.{Value}
 use Rattle.expr_schema.specs.KindView.{kind_view}
 use Rattle.expr_schema.specs.Kinds.{Kind, any, bool, integer, string, bytes, array, map, keyed, nilable, Fields, HasKind, Fits, Effect, matching}
 use Rattle.expr_schema.specs.SchemaView.{effect_of}
+use Rattle.expr_schema.specs.declared.kind.Kind as memory
 use Rattle.expr_schema.specs.Scopes.{Scope}
 use Rattle.expr_kinds.specs.Causes.{Literals, effect_under}
 use Rattle.expr_kinds.specs.Checks.{Checks, ChecksBlock, Upholds, PartFits, SideFits}
@@ -132,3 +134,11 @@ module _ (operand key : Checked) (f : Effect) (co : CoversEffect f (effect_of op
   pub told-any-part : (k : Kind) → optional ≡ true → Fits any k → Within (λ a. Typed e s (postfix (index i optional) t) a) k
   told-any-part k given into =
       (any, subst (λ b. Typed e s (postfix (index i b) t) any) (sym given) (optional-typed e s t i (kind_view operand.kind) (kind_view key.kind) (part-within operand f e covers s t co ht) (part-within key f e covers s i ck hi)), into)
+
+-- lists of trees, one tree at a time
+pub drop-at : {X : Type 0} (xs : List X) (i : ℕ) (x : X) → x ≡ get_or xs i x → i < length xs → drop i xs ≡ x ∷ drop (i + 1) xs
+drop-at xs i x is below = drop_more xs i x below ∙ ap (λ y. y ∷ drop (i + 1) xs) (sym is)
+
+pub pushed : (xs : List memory.Kind) (k : memory.Kind) (ks : List Kind) → mapped kind_view (xs ++ k ∷ []) ++ ks ≡ mapped kind_view xs ++ (kind_view k ∷ ks)
+pushed [] k ks = refl
+pushed (x ∷ xs) k ks = ap (λ ys. kind_view x ∷ ys) (pushed xs k ks)

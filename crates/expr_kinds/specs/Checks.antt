@@ -1,6 +1,6 @@
 -- What a check says of a tree.
-use Rattle.std.specs.Prelude.{◌≡◌, ◌⊎◌, ℕ, true, List, Some}
-use Rattle.expr_tree.specs.Term.{Block, Postfix, Term, postfix}
+use Rattle.std.specs.Prelude.{◌≡◌, ◌⊎◌, ℕ, true, List, Some, map as each}
+use Rattle.expr_tree.specs.Term.{Block, Postfix, Term, Terms, postfix}
 use Rattle.expr_schema.specs.KindView.{kind_view}
 use Rattle.expr_schema.specs.Kinds.{Kind, any, never, nil, bool, integer, string, bytes, duration, month, weekday, datetime, timezone, array, map, keyed, nilable, others, Fits, Effect}
 use Rattle.expr_schema.specs.SchemaView.{effect_of, scope_of}
@@ -9,7 +9,8 @@ use Rattle.expr_kinds.specs.Causes as cause
 use Rattle.expr_kinds.specs.Effects.{CoversEffect}
 use Rattle.expr_kinds.specs.Scopes.{given_at, is_absent}
 use Rattle.expr_kinds.specs.Tables.{OperatorRow}
-use Rattle.expr_kinds.specs.Typed.{Typed, TypedBlock, Within}
+use Rattle.expr_kinds.specs.Typed.{Typed, TypedBlock, TypedEach, Within}
+use Rattle.expr_kinds.specs.declared.checked.CheckedArguments.{CheckedArguments}
 use Rattle.expr_kinds.specs.declared.checked.Checked.{Checked}
 use Rattle.expr_kinds.specs.declared.names.Known.{Known}
 use Rattle.expr_kinds.specs.declared.tables.Base.{Base}
@@ -53,6 +54,13 @@ PartFits a key k =
     ((item : Kind) × Fits a (array item) × Fits key integer × Fits (nilable item) k)
     ⊎ ((Fits a bytes × Fits key integer × Fits (nilable integer) k)
     ⊎ ((item : Kind) × Fits a (keyed item) × Fits (nilable item) k))
+
+-- the same of the arguments of a call, each of a kind that fits the one at its place
+abbrev pub ChecksEach : CheckedArguments → Scope → Terms → Type 0
+ChecksEach a s ts = (e : Effect) → CoversEffect e (effect_of a.effect) → TypedEach e s ts (each kind_view a.kinds)
+
+abbrev pub ChecksEachIn : Scope → CheckedArguments → Terms → Type 0
+ChecksEachIn known a ts = (s : Scope) → Upholds known s → ChecksEach a s ts
 
 -- what is told of an operand: its values are of a kind, and an effect covers its own
 abbrev pub SideFits : Checked → Kind → Effect → Type 0

@@ -8,6 +8,7 @@ ghost use Rattle.expr_tree.specs.Term.{Block, Term};
 
 use crate::tables::Cause;
 use expr_schema::{Effect, Kind};
+use expr_value::Items;
 
 /// What is known of a tree: the kind of the values that it may return, and which errors may come.
 #[derive(Drop)]
@@ -27,6 +28,13 @@ impl Checked {
             effect: Effect::Failing,
         }
     }
+}
+
+/// What is known of the arguments of a call: their kinds, and which errors may come.
+#[derive(Drop)]
+pub struct CheckedArguments {
+    pub kinds: Items<Kind>,
+    pub effect: Effect,
 }
 
 /// The errors that may come of two parts together.

@@ -1,24 +1,25 @@
 //! The check of a program: the kind of what it returns, and which errors may come.
-ghost use Rattle.std.specs.Prelude.{◌≡◌, IfOk};
+ghost use Rattle.std.specs.Prelude.{◌≡◌, IfOk, map};
 ghost use Rattle.expr_error.specs.ErrorKind.{OnlyMemory};
-ghost use Rattle.expr_kinds.specs.Checks.{Checks, ChecksBlock, ChecksBlockIn, ChecksIn, ChecksPostfix, known_scope};
+ghost use Rattle.expr_kinds.specs.Checks.{Checks, ChecksBlock, ChecksBlockIn, ChecksEachIn, ChecksIn, ChecksPostfix, known_scope};
 ghost use Rattle.expr_schema.specs.SchemaView.{scope_of};
-ghost use Rattle.expr_tree.specs.Term.{name};
-ghost use Rattle.expr_tree.specs.TermOf.{postfix_term, program_term, term_of};
+ghost use Rattle.expr_tree.specs.Term.{list, mapping, name, term_pairs};
+ghost use Rattle.expr_tree.specs.TermOf.{line_term, postfix_term, program_term, term_of, terms_of};
 
-use crate::checked::Checked;
+use crate::calls::call_checked;
+use crate::checked::{Checked, CheckedArguments, joined_effect};
 use crate::forms::{choice_checked, coalesce_checked, literal_checked, range_checked};
 use crate::members::{literal_name, member_checked, part_checked};
 use crate::names::Known;
 use crate::operations::{operation_checked, prefix_checked};
-use expr_schema::{Effect, Kind, Schema};
+use expr_schema::{Effect, FieldKind, Fields, Kind, Schema, join};
 use expr_tree::node::{Node, PostfixOperator, Program};
-use expr_value::{Result, Text};
+use expr_value::{Items, Result, Text};
 use std::alloc::Global;
 
 /// The kind of what a program returns, and which errors may come, in each context and host that keep to a schema.
 ///
-/// Of calls, slices, lines, and literals of arrays and maps nothing is known: they return a value of any kind, or fail.
+/// Of built-ins, methods, slices and lines nothing is known: they return a value of any kind, or fail.
 /// No clause says that the kind has few other values, nor that an error that may come does come.
 pub fn check(alloc: Global, program: &Program, schema: &Schema) -> Result<Checked>
     ensures ok { IfOk result (λ c. ChecksBlock c (scope_of schema.now) (program_term program.now)) }
@@ -61,6 +62,7 @@ fn node_checked(alloc: Global, node: &Node, known: &Known<'_>) -> Result<Checked
     match node {
         Node::Ident(key) => name_checked(alloc, key, known),
         Node::Value(value) => literal_checked(alloc, value),
+        Node::Array(items) => array_checked(alloc, items, known),
         Node::Range(first, last) => {
             let first = node_checked(alloc, first, known)?;
             let last = node_checked(alloc, last, known)?;
@@ -94,7 +96,11 @@ fn node_checked(alloc: Global, node: &Node, known: &Known<'_>) -> Result<Checked
             let second = block_checked(alloc, alternative, known)?;
             choice_checked(alloc, &test, &first, &second)
         }
-        Node::Array(_) | Node::Map(_) | Node::Func { .. } => Ok(Checked::unknown()),
+        Node::Func { ident, args, .. } => {
+            let arguments = arguments_checked(alloc, args, known)?;
+            call_checked(alloc, ident, &arguments, known)
+        }
+        Node::Map(pairs) => map_checked(alloc, pairs, known),
     }
 }
 
@@ -130,6 +136,67 @@ fn postfix_checked(
         PostfixOperator::Range { .. } | PostfixOperator::Pipe(_) => Ok(Checked::unknown()),
         PostfixOperator::Method { .. } => Ok(Checked::unknown()),
     }
+}
+
+/// What is known of an array of these items: it is of their joined kind.
+#[cycle(check)]
+fn array_checked(alloc: Global, nodes: &[Node], known: &Known<'_>) -> Result<Checked>
+    ensures ok { IfOk result (λ c. ChecksIn (known_scope known.now) c
+        (list (terms_of (map term_of nodes.now)))) }
+    ensures err { OnlyMemory result }
+{
+    let mut item = Kind::Never;
+    let mut effect = Effect::Total;
+    for node in nodes {
+        let checked = node_checked(alloc, node, known)?;
+        item = join(alloc, &item, &checked.kind)?;
+        effect = joined_effect(effect, checked.effect);
+    }
+    let kind = Kind::array(alloc, item)?;
+    Ok(Checked { kind, effect })
+}
+
+/// What is known of a map of these keys and values: it has these fields and no others.
+#[cycle(check)]
+fn map_checked(alloc: Global, pairs: &[(String, Node)], known: &Known<'_>) -> Result<Checked>
+    ensures ok { IfOk result (λ c. ChecksIn (known_scope known.now) c
+        (mapping (term_pairs (map line_term pairs.now)))) }
+    ensures err { OnlyMemory result }
+{
+    let mut fields = Fields::new(alloc);
+    let mut effect = Effect::Total;
+    let required = true;
+    for (key, node) in pairs {
+        let checked = node_checked(alloc, node, known)?;
+        effect = joined_effect(effect, checked.effect);
+        let Checked { kind, effect: _ } = checked;
+        let name = Text::copy(alloc, key)?;
+        fields.insert(name, FieldKind { kind, required })?;
+    }
+    Ok(Checked {
+        kind: Kind::Map(fields),
+        effect,
+    })
+}
+
+/// What is known of the arguments of a call.
+#[cycle(check)]
+fn arguments_checked(alloc: Global, nodes: &[Node], known: &Known<'_>) -> Result<CheckedArguments>
+    ensures ok { IfOk result (λ a. ChecksEachIn (known_scope known.now) a (terms_of (map term_of nodes.now))) }
+    ensures err { OnlyMemory result }
+{
+    let mut kinds = Vec::new(alloc);
+    let mut effect = Effect::Total;
+    for node in nodes {
+        let checked = node_checked(alloc, node, known)?;
+        effect = joined_effect(effect, checked.effect);
+        let Checked { kind, effect: _ } = checked;
+        kinds.push(kind)?;
+    }
+    Ok(CheckedArguments {
+        kinds: Items::from_vec(kinds),
+        effect,
+    })
 }
 
 /// What is known of a name.

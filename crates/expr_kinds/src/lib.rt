@@ -16,6 +16,7 @@
 #![tactic(auto)]
 
 mod bases;
+mod calls;
 mod checked;
 mod checking;
 mod forms;

@@ -1,15 +1,27 @@
-use Rattle.std.proofs.Common.{◌≡◌, ◌==◌, Bool, true, false, List, [], ◌∷◌, length, map, Box, Vec, Global, vec_len, refl, sym, ap, ◌∙◌, subst, arith, rules}
+use Rattle.std.proofs.Common.{◌≡◌, ◌==◌, ◌++◌, ◌≤◌, Bool, true, false, List, [], ◌∷◌, length, map, get_or, Box, Vec, String, Global, string_bytes, inl, vec_len, append-nil, refl, sym, ap, ◌∙◌, subst, arith, rules}
 use Rattle.std.proofs.lemmas.Bool.{eqb-true}
+use Rattle.std.proofs.lemmas.List.{drop_all}
 use Rattle.expr_functions.specs.Strictness.{operator_strictness}
+use denote.Param.Weighed.{most, at_most}
+use Rattle.expr_schema.proofs.Shapes.{kind_view-Map}
+use Rattle.expr_tree.specs.declared.node.Node.TheShapes.{weighed-Node-Map-0-at-2}
+use Rattle.expr_tree.proofs.node.Node.TheLaws.{the_size}
 use Rattle.expr_tree.proofs.Programs.{term_of-parts}
-use Rattle.expr_tree.proofs.Shapes.{term_of-Conditional, term_of-Ident, term_of-Index, term_of-Operation, term_of-Postfix, term_of-Range, term_of-Ternary, term_of-Unary, term_of-Value}
-use Rattle.expr_tree.specs.Term.{name, postfix, index, coalesce, answers, block_with}
-use Rattle.expr_tree.specs.TermOf.{line_term, postfix_term, program_term, term_of}
+use Rattle.expr_tree.proofs.Shapes.{term_of-Array, term_of-Conditional, term_of-Func, term_of-Ident, term_of-Index, term_of-Map, term_of-Operation, term_of-Postfix, term_of-Range, term_of-Ternary, term_of-Unary, term_of-Value}
+use Rattle.expr_tree.specs.Term.{name, list, mapping, call, postfix, index, coalesce, answers, block_with, term_pairs}
+use Rattle.expr_tree.specs.TermOf.{line_term, postfix_term, predicate_term, program_term, term_of, terms_of}
 use Rattle.expr_tree.specs.declared.node.Node.{Node, the_lemmas}
 use Rattle.expr_tree.specs.declared.node.PostfixOperator.TheVariants as behind
-use Rattle.expr_kinds.specs.Checks.{Checks, ChecksBlock, ChecksBlockIn, ChecksIn, known_scope}
+use Rattle.expr_schema.specs.Kinds.{array, map as a_map, field, no_others, HasKind, SameFields, StandsAt}
+use Rattle.expr_schema.specs.KindView.{Entry, fields_view, kind_view}
+use Rattle.expr_schema.specs.SchemaView.{effect_of}
+use Rattle.expr_kinds.specs.Checks.{Checks, ChecksBlock, ChecksBlockIn, ChecksEachIn, ChecksIn, known_scope}
 use Rattle.expr_kinds.specs.Narrowing.{after, assuming}
-use Rattle.expr_kinds.proofs.Judged.{if-ok}
+use Rattle.expr_kinds.specs.Typed.{Typed, TypedAll, TypedEach, TypedPairs}
+use Rattle.expr_kinds.proofs.Composed.{list-typed}
+use Rattle.expr_kinds.proofs.Judged.{covers-through, fits-same, if-ok, within-fits}
+use Rattle.expr_kinds.proofs.TableKinds.{entry-made, field-lets, map-lets}
+use Rattle.expr_kinds.proofs.Told.{drop-at, pushed}
 use Rattle.expr_kinds.proofs.Refined.{after-keeps, assuming-keeps}
 use Rattle.expr_kinds.proofs.checking.+check.Goals as goal
 
@@ -154,3 +166,127 @@ postfix_checked-returns-in-Range-clause-ok t c = λ s u keeps hu. c.unknown-in-R
 
 pub postfix_checked-returns-in-Method-clause-ok : goal.postfix_checked-returns-in-Method-clause-ok
 postfix_checked-returns-in-Method-clause-ok t c = λ s u keeps hu. c.unknown.ensures.tree s (postfix (postfix_term c.args.operator.now) u)
+
+-- the items of an array
+pub node_checked-returns-in-Array-clause-ok : goal.node_checked-returns-in-Array-clause-ok
+node_checked-returns-in-Array-clause-ok t c =
+    let ns = c.in-Array.items in
+    let shape = ap term_of c.in-Array.is ∙ term_of-Array ns in
+    if-ok c.array_checked.result _ _ (
+    λ d h s keeps. subst (λ u. Checks d s u) (sym shape) (subst (λ xs. Checks d s (list (terms_of (map term_of xs)))) c.deref-in-Array.ensures.value (h s keeps))
+    ) c.array_checked.ensures.ok
+
+pub array_checked-loop-node-init : goal.array_checked-loop-node-init
+array_checked-loop-node-init t c = λ s keeps e covers k fits h. h
+
+pub array_checked-loop-node-preserved : goal.array_checked-loop-node-preserved
+array_checked-loop-node-preserved t c = λ s keeps e covers k fits h.
+    let ns = c.args.nodes.now in
+    let i = c.loop-node.node-index in
+    let n = c.node-item.result in
+    let checked = c.in_ok-checked.checked in
+    let f = effect_of c.joined_effect-effect.result in
+    let at = drop-at ns i n c.node-item.is c.loop-node-test.true in
+    let within = within-fits (λ a. Typed e s (term_of n) a) (kind_view checked.kind) k (c.in_ok-checked.ensures.ok s keeps e (covers-through e f (effect_of checked.effect) covers c.joined_effect-effect.ensures.second)) (λ v x. fits v (c.in_ok-item.ensures.right v x)) in
+    c.loop-node.invariant s keeps e (covers-through e f (effect_of c.loop-node.effect) covers c.joined_effect-effect.ensures.first) k (λ v x. fits v (c.in_ok-item.ensures.left v x))
+    (subst (λ xs. TypedAll e s (terms_of (map term_of xs)) k) (sym at) (within, h))
+
+pub array_checked-returns-clause-ok : goal.array_checked-returns-clause-ok
+array_checked-returns-clause-ok t c = λ s keeps e covers.
+    let ns = c.args.nodes.now in
+    let i = c.loop-node.node-index in
+    let k = kind_view c.loop-node.item in
+    let all = c.loop-node.invariant s keeps e covers k (λ v x. x) (subst (λ xs. TypedAll e s (terms_of (map term_of xs)) k) (sym (drop_all i ns c.loop-node-test.false)) tt) in
+    (array k, list-typed e s (terms_of (map term_of ns)) k all, fits-same (array k) (kind_view c.in_ok-kind.kind) (sym c.in_ok-kind.ensures.ok))
+
+-- the arguments of a call
+pub node_checked-returns-in_ok-arguments-in-Func-clause-ok : goal.node_checked-returns-in_ok-arguments-in-Func-clause-ok
+node_checked-returns-in_ok-arguments-in-Func-clause-ok t c =
+    let known = known_scope c.args.known.now in
+    let ns = c.in-Func.args in
+    let ts = terms_of (map term_of ns.items) in
+    let p = predicate_term c.in-Func.predicate in
+    let shape = ap term_of c.in-Func.is ∙ term_of-Func c.in-Func.ident ns c.in-Func.predicate in
+    let told : ChecksEachIn known c.in_ok-arguments-in-Func.arguments ts = subst (λ xs. ChecksEachIn known c.in_ok-arguments-in-Func.arguments (terms_of (map term_of xs))) c.deref-in-Func.ensures.value c.in_ok-arguments-in-Func.ensures.ok in
+    if-ok c.call_checked.result _ _ (
+    λ d h s keeps. subst (λ u. Checks d s u) (sym shape) (subst (λ k. Checks d s (call k ts p)) c.deref-in-Func-2.ensures (h s ts p keeps (told s keeps)))
+    ) c.call_checked.ensures.ok
+
+pub arguments_checked-loop-node-init : goal.arguments_checked-loop-node-init
+arguments_checked-loop-node-init t c = λ s keeps e covers ks h. subst (λ xs. TypedEach e s (terms_of (map term_of c.args.nodes.now)) (map kind_view xs ++ ks)) (sym c.new-kinds.ensures.items) h
+
+pub arguments_checked-loop-node-preserved : goal.arguments_checked-loop-node-preserved
+arguments_checked-loop-node-preserved t c = λ s keeps e covers ks h.
+    let ns = c.args.nodes.now in
+    let i = c.loop-node.node-index in
+    let n = c.node-item.result in
+    let checked = c.in_ok-checked.checked in
+    let k = kind_view checked.kind in
+    let f = effect_of c.joined_effect-effect.result in
+    let at = drop-at ns i n c.node-item.is c.loop-node-test.true in
+    let within = c.in_ok-checked.ensures.ok s keeps e (covers-through e f (effect_of checked.effect) covers c.joined_effect-effect.ensures.second) in
+    let all = c.loop-node.invariant s keeps e (covers-through e f (effect_of c.loop-node.effect) covers c.joined_effect-effect.ensures.first) (k ∷ ks) (
+    subst (λ xs. TypedEach e s (terms_of (map term_of xs)) (k ∷ ks)) (sym at) (k, ks, refl, within, h)
+    ) in
+    subst (λ xs. TypedEach e s (terms_of (map term_of ns)) (map kind_view xs ++ ks)) (sym c.in_ok-push.ensures.items) (
+    subst (λ ys. TypedEach e s (terms_of (map term_of ns)) ys) (sym (pushed c.loop-node.kinds.items checked.kind ks)) all
+    )
+
+pub arguments_checked-returns-clause-ok : goal.arguments_checked-returns-clause-ok
+arguments_checked-returns-clause-ok t c = λ s keeps e covers.
+    let ns = c.args.nodes.now in
+    let i = c.loop-node.node-index in
+    let all = c.loop-node.invariant s keeps e covers [] (subst (λ xs. TypedEach e s (terms_of (map term_of xs)) []) (sym (drop_all i ns c.loop-node-test.false)) refl) in
+    subst (λ xs. TypedEach e s (terms_of (map term_of ns)) (map kind_view xs)) (sym c.from_vec.ensures) (
+    subst (λ ys. TypedEach e s (terms_of (map term_of ns)) ys) (append-nil (map kind_view c.loop-node.kinds.items)) all
+    )
+
+-- the pairs of a map
+pub node_checked-returns-in-Map-clause-ok : goal.node_checked-returns-in-Map-clause-ok
+node_checked-returns-in-Map-clause-ok t c =
+    let ps = c.in-Map.pairs in
+    let shape = ap term_of c.in-Map.is ∙ term_of-Map ps in
+    if-ok c.map_checked.result _ _ (
+    λ d h s keeps. subst (λ u. Checks d s u) (sym shape) (subst (λ xs. Checks d s (mapping (term_pairs (map line_term xs)))) c.deref-in-Map.ensures.value (h s keeps))
+    ) c.map_checked.ensures.ok
+
+pub map_checked-node_checked-requires : goal.map_checked-node_checked-requires
+map_checked-node_checked-requires t c =
+    let pairs = c.args.pairs.now in
+    let entry = c.loop-key-item.result in
+    let depth = λ (p : String Global × Node). weighed-Node-Map-0-at-2.weight Node the_size p in
+    let found : depth (get_or pairs c.loop-key.key-index entry) ≤ most depth pairs = at_most depth pairs c.loop-key.key-index entry c.loop-key-test.true in
+    let below : depth entry ≤ most depth pairs = subst (λ p. depth p ≤ most depth pairs) (sym c.loop-key-item.is) found in
+    (omega arith, tt)
+
+pub map_checked-loop-key-init : goal.map_checked-loop-key-init
+map_checked-loop-key-init t c = λ s keeps e covers. (no_others, λ n o h. subst (λ f. StandsAt f n o) (sym c.new-fields.ensures) h, λ fs h. h)
+
+pub map_checked-loop-key-preserved : goal.map_checked-loop-key-preserved
+map_checked-loop-key-preserved t c = λ s keeps e covers.
+    let ps = c.args.pairs.now in
+    let i = c.loop-key.key-index in
+    let p = c.loop-key-item.result in
+    let checked = c.in_ok-checked.checked in
+    let f = effect_of c.joined_effect-effect.result in
+    let at = drop-at ps i p c.loop-key-item.is c.loop-key-test.true in
+    let (before, lets, goes_on) = c.loop-key.invariant s keeps e (covers-through e f (effect_of c.loop-key.effect) covers c.joined_effect-effect.ensures.first) in
+    let (a, ha, fa) = c.in_ok-checked.ensures.ok s keeps e (covers-through e f (effect_of checked.effect) covers c.joined_effect-effect.ensures.second) in
+    let key = string_bytes p.0 in
+    let named : c.in_ok-name.name ≡ key = search rules in
+    let same : SameFields (fields_view c.insert.new.self) (field key (kind_view checked.kind) true (fields_view c.loop-key.fields)) = subst (λ n. SameFields (fields_view c.insert.new.self) (field n (kind_view checked.kind) true (fields_view c.loop-key.fields))) named (
+    subst (λ (x : Entry). SameFields (fields_view c.insert.new.self) (field c.in_ok-name.name x.kind x.required (fields_view c.loop-key.fields))) (entry-made checked.kind true) c.in_ok-insert.ensures.ok
+    ) in (
+      field key a true before,
+      λ n o h. (same n o).1 (field-lets key a (kind_view checked.kind) fa before (fields_view c.loop-key.fields) n (lets n) o h),
+      λ fs h. goes_on fs (subst (λ xs. TypedPairs e s (term_pairs (map line_term xs)) before fs) (sym at) (a, ha, h)),
+    )
+
+pub map_checked-returns-clause-ok : goal.map_checked-returns-clause-ok
+map_checked-returns-clause-ok t c = λ s keeps e covers.
+    let ps = c.args.pairs.now in
+    let i = c.loop-key.key-index in
+    let fields = c.loop-key.fields in
+    let (before, lets, goes_on) = c.loop-key.invariant s keeps e covers in
+    let all = goes_on before (subst (λ xs. TypedPairs e s (term_pairs (map line_term xs)) before before) (sym (drop_all i ps c.loop-key-test.false)) refl) in
+    (a_map before, inl (before, refl, all), λ v h. subst (λ k. HasKind k v) (sym (kind_view-Map fields)) (map-lets before (fields_view fields) lets v h))
