@@ -2,6 +2,7 @@ pub mod Answered
 pub mod Binding
 pub mod Calling
 pub mod Causes
+pub mod Composed
 pub mod Folding
 pub mod Found
 pub mod Held
@@ -9,7 +10,6 @@ pub mod Indexed
 pub mod Judged
 pub mod Known
 pub mod Layers
-pub mod Lines
 pub mod Lists
 pub mod Literals
 pub mod NameKinds
@@ -24,6 +24,9 @@ pub mod OnValues
 pub mod Operating
 pub mod Parts
 pub mod Programs
+pub mod Refined
 pub mod Rows
 pub mod Sorted
 pub mod Standing
+pub mod TableKinds
+pub mod Told

@@ -1,44 +1,101 @@
 -- What a check says of a tree.
-use Rattle.std.specs.Prelude.{◌≡◌, List, [], ◌∷◌, String, string_bytes, true}
-use Rattle.std.specs.declared.alloc.Global.{Global}
-use Rattle.expr_tree.specs.Term.{Term}
-use Rattle.expr_functions.specs.declared.operator.Operator.{Operator}
-use Rattle.expr_kinds.specs.Causes.{effect_under}
-use Rattle.expr_schema.specs.Kinds.{Kind, any, nil, bool, integer, string, duration, datetime, Fields, no_others, field, Fits, Effect, total, matching, failing}
-use Rattle.expr_kinds.specs.Effects.{CoversEffect}
+use Rattle.std.specs.Prelude.{◌≡◌, ◌⊎◌, ℕ, true, List, Some, map as each}
+use Rattle.expr_tree.specs.Term.{Block, Postfix, Term, Terms, postfix}
+use Rattle.expr_schema.specs.KindView.{kind_view}
+use Rattle.expr_schema.specs.Kinds.{Kind, any, never, nil, bool, integer, string, bytes, duration, month, weekday, datetime, timezone, array, map, keyed, nilable, others, Fits, Effect}
+use Rattle.expr_schema.specs.SchemaView.{effect_of, scope_of}
 use Rattle.expr_schema.specs.Scopes.{Scope}
-use Rattle.expr_kinds.specs.Tables.{OperatorRow, rows}
-use Rattle.expr_kinds.specs.Typed.{OneOf, Typed}
-use Rattle.expr_kinds.specs.declared.plain.Atom.{Atom}
-use Rattle.expr_kinds.specs.declared.plain.Atom.TheVariants as plain
-use Rattle.expr_kinds.specs.declared.plain.Risk.{Risk}
-use Rattle.expr_kinds.specs.declared.plain.Risk.TheVariants as risk
-use Rattle.expr_kinds.specs.declared.plain.Checked.{Checked}
+use Rattle.expr_kinds.specs.Causes as cause
+use Rattle.expr_kinds.specs.Effects.{CoversEffect}
+use Rattle.expr_kinds.specs.Scopes.{given_at, is_absent}
+use Rattle.expr_kinds.specs.Tables.{OperatorRow}
+use Rattle.expr_kinds.specs.Typed.{Typed, TypedBlock, TypedEach, Within}
+use Rattle.expr_kinds.specs.declared.checked.CheckedArguments.{CheckedArguments}
+use Rattle.expr_kinds.specs.declared.checked.Checked.{Checked}
+use Rattle.expr_kinds.specs.declared.names.Known.{Known}
+use Rattle.expr_kinds.specs.declared.tables.Base.{Base}
+use Rattle.expr_kinds.specs.declared.tables.Base.TheVariants as base
+use Rattle.expr_kinds.specs.declared.tables.Cause.{Cause}
+use Rattle.expr_kinds.specs.declared.tables.Cause.TheVariants as why
+use Rattle.expr_kinds.specs.declared.tables.TableRow.{TableRow}
+use Rattle.expr_kinds.specs.declared.tables.Side.{Side}
+use Rattle.expr_kinds.specs.declared.tables.Side.TheVariants.{Of, OrNil}
 
--- the kind and the effect that a check names
-abbrev pub atom_kind : Atom → Kind
-atom_kind plain.Any = any
-atom_kind plain.Nil = nil
-atom_kind plain.Bool = bool
-atom_kind plain.Integer = integer
-atom_kind plain.String = string
-atom_kind plain.Duration = duration
-atom_kind plain.DateTime = datetime
-
-abbrev pub risk_effect : Risk → Effect
-risk_effect risk.Never = total
-risk_effect risk.Pattern = matching
-risk_effect risk.Evaluation = failing
-
--- names that always have a value of their kind, and no others
-abbrev pub fields_of : List (String Global × Atom) → Fields
-fields_of [] = no_others
-fields_of (p ∷ ps) = field (string_bytes p.0) (atom_kind p.1) true (fields_of ps)
-
--- the tree is of the kind at each effect that covers the risk
+-- the tree is of a kind whose values are of the one that is told, at each effect that covers the one that is told
 abbrev pub Checks : Checked → Scope → Term → Type 0
-Checks c s t = (e : Effect) → CoversEffect e (risk_effect c.risk) → Typed e s t (atom_kind c.kind)
+Checks c s t = (e : Effect) → CoversEffect e (effect_of c.effect) → Within (λ a. Typed e s t a) (kind_view c.kind)
 
--- the table of the operator has a row for these kinds, whatever the operands are
-abbrev pub HasRow : Operator → Kind → Kind → Kind → Effect → Type 0
-HasRow op a b k f = (r : OperatorRow) × OneOf (λ q. q ≡ r) (rows op) × Fits a r.left × Fits b r.right × (k ≡ r.gives) × (effect_under r.cause [] ≡ f)
+-- the same of a program
+abbrev pub ChecksBlock : Checked → Scope → Block → Type 0
+ChecksBlock c s b = (e : Effect) → CoversEffect e (effect_of c.effect) → Within (λ a. TypedBlock e s b a) (kind_view c.kind)
+
+-- A scope upholds what is known: it has the same `$env` and functions, a value of a kind that fits at each name that is
+-- known to have one, and nothing at each name that is known to have nothing.
+pub record Upholds (known s : Scope) : Type 0 where
+  pub environment : s.environment ≡ known.environment
+  pub functions : s.functions ≡ known.functions
+  pub given : (key : List ℕ) (k : Kind) → given_at known.names key ≡ Some k → (j : Kind) × (given_at s.names key ≡ Some j) × Fits j k
+  pub absent : (key : List ℕ) → is_absent known.names key ≡ true → is_absent s.names key ≡ true
+
+-- what a check says in each scope that has what is known
+abbrev pub ChecksIn : Scope → Checked → Term → Type 0
+ChecksIn known c t = (s : Scope) → Upholds known s → Checks c s t
+
+abbrev pub ChecksBlockIn : Scope → Checked → Block → Type 0
+ChecksBlockIn known c b = (s : Scope) → Upholds known s → ChecksBlock c s b
+
+-- the same of an operator after an operand
+abbrev pub ChecksPostfix : Scope → Checked → Checked → Postfix → Type 0
+ChecksPostfix known operand c p = (s : Scope) (t : Term) → Upholds known s → Checks operand s t → Checks c s (postfix p t)
+
+-- A part of a value is nil or of a kind: an item at an integer, a byte at an integer, or the value of a key.
+abbrev pub PartFits : Kind → Kind → Kind → Type 0
+PartFits a key k =
+    ((item : Kind) × Fits a (array item) × Fits key integer × Fits (nilable item) k)
+    ⊎ ((Fits a bytes × Fits key integer × Fits (nilable integer) k)
+    ⊎ ((item : Kind) × Fits a (keyed item) × Fits (nilable item) k))
+
+-- the same of the arguments of a call, each of a kind that fits the one at its place
+abbrev pub ChecksEach : CheckedArguments → Scope → Terms → Type 0
+ChecksEach a s ts = (e : Effect) → CoversEffect e (effect_of a.effect) → TypedEach e s ts (each kind_view a.kinds)
+
+abbrev pub ChecksEachIn : Scope → CheckedArguments → Terms → Type 0
+ChecksEachIn known a ts = (s : Scope) → Upholds known s → ChecksEach a s ts
+
+-- what is told of an operand: its values are of a kind, and an effect covers its own
+abbrev pub SideFits : Checked → Kind → Effect → Type 0
+SideFits c k e = Fits (kind_view c.kind) k × CoversEffect e (effect_of c.effect)
+
+-- the scope that is known
+abbrev pub known_scope : Known → Scope
+known_scope k = scope_of k.schema.now
+
+-- the rows of the tables in memory
+abbrev pub base_kind : Base → Kind
+base_kind base.Any = any
+base_kind base.Never = never
+base_kind base.Nil = nil
+base_kind base.Bool = bool
+base_kind base.Integer = integer
+base_kind base.Text = string
+base_kind base.Bytes = bytes
+base_kind base.Duration = duration
+base_kind base.Month = month
+base_kind base.Weekday = weekday
+base_kind base.DateTime = datetime
+base_kind base.Timezone = timezone
+base_kind base.Items = array any
+base_kind base.Map = map (others any)
+base_kind base.KeyedMap = keyed any
+
+abbrev pub side_kind : Side → Kind
+side_kind (Of b) = base_kind b
+side_kind (OrNil b) = nilable (base_kind b)
+
+abbrev pub cause_view : Cause → cause.Cause
+cause_view why.Nothing = cause.nothing
+cause_view why.Content = cause.content
+cause_view (why.ZeroAt n) = cause.zero_at n
+
+abbrev pub row_view : TableRow → OperatorRow
+row_view r = record { left = side_kind r.left; right = side_kind r.right; gives = base_kind r.gives; cause = cause_view r.cause }

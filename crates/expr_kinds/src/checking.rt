@@ -1,141 +1,76 @@
-//! The kinds of trees over names, literals and operators, where no value has parts.
-ghost use Rattle.std.specs.Prelude.{◌≡◌, IfSome};
-ghost use Rattle.expr_functions.specs.Strictness.{operator_strictness};
-ghost use Rattle.expr_kinds.specs.Checks.{Checks, HasRow, atom_kind, fields_of, risk_effect};
-ghost use Rattle.expr_schema.specs.Kinds.{HasKind};
-ghost use Rattle.expr_kinds.specs.Narrowing.{after};
-ghost use Rattle.expr_schema.specs.Scopes.{Scope};
-ghost use Rattle.expr_tree.specs.Term.{Term, name, operation, unary};
-ghost use Rattle.expr_tree.specs.TermOf.{term_of};
+//! The check of a program: the kind of what it returns, and which errors may come.
+ghost use Rattle.std.specs.Prelude.{◌≡◌, IfOk, map};
+ghost use Rattle.expr_error.specs.ErrorKind.{OnlyMemory};
+ghost use Rattle.expr_kinds.specs.Checks.{Checks, ChecksBlock, ChecksBlockIn, ChecksEachIn, ChecksIn, ChecksPostfix, known_scope};
+ghost use Rattle.expr_schema.specs.SchemaView.{scope_of};
+ghost use Rattle.expr_tree.specs.Term.{list, mapping, name, term_pairs};
+ghost use Rattle.expr_tree.specs.TermOf.{line_term, postfix_term, program_term, term_of, terms_of};
 
-use crate::plain::{Atom, Checked, Risk};
-use expr_functions::operator::{Operator, UnaryOperator};
-use expr_functions::{Strictness, strictness_of};
-use expr_tree::node::Node;
-use expr_value::Value;
+use crate::calls::call_checked;
+use crate::checked::{Checked, CheckedArguments, joined_effect};
+use crate::forms::{choice_checked, coalesce_checked, literal_checked, range_checked};
+use crate::members::{literal_name, member_checked, part_checked};
+use crate::names::Known;
+use crate::operations::{operation_checked, prefix_checked};
+use expr_schema::{Effect, FieldKind, Fields, Kind, Schema, join};
+use expr_tree::node::{Node, PostfixOperator, Program};
+use expr_value::{Items, Result, Text};
+use std::alloc::Global;
 
-/// What an operator returns for values of two kinds, and which errors may come. `None` if its table has no row
-/// for them.
-fn given(operator: Operator, left: Atom, right: Atom) -> Option<(Atom, Risk)>
-    ensures { IfSome result (λ p. HasRow operator (atom_kind left) (atom_kind right) (atom_kind p.0)
-        (risk_effect p.1)) }
+/// The kind of what a program returns, and which errors may come, in each context and host that keep to a schema.
+///
+/// Of built-ins, methods, slices and lines nothing is known: they return a value of any kind, or fail.
+/// No clause says that the kind has few other values, nor that an error that may come does come.
+pub fn check(alloc: Global, program: &Program, schema: &Schema) -> Result<Checked>
+    ensures ok { IfOk result (λ c. ChecksBlock c (scope_of schema.now) (program_term program.now)) }
+    ensures err { OnlyMemory result }
 {
-    match (operator, left, right) {
-        (Operator::Add, Atom::Integer, Atom::Integer) => Some((Atom::Integer, Risk::Never)),
-        (Operator::Add, Atom::String, Atom::String) => Some((Atom::String, Risk::Never)),
-        (Operator::Add, Atom::Duration, Atom::Duration) => Some((Atom::Duration, Risk::Never)),
-        (Operator::Add, Atom::DateTime, Atom::Duration) => Some((Atom::DateTime, Risk::Evaluation)),
-        (Operator::Subtract, Atom::Integer, Atom::Integer) => Some((Atom::Integer, Risk::Never)),
-        (Operator::Multiply, Atom::Integer, Atom::Integer) => Some((Atom::Integer, Risk::Never)),
-        (Operator::Modulo, Atom::Integer, Atom::Integer) => Some((Atom::Integer, Risk::Evaluation)),
-        (Operator::LessThan, Atom::Integer, Atom::Integer) => Some((Atom::Bool, Risk::Never)),
-        (Operator::GreaterThan, Atom::Integer, Atom::Integer) => Some((Atom::Bool, Risk::Never)),
-        (Operator::GreaterThanOrEqual, Atom::Integer, Atom::Integer) => Some((
-            Atom::Bool,
-            Risk::Never,
-        )),
-        (Operator::Equal, Atom::String, Atom::String) => Some((Atom::Bool, Risk::Never)),
-        (Operator::NotEqual, Atom::String, Atom::String) => Some((Atom::Bool, Risk::Never)),
-        (Operator::Contains, Atom::String, Atom::String) => Some((Atom::Bool, Risk::Never)),
-        (Operator::StartsWith, Atom::String, Atom::String) => Some((Atom::Bool, Risk::Never)),
-        _ => None,
-    }
+    let known = Known { schema };
+    let checked = block_checked(alloc, program, &known)?;
+    Ok(checked)
 }
 
-/// The kind of a literal.
-fn literal_kind(value: &Value) -> Atom
-    ensures { HasKind (atom_kind result) value.now }
+/// The same of a single node.
+pub fn check_node(alloc: Global, node: &Node, schema: &Schema) -> Result<Checked>
+    ensures ok { IfOk result (λ c. Checks c (scope_of schema.now) (term_of node.now)) }
+    ensures err { OnlyMemory result }
 {
-    match value {
-        Value::Nil => Atom::Nil,
-        Value::Bool(_) => Atom::Bool,
-        Value::Integer(_) => Atom::Integer,
-        Value::String(_) => Atom::String,
-        _ => Atom::Any,
-    }
+    let known = Known { schema };
+    let checked = node_checked(alloc, node, &known)?;
+    Ok(checked)
 }
 
-/// What is known of a name: its kind, if it is among these.
-fn name_checked(key: &str, names: &[(String, Atom)]) -> Checked
-    ensures { (s : Scope) → s.names ≡ fields_of names.now → Checks result s (name key.now) }
+/// What is known of a program.
+#[cycle(check)]
+fn block_checked(alloc: Global, program: &Program, known: &Known<'_>) -> Result<Checked>
+    ensures ok { IfOk result (λ c. ChecksBlockIn (known_scope known.now) c (program_term program.now)) }
+    ensures err { OnlyMemory result }
 {
-    if key == "$env" {
-        return Checked::UNKNOWN;
+    if !program.lines.is_empty() {
+        return Ok(Checked::unknown());
     }
-    for pair in names {
-        if pair.0.as_str() == key {
-            return Checked {
-                kind: pair.1,
-                risk: Risk::Never,
-            };
-        }
-    }
-    Checked::UNKNOWN
+    let checked = node_checked(alloc, &program.expr, known)?;
+    Ok(checked)
 }
 
-/// What is known of an operator before its operand.
-fn prefix_checked(operator: UnaryOperator, operand: Checked) -> Checked
-    ensures { (s : Scope) (t : Term) → Checks operand s t → Checks result s (unary operator t) }
-{
-    match (operator, operand.kind) {
-        (UnaryOperator::Not, Atom::Bool) => operand,
-        (UnaryOperator::Positive, Atom::Integer) => operand,
-        (UnaryOperator::Negative, Atom::Integer) => operand,
-        _ => Checked::UNKNOWN,
-    }
-}
-
-/// What is known of an operator between its operands.
-fn operation_checked(operator: Operator, left: Checked, right: Checked) -> Checked
-    ensures { (s : Scope) (l r : Term) → Checks left s l
-        → Checks right (after (operator_strictness operator) l s) r
-        → Checks result s (operation operator l r) }
-{
-    let risk = left.risk.and(right.risk);
-    match (strictness_of(operator), left.kind, right.kind) {
-        (Strictness::EndsAtFalse, Atom::Bool, Atom::Bool) => Checked {
-            kind: Atom::Bool,
-            risk,
-        },
-        (Strictness::EndsAtTrue, Atom::Bool, Atom::Bool) => Checked {
-            kind: Atom::Bool,
-            risk,
-        },
-        (Strictness::Pattern, Atom::String, Atom::String) => {
-            let with_pattern = risk.and(Risk::Pattern);
-            Checked {
-                kind: Atom::Bool,
-                risk: with_pattern,
-            }
-        }
-        (Strictness::Both, _, _) => match given(operator, left.kind, right.kind) {
-            Some(found) => {
-                let with_own = risk.and(found.1);
-                Checked {
-                    kind: found.0,
-                    risk: with_own,
-                }
-            }
-            None => Checked::UNKNOWN,
-        },
-        _ => Checked::UNKNOWN,
-    }
-}
-
-/// The kind of a tree, and which errors may come. These names always have a value of their kind, and no other name
-/// has one. Only names, literals and operators are looked at. Of any other tree, nothing is known.
-pub fn check(node: &Node, names: &[(String, Atom)]) -> Checked
-    ensures { (s : Scope) → s.names ≡ fields_of names.now → Checks result s (term_of node.now) }
+/// What is known of a tree.
+#[cycle(check)]
+fn node_checked(alloc: Global, node: &Node, known: &Known<'_>) -> Result<Checked>
+    ensures ok { IfOk result (λ c. ChecksIn (known_scope known.now) c (term_of node.now)) }
+    ensures err { OnlyMemory result }
 {
     match node {
-        Node::Ident(key) => name_checked(key, names),
-        Node::Value(value) => Checked {
-            kind: literal_kind(value),
-            risk: Risk::Never,
-        },
+        Node::Ident(key) => name_checked(alloc, key, known),
+        Node::Value(value) => literal_checked(alloc, value),
+        Node::Array(items) => array_checked(alloc, items, known),
+        Node::Range(first, last) => {
+            let first = node_checked(alloc, first, known)?;
+            let last = node_checked(alloc, last, known)?;
+            range_checked(alloc, &first, &last)
+        }
         Node::Unary { operator, node } => {
-            let operand = check(node, names);
-            prefix_checked(*operator, operand)
+            let operand = node_checked(alloc, node, known)?;
+            prefix_checked(alloc, *operator, &operand)
         }
         Node::Operation {
             operator,
@@ -143,10 +78,148 @@ pub fn check(node: &Node, names: &[(String, Atom)]) -> Checked
             right,
             ..
         } => {
-            let first = check(left, names);
-            let second = check(right, names);
-            operation_checked(*operator, first, second)
+            let first = node_checked(alloc, left, known)?;
+            let second = node_checked(alloc, right, known)?;
+            operation_checked(alloc, *operator, &first, &second)
         }
-        _ => Checked::UNKNOWN,
+        Node::Postfix { operator, node } => {
+            let operand = node_checked(alloc, node, known)?;
+            postfix_checked(alloc, operator, &operand, known)
+        }
+        Node::Conditional {
+            condition,
+            consequent,
+            alternative,
+        } => {
+            let test = node_checked(alloc, condition, known)?;
+            let first = block_checked(alloc, consequent, known)?;
+            let second = block_checked(alloc, alternative, known)?;
+            choice_checked(alloc, &test, &first, &second)
+        }
+        Node::Func { ident, args, .. } => {
+            let arguments = arguments_checked(alloc, args, known)?;
+            call_checked(alloc, ident, &arguments, known)
+        }
+        Node::Map(pairs) => map_checked(alloc, pairs, known),
+    }
+}
+
+/// What is known of an operator after an operand.
+#[cycle(check)]
+fn postfix_checked(
+    alloc: Global,
+    operator: &PostfixOperator,
+    operand: &Checked,
+    known: &Known<'_>,
+) -> Result<Checked>
+    ensures ok { IfOk result (λ c. ChecksPostfix (known_scope known.now) operand.now c
+        (postfix_term operator.now)) }
+    ensures err { OnlyMemory result }
+{
+    match operator {
+        PostfixOperator::Index { idx, optional } => match literal_name(idx) {
+            Some(name) => member_checked(alloc, name, *optional, operand),
+            None => {
+                let key = node_checked(alloc, idx, known)?;
+                part_checked(alloc, &key, *optional, operand)
+            }
+        },
+        PostfixOperator::Default(node) => {
+            let other = node_checked(alloc, node, known)?;
+            coalesce_checked(alloc, operand, &other)
+        }
+        PostfixOperator::Ternary { left, right } => {
+            let first = node_checked(alloc, left, known)?;
+            let second = node_checked(alloc, right, known)?;
+            choice_checked(alloc, operand, &first, &second)
+        }
+        PostfixOperator::Range { .. } | PostfixOperator::Pipe(_) => Ok(Checked::unknown()),
+        PostfixOperator::Method { .. } => Ok(Checked::unknown()),
+    }
+}
+
+/// What is known of an array of these items: it is of their joined kind.
+#[cycle(check)]
+fn array_checked(alloc: Global, nodes: &[Node], known: &Known<'_>) -> Result<Checked>
+    ensures ok { IfOk result (λ c. ChecksIn (known_scope known.now) c
+        (list (terms_of (map term_of nodes.now)))) }
+    ensures err { OnlyMemory result }
+{
+    let mut item = Kind::Never;
+    let mut effect = Effect::Total;
+    for node in nodes {
+        let checked = node_checked(alloc, node, known)?;
+        item = join(alloc, &item, &checked.kind)?;
+        effect = joined_effect(effect, checked.effect);
+    }
+    let kind = Kind::array(alloc, item)?;
+    Ok(Checked { kind, effect })
+}
+
+/// What is known of a map of these keys and values: it has these fields and no others.
+#[cycle(check)]
+fn map_checked(alloc: Global, pairs: &[(String, Node)], known: &Known<'_>) -> Result<Checked>
+    ensures ok { IfOk result (λ c. ChecksIn (known_scope known.now) c
+        (mapping (term_pairs (map line_term pairs.now)))) }
+    ensures err { OnlyMemory result }
+{
+    let mut fields = Fields::new(alloc);
+    let mut effect = Effect::Total;
+    let required = true;
+    for (key, node) in pairs {
+        let checked = node_checked(alloc, node, known)?;
+        effect = joined_effect(effect, checked.effect);
+        let Checked { kind, effect: _ } = checked;
+        let name = Text::copy(alloc, key)?;
+        fields.insert(name, FieldKind { kind, required })?;
+    }
+    Ok(Checked {
+        kind: Kind::Map(fields),
+        effect,
+    })
+}
+
+/// What is known of the arguments of a call.
+#[cycle(check)]
+fn arguments_checked(alloc: Global, nodes: &[Node], known: &Known<'_>) -> Result<CheckedArguments>
+    ensures ok { IfOk result (λ a. ChecksEachIn (known_scope known.now) a (terms_of (map term_of nodes.now))) }
+    ensures err { OnlyMemory result }
+{
+    let mut kinds = Vec::new(alloc);
+    let mut effect = Effect::Total;
+    for node in nodes {
+        let checked = node_checked(alloc, node, known)?;
+        effect = joined_effect(effect, checked.effect);
+        let Checked { kind, effect: _ } = checked;
+        kinds.push(kind)?;
+    }
+    Ok(CheckedArguments {
+        kinds: Items::from_vec(kinds),
+        effect,
+    })
+}
+
+/// What is known of a name.
+fn name_checked(alloc: Global, key: &str, known: &Known<'_>) -> Result<Checked>
+    ensures ok { IfOk result (λ c. ChecksIn (known_scope known.now) c (name key.now)) }
+    ensures err { OnlyMemory result }
+{
+    if key == "$env" {
+        let fields = known.schema.names().copy(alloc)?;
+        return Ok(Checked {
+            kind: Kind::Map(fields),
+            effect: Effect::Total,
+        });
+    }
+    let text = Text::copy(alloc, key)?;
+    match known.given(&text) {
+        Some(found) => {
+            let kind = found.copy(alloc)?;
+            Ok(Checked {
+                kind,
+                effect: Effect::Total,
+            })
+        }
+        None => Ok(Checked::unknown()),
     }
 }

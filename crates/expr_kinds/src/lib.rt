@@ -11,15 +11,24 @@
 //!   and `specs/Causes.antt` which literals exclude an error.
 //! - `specs/Tables.antt`, `specs/Overloads.antt` and `specs/Methods.antt` are the tables of operators, built-ins and
 //!   methods. Each of their rows is proved.
+//! - `check` finds a kind of a program. `specs/Checks.antt` says what it tells, and `src/tables.rt` has the operators'
+//!   table in code.
 #![tactic(auto)]
 
+mod bases;
+mod calls;
+mod checked;
 mod checking;
+mod forms;
 mod laws;
-mod plain;
+mod members;
+mod names;
+mod operations;
+mod tables;
 
-pub use checking::check;
+pub use checked::Checked;
+pub use checking::{check, check_node};
 pub use laws::{
     conditions_narrow_fields, conditions_narrow_names, literals_exclude_errors,
     typed_programs_do_not_go_wrong,
 };
-pub use plain::{Atom, Checked, Risk};

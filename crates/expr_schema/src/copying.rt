@@ -17,6 +17,16 @@ impl Kind {
     }
 }
 
+impl Fields {
+    /// A copy of the fields.
+    pub fn copy(&self, alloc: Global) -> Result<Fields>
+        ensures ok { IfOk result (λ f. f ≡ self.now) }
+        ensures err { OnlyMemory result }
+    {
+        copy_fields(alloc, self)
+    }
+}
+
 #[cycle(copy)]
 fn copy_kind(alloc: Global, kind: &Kind) -> Result<Kind>
     ensures ok { IfOk result (λ k. k ≡ kind.now) }

@@ -1,8 +1,9 @@
 //! The kinds of values.
-ghost use Rattle.std.specs.Prelude.{◌≡◌, ◌≢◌, ◌↔◌, ℕ, List, Option, None, Some, IsTrue, IfOk, OnErr, OnOk};
+ghost use Rattle.std.specs.Prelude.{◌≡◌, ◌≢◌, ◌↔◌, ℕ, List, Option, None, Some, IsTrue, IfOk, OnErr, OnOk, option_map};
+ghost use Rattle.std.specs.Option.{option_copied};
 ghost use Rattle.expr_error.specs.ErrorKind.{OnlyMemory};
 ghost use Rattle.expr_schema.specs.Kinds.{HasKind, IsNilable, Fits, SameFields, array, field, keyed, nilable, no_others};
-ghost use Rattle.expr_schema.specs.KindView.{fields_from, fields_view, kind_view, named_of, entry_view};
+ghost use Rattle.expr_schema.specs.KindView.{fields_from, fields_view, kind_view, named_of, others_of, entry_view};
 ghost use Rattle.expr_value.specs.Names.{find};
 ghost use Rattle.expr_value.specs.declared.value.Value.{Value, Nil};
 
@@ -127,6 +128,23 @@ impl Fields {
         Fields {
             named: OrderedMap::new(alloc),
             others: None,
+        }
+    }
+
+    /// What stands at a name, or `None` if no field has the name.
+    pub fn get(&self, name: &Text) -> Option<&FieldKind>
+        ensures { option_map entry_view (option_copied result) ≡ find name.now (named_of self.now) }
+    {
+        self.named.get_by_key(name)
+    }
+
+    /// The kind of the values that may stand at the names that no field has, or `None` where nothing may.
+    pub fn others(&self) -> Option<&Kind>
+        ensures { option_map kind_view (option_copied result) ≡ others_of self.now }
+    {
+        match &self.others {
+            Some(kind) => Some(kind.get()),
+            None => None,
         }
     }
 

@@ -1,5 +1,6 @@
 //! Schemas: what a host says of its names and its functions.
-ghost use Rattle.std.specs.Prelude.{◌≡◌, ◌↔◌, ℕ, List, Option, None, Some, MatchOption, OnErr, OnOk, IsTrue, bytes_eq, true, false, if◌then◌else◌};
+ghost use Rattle.std.specs.Prelude.{◌≡◌, ◌↔◌, ℕ, List, Option, None, Some, MatchOption, OnErr, OnOk, IsTrue, bytes_eq, option_map, true, false, if◌then◌else◌};
+ghost use Rattle.std.specs.Option.{option_copied};
 ghost use Rattle.expr_context.specs.Contexts.{context_of};
 ghost use Rattle.expr_error.specs.ErrorKind.{OnlyMemory};
 ghost use Rattle.expr_schema.specs.KindView.{fields_view, kind_view, entry_view};
@@ -105,6 +106,20 @@ impl Schema {
     {
         let name = Text::copy(self.alloc, name)?;
         self.functions.insert(name, signature)
+    }
+
+    /// What is said of the names.
+    pub fn names(&self) -> &Fields
+        ensures { fields_view result.now ≡ (scope_of self.now).names }
+    {
+        &self.names
+    }
+
+    /// What is said of a function, or `None` if nothing is.
+    pub fn signature(&self, name: &Text) -> Option<&Signature>
+        ensures { option_map signature_of (option_copied result) ≡ (scope_of self.now).functions name.now }
+    {
+        self.functions.get_by_key(name)
     }
 
     /// The first name of which a context doesn't keep to the schema, or `None` if the context keeps to it. Each value is

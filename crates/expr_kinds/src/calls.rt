@@ -1,0 +1,68 @@
+//! The check of calls of a host's functions, by their signatures.
+ghost use Rattle.std.specs.Prelude.{◌≡◌, ℕ, List, Some, IfOk, IsTrue, map};
+ghost use Rattle.expr_error.specs.ErrorKind.{OnlyMemory};
+ghost use Rattle.expr_kinds.specs.Checks.{Checks, ChecksEach, Upholds, known_scope};
+ghost use Rattle.expr_kinds.specs.Typed.{AllFit};
+ghost use Rattle.expr_schema.specs.KindView.{kind_view};
+ghost use Rattle.expr_schema.specs.Kinds.{never};
+ghost use Rattle.expr_schema.specs.SchemaView.{signature_of};
+ghost use Rattle.expr_schema.specs.Scopes.{Scope};
+ghost use Rattle.expr_tree.specs.Term.{Predicate, Terms, call};
+
+use crate::checked::{Checked, CheckedArguments, joined_effect};
+use crate::names::Known;
+use expr_schema::{Kind, Signature, fits};
+use expr_value::{Result, Text};
+use std::alloc::Global;
+
+/// What is known of a call. Of built-ins nothing is.
+pub(crate) fn call_checked(
+    alloc: Global,
+    key: &str,
+    arguments: &CheckedArguments,
+    known: &Known<'_>,
+) -> Result<Checked>
+    ensures ok { IfOk result (λ c. (s : Scope) (ts : Terms) (p : Predicate) → Upholds (known_scope known.now) s
+        → ChecksEach arguments.now s ts → Checks c s (call key.now ts p)) }
+    ensures err { OnlyMemory result }
+{
+    let name = Text::copy(alloc, key)?;
+    match known.schema.signature(&name) {
+        Some(signature) => signed_checked(alloc, arguments, signature),
+        None => Ok(Checked::unknown()),
+    }
+}
+
+/// What is known of a call of a function with a signature.
+fn signed_checked(
+    alloc: Global,
+    arguments: &CheckedArguments,
+    signature: &Signature,
+) -> Result<Checked>
+    ensures ok { IfOk result (λ c. (s : Scope) (key : List ℕ) (ts : Terms) (p : Predicate)
+        → s.functions key ≡ Some (signature_of signature.now) → ChecksEach arguments.now s ts
+        → Checks c s (call key ts p)) }
+    ensures err { OnlyMemory result }
+{
+    if !all_fit(arguments.kinds.as_slice(), signature.arguments.as_slice()) {
+        return Ok(Checked::unknown());
+    }
+    let kind = signature.gives.copy(alloc)?;
+    let effect = joined_effect(arguments.effect, signature.effect);
+    Ok(Checked { kind, effect })
+}
+
+/// Whether there are as many kinds as are wanted, each of which fits the one at its place.
+fn all_fit(kinds: &[Kind], wanted: &[Kind]) -> bool
+    ensures { IsTrue result → AllFit (map kind_view kinds.now) (map kind_view wanted.now) never }
+{
+    if kinds.len() != wanted.len() {
+        return false;
+    }
+    for i in 0..kinds.len() {
+        if !fits(&kinds[i], &wanted[i]) {
+            return false;
+        }
+    }
+    true
+}
