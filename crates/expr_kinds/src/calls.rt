@@ -22,8 +22,9 @@ pub(crate) fn call_checked(
     arguments: &CheckedArguments,
     known: &Known<'_>,
 ) -> Result<Checked>
-    ensures ok { IfOk result (λ c. (s : Scope) (ts : Terms) (p : Predicate) → Upholds (known_scope known.now) s
-        → ChecksEach arguments.now s ts → Checks c s (call key.now ts p)) }
+    ensures ok { IfOk result (λ c. (s : Scope) (ts : Terms) (p : Predicate)
+        → Upholds (known_scope known.now) s → ChecksEach arguments.now s ts
+        → Checks c s (call key.now ts p)) }
     ensures err { OnlyMemory result }
 {
     let name = Text::copy(alloc, key)?;

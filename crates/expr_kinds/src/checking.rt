@@ -182,7 +182,8 @@ fn map_checked(alloc: Global, pairs: &[(String, Node)], known: &Known<'_>) -> Re
 /// What is known of the arguments of a call.
 #[cycle(check)]
 fn arguments_checked(alloc: Global, nodes: &[Node], known: &Known<'_>) -> Result<CheckedArguments>
-    ensures ok { IfOk result (λ a. ChecksEachIn (known_scope known.now) a (terms_of (map term_of nodes.now))) }
+    ensures ok { IfOk result
+        (λ a. ChecksEachIn (known_scope known.now) a (terms_of (map term_of nodes.now))) }
     ensures err { OnlyMemory result }
 {
     let mut kinds = Vec::new(alloc);
