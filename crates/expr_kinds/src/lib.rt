@@ -16,6 +16,7 @@
 #![tactic(auto)]
 
 mod bases;
+mod call_rows;
 mod calls;
 mod checked;
 mod checking;
