@@ -13,12 +13,13 @@ use Rattle.expr_limits.specs.declared.limit.Limit.TheVariants.{Nesting, Patterns
 use Rattle.expr_limits.specs.declared.limits.Limits.{Limits}
 use Rattle.expr_limits.specs.declared.outcome.Outcome.{Outcome}
 use Rattle.expr_limits.specs.declared.outcome.Outcome.TheVariants.{Answered, Stopped}
+use Rattle.expr_meaning.specs.Refusals.{NeverRefusesWith}
 use Rattle.expr_meaning.specs.World.{World}
 use Rattle.expr_limits.specs.Sizes.{depth as depth_of}
 use Rattle.expr_syntax.specs.Bounds.{IsHeavier, IsHigher, IsLight}
 use Rattle.expr_syntax.specs.Texts.{IsPlaced, IsProgramWithin}
 use Rattle.expr_tree.specs.Term.{Block}
-use Rattle.expr_error.specs.ErrorKind.{error_kind, memory}
+use Rattle.expr_error.specs.ErrorKind.{RefusesNoPattern, error_kind, memory, pattern as bad_pattern}
 use Rattle.expr_error.specs.declared.error.Error.{Error}
 use Rattle.expr_error.specs.declared.error.Error.TheVariants.{PestError}
 use Rattle.expr_value.specs.declared.value.Value.{Value}
@@ -50,13 +51,15 @@ EndsText world text limits (Ok (Stopped limit)) = TextEnds world text limits (st
 EndsText world text limits (Err e) = error_kind e ≢ memory → IsRefused text (Err (error_kind e)) ⊎ TextEnds world text limits (refuses (error_kind e))
 
 -- the result of executing code in a world within limits
-pub record RunsCodeLimited (world : World) (blocks : List (List Op)) (limits : Limits) (result : Result (Outcome Value) Error) : Type 0 where
+pub record RunsCodeLimited (world : World) (blocks : List (List Op)) (keeps : Type 0) (limits : Limits) (result : Result (Outcome Value) Error) : Type 0 where
   -- it ends as a counted run of the code within these limits does: with its value, its error, or its limit
   pub outcome : ReturnsOutcome result (CodeEnds world blocks limits)
   -- `execute` may return its value
   pub answer : MayGive result (CodeAnswers world blocks)
   -- no value is deeper than the limit
   pub depth : IfOk result (λ o. OnAnswer o (λ v. depth_of v ≤ limits.depth))
+  -- if the code has its compiled patterns, none is compiled
+  pub pattern : NeverRefusesWith world.host bad_pattern → keeps → RefusesNoPattern result
 
 -- the result of evaluating an expression in a world within limits
 pub record AnswersTextLimited (world : World) (text : List ℕ) (limits : Limits) (result : Result (Outcome Value) Error) : Type 0 where

@@ -3,8 +3,11 @@ ghost use Rattle.std.specs.Prelude.{string_bytes};
 ghost use Rattle.expr.specs.Hosted.{host_of};
 ghost use Rattle.expr.specs.Limited.{AnswersTextLimited, RunsCodeLimited};
 ghost use Rattle.expr_eval.specs.Texts.{IsOwnFault};
-ghost use Rattle.expr_lowering.specs.Blocks.{blocks_of};
+ghost use Rattle.expr_error.specs.ErrorKind.{pattern as bad_pattern};
+ghost use Rattle.expr_lowering.specs.Blocks.{CodeKeeps, blocks_of};
+ghost use Rattle.expr_machine.specs.Promises.{CountsUse};
 ghost use Rattle.expr_meaning.specs.Host.{no_host};
+ghost use Rattle.expr_meaning.specs.Refusals.{NeverRefusesWith};
 ghost use Rattle.expr_meaning.specs.World.{world_of};
 ghost use Rattle.expr_acts.specs.Here.{here};
 
@@ -13,7 +16,7 @@ use expr_acts::World;
 use expr_context::ContextProvider;
 use expr_limits::{Limits, Outcome};
 use expr_lowering::{Code, Pointer};
-use expr_machine::execute_limited_with;
+use expr_machine::{LimitedRun, execute_limited_with, run_limited_with};
 use expr_meaning::{Functions, NoFunctions};
 use expr_syntax::compile_limited;
 use expr_tree::node::Pattern;
@@ -33,8 +36,10 @@ pub fn execute_limited<L: Pointer<Value>, N: Pointer<String>, P: Pointer<Pattern
     ctx: &dyn ContextProvider,
     limits: &Limits,
 ) -> Result<Outcome<Value>>
-    ensures { RunsCodeLimited (world_of no_host (context ctx.now))
-        (blocks_of L.held (λ n. string_bytes (N.held n)) code.now) limits.now result }
+    ensures code { RunsCodeLimited (world_of no_host (context ctx.now))
+        (blocks_of L.held (λ n. string_bytes (N.held n)) code.now) (CodeKeeps L.held P.held code.now)
+        limits.now result }
+    ensures never { NeverRefusesWith no_host bad_pattern }
 {
     let world = World {
         alloc,
@@ -42,6 +47,30 @@ pub fn execute_limited<L: Pointer<Value>, N: Pointer<String>, P: Pointer<Pattern
         provider: ctx,
     };
     execute_limited_with(&world, code, limits)
+}
+
+/// Executes code in a context within limits, as [`execute_limited`] does, and says what the run used of them: its
+/// steps, and the most size that it held at one time. A run that fails or stops has used them until then.
+pub fn execute_used<L: Pointer<Value>, N: Pointer<String>, P: Pointer<Pattern>>(
+    alloc: Global,
+    code: &Code<L, N, P>,
+    ctx: &dyn ContextProvider,
+    limits: &Limits,
+) -> LimitedRun
+    ensures code { RunsCodeLimited (world_of no_host (context ctx.now))
+        (blocks_of L.held (λ n. string_bytes (N.held n)) code.now) (CodeKeeps L.held P.held code.now)
+        limits.now result.outcome }
+    ensures never { NeverRefusesWith no_host bad_pattern }
+    ensures used { CountsUse (world_of no_host (context ctx.now))
+        (blocks_of L.held (λ n. string_bytes (N.held n)) code.now) limits.now result.outcome result.steps
+        result.size }
+{
+    let world = World {
+        alloc,
+        host: &NoFunctions,
+        provider: ctx,
+    };
+    run_limited_with(&world, code, limits)
 }
 
 /// Evaluates an expression in a context within limits, with no additions of a host: [`compile_limited`], then
@@ -85,7 +114,8 @@ impl Environment {
         limits: &Limits,
     ) -> Result<Outcome<Value>>
         ensures { RunsCodeLimited (world_of (host_of self.now) (context ctx.now))
-            (blocks_of L.held (λ n. string_bytes (N.held n)) code.now) limits.now result }
+            (blocks_of L.held (λ n. string_bytes (N.held n)) code.now) (CodeKeeps L.held P.held code.now)
+            limits.now result }
     {
         let world = World {
             alloc,
@@ -93,6 +123,30 @@ impl Environment {
             provider: ctx,
         };
         execute_limited_with(&world, code, limits)
+    }
+
+    /// Executes code in a context within limits, and says what the run used of them, as the free function
+    /// [`execute_used`] does, with the additions of this environment.
+    pub fn execute_used<L: Pointer<Value>, N: Pointer<String>, P: Pointer<Pattern>>(
+        &self,
+        alloc: Global,
+        code: &Code<L, N, P>,
+        ctx: &dyn ContextProvider,
+        limits: &Limits,
+    ) -> LimitedRun
+        ensures code { RunsCodeLimited (world_of (host_of self.now) (context ctx.now))
+            (blocks_of L.held (λ n. string_bytes (N.held n)) code.now) (CodeKeeps L.held P.held code.now)
+            limits.now result.outcome }
+        ensures used { CountsUse (world_of (host_of self.now) (context ctx.now))
+            (blocks_of L.held (λ n. string_bytes (N.held n)) code.now) limits.now result.outcome
+            result.steps result.size }
+    {
+        let world = World {
+            alloc,
+            host: self,
+            provider: ctx,
+        };
+        run_limited_with(&world, code, limits)
     }
 
     /// Evaluates an expression in a context within limits, as the free function [`eval_limited`] does, with

@@ -18,4 +18,5 @@ returns g c =
       outcome = c.execute_limited_with.ensures.outcome;
       answer = code_answers (world_of host base) blocks c.args.limits.now c.execute_limited_with.result c.execute_limited_with.ensures.outcome;
       depth = c.execute_limited_with.ensures.depth;
+      pattern = c.execute_limited_with.ensures.pattern;
     }
