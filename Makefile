@@ -20,7 +20,8 @@ OUT = hosts/out
 INSTALL = install
 
 VERSION := $(shell cat VERSION)
-PROGRAMS = $(filter exprlang expr_lines,$(notdir $(wildcard $(OUT)/bin/*)))
+KNOWN = exprlang expr_lines expr_check
+PROGRAMS = $(filter $(KNOWN),$(notdir $(wildcard $(OUT)/bin/*)))
 PAPERS = $(notdir $(wildcard $(OUT)/doc/*))
 CMAKEDIR = $(LIBDIR)/cmake/exprlang
 TO_INCLUDEDIR = $(shell realpath -ms --relative-to='$(CMAKEDIR)' '$(INCLUDEDIR)')
@@ -53,5 +54,5 @@ uninstall:
 	rm -f '$(DESTDIR)$(LIBDIR)/libexprlang.so.0' '$(DESTDIR)$(LIBDIR)/libexprlang.so' '$(DESTDIR)$(LIBDIR)/libexprlang.a'
 	rm -f '$(DESTDIR)$(INCLUDEDIR)/exprlang.h' '$(DESTDIR)$(LIBDIR)/pkgconfig/exprlang.pc'
 	rm -f '$(DESTDIR)$(MANDIR)/man3/exprlang.3'
-	for it in exprlang expr_lines; do rm -f '$(DESTDIR)$(BINDIR)'/$$it '$(DESTDIR)$(MANDIR)'/man1/$$it.1; done
+	for it in $(KNOWN); do rm -f '$(DESTDIR)$(BINDIR)'/$$it '$(DESTDIR)$(MANDIR)'/man1/$$it.1; done
 	rm -rf '$(DESTDIR)$(CMAKEDIR)' '$(DESTDIR)$(DOCDIR)'

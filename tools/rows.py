@@ -35,8 +35,8 @@ from markdown import blocks_of
 # those of PROGRAMS, and bin/hostile its own. The bench and hosts/c/rows.c both read `once`,
 # `printed`, `text` and `versions`.
 BENCH = (
-    "calls environment held name once order parts pattern plain printed refusing scope text tokens topic "
-    "versions within"
+    "calls environment held name once order parts pattern places plain printed refusing scope text tokens "
+    "topic versions within"
 ).split()
 # What the bench calls some of them, and which it reads as an expression among names.
 CALLED = {"printed": "once", "versions": "environment", "within": "text"}
@@ -45,7 +45,7 @@ HOSTS = (
     "added_function added_name added_zone context damaged limited names nest once printed "
     "text versions zone_name zones"
 ).split()
-PROGRAMS = "exprlang expr_lines".split()
+PROGRAMS = "exprlang expr_check expr_lines".split()
 KINDS = {"", "hostile", *BENCH, *HOSTS, *PROGRAMS}
 
 NAMED = {"": "", "LF": "\n", "CR": "\r", "TAB": "\t", "BOM": "\ufeff"}

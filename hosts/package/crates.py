@@ -9,7 +9,7 @@ import re
 
 from .made import TOP, run
 
-ROOTS = {"libexprlang": "expr_c", "exprlang": "expr_program", "expr_lines": "expr_lines"}
+ROOTS = {"libexprlang": "expr_c", "exprlang": "expr_program", "expr_lines": "expr_lines", "expr_check": "expr_check"}
 """The crate of which each product is made."""
 
 

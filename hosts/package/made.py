@@ -62,7 +62,7 @@ class Made:
 
     @property
     def programs(self) -> list[str]:
-        return [name for name in ("exprlang", "expr_lines") if (OUT / "bin" / name).is_file()]
+        return [name for name in ("exprlang", "expr_lines", "expr_check") if (OUT / "bin" / name).is_file()]
 
 
 def date_of_sources() -> int:

@@ -58,6 +58,9 @@ def first_of_programs(made: Made, folder: pathlib.Path, *before: str) -> None:
     if "expr_lines" in made.programs:
         said = run(*before, folder / "expr_lines", "count == 2", input=ORDER, env=BARE)
         same("the result of expr_lines", said, ORDER)
+    if "expr_check" in made.programs:
+        said = run(*before, folder / "expr_check", "-p", "-", input="count==2\n", env=BARE)
+        same("the result of expr_check", said, "count == 2\n")
 
 
 def first_in_c(program: os.PathLike[str] | str, *before: str, **known: str) -> None:

@@ -1,0 +1,9 @@
+mod Distinct
+mod Hiding
+mod Judging
+mod Plain
+mod Reporting
+mod Splitting
+mod Taking
+mod Tasking
+mod Walking
