@@ -5,7 +5,7 @@ use crate::page::Page;
 use expr::{
     Code, Context, Environment, ExprCall, Limits, Node, Parser, Pattern, Program, Result,
     ReusableMachine, Value, eval, eval_expr, eval_func, eval_limited, eval_operator,
-    eval_postfix_operator, eval_unary_operator, execute, execute_limited,
+    eval_postfix_operator, eval_unary_operator, execute, execute_limited, execute_used,
 };
 use std::alloc::Global;
 
@@ -155,6 +155,10 @@ fn put_code(
     page.put_limited("execute_limited", outcome);
     let outcome = host.execute_limited(alloc, code, context, &limits);
     page.put_limited("Environment::execute_limited", outcome);
+    let used = execute_used(alloc, code, context, &limits);
+    page.put_limited("execute_used", used.outcome);
+    let used = host.execute_used(alloc, code, context, &limits);
+    page.put_limited("Environment::execute_used", used.outcome);
     let mut machine = ReusableMachine::new(alloc, code);
     page.put_call("ReusableMachine::new", machine.execute(host, context));
     page.put_call("ReusableMachine::execute", machine.execute(host, context));

@@ -34,6 +34,7 @@ fn put_answer(alloc: Global, row: &Row, trees: &mut usize, page: &mut Page) {
         RowKind::Tokens => tokens::put_tokens(alloc, row, page),
         RowKind::Text | RowKind::Pattern | RowKind::Plain => programs::put_text(alloc, row, page),
         RowKind::Name => programs::put_name(alloc, row.text.as_str(), page),
+        RowKind::Places => programs::put_places(alloc, row.text.as_str(), page),
         RowKind::Topic => topics::put_topics(alloc, page),
         RowKind::Unknown => page.put("!!no such kind"),
         _ => shop::put_among(alloc, row, page),

@@ -2,7 +2,8 @@
 use crate::page::Page;
 use crate::row::{Row, RowKind};
 use expr::{
-    Context, Error, Node, Program, compile, compile_within, eval_expr, node_to_code, run, to_code,
+    Context, Error, Node, Program, compile, compile_with_places, compile_within, eval_expr,
+    node_to_code, run, to_code,
 };
 use std::alloc::Global;
 
@@ -69,6 +70,24 @@ fn put_pattern(node: &Node, page: &mut Page) {
         page.put(pattern.text());
     } else {
         page.put("none");
+    }
+}
+
+/// Puts where each node of a text's program stands in the text, in post-order.
+pub fn put_places(alloc: Global, text: &str, page: &mut Page) {
+    page.put_name("compile_with_places");
+    match compile_with_places(alloc, text) {
+        Ok(placed) => {
+            let mut gap = "";
+            for place in &placed.places {
+                page.put(gap);
+                page.put_shown(&place.start);
+                page.put("..");
+                page.put_shown(&place.end);
+                gap = " ";
+            }
+        }
+        Err(error) => page.put_error(error),
     }
 }
 

@@ -21,6 +21,8 @@ pub enum RowKind {
     Plain,
     /// The text of a name alone.
     Name,
+    /// Where each node of a program stands in its text.
+    Places,
     /// What no text asks for.
     Topic,
     /// What a text comes to in the shop.
@@ -50,6 +52,7 @@ const KINDS: &[(&str, RowKind)] = &[
     ("pattern", RowKind::Pattern),
     ("plain", RowKind::Plain),
     ("name", RowKind::Name),
+    ("places", RowKind::Places),
     ("topic", RowKind::Topic),
     ("environment", RowKind::Environment),
     ("refusing", RowKind::Refusing),
