@@ -12,5 +12,5 @@ returns-in-Some-clause-ok c =
     λ d h s ts p keeps es. h s c.args.key.now ts p (ap (λ f. f c.args.key.now) (keeps.functions ∙ bound-functions c.args.known.now.bound.items schema) ∙ sym c.in-Some.ensures) es
     ) c.signed_checked.ensures.ok
 
-pub returns-clause-ok : goal.returns-clause-ok
-returns-clause-ok c = λ s ts p keeps es. c.unknown.ensures.tree s (call c.args.key.now ts p)
+pub returns-in-None-clause-ok : goal.returns-in-None-clause-ok
+returns-in-None-clause-ok c = λ s ts p keeps es. c.unknown.ensures.tree s (call c.args.key.now ts p)
