@@ -1,5 +1,5 @@
 -- What a check tells of a tree, by what it tells of the parts.
-use Rattle.std.proofs.Common.{◌≡◌, ℕ, List, [], ◌∷◌, true, false, Some, MatchBool, Result, Ok, Err, IfOk, bytes_eq, codes, refl, sym, subst, inl, inr}
+use Rattle.std.proofs.Common.{◌≡◌, ℕ, List, [], ◌∷◌, true, false, Option, Some, None, MatchBool, Result, Ok, Err, IfOk, IfSome, bytes_eq, codes, refl, sym, subst, inl, inr}
 use Rattle.expr_error.specs.ErrorKind.{evaluation, pattern}
 use Rattle.expr_functions.specs.Strictness.{operator_strictness}
 use Rattle.expr_functions.specs.declared.operator.Operator.{Operator}
@@ -55,6 +55,10 @@ covers-through e a b p q f h = p f (q f h)
 pub if-ok : {A E : Type 0} (r : Result A E) (P Q : A → Type 0) → ((a : A) → P a → Q a) → IfOk r P → IfOk r Q
 if-ok (Ok a) P Q f h = f a h
 if-ok (Err e) P Q f h = tt
+
+pub if-some : {A : Type 0} (o : Option A) (P Q : A → Type 0) → ((a : A) → P a → Q a) → IfSome o P → IfSome o Q
+if-some (Some a) P Q f h = f a h
+if-some None P Q f h = tt
 
 -- names, literals and prefixes
 pub name-typed : (e : Effect) (s : Scope) (key : List ℕ) (k : Kind) → bytes_eq key (codes "$env") ≡ false → given_at s.names key ≡ Some k → Typed e s (name key) k

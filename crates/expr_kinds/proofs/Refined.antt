@@ -143,6 +143,23 @@ module _ (known s : Scope) (keeps : Upholds known s) where
       absent = λ n q. bound-absent n q (bytes_eq key n) refl;
     }
 
+  -- a name that is bound in both
+  pub bind-upholds : (key : List ℕ) (a k : Kind) → Fits a k → Upholds (bind_kind key k known) (bind_kind key a s)
+  bind-upholds key a k fits = record {
+    environment = keeps.environment;
+    functions = keeps.functions;
+    given = λ n wanted q. there n wanted (bytes_eq key n) q;
+    absent = λ n q. absent n (bytes_eq key n) q;
+  }
+    where
+      there : (n : List ℕ) (wanted : Kind) (b : Bool) → cond b (Some k) (given_at known.names n) ≡ Some wanted → (i : Kind) × (cond b (Some a) (given_at s.names n) ≡ Some i) × Fits i wanted
+      there n wanted true q = (a, refl, λ v h. subst (λ j. HasKind j v) (same-kinds k wanted q) (fits v h))
+      there n wanted false q = keeps.given n wanted q
+
+      absent : (n : List ℕ) (b : Bool) → cond b false (is_absent known.names n) ≡ true → cond b false (is_absent s.names n) ≡ true
+      absent n true q = absurd (cc q)
+      absent n false q = keeps.absent n q
+
   refined-keeps : (key : List ℕ) (refine : Refinement) → Refines refine → Upholds known (bind_if key (refined refine (given_at s.names key)) s)
   refined-keeps key refine r = here (given_at s.names key) refl
     where

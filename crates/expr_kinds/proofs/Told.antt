@@ -1,5 +1,5 @@
 -- What is told of a tree holds, if what is told of its parts does.
-use Rattle.std.proofs.Common.{◌≡◌, ℕ, ◌+◌, ◌<◌, List, [], ◌∷◌, ◌++◌, map as mapped, length, get_or, drop, Bool, true, false, Some, bytes_eq, codes, refl, sym, ap, ◌∙◌, subst, inl, inr}
+use Rattle.std.proofs.Common.{◌≡◌, ℕ, ◌+◌, ◌<◌, List, [], ◌∷◌, ◌++◌, map as mapped, length, get_or, drop, Bool, true, false, cond, Some, bytes_eq, codes, refl, sym, ap, ◌∙◌, subst, inl, inr}
 use Rattle.std.proofs.lemmas.List.{drop_more}
 use Rattle.expr_functions.specs.Strictness.{operator_strictness}
 use Rattle.expr_functions.specs.declared.operator.Operator.{Operator}
@@ -14,13 +14,14 @@ use Rattle.expr_schema.specs.SchemaView.{effect_of}
 use Rattle.expr_schema.specs.declared.kind.Kind as memory
 use Rattle.expr_schema.specs.Scopes.{Scope}
 use Rattle.expr_kinds.specs.Causes.{Literals, effect_under}
-use Rattle.expr_kinds.specs.Checks.{Checks, ChecksBlock, Upholds, PartFits, SideFits}
+use Rattle.expr_kinds.specs.Checks.{Checks, ChecksBlock, Upholds, PartFits, SideFits, with_bound}
 use Rattle.expr_kinds.specs.Effects.{CoversEffect}
 use Rattle.expr_kinds.specs.Narrowing.{after, assuming}
-use Rattle.expr_kinds.specs.Scopes.{at_name, given_at}
+use Rattle.expr_kinds.specs.Scopes.{at_name, bind_kind, given_at}
 use Rattle.expr_kinds.specs.Tables.{OperatorRow, rows, unary_kind}
 use Rattle.expr_kinds.specs.Typed.{OneOf, Within, Typed, TypedBlock}
 use Rattle.expr_kinds.specs.declared.checked.Checked.{Checked}
+use Rattle.expr_kinds.specs.declared.names.BoundKind.{BoundKind}
 use Rattle.expr_kinds.proofs.Composed.{range-typed, choice-typed, ternary-typed, coalesce-typed, field-typed, item-typed, byte-typed, entry-typed, optional-field-typed, optional-literal-typed, optional-typed}
 use Rattle.expr_kinds.proofs.Judged.{within-fits, covers-through, name-typed, env-typed, prefix-typed, row-typed, and-typed, or-typed, match-typed}
 
@@ -142,3 +143,26 @@ drop-at xs i x is below = drop_more xs i x below ∙ ap (λ y. y ∷ drop (i + 1
 pub pushed : (xs : List memory.Kind) (k : memory.Kind) (ks : List Kind) → mapped kind_view (xs ++ k ∷ []) ++ ks ≡ mapped kind_view xs ++ (kind_view k ∷ ks)
 pushed [] k ks = refl
 pushed (x ∷ xs) k ks = ap (λ ys. kind_view x ∷ ys) (pushed xs k ks)
+
+-- names that are bound one after the other
+pub bound-last : (bs : List BoundKind) (b : BoundKind) (s : Scope) → with_bound (bs ++ b ∷ []) s ≡ bind_kind b.name.now (kind_view b.kind) (with_bound bs s)
+bound-last [] b s = refl
+bound-last (x ∷ bs) b s = bound-last bs b (bind_kind x.name.now (kind_view x.kind) s)
+
+pub bound-environment : (bs : List BoundKind) (s : Scope) → (with_bound bs s).environment ≡ s.environment
+bound-environment [] s = refl
+bound-environment (b ∷ bs) s = bound-environment bs (bind_kind b.name.now (kind_view b.kind) s)
+
+pub bound-functions : (bs : List BoundKind) (s : Scope) → (with_bound bs s).functions ≡ s.functions
+bound-functions [] s = refl
+bound-functions (b ∷ bs) s = bound-functions bs (bind_kind b.name.now (kind_view b.kind) s)
+
+module _ (bs : List BoundKind) (b : BoundKind) (s : Scope) (key : List ℕ) where
+  at-last : (q : Bool) → bytes_eq b.name.now key ≡ q → given_at (with_bound (bs ++ b ∷ []) s).names key ≡ cond q (Some (kind_view b.kind)) (given_at (with_bound bs s).names key)
+  at-last q same = ap (λ (x : Scope). given_at x.names key) (bound-last bs b s) ∙ ap (λ c. cond c (Some (kind_view b.kind)) (given_at (with_bound bs s).names key)) same
+
+  pub bound-found : bytes_eq b.name.now key ≡ true → given_at (with_bound (bs ++ b ∷ []) s).names key ≡ Some (kind_view b.kind)
+  bound-found same = at-last true same
+
+  pub bound-before : bytes_eq b.name.now key ≡ false → given_at (with_bound (bs ++ b ∷ []) s).names key ≡ given_at (with_bound bs s).names key
+  bound-before other = at-last false other

@@ -1,5 +1,5 @@
 -- What a check says of a tree.
-use Rattle.std.specs.Prelude.{◌≡◌, ◌⊎◌, ℕ, true, List, Some, map as each}
+use Rattle.std.specs.Prelude.{◌≡◌, ◌⊎◌, ℕ, true, List, [], ◌∷◌, Some, map as each}
 use Rattle.expr_tree.specs.Term.{Block, Postfix, Term, Terms, postfix}
 use Rattle.expr_schema.specs.KindView.{kind_view}
 use Rattle.expr_schema.specs.Kinds.{Kind, any, never, nil, bool, integer, string, bytes, duration, month, weekday, datetime, timezone, array, map, keyed, nilable, others, Fits, Effect}
@@ -7,11 +7,12 @@ use Rattle.expr_schema.specs.SchemaView.{effect_of, scope_of}
 use Rattle.expr_schema.specs.Scopes.{Scope}
 use Rattle.expr_kinds.specs.Causes as cause
 use Rattle.expr_kinds.specs.Effects.{CoversEffect}
-use Rattle.expr_kinds.specs.Scopes.{given_at, is_absent}
+use Rattle.expr_kinds.specs.Scopes.{bind_kind, given_at, is_absent}
 use Rattle.expr_kinds.specs.Tables.{OperatorRow}
 use Rattle.expr_kinds.specs.Typed.{Typed, TypedBlock, TypedEach, Within}
 use Rattle.expr_kinds.specs.declared.checked.CheckedArguments.{CheckedArguments}
 use Rattle.expr_kinds.specs.declared.checked.Checked.{Checked}
+use Rattle.expr_kinds.specs.declared.names.BoundKind.{BoundKind}
 use Rattle.expr_kinds.specs.declared.names.Known.{Known}
 use Rattle.expr_kinds.specs.declared.tables.Base.{Base}
 use Rattle.expr_kinds.specs.declared.tables.Base.TheVariants as base
@@ -29,12 +30,16 @@ Checks c s t = (e : Effect) → CoversEffect e (effect_of c.effect) → Within (
 abbrev pub ChecksBlock : Checked → Scope → Block → Type 0
 ChecksBlock c s b = (e : Effect) → CoversEffect e (effect_of c.effect) → Within (λ a. TypedBlock e s b a) (kind_view c.kind)
 
+-- a scope has a value at a name, of a kind that fits
+abbrev pub HasAt : Scope → List ℕ → Kind → Type 0
+HasAt s key k = Within (λ j. given_at s.names key ≡ Some j) k
+
 -- A scope upholds what is known: it has the same `$env` and functions, a value of a kind that fits at each name that is
 -- known to have one, and nothing at each name that is known to have nothing.
 pub record Upholds (known s : Scope) : Type 0 where
   pub environment : s.environment ≡ known.environment
   pub functions : s.functions ≡ known.functions
-  pub given : (key : List ℕ) (k : Kind) → given_at known.names key ≡ Some k → (j : Kind) × (given_at s.names key ≡ Some j) × Fits j k
+  pub given : (key : List ℕ) (k : Kind) → given_at known.names key ≡ Some k → HasAt s key k
   pub absent : (key : List ℕ) → is_absent known.names key ≡ true → is_absent s.names key ≡ true
 
 -- what a check says in each scope that has what is known
@@ -66,9 +71,13 @@ ChecksEachIn known a ts = (s : Scope) → Upholds known s → ChecksEach a s ts
 abbrev pub SideFits : Checked → Kind → Effect → Type 0
 SideFits c k e = Fits (kind_view c.kind) k × CoversEffect e (effect_of c.effect)
 
--- the scope that is known
+-- the scope that is known: that of the schema, with the names that are bound
+abbrev pub with_bound : List BoundKind → Scope → Scope
+with_bound [] s = s
+with_bound (b ∷ bs) s = with_bound bs (bind_kind b.name.now (kind_view b.kind) s)
+
 abbrev pub known_scope : Known → Scope
-known_scope k = scope_of k.schema.now
+known_scope k = with_bound k.bound.items (scope_of k.schema.now)
 
 -- the rows of the tables in memory
 abbrev pub base_kind : Base → Kind
@@ -96,6 +105,8 @@ abbrev pub cause_view : Cause → cause.Cause
 cause_view why.Nothing = cause.nothing
 cause_view why.Content = cause.content
 cause_view (why.ZeroAt n) = cause.zero_at n
+cause_view (why.NegativeAt n) = cause.negative_at n
+cause_view (why.DirectionAt n) = cause.direction_at n
 
 abbrev pub row_view : TableRow → OperatorRow
 row_view r = record { left = side_kind r.left; right = side_kind r.right; gives = base_kind r.gives; cause = cause_view r.cause }

@@ -12,7 +12,7 @@ ghost use Rattle.expr_tree.specs.Term.{Predicate, Terms, call};
 use crate::checked::{Checked, CheckedArguments, joined_effect};
 use crate::names::Known;
 use expr_schema::{Kind, Signature, fits};
-use expr_value::{Result, Text};
+use expr_value::Result;
 use std::alloc::Global;
 
 /// What is known of a call. Of built-ins nothing is.
@@ -27,8 +27,7 @@ pub(crate) fn call_checked(
         → Checks c s (call key.now ts p)) }
     ensures err { OnlyMemory result }
 {
-    let name = Text::copy(alloc, key)?;
-    match known.schema.signature(&name) {
+    match known.schema.signature(key) {
         Some(signature) => signed_checked(alloc, arguments, signature),
         None => Ok(Checked::unknown()),
     }

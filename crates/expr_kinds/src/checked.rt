@@ -57,5 +57,6 @@ pub(crate) fn cause_effect(cause: Cause) -> Effect
     match cause {
         Cause::Nothing => Effect::Total,
         Cause::Content | Cause::ZeroAt(_) => Effect::Failing,
+        Cause::NegativeAt(_) | Cause::DirectionAt(_) => Effect::Failing,
     }
 }

@@ -19,13 +19,13 @@ use std::alloc::Global;
 
 /// The kind of what a program returns, and which errors may come, in each context and host that keep to a schema.
 ///
-/// Of built-ins, methods, slices and lines nothing is known: they return a value of any kind, or fail.
+/// Of built-ins, methods and slices nothing is known: they return a value of any kind, or fail.
 /// No clause says that the kind has few other values, nor that an error that may come does come.
 pub fn check(alloc: Global, program: &Program, schema: &Schema) -> Result<Checked>
     ensures ok { IfOk result (λ c. ChecksBlock c (scope_of schema.now) (program_term program.now)) }
     ensures err { OnlyMemory result }
 {
-    let known = Known { schema };
+    let known = Known::of(alloc, schema);
     let checked = block_checked(alloc, program, &known)?;
     Ok(checked)
 }
@@ -35,22 +35,33 @@ pub fn check_node(alloc: Global, node: &Node, schema: &Schema) -> Result<Checked
     ensures ok { IfOk result (λ c. Checks c (scope_of schema.now) (term_of node.now)) }
     ensures err { OnlyMemory result }
 {
-    let known = Known { schema };
+    let known = Known::of(alloc, schema);
     let checked = node_checked(alloc, node, &known)?;
     Ok(checked)
 }
 
-/// What is known of a program.
+/// What is known of a program. Each of its lines binds a name for the lines after it.
 #[cycle(check)]
 fn block_checked(alloc: Global, program: &Program, known: &Known<'_>) -> Result<Checked>
     ensures ok { IfOk result (λ c. ChecksBlockIn (known_scope known.now) c (program_term program.now)) }
     ensures err { OnlyMemory result }
 {
-    if !program.lines.is_empty() {
-        return Ok(Checked::unknown());
+    if program.lines.is_empty() {
+        let checked = node_checked(alloc, &program.expr, known)?;
+        return Ok(checked);
     }
-    let checked = node_checked(alloc, &program.expr, known)?;
-    Ok(checked)
+    let mut inner = known.copy(alloc)?;
+    let mut effect = Effect::Total;
+    for (name, node) in &program.lines {
+        let found = node_checked(alloc, node, &inner)?;
+        effect = joined_effect(effect, found.effect);
+        let Checked { kind, effect: _ } = found;
+        inner.bind(name, kind)?;
+    }
+    let last = node_checked(alloc, &program.expr, &inner)?;
+    effect = joined_effect(effect, last.effect);
+    let Checked { kind, effect: _ } = last;
+    Ok(Checked { kind, effect })
 }
 
 /// What is known of a tree.
@@ -212,8 +223,7 @@ fn name_checked(alloc: Global, key: &str, known: &Known<'_>) -> Result<Checked>
             effect: Effect::Total,
         });
     }
-    let text = Text::copy(alloc, key)?;
-    match known.given(&text) {
+    match known.given(key) {
         Some(found) => {
             let kind = found.copy(alloc)?;
             Ok(Checked {

@@ -76,7 +76,7 @@ fn field_kind(alloc: Global, fields: &Fields, name: &Text) -> Result<Kind>
     ensures ok { IfOk result (λ k. Fits (at_name (fields_view fields.now) name.now) (kind_view k)) }
     ensures err { OnlyMemory result }
 {
-    match fields.get(name) {
+    match fields.get(name.as_str()) {
         Some(field) => {
             let kind = field.kind.copy(alloc)?;
             if field.required {

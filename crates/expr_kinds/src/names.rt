@@ -1,32 +1,109 @@
 //! What is known of the names where a tree stands.
-ghost use Rattle.std.specs.Prelude.{◌≡◌, Some, IfSome};
-ghost use Rattle.expr_kinds.specs.Checks.{known_scope};
-ghost use Rattle.expr_kinds.specs.Scopes.{given_at};
+ghost use Rattle.std.specs.Prelude.{◌≡◌, Some, IfOk, IfSome, MatchOption, OnOk};
+ghost use Rattle.expr_error.specs.ErrorKind.{OnlyMemory};
+ghost use Rattle.expr_kinds.specs.Checks.{known_scope, with_bound};
+ghost use Rattle.expr_kinds.specs.Scopes.{bind_kind, given_at};
 ghost use Rattle.expr_schema.specs.KindView.{kind_view};
+ghost use Rattle.expr_schema.specs.SchemaView.{scope_of};
+ghost use Rattle.expr_schema.specs.Scopes.{Scope};
 
 use expr_schema::{Kind, Schema};
-use expr_value::Text;
+use expr_value::Result;
+use std::alloc::Global;
 
-/// What is known of the names where a tree stands: what the schema says.
+/// A name that is bound to a value of a kind.
+#[derive(Drop)]
+pub struct BoundKind<'a> {
+    pub name: &'a str,
+    pub kind: Kind,
+}
+
+/// What is known of the names where a tree stands: the names that are bound there, the last one innermost, and around
+/// them what the schema says.
 #[derive(Drop)]
 pub struct Known<'a> {
     pub schema: &'a Schema,
+    pub bound: Vec<BoundKind<'a>>,
 }
 
 impl<'a> Known<'a> {
+    /// What a schema says.
+    pub(crate) fn of(alloc: Global, schema: &'a Schema) -> Known<'a>
+        ensures { known_scope result ≡ scope_of schema.now }
+    {
+        Known {
+            schema,
+            bound: Vec::new(alloc),
+        }
+    }
+
+    /// A copy, in which more names can be bound.
+    pub(crate) fn copy(&self, alloc: Global) -> Result<Known<'a>>
+        ensures ok { IfOk result (λ k. known_scope k ≡ known_scope self.now) }
+        ensures err { OnlyMemory result }
+    {
+        let mut bound = Vec::new(alloc);
+        for entry in &self.bound {
+            let name = entry.name;
+            let kind = entry.kind.copy(alloc)?;
+            bound.push(BoundKind { name, kind })?;
+        }
+        Ok(Known {
+            schema: self.schema,
+            bound,
+        })
+    }
+
+    /// Binds a name to a value of a kind, in front of what was known of the name.
+    pub(crate) fn bind(&mut self, name: &'a str, kind: Kind) -> Result<()>
+        ensures ok { OnOk result (known_scope self.new
+            ≡ bind_kind name.now (kind_view kind) (known_scope self.old)) }
+        ensures err { OnlyMemory result }
+    {
+        self.bound.push(BoundKind { name, kind })?;
+        Ok(())
+    }
+
     /// The kind of a name that always has a value, or `None`.
-    pub(crate) fn given(&self, name: &Text) -> Option<&Kind>
+    pub(crate) fn given(&self, name: &str) -> Option<&Kind>
         ensures { IfSome result (λ k. given_at (known_scope self.now).names name.now
             ≡ Some (kind_view k.now)) }
     {
-        match self.schema.names().get(name) {
-            Some(field) => {
-                if field.required {
-                    return Some(&field.kind);
-                }
-                None
-            }
-            None => None,
+        match bound_kind(&self.bound, name) {
+            Some(kind) => Some(kind),
+            None => required_kind(self.schema, name),
         }
+    }
+}
+
+/// The kind of the last of these names that is the one that is asked for.
+fn bound_kind<'k>(bound: &'k [BoundKind<'_>], name: &str) -> Option<&'k Kind>
+    ensures { MatchOption result
+        ((s : Scope) → given_at (with_bound bound.now s).names name.now ≡ given_at s.names name.now)
+        (λ k. (s : Scope) → given_at (with_bound bound.now s).names name.now ≡ Some (kind_view k.now)) }
+{
+    let mut count = bound.len();
+    while count > 0 {
+        count -= 1;
+        let entry = &bound[count];
+        if entry.name == name {
+            return Some(&entry.kind);
+        }
+    }
+    None
+}
+
+/// The kind of a name that the schema requires, or `None`.
+fn required_kind<'k>(schema: &'k Schema, name: &str) -> Option<&'k Kind>
+    ensures { IfSome result (λ k. given_at (scope_of schema.now).names name.now ≡ Some (kind_view k.now)) }
+{
+    match schema.names().get(name) {
+        Some(field) => {
+            if field.required {
+                return Some(&field.kind);
+            }
+            None
+        }
+        None => None,
     }
 }

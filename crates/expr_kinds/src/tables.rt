@@ -49,6 +49,10 @@ pub enum Cause {
     Content,
     /// The integer at this place is zero. Places are counted from 0.
     ZeroAt(usize),
+    /// The integer at this place is below zero.
+    NegativeAt(usize),
+    /// The string at this place is neither "asc" nor "desc".
+    DirectionAt(usize),
 }
 
 /// With operands of the kinds on both sides, an operator returns a value of a kind, or fails for a cause.

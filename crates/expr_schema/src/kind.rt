@@ -132,10 +132,10 @@ impl Fields {
     }
 
     /// What stands at a name, or `None` if no field has the name.
-    pub fn get(&self, name: &Text) -> Option<&FieldKind>
+    pub fn get(&self, name: &str) -> Option<&FieldKind>
         ensures { option_map entry_view (option_copied result) ≡ find name.now (named_of self.now) }
     {
-        self.named.get_by_key(name)
+        self.named.get(name)
     }
 
     /// The kind of the values that may stand at the names that no field has, or `None` where nothing may.

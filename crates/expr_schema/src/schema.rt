@@ -116,10 +116,10 @@ impl Schema {
     }
 
     /// What is said of a function, or `None` if nothing is.
-    pub fn signature(&self, name: &Text) -> Option<&Signature>
+    pub fn signature(&self, name: &str) -> Option<&Signature>
         ensures { option_map signature_of (option_copied result) ≡ (scope_of self.now).functions name.now }
     {
-        self.functions.get_by_key(name)
+        self.functions.get(name)
     }
 
     /// The first name of which a context doesn't keep to the schema, or `None` if the context keeps to it. Each value is

@@ -1,4 +1,4 @@
-use Rattle.std.proofs.Common.{◌≡◌, ◌==◌, ◌++◌, ◌≤◌, Bool, true, false, List, [], ◌∷◌, length, map, get_or, Box, Vec, String, Global, string_bytes, inl, vec_len, append-nil, refl, sym, ap, ◌∙◌, subst, arith, rules}
+use Rattle.std.proofs.Common.{◌≡◌, ◌==◌, ◌++◌, ◌+◌, ◌≤◌, Bool, true, false, List, [], ◌∷◌, length, map, drop, get_or, Box, Vec, String, Global, string_bytes, inl, vec_len, append-nil, refl, sym, ap, ◌∙◌, subst, arith, rules}
 use Rattle.std.proofs.lemmas.Bool.{eqb-true}
 use Rattle.std.proofs.lemmas.List.{drop_all}
 use Rattle.expr_functions.specs.Strictness.{operator_strictness}
@@ -15,14 +15,15 @@ use Rattle.expr_tree.specs.declared.node.PostfixOperator.TheVariants as behind
 use Rattle.expr_schema.specs.Kinds.{array, map as a_map, field, no_others, HasKind, SameFields, StandsAt}
 use Rattle.expr_schema.specs.KindView.{Entry, fields_view, kind_view}
 use Rattle.expr_schema.specs.SchemaView.{effect_of}
-use Rattle.expr_kinds.specs.Checks.{Checks, ChecksBlock, ChecksBlockIn, ChecksEachIn, ChecksIn, known_scope}
+use Rattle.expr_kinds.specs.Checks.{Checks, ChecksBlock, ChecksBlockIn, ChecksEachIn, ChecksIn, Upholds, known_scope}
 use Rattle.expr_kinds.specs.Narrowing.{after, assuming}
-use Rattle.expr_kinds.specs.Typed.{Typed, TypedAll, TypedEach, TypedPairs}
+use Rattle.expr_kinds.specs.Scopes.{bind_kind}
+use Rattle.expr_kinds.specs.Typed.{Typed, TypedAll, TypedBlock, TypedEach, TypedPairs}
 use Rattle.expr_kinds.proofs.Composed.{list-typed}
 use Rattle.expr_kinds.proofs.Judged.{covers-through, fits-same, if-ok, within-fits}
 use Rattle.expr_kinds.proofs.TableKinds.{entry-made, field-lets, map-lets}
 use Rattle.expr_kinds.proofs.Told.{drop-at, pushed}
-use Rattle.expr_kinds.proofs.Refined.{after-keeps, assuming-keeps}
+use Rattle.expr_kinds.proofs.Refined.{after-keeps, assuming-keeps, bind-upholds}
 use Rattle.expr_kinds.proofs.checking.+check.Goals as goal
 
 pub node_checked-returns-in-Ident-clause-ok : goal.node_checked-returns-in-Ident-clause-ok
@@ -110,12 +111,52 @@ none-of (x ∷ xs) e = absurd (omega (arith, e))
 no-items : {X Z : Type 0} (v : Vec X Z) (b : Bool) → b ≡ (vec_len v == 0) → b ≡ true → v.items ≡ []
 no-items v b e q = none-of v.items (sym v.ok.0 ∙ eqb-true (vec_len v) 0 (sym e ∙ q))
 
-pub block_checked-returns-clause-ok : goal.block_checked-returns-clause-ok
-block_checked-returns-clause-ok t c =
+pub block_checked-returns-then-is_empty-clause-ok : goal.block_checked-returns-then-is_empty-clause-ok
+block_checked-returns-then-is_empty-clause-ok t c =
     let p = c.args.program.now in
-    let none = no-items p.lines c.is_empty.result c.is_empty.ensures c.if-not-is_empty.false in
+    let none = no-items p.lines c.is_empty.result c.is_empty.ensures c.if-is_empty.true in
     let shape : program_term p ≡ answers (term_of p.expr) = term_of-parts p ∙ ap (λ ls. block_with (map line_term ls) (term_of p.expr)) none in
     λ s keeps. subst (λ b. ChecksBlock c.in_ok-checked.checked s b) (sym shape) (c.in_ok-checked.ensures.ok s keeps)
+
+-- the lines of a program
+pub block_checked-loop-name-init : goal.block_checked-loop-name-init
+block_checked-loop-name-init t c = λ s keeps e covers. (
+  s,
+  subst (λ k. Upholds k s) (sym c.in_ok-inner.ensures.ok) keeps,
+  λ k h. subst (λ b. TypedBlock e s b k) (sym (term_of-parts c.args.program.now)) h,
+)
+
+pub block_checked-loop-name-preserved : goal.block_checked-loop-name-preserved
+block_checked-loop-name-preserved t c = λ s keeps e covers.
+    let lines = c.args.program.now.lines.items in
+    let last = term_of c.args.program.now.expr in
+    let i = c.loop-name.name-index in
+    let l = c.loop-name-item.result in
+    let items : c.deref-name-items.result.now ≡ lines = c.deref-name-items.ensures.value in
+    let at : drop i lines ≡ l ∷ drop (i + 1) lines = subst (λ xs. drop i xs ≡ l ∷ drop (i + 1) xs) items (drop-at c.deref-name-items.result.now i l c.loop-name-item.is c.loop-name-test.true) in
+    let checked = c.in_ok-found.found in
+    let f = effect_of c.joined_effect-effect.result in
+    let key = string_bytes l.0 in
+    let k = kind_view checked.kind in
+    let inner = known_scope c.loop-name.inner in
+    let (u, up, goes_on) = c.loop-name.invariant s keeps e (covers-through e f (effect_of c.loop-name.effect) covers c.joined_effect-effect.ensures.first) in
+    let (a, ha, fa) = c.in_ok-found.ensures.ok u up e (covers-through e f (effect_of checked.effect) covers c.joined_effect-effect.ensures.second) in
+    let bound : known_scope c.bind.new.self ≡ bind_kind key k inner = c.in_ok-bind.ensures.ok ∙ ap (λ n. bind_kind n k inner) (search rules) in (
+      bind_kind key a u,
+      subst (λ x. Upholds x (bind_kind key a u)) (sym bound) (bind-upholds inner u up key a k fa),
+      λ j h. goes_on j (subst (λ ls. TypedBlock e u (block_with (map line_term ls) last) j) (sym at) (a, ha, h)),
+    )
+
+pub block_checked-returns-clause-ok : goal.block_checked-returns-clause-ok
+block_checked-returns-clause-ok t c = λ s keeps e covers.
+    let lines = c.args.program.now.lines.items in
+    let last = term_of c.args.program.now.expr in
+    let i = c.loop-name.name-index in
+    let over : length lines ≤ i = subst (λ xs. length xs ≤ i) c.deref-name-items.ensures.value c.loop-name-test.false in
+    let f = effect_of c.joined_effect-effect-2.result in
+    let (u, up, goes_on) = c.loop-name.invariant s keeps e (covers-through e f (effect_of c.loop-name.effect) covers c.joined_effect-effect-2.ensures.first) in
+    let (a, ha, fa) = c.in_ok-last.ensures.ok u up e (covers-through e f (effect_of c.in_ok-last.last.effect) covers c.joined_effect-effect-2.ensures.second) in
+    (a, goes_on a (subst (λ ls. TypedBlock e u (block_with (map line_term ls) last) a) (sym (drop_all i lines over)) ha), fa)
 
 -- operators after an operand
 pub postfix_checked-returns-in-Some-clause-ok : goal.postfix_checked-returns-in-Some-clause-ok

@@ -3,12 +3,19 @@ use Rattle.expr_schema.specs.Kinds.{Effect, Fields, Fits, Kind, Lets, no_others}
 use Rattle.expr_schema.specs.KindView.{fields_view, kind_view}
 use Rattle.expr_schema.specs.SchemaView.{effect_of}
 use Rattle.expr_schema.specs.Scopes.{Scope}
-use Rattle.expr_tree.specs.Term.{term_pairs}
-use Rattle.expr_tree.specs.TermOf.{line_term, term_of, terms_of}
+use Rattle.expr_tree.specs.Term.{block_with, term_pairs}
+use Rattle.expr_tree.specs.TermOf.{line_term, program_term, term_of, terms_of}
 use Rattle.expr_kinds.specs.Checks.{Upholds, known_scope}
 use Rattle.expr_kinds.specs.Effects.{CoversEffect}
-use Rattle.expr_kinds.specs.Typed.{TypedAll, TypedEach, TypedPairs}
+use Rattle.expr_kinds.specs.Typed.{TypedAll, TypedBlock, TypedEach, TypedPairs}
 use Rattle.expr_kinds.proofs.checking.+check.Given as goal
+
+-- what is known after the lines so far holds in a scope from which a kind of the rest is one of the whole
+abbrev pub invariant-block_checked-loop-name : goal.invariant-block_checked-loop-name
+invariant-block_checked-loop-name l =
+    (s : Scope) → Upholds (known_scope l.known) s → (e : Effect) → CoversEffect e (effect_of l.effect)
+    → (t : Scope) × Upholds (known_scope l.inner) t
+    × ((k : Kind) → TypedBlock e t (block_with (map line_term (drop l.name-index l.program.lines.items)) (term_of l.program.expr)) k → TypedBlock e s (program_term l.program) k)
 
 -- if the other items are of a kind that has the values of the kind so far, all items are
 abbrev pub invariant-array_checked-loop-node : goal.invariant-array_checked-loop-node

@@ -5,4 +5,4 @@ use Rattle.expr_schema.proofs.Standing.{find-entries}
 use Rattle.expr_schema.proofs.kind.Fields.get.Goals as goal
 
 pub returns : goal.returns
-returns c = ap (option_map entry_view) c.get_by_key.ensures ∙ sym (find-entries c.args.name.now (out-Fields c.args.self.now).named)
+returns c = ap (option_map entry_view) c.get.ensures ∙ sym (find-entries c.args.name.now (out-Fields c.args.self.now).named)

@@ -3,4 +3,4 @@ use Rattle.expr_schema.specs.SchemaView.{signature_of}
 use Rattle.expr_schema.proofs.schema.Schema.signature.Goals as goal
 
 pub returns : goal.returns
-returns c = ap (option_map signature_of) c.get_by_key.ensures
+returns c = ap (option_map signature_of) c.get.ensures
