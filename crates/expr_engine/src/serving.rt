@@ -18,7 +18,7 @@ use crate::filling::{built_context, fill_missing, new_context, set};
 use crate::letting::{clear, drop_context, drop_environment, drop_program};
 use crate::limiting::{let_go_of_limits, set_limit, tell_used};
 use crate::looking::{look, look_down, look_up, say_json, say_shown, say_text, show_key};
-use crate::replying::{answer_call, look_at_waiting_call, refuse_call};
+use crate::replying::{answer_call, cancel_run, look_at_waiting_call, refuse_call};
 use crate::running::{compile, functions, names, program_text, run, uses_env};
 use expr_exchange::{Ask, Call, HostError, Misuse, Shows, Status, bytes_of};
 
@@ -84,6 +84,7 @@ fn act(engine: &mut Engine, call: &mut Call<'_>, ask: Ask) -> Result<(), HostErr
         Ask::Versions => add_versions(engine, call),
         Ask::ProgramText => program_text(engine, call),
         Ask::Used => tell_used(engine, call),
+        Ask::Cancel => cancel_run(engine, call),
     }
 }
 
@@ -153,12 +154,11 @@ fn number(status: Status) -> u32
         Status::Unknown => 6,
         Status::Misuse => 7,
         Status::Asks => 8,
-        Status::Differs => 9,
-        Status::Nesting => 10,
-        Status::Patterns => 11,
-        Status::Steps => 12,
-        Status::Depth => 13,
-        Status::Size => 14,
+        Status::Nesting => 9,
+        Status::Patterns => 10,
+        Status::Steps => 11,
+        Status::Depth => 12,
+        Status::Size => 13,
     }
 }
 
@@ -174,10 +174,13 @@ fn refuse(engine: &mut Engine, refused: &HostError, call: &mut Call<'_>) -> Stat
         ⊎ (result ≡ Status.Memory) }
     ensures unknown { refused.now ≡ HostError.Unknown → result ≡ Status.Unknown }
     ensures misuse { (why : Wrong) → refused.now ≡ HostError.Misuse why → result ≡ Status.Misuse }
-    ensures asks { refused.now ≡ HostError.Asks → result ≡ Status.Asks }
-    ensures differs { refused.now ≡ HostError.Differs → result ≡ Status.Differs }
+    ensures asks { (run : Handle) → refused.now ≡ HostError.Asks run
+        → (result ≡ Status.Asks) × (call.new.run ≡ run) }
 {
     engine.built.clear();
+    if let HostError::Asks(run) = refused {
+        call.run = *run;
+    }
     match engine.note(refused, call.text) {
         Ok(noted) => {
             mark(call, noted);

@@ -1,12 +1,14 @@
 //! The items for which the predicate is still to be called.
-ghost use Rattle.std.specs.Prelude.{◌≡◌, ◌∷◌, [], MatchOption, reverse};
+ghost use Rattle.std.specs.Prelude.{◌≡◌, ◌∷◌, [], IfOk, MatchOption, reverse};
 ghost use Rattle.expr_arguments.specs.Arrays.{array_items};
+ghost use Rattle.expr_error.specs.ErrorKind.{OnlyMemory};
 ghost use Rattle.expr_predicates.specs.Plains.{plain_value};
 ghost use Rattle.expr_predicates.specs.Remaining.{items_remaining};
 
 use crate::run::Plain;
 use expr_arguments::{Array, CowValue};
-use expr_value::Value;
+use expr_value::{Result, Value};
+use std::alloc::Global;
 
 /// The items that remain, owned or borrowed.
 #[derive(Drop)]
@@ -108,6 +110,26 @@ impl<'s> Remaining<'s> {
                     None => None,
                 }
             }
+        }
+    }
+
+    /// The same items, owned. Borrowed ones are copied.
+    ///
+    /// # Errors
+    ///
+    /// Returns `MemoryError` if an allocation fails.
+    pub(crate) fn into_owned(self, alloc: Global) -> Result<Remaining<'static>>
+        ensures items { IfOk result (λ owned. items_remaining owned ≡ items_remaining self.entry) }
+        ensures refusal { OnlyMemory result }
+    {
+        match self {
+            Remaining::Owned(items) => Ok(Remaining::Owned(items)),
+            Remaining::Front(items) => {
+                let mut items = items.to_vec(alloc)?;
+                items.reverse();
+                Ok(Remaining::Owned(items))
+            }
+            Remaining::Back(items) => Ok(Remaining::Owned(items.to_vec(alloc)?)),
         }
     }
 }
