@@ -1,5 +1,5 @@
 -- Functions that a host runs itself, and what a run used.
-use Rattle.std.specs.Prelude.{◌≡◌, ◌≤◌, ◌||◌, ℕ, Bool, List, Ok, Err, Option, None, Some, Result}
+use Rattle.std.specs.Prelude.{◌≡◌, ◌≤◌, ◌||◌, ℕ, Bool, List, MatchBool, Ok, Err, Option, None, Some, Result}
 use Rattle.std.specs.HashSet.{contains_text}
 use Rattle.expr_code.specs.Instructions.{Op}
 use Rattle.expr_costs.specs.Costs.{costs_in}
@@ -22,11 +22,16 @@ use Rattle.expr_value.specs.declared.value.Value.{Value}
 abbrev pub is_named : StopNames → List ℕ → Bool
 is_named registered key = contains_text registered.names key
 
--- A host that has functions of these names too. What each may return is what the host says of the name.
+-- a reply is a value that this allows: a function that fails ends the run
+abbrev pub IsReplied : (Answer → Type 0) → Answer → Type 0
+IsReplied allowed (Ok v) = allowed (Ok v)
+IsReplied allowed (Err e) = ⊥
+
+-- A host that has functions of these names too. Each replies with a value that the host allows for the name.
 abbrev pub host_with_names : Host → (List ℕ → Bool) → Host
 host_with_names host named = record {
   is_added = λ key. named key || host.is_added key;
-  calls = host.calls;
+  calls = λ key vs answer. MatchBool (named key) (IsReplied (host.calls key vs) answer) (host.calls key vs answer);
   zones = host.zones;
   moment = host.moment;
 }

@@ -1,18 +1,21 @@
 -- Turns of a run: from its start, or from a reply of the host, to its end or to the next call.
-use Rattle.std.specs.Prelude.{◌≡◌, ◌≢◌, List, None, Option, Some, Result, Ok, Err, string_bytes, true}
+use Rattle.std.specs.Prelude.{◌≡◌, ◌≢◌, List, None, Option, Some, Result, Ok, Err, string_bytes}
 use Rattle.expr_code.specs.Instructions.{Op}
 use Rattle.expr_error.specs.ErrorKind.{RefusesNoPattern, error_kind, memory}
 use Rattle.expr_error.specs.declared.error.Error.{Error}
 use Rattle.expr_frames.specs.Machines.{Allowed, ComesReplied}
 use Rattle.expr_frames.specs.Ready.{MayBeGiven}
 use Rattle.expr_frames.specs.Runs.{State}
+use Rattle.expr_frames.specs.declared.halt.Asked.{Asked}
 use Rattle.expr_frames.specs.declared.halt.Halt.{Halt}
 use Rattle.expr_frames.specs.declared.halt.Halt.TheVariants as halt
 use Rattle.expr_costs.specs.Costs.{costs_in}
 use Rattle.expr_limits.specs.Counting.{Ending, gives, refuses, stops}
-use Rattle.expr_limits.specs.Rooms.{Room, limited, rooms}
+use Rattle.expr_limits.specs.Rooms.{Room, is_limited, limited, rooms}
+use Rattle.expr_limits.specs.contracts.budget.BudgetMeter.TheImpl.{ghosts as budget}
 use Rattle.expr_limits.specs.declared.limits.Limits.{Limits}
 use Rattle.expr_limits.specs.declared.outcome.Outcome.{Outcome}
+use Rattle.expr_limits.specs.declared.outcome.Outcome.TheVariants.{Stopped}
 use Rattle.expr_limits.specs.Outcomes.{ReturnsOutcome}
 use Rattle.expr_machine.specs.Pausing.{Pauses}
 use Rattle.expr_meaning.specs.CodeRuns.{CodeAnswers}
@@ -36,7 +39,7 @@ limits_of pending = pending.limits
 
 -- what is left of them
 abbrev pub left_of : PendingRun → Room
-left_of pending = limited pending.left.steps pending.left.size pending.left.depth
+left_of pending = (budget.metered pending.left).room
 
 -- the largest limits that there are
 abbrev pub no_limits : Limits
@@ -46,8 +49,8 @@ no_limits = record { nesting = 18446744073709551615; patterns = 1844674407370955
 pub record IsPending (blocks : List (List Op)) (pending : PendingRun) : Type 0 where
   pub state : State
   pub holds : Pauses state pending.paused
-  pub ready : MayBeGiven true blocks state
-  pub goes_on : pending.left.passed ≡ None
+  pub ready : MayBeGiven (is_limited (left_of pending)) blocks state
+  pub goes_on : (budget.metered pending.left).stopped ≡ None
 
 module _ (world : World) (blocks : List (List Op)) where
   -- What a run of this code may come to. One without limits counts up to the largest, and says nothing of where it would stop.
@@ -77,17 +80,26 @@ module _ (world : World) (blocks : List (List Op)) where
   abbrev pub TurnsOver : Allowed → Turn → Type 0
   TurnsOver before turn = ReachesBy before turn.reached
 
--- what comes of a run that goes on, or of why it can't
-abbrev pub ComesFrom : {A : Type 0} → Allowed → Result A Halt → Allowed
-ComesFrom comes (Ok done) end = comes end
-ComesFrom comes (Err (halt.Refused e)) end = (error_kind e ≢ memory) × (end ≡ refuses (error_kind e))
-ComesFrom comes (Err (halt.Limit limit)) end = end ≡ stops limit
-ComesFrom comes (Err h) end = ⊥
+  -- what a run comes to that waits in this state at a call, and goes on with a reply to it
+  abbrev pub ComesAsked : State → Asked → Room → Allowed
+  ComesAsked s asked left end =
+      (r : Answer) × world.host.calls (string_bytes asked.call.ident) asked.call.args.items r × ComesReplied world blocks s asked.awaited r left end
+
+-- what a run comes to that goes no further, and doesn't wait
+abbrev pub ComesHalted : Halt → Allowed
+ComesHalted (halt.Refused e) end = (error_kind e ≢ memory) × (end ≡ refuses (error_kind e))
+ComesHalted (halt.Limit limit) end = end ≡ stops limit
+ComesHalted h end = ⊥
 
 -- this holds of the result of a run that ended
 abbrev pub IfEnded : Reached → (Result (Outcome Value) Error → Type 0) → Type 0
 IfEnded (Ended r) P = P r
 IfEnded (Asks pending) P = Unit {0}
+
+-- only a run within limits stops at one
+abbrev pub StopsWithin : Option Limits → Result (Outcome Value) Error → Type 0
+StopsWithin None (Ok (Stopped limit)) = ⊥
+StopsWithin limits result = Unit {0}
 
 -- where it ended, it is refused, if at all, with no pattern
 abbrev pub RefusesNoPatternYet : Reached → Type 0

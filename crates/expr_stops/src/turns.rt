@@ -1,15 +1,15 @@
 //! Runs that stop at the functions that a host runs itself.
-ghost use Rattle.std.specs.Prelude.{◌≡◌, Ok, OnOk};
+ghost use Rattle.std.specs.Prelude.{◌≡◌, Err, Ok};
 ghost use Rattle.expr_acts.specs.Texts.{text_of};
 ghost use Rattle.expr_error.specs.ErrorKind.{RefusesNoPattern, pattern as bad_pattern};
 ghost use Rattle.expr_limits.specs.Counting.{stops};
 ghost use Rattle.expr_limits.specs.Outcomes.{ReturnsOutcome};
-ghost use Rattle.expr_machine.specs.Seen.{Comes, IsReady, NoPattern, place_of};
+ghost use Rattle.expr_machine.specs.Seen.{Comes, IsReady, MayBeGiven, NoPattern, place_of, state_of};
 ghost use Rattle.expr_lowering.specs.Blocks.{CodeKeeps, blocks_of};
 ghost use Rattle.expr_meaning.specs.Refusals.{NeverRefusesWith};
 ghost use Rattle.expr_meaning.specs.World.{world_of};
 ghost use Rattle.expr_stops.specs.Stops.{UsesWithin, host_with_names, is_named};
-ghost use Rattle.expr_stops.specs.Turns.{CodeBegins, ComesFrom, PendingComes, RefusesNoPatternYet, TurnsOver, IsPending, asked_call, limits_of, no_limits as largest};
+ghost use Rattle.expr_stops.specs.Turns.{CodeBegins, ComesAsked, ComesHalted, IfEnded, IsPending, PendingComes, ReachesBy, RefusesNoPatternYet, StopsWithin, TurnsOver, asked_call, limits_of, no_limits as largest};
 
 use crate::asked_host::AskedHost;
 use crate::limited::{EndedRun, execute_in};
@@ -70,6 +70,7 @@ pub fn begin<
     ensures turns { let world = world_of (host_with_names (H.host host.now) (is_named names.now))
         (P.context provider) in let blocks = blocks_of L.held (text_of N.held) code.now in
         TurnsOver world blocks (CodeBegins world blocks limits) result }
+    ensures within { IfEnded result.reached (StopsWithin limits) }
     ensures used { UsesWithin limits result.used }
     ensures pattern { NeverRefusesWith (H.host host.now) bad_pattern → CodeKeeps L.held K.held code.now
         → RefusesNoPatternYet result.reached }
@@ -93,11 +94,13 @@ pub fn begin<
         names,
     };
     let mut machine = Machine::new(&world, alloc, code, &mut matchers, meter);
-    let entered = match machine.enter() {
-        Ok(()) => Ok(()),
-        Err(limit) => Err(Halt::Limit(limit)),
-    };
-    go_on(machine, entered, limits)
+    match machine.enter() {
+        Ok(()) => advance(machine, limits),
+        Err(limit) => Turn {
+            reached: Reached::Ended(stopped(limits, limit)),
+            used: used_of(limits, &machine.meter.meter),
+        },
+    }
 }
 
 impl PendingRun {
@@ -129,6 +132,7 @@ impl PendingRun {
         ensures turns { let world = world_of (host_with_names (H.host host.now) (is_named names.now))
             (P.context provider) in let blocks = blocks_of L.held (text_of N.held) code.now in
             TurnsOver world blocks (PendingComes world blocks self (Ok value)) result }
+        ensures within { IfEnded result.reached (StopsWithin (limits_of self)) }
         ensures used { UsesWithin (limits_of self) result.used }
         ensures pattern { NeverRefusesWith (H.host host.now) bad_pattern → CodeKeeps L.held K.held code.now
             → RefusesNoPatternYet result.reached }
@@ -151,8 +155,13 @@ impl PendingRun {
         match Machine::resume(&world, code, &mut matchers, meter, lists, &shared) {
             Ok(resumed) => {
                 let mut machine = resumed;
-                let given = machine.reply(asked.awaited, value);
-                go_on(machine, given, limits)
+                match machine.reply(asked.awaited, value) {
+                    Ok(()) => advance(machine, limits),
+                    Err(halt) => Turn {
+                        reached: Reached::Ended(outcome_of(limits, halt)),
+                        used: used_of(limits, &machine.meter.meter),
+                    },
+                }
             }
             Err(error) => Turn {
                 reached: Reached::Ended(Err(error)),
@@ -162,8 +171,8 @@ impl PendingRun {
     }
 }
 
-/// Goes on with a machine that is entered or has its reply. What it has when it waits is copied.
-fn go_on<
+/// Goes on with a machine that is entered or has its reply, up to its end or to the next call.
+fn advance<
     'a,
     'c,
     's,
@@ -175,46 +184,93 @@ fn go_on<
     K: Pointer<Pattern>,
 >(
     machine: Machine<'a, 'c, 's, 'm, H, P, L, N, K, Global, Asking<'a, StopNames, Budget>>,
-    ready: std::result::Result<(), Halt>,
     limits: Option<Limits>,
 ) -> Turn
 where
     'c: 's,
-    requires { OnOk ready (IsReady H.host P.context L.held (text_of N.held)
-        ⟦<Asking<'a, StopNames, Budget> as Meter>⟧.metered machine) }
+    requires { IsReady H.host P.context L.held (text_of N.held)
+        ⟦<Asking<'a, StopNames, Budget> as Meter>⟧.metered machine }
     ensures turns { TurnsOver (place_of H.host P.context L.held (text_of N.held)
         ⟦<Asking<'a, StopNames, Budget> as Meter>⟧.metered machine.entry)
         (blocks_of L.held (text_of N.held) machine.entry.code.now)
-        (ComesFrom (Comes H.host P.context L.held (text_of N.held)
-        ⟦<Asking<'a, StopNames, Budget> as Meter>⟧.metered machine.entry) ready) result }
+        (Comes H.host P.context L.held (text_of N.held)
+        ⟦<Asking<'a, StopNames, Budget> as Meter>⟧.metered machine.entry) result }
+    ensures within { IfEnded result.reached (StopsWithin limits) }
     ensures used { UsesWithin limits result.used }
     ensures pattern { NeverRefusesWith (H.host machine.entry.world.now.host.now) bad_pattern
-        → CodeKeeps L.held K.held machine.entry.code.now → NoPattern ready
-        → RefusesNoPatternYet result.reached }
+        → CodeKeeps L.held K.held machine.entry.code.now → RefusesNoPatternYet result.reached }
 {
     let mut machine = machine;
-    let ended = match ready {
-        Ok(()) => machine.go(),
-        Err(halt) => Err(halt),
-    };
-    let left = machine.meter.meter;
-    let used = used_of(limits, &left);
-    let reached = match ended {
-        Ok(value) => Reached::Ended(Ok(Outcome::Answered(value))),
-        Err(Halt::Refused(error)) => Reached::Ended(Err(error)),
-        Err(Halt::Limit(limit)) => Reached::Ended(stopped(limits, limit)),
-        Err(Halt::Paused) => Reached::Ended(Err(Error::MemoryError)),
-        Err(Halt::Asks(asked)) => match machine.pause() {
-            Ok(paused) => Reached::Asks(PendingRun {
-                asked,
-                paused,
-                left,
-                limits,
-            }),
-            Err(error) => Reached::Ended(Err(error)),
+    let ended = machine.go();
+    let used = used_of(limits, &machine.meter.meter);
+    match ended {
+        Ok(value) => Turn {
+            reached: Reached::Ended(Ok(Outcome::Answered(value))),
+            used,
         },
-    };
-    Turn { reached, used }
+        Err(Halt::Asks(asked)) => Turn {
+            reached: wait_at(machine, asked, limits),
+            used,
+        },
+        Err(halt) => Turn {
+            reached: Reached::Ended(outcome_of(limits, halt)),
+            used,
+        },
+    }
+}
+
+/// Makes a run that waits of a machine that stopped at a call. What it borrows is copied.
+fn wait_at<
+    'a,
+    'c,
+    's,
+    'm,
+    H: Functions,
+    P: ContextProvider,
+    L: Pointer<Value>,
+    N: Pointer<String>,
+    K: Pointer<Pattern>,
+>(
+    machine: Machine<'a, 'c, 's, 'm, H, P, L, N, K, Global, Asking<'a, StopNames, Budget>>,
+    asked: Box<Asked>,
+    limits: Option<Limits>,
+) -> Reached
+where
+    'c: 's,
+    requires { MayBeGiven H.host P.context L.held (text_of N.held)
+        ⟦<Asking<'a, StopNames, Budget> as Meter>⟧.metered machine }
+    ensures reached { let world = place_of H.host P.context L.held (text_of N.held)
+        ⟦<Asking<'a, StopNames, Budget> as Meter>⟧.metered machine.entry in
+        let blocks = blocks_of L.held (text_of N.held) machine.entry.code.now in
+        ReachesBy world blocks (ComesAsked world blocks (state_of H.host P.context L.held (text_of N.held)
+        ⟦<Asking<'a, StopNames, Budget> as Meter>⟧.metered machine.entry) asked.value
+        (⟦<Asking<'a, StopNames, Budget> as Meter>⟧.metered machine.entry.meter).room) result }
+    ensures within { IfEnded result (StopsWithin limits) }
+    ensures pattern { RefusesNoPatternYet result }
+{
+    let left = machine.meter.meter;
+    match machine.pause() {
+        Ok(paused) => Reached::Asks(PendingRun {
+            asked,
+            paused,
+            left,
+            limits,
+        }),
+        Err(error) => Reached::Ended(Err(error)),
+    }
+}
+
+/// The end of a run that goes no further, and doesn't wait.
+fn outcome_of(limits: Option<Limits>, halt: Halt) -> Result<Outcome<Value>>
+    ensures end { ReturnsOutcome result (ComesHalted halt) }
+    ensures within { StopsWithin limits result }
+    ensures pattern { NoPattern {A = Unit {0}} (Err halt) → RefusesNoPattern result }
+{
+    match halt {
+        Halt::Refused(error) => Err(error),
+        Halt::Limit(limit) => stopped(limits, limit),
+        Halt::Asks(_) | Halt::Paused => Err(Error::MemoryError),
+    }
 }
 
 /// The largest limits. A run without limits counts up to these: after 2^64 steps, which take centuries, it is out of memory.
@@ -233,6 +289,7 @@ fn no_limits() -> Limits
 /// The end of a run that passes a limit.
 fn stopped(limits: Option<Limits>, limit: Limit) -> Result<Outcome<Value>>
     ensures end { ReturnsOutcome result (λ end. end ≡ stops limit) }
+    ensures within { StopsWithin limits result }
     ensures pattern { RefusesNoPattern result }
 {
     match limits {
