@@ -425,7 +425,8 @@ Does is.Cancel old new call reply = KeepsThings old new × (new.answer ≡ old.a
 
 -- No run waits under this handle, or a handle of the run finds nothing.
 abbrev pub IsStale : Engine → Handle → Type 0
-IsStale engine run = MatchOption (thing_at engine.runs run) (Unit {0}) (λ waits. run_inputs engine waits.program waits.environment waits.context ≡ None)
+IsStale engine run =
+    MatchOption (thing_at engine.runs run) (Unit {0}) (λ waits. (waits.pending ≡ None) ⊎ (run_inputs engine waits.program waits.environment waits.context ≡ None))
 
 -- A handle of the call finds nothing.
 abbrev pub HandleFindsNothing : Ask → Engine → Call → Type 0

@@ -1,5 +1,5 @@
 -- What an engine keeps under handles, and what a run finds there.
-use Rattle.std.specs.Prelude.{◌≡◌, ◌≢◌, ℕ, ◌==◌, List, [], Option, None, Some, Err, IsUtf8, if◌then◌else◌, option_map}
+use Rattle.std.specs.Prelude.{◌≡◌, ◌≢◌, ℕ, ◌==◌, List, [], Option, None, Some, Err, IsSome, IsUtf8, if◌then◌else◌, option_map}
 use Rattle.std.specs.Option.{option_and_then}
 use Rattle.expr_syntax.specs.Refused.{IsRefused}
 use Rattle.expr_lowering.specs.OwnedCodes.{owned_blocks}
@@ -18,8 +18,9 @@ use Rattle.expr_exchange.specs.HandleMap.{Rises, SameThings, thing_at}
 use Rattle.expr_exchange.specs.declared.handles.Handle.{Handle}
 use Rattle.expr_exchange.specs.declared.handles.HandleMap.{HandleMap}
 use Rattle.expr_frames.specs.Machines.{Allowed}
-use Rattle.expr_limits.specs.Counting.{ending_of}
+use Rattle.expr_limits.specs.Counting.{ending_of, stops}
 use Rattle.expr_limits.specs.Rooms.{Room}
+use Rattle.expr_limits.specs.declared.limit.Limit.{Limit}
 use Rattle.expr_limits.specs.declared.limits.Limits.{Limits}
 use Rattle.expr_stops.specs.Turns.{CodeBegins}
 use Rattle.expr_stops.specs.declared.used.Used.{Used}
@@ -62,6 +63,10 @@ world_of_run q = world_of (host_of_run q.added) (context_of q.names)
 -- what the program's code may come to there, within the limits if there are any
 abbrev pub MayEnd : RunInputs → Allowed
 MayEnd q = CodeBegins (world_of_run q) (owned_blocks q.rule.code) q.limits
+
+-- it may stop at this limit
+abbrev pub MayStop : RunInputs → Limit → Type 0
+MayStop q limit = IsSome q.limits × MayEnd q (stops limit)
 
 -- A result of such a run, which the program's meaning allows too.
 pub record RunMayAnswer (q : RunInputs) (answer : Answer) : Type 0 where

@@ -2,7 +2,7 @@
 use Rattle.std.specs.Prelude.{◌≡◌, ◌≢◌, ℕ, [], None, Some, MatchOption, Result, Ok, Err, IfErr, IsErrAnd, OnErr, OnOk, string_bytes}
 use Rattle.expr_exchange.specs.Asks.{ask_of, shows_of}
 use Rattle.expr_engine.specs.Effects.{Does, HandleFindsNothing, call_result}
-use Rattle.expr_engine.specs.Engines.{CompileRefuses, Leaves, NumbersRise, run_inputs}
+use Rattle.expr_engine.specs.Engines.{CompileRefuses, Leaves, NumbersRise, rest_of_engine, run_inputs}
 use Rattle.expr_engine.specs.Faults.{StatusSaysOfText, text_place}
 use Rattle.expr_engine.specs.Limiting.{LimitsBy, untrusted}
 use Rattle.expr_engine.specs.Reasons.{EndsWithReason, MayRefuse}
@@ -48,7 +48,7 @@ Gives ask old call answered done value = Unit {0}
 pub record Acts (ask : Ask) (old new : Engine) (call answered : Call) (done : Result (Unit {0}) HostError) : Type 0 where
   pub does : OnOk done (Does ask old new call (call_result answered))
   pub gives : Gives ask old call answered done (part_of new.answer)
-  pub turns : Turns ask old call done new (part_of new.answer)
+  pub turns : Turns ask old call done (rest_of_engine new) (part_of new.answer)
   -- a run that waits is told by its handle
   pub waits : (run : Handle) → done ≡ Err (Asks run) → answered.run ≡ run
   pub limits : LimitsBy ask old.limits call (done ≡ Ok tt) (IsErrAnd done IsMisuse) new.limits
@@ -74,8 +74,8 @@ pub record IsServed (old new : Engine) (call answered : Call) : Type 0 where
       → MatchOption (run_inputs old call.program call.environment call.context) (answered.status ≡ 6)
       (λ q. AnswersNumber q answered.status (part_of new.answer))
   -- A run that waits for the host's reply was started by this call, or continues with its reply, or is dropped, or is the same.
-  pub turns : MatchOption (ask_of call.ask) (SameRuns old new)
-      (λ ask. TurnsBy ask old call answered.status new (part_of new.answer))
+  pub turns : MatchOption (ask_of call.ask) (SameRuns old (rest_of_engine new))
+      (λ ask. TurnsBy ask old call answered.status (rest_of_engine new) (part_of new.answer))
   -- The limits are those before, unless the call sets one or removes all.
   pub limits : MatchOption (ask_of call.ask) (new.limits ≡ old.limits)
       (λ ask. LimitsBy ask old.limits call (answered.status ≡ 0) (answered.status ≡ 7) new.limits)

@@ -1,6 +1,6 @@
 -- The answer to a call.
 use Rattle.std.specs.Prelude.{◌≡◌, ◌≢◌, ◌⊎◌, ◌++◌, ℕ, List, [], Result, Ok, Err, drop, length, min, string_bytes, take}
-use Rattle.expr_engine.specs.Engines.{RunInputs, RunMayAnswer, MayEnd}
+use Rattle.expr_engine.specs.Engines.{MayStop, RunInputs, RunMayAnswer}
 use Rattle.expr_exchange.specs.declared.call.Call.{Call}
 use Rattle.expr_exchange.specs.declared.call.Shows.{Shows}
 use Rattle.expr_exchange.specs.declared.call.Shows.TheVariants as shows
@@ -14,7 +14,6 @@ use Rattle.expr_exchange.specs.declared.host_error.HostError.{HostError}
 use Rattle.expr_exchange.specs.declared.host_error.HostError.TheVariants.{Language, Unknown, Misuse, Asks, Stopped}
 use Rattle.expr_exchange.specs.declared.host_error.Status.{Status}
 use Rattle.expr_exchange.specs.declared.host_error.Status.TheVariants as ends
-use Rattle.expr_limits.specs.Counting.{stops}
 use Rattle.expr_limits.specs.declared.limit.Limit.TheVariants as limits
 use Rattle.expr_error.specs.ErrorKind.{error_kind, syntax, literal, evaluation, pattern, memory}
 use Rattle.expr_value.specs.declared.value.Value.{Value}
@@ -44,7 +43,7 @@ RunServes q (Err (Language error)) value = error_kind error ≢ memory → RunMa
 RunServes q (Err Unknown) value = ⊥
 RunServes q (Err (Misuse why)) value = ⊥
 RunServes q (Err (Asks run)) value = Unit {0}
-RunServes q (Err (Stopped limit)) value = MayEnd q (stops limit)
+RunServes q (Err (Stopped limit)) value = MayStop q limit
 
 -- What the status of such a run says. Its value or its kind of error is one that the meaning allows and that
 -- a run within the limits has. Or the limit is one at which a run may stop. The limits of expressions don't
@@ -61,9 +60,9 @@ Says q ends.Misuse value = ⊥
 Says q ends.Asks value = Unit {0}
 Says q ends.Nesting value = ⊥
 Says q ends.Patterns value = ⊥
-Says q ends.Steps value = MayEnd q (stops limits.Steps)
-Says q ends.Depth value = MayEnd q (stops limits.Depth)
-Says q ends.Size value = MayEnd q (stops limits.Size)
+Says q ends.Steps value = MayStop q limits.Steps
+Says q ends.Depth value = MayStop q limits.Depth
+Says q ends.Size value = MayStop q limits.Size
 
 -- what the number of a status says about a run
 pub record AnswersNumber (q : RunInputs) (number : ℕ) (value : Value) : Type 0 where

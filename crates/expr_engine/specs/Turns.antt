@@ -1,6 +1,7 @@
 -- Runs that wait for a host's reply.
 use Rattle.std.specs.Prelude.{◌≡◌, ◌≢◌, ◌⊎◌, ℕ, List, [], ◌∷◌, ◌++◌, Option, None, Some, IsSomeAnd, MatchOption, Result, Ok, Err, option_map, string_bytes}
-use Rattle.expr_engine.specs.Engines.{MayEnd, RunInputs, run_inputs, world_of_run}
+use Rattle.expr_engine.specs.Engines.{MayEnd, RestOfEngine, RunInputs, run_inputs, world_of_run}
+use Rattle.expr_engine.specs.Runs.{MeaningAllows}
 use Rattle.expr_engine.specs.Effects.{Adds, Changes, IsStale, LetsGo}
 use Rattle.expr_engine.specs.Served.{EndsCall}
 use Rattle.expr_error.specs.ErrorKind.{error_kind, memory}
@@ -11,8 +12,10 @@ use Rattle.expr_exchange.specs.declared.call.Ask.TheVariants as is
 use Rattle.expr_exchange.specs.declared.call.Call.{Call}
 use Rattle.expr_engine.specs.declared.engine.Engine.{Engine}
 use Rattle.expr_engine.specs.declared.rule.Rule.{Rule}
-use Rattle.expr_engine.specs.declared.waiting_run.PendingRule.{PendingRule}
+use Rattle.expr_engine.specs.Pending.{PendingView}
 use Rattle.expr_engine.specs.declared.waiting_run.Seen.{Seen}
+use Rattle.expr_engine.specs.declared.waiting_run.TurnEnd.{TurnEnd}
+use Rattle.expr_engine.specs.declared.waiting_run.TurnEnd.TheVariants as turn
 use Rattle.expr_engine.specs.declared.waiting_run.WaitingRun.{WaitingRun}
 use Rattle.expr_exchange.specs.Builder.{values_of}
 use Rattle.expr_exchange.specs.HandleMap.{SameThings, changes_at, thing_at}
@@ -24,11 +27,16 @@ use Rattle.expr_frames.specs.Machines.{Allowed}
 use Rattle.expr_limits.specs.Counting.{gives, refuses, stops}
 use Rattle.expr_limits.specs.Rooms.{Room}
 use Rattle.expr_limits.specs.declared.outcome.Outcome.{Outcome}
+use Rattle.expr_limits.specs.Outcomes.{ReturnsOutcome}
 use Rattle.expr_limits.specs.declared.outcome.Outcome.TheVariants.{Answered, Stopped as Ended}
 use Rattle.expr_lowering.specs.OwnedCodes.{owned_blocks}
 use Rattle.expr_stops.specs.Stops.{UsesWithin, nothing_used}
-use Rattle.expr_stops.specs.Turns.{PendingComes, WaitsAt, limits_of}
+use Rattle.expr_machine.specs.Given.{MayGive as GivesWithin}
+use Rattle.expr_stops.specs.Turns.{PendingComes, StopsWithin, WaitsAt, limits_of}
 use Rattle.expr_stops.specs.declared.turns.PendingRun.{PendingRun}
+use Rattle.expr_stops.specs.declared.turns.Reached.{Reached}
+use Rattle.expr_stops.specs.declared.turns.Reached.TheVariants as reached
+use Rattle.expr_tree.specs.TermOf.{program_term}
 use Rattle.expr_value.specs.declared.value.Value.{Value}
 
 -- how often the things of a run have been changed
@@ -42,6 +50,8 @@ waiting_inputs engine waits rule = option_map (λ q. record q { rule = rule }) (
 -- A run waits under this handle, its handles find something, and nothing was changed meanwhile.
 pub record MayGoOn (engine : Engine) (run : Handle) (waits : WaitingRun) : Type 0 where
   pub stands : thing_at engine.runs run ≡ Some waits
+  pub pending : PendingView
+  pub is : waits.pending ≡ Some pending
   pub inputs : RunInputs
   pub found : run_inputs engine waits.program waits.environment waits.context ≡ Some inputs
   pub seen : seen_at engine waits.environment waits.context ≡ waits.seen
@@ -56,7 +66,7 @@ pub record IsWaitingRun (q : RunInputs) (before : Allowed) (program environment 
   pub environment : waits.environment ≡ environment
   pub context : waits.context ≡ context
   pub seen : waits.seen ≡ seen
-  pub pending : PendingRule
+  pub pending : PendingView
   pub is : waits.pending ≡ Some pending
   pub rule : pending.rule ≡ q.rule
   pub at : WaitsAt (world_of_run q) (owned_blocks q.rule.code) before pending.run
@@ -70,6 +80,29 @@ TurnServes before Waits (Err (Misuse why)) value = ⊥
 TurnServes before Waits (Err (Asks run)) value = Waits run
 TurnServes before Waits (Err (Stopped limit)) value = before (stops limit)
 
+-- A turn that found its handles ended, as was allowed, or waits in its rule. It may lack memory for that.
+abbrev pub TurnReaches : RunInputs → Allowed → Result TurnEnd HostError → Type 0
+TurnReaches q before (Ok (turn.Ended result)) = ReturnsOutcome result before
+TurnReaches q before (Ok (turn.Waits pending)) = (pending.rule ≡ q.rule) × WaitsAt (world_of_run q) (owned_blocks q.rule.code) before pending.run
+TurnReaches q before (Err (Language error)) = error_kind error ≡ memory
+TurnReaches q before (Err refused) = ⊥
+
+-- Where it ended, the program's meaning allows its result, and only a run within limits stops at one.
+abbrev pub TurnGives : RunInputs → Result TurnEnd HostError → Type 0
+TurnGives q (Ok (turn.Ended result)) = GivesWithin result (MeaningAllows (world_of_run q) (program_term q.rule.program)) × StopsWithin q.limits result
+TurnGives q done = Unit {0}
+
+-- this holds of a run that waits
+abbrev pub IfWaits : Reached → (PendingRun → Type 0) → Type 0
+IfWaits (reached.Ended result) P = Unit {0}
+IfWaits (reached.Asks pending) P = P pending
+
+-- a turn of a run of this rule came so far, or memory lacks for the rule of a run that waits
+abbrev pub EndsTurn : Rule → Reached → Result TurnEnd HostError → Type 0
+EndsTurn rule (reached.Ended result) done = done ≡ Ok (turn.Ended result)
+EndsTurn rule (reached.Asks pending) (Ok end) = end ≡ turn.Waits (record { rule = rule; run = pending })
+EndsTurn rule (reached.Asks pending) (Err e) = e ≡ Language fails.MemoryError
+
 -- The cursor is on a run's value, and an error or a limit is passed on.
 abbrev pub PassesOn : Result (Outcome Value) Error → Result (Unit {0}) HostError → Value → Type 0
 PassesOn (Ok (Answered v)) done value = (done ≡ Ok tt) × (value ≡ v)
@@ -82,12 +115,12 @@ UnlessAsks (Err (Asks run)) P = Unit {0}
 UnlessAsks done P = P
 
 -- Every handle finds the run that it found, and as much was used.
-pub record SameRuns (old new : Engine) : Type 0 where
+pub record SameRuns (old : Engine) (new : RestOfEngine) : Type 0 where
   pub runs : SameThings old.runs new.runs
   pub used : new.used ≡ old.used
 
 -- A run was started with these handles. If it waits, it does so under a new handle. What it used is noted, within the limits.
-pub record StartsRun (q : RunInputs) (program environment context : Handle) (old new : Engine) (done : Result (Unit {0}) HostError) (value : Value) : Type 0 where
+pub record StartsRun (q : RunInputs) (program environment context : Handle) (old : Engine) (new : RestOfEngine) (done : Result (Unit {0}) HostError) (value : Value) : Type 0 where
   pub turn : TurnServes (MayEnd q)
       (Adds (IsWaitingRun q (MayEnd q) program environment context (seen_at old environment context))
       old.runs new.runs) done value
@@ -99,13 +132,13 @@ abbrev pub MayEndWith : RunInputs → PendingRun → Value → Allowed
 MayEndWith q pending given = PendingComes (world_of_run q) (owned_blocks q.rule.code) pending (Ok given)
 
 -- a run waits again under the same handle
-abbrev pub WaitsAgain : RunInputs → Allowed → WaitingRun → Engine → Engine → Handle → Handle → Type 0
+abbrev pub WaitsAgain : RunInputs → Allowed → WaitingRun → Engine → RestOfEngine → Handle → Handle → Type 0
 WaitsAgain q before waits old new run again =
     (again ≡ run)
     × Changes (λ _. IsWaitingRun q before waits.program waits.environment waits.context waits.seen) old.runs new.runs run
 
 -- A run that waited has a reply, and went on. It waits again under the same handle, or it is gone.
-pub record GoesOnRun (waits : WaitingRun) (pending : PendingRun) (q : RunInputs) (given : Value) (run : Handle) (old new : Engine) (done : Result (Unit {0}) HostError) (value : Value) : Type 0 where
+pub record GoesOnRun (waits : WaitingRun) (pending : PendingRun) (q : RunInputs) (given : Value) (run : Handle) (old : Engine) (new : RestOfEngine) (done : Result (Unit {0}) HostError) (value : Value) : Type 0 where
   pub turn : TurnServes (MayEndWith q pending given)
       (WaitsAgain q (MayEndWith q pending given) waits old new run) done value
   pub runs : UnlessAsks done (LetsGo old.runs new.runs run)
@@ -127,16 +160,42 @@ IsFailure kind text (fails.ExprError message) = (kind ≡ 3) × (string_bytes me
 IsFailure kind text fails.MemoryError = kind ≡ 5
 IsFailure kind text e = ⊥
 
+-- why a run can't go on
+abbrev pub MayNotGoOn : Engine → Handle → HostError → Type 0
+MayNotGoOn engine run Unknown = IsStale engine run
+MayNotGoOn engine run (Misuse why) = HasChanged engine run × (why ≡ wrong.ChangedMeanwhile)
+MayNotGoOn engine run refused = ⊥
+
+-- a run that may go on, and what it finds
+pub record FindsRun (engine : Engine) (run : Handle) : Type 0 where
+  pub waits : WaitingRun
+  pub may : MayGoOn engine run waits
+  pub inputs : RunInputs
+  pub found : waiting_inputs engine waits may.pending.rule ≡ Some inputs
+
+-- A run goes on with this value. If it can't, nothing changes.
+abbrev pub GoesOnWith : Engine → Handle → Value → Result (Unit {0}) HostError → RestOfEngine → Value → Type 0
+GoesOnWith old run given (Err Unknown) new value = SameRuns old new × MayNotGoOn old run Unknown
+GoesOnWith old run given (Err (Misuse why)) new value = SameRuns old new × MayNotGoOn old run (Misuse why)
+GoesOnWith old run given done new value =
+    (finds : FindsRun old run) × GoesOnRun finds.waits finds.may.pending.run finds.inputs given run old new done value
+
+-- A run ends with this error. If it can't, nothing changes.
+abbrev pub FailsWith : Engine → Handle → Error → Result (Unit {0}) HostError → RestOfEngine → Type 0
+FailsWith old run error (Err Unknown) new = SameRuns old new × MayNotGoOn old run Unknown
+FailsWith old run error (Err (Misuse why)) new = SameRuns old new × MayNotGoOn old run (Misuse why)
+FailsWith old run error (Err (Language e)) new = (e ≡ error) × LetsGo old.runs new.runs run × (new.used ≡ old.used)
+FailsWith old run error done new = ⊥
+
 -- A run goes on with the value that was built last. If it can't, or no value was built, nothing changes.
-abbrev pub Replies : Engine → Call → Result (Unit {0}) HostError → Engine → Value → Type 0
+abbrev pub Replies : Engine → Call → Result (Unit {0}) HostError → RestOfEngine → Value → Type 0
 Replies old call (Err Unknown) new value = SameRuns old new × IsStale old call.run
-Replies old call (Err (Misuse why)) new value = SameRuns old new × ((HasChanged old call.run × (why ≡ wrong.ChangedMeanwhile)) ⊎ (values_of old.built ≡ []))
+Replies old call (Err (Misuse why)) new value = SameRuns old new × (MayNotGoOn old call.run (Misuse why) ⊎ (values_of old.built ≡ []))
 Replies old call done new value =
-    (waits : WaitingRun) × MayGoOn old call.run waits × (pending : PendingRule) × (waits.pending ≡ Some pending) × (q : RunInputs) × (waiting_inputs old waits pending.rule ≡ Some q)
-    × (given : Value) × IsBuiltLast (values_of old.built) given × GoesOnRun waits pending.run q given call.run old new done value
+    (given : Value) × IsBuiltLast (values_of old.built) given × GoesOnWith old call.run given done new value
 
 -- A run ends with an error of this kind and this message. If it can't, nothing changes.
-abbrev pub FailsRun : Engine → Call → Result (Unit {0}) HostError → Engine → Type 0
+abbrev pub FailsRun : Engine → Call → Result (Unit {0}) HostError → RestOfEngine → Type 0
 FailsRun old call (Err Unknown) new = SameRuns old new × IsStale old call.run
 FailsRun old call (Err (Misuse why)) new = SameRuns old new
 FailsRun old call (Err (Language error)) new =
@@ -145,7 +204,7 @@ FailsRun old call (Err (Language error)) new =
 FailsRun old call done new = ⊥
 
 -- How a call changes the runs that wait, and what was used. Calls that run nothing leave them as they are.
-abbrev pub Turns : Ask → Engine → Call → Result (Unit {0}) HostError → Engine → Value → Type 0
+abbrev pub Turns : Ask → Engine → Call → Result (Unit {0}) HostError → RestOfEngine → Value → Type 0
 Turns is.Run old call done new value =
     MatchOption (run_inputs old call.program call.environment call.context) (SameRuns old new)
     (λ q. StartsRun q call.program call.environment call.context old new done value)
@@ -156,7 +215,7 @@ Turns is.Clear old call done new value = ((handle : Handle) → thing_at new.run
 Turns ask old call done new value = SameRuns old new
 
 -- how the number of a status says that the runs changed
-pub record TurnsBy (ask : Ask) (old : Engine) (call : Call) (number : ℕ) (new : Engine) (value : Value) : Type 0 where
+pub record TurnsBy (ask : Ask) (old : Engine) (call : Call) (number : ℕ) (new : RestOfEngine) (value : Value) : Type 0 where
   pub done : Result (Unit {0}) HostError
   pub ends : EndsCall done number
   pub turns : Turns ask old call done new value

@@ -4,22 +4,20 @@ ghost use Rattle.std.specs.Prelude.{◌≡◌, [], Ok, string_bytes, IfOk, IfErr
 ghost use Rattle.std.specs.List.{Contains};
 ghost use Rattle.std.specs.Option.{option_copied};
 ghost use Rattle.expr_engine.specs.Adding.{BecomesByRule, BecomesFixed, BecomesNow, GainsName, GainsVersions, IsName};
-ghost use Rattle.expr_engine.specs.Effects.{Adds, AreSaid, Changes, FillsContext, ForgetsAll, IsStale, IsTextOf, LetsGo, TellsWhether};
-ghost use Rattle.expr_engine.specs.Engines.{IsPlacedRefusal, KeepsThings, KeepsRest, MayEnd, NumbersRise, RefusesText, SameAdditions, additions_at, names_at, run_inputs, world_of_run};
+ghost use Rattle.expr_engine.specs.Effects.{Adds, AreSaid, Changes, FillsContext, ForgetsAll, IsStale, IsTextOf, TellsWhether};
+ghost use Rattle.expr_engine.specs.Engines.{IsPlacedRefusal, KeepsThings, KeepsRest, MayEnd, NumbersRise, RefusesText, SameAdditions, additions_at, names_at, rest_of_engine, run_inputs};
 ghost use Rattle.expr_engine.specs.Faults.{IsNotedAt, fault_byte, refused_byte};
 ghost use Rattle.expr_engine.specs.Limiting.{IsProgramBy};
 ghost use Rattle.expr_engine.specs.Promised.{IsNew};
 ghost use Rattle.expr_engine.specs.Reasons.{IsUnknownOrForMemory, RefusesName, RefusesZone};
-ghost use Rattle.expr_engine.specs.Runs.{MeaningAllows, names_or_none};
+ghost use Rattle.expr_engine.specs.Runs.{names_or_none};
 ghost use Rattle.expr_engine.specs.Served.{RunServes, SaysWhy};
-ghost use Rattle.expr_engine.specs.Turns.{GoesOnRun, HasChanged, MayEndWith, MayGoOn, PassesOn, SameRuns, StartsRun, seen_at, waiting_inputs};
+ghost use Rattle.expr_engine.specs.Turns.{EndsTurn, FailsWith, GoesOnWith, IfWaits, MayEndWith, MayGoOn, MayNotGoOn, PassesOn, SameRuns, StartsRun, TurnGives, TurnReaches, seen_at, waiting_inputs};
 ghost use Rattle.expr_exchange.specs.Cursor.{part_of, way_of};
 ghost use Rattle.expr_exchange.specs.Misuses.{text_of_misuse};
 ghost use Rattle.expr_exchange.specs.HandleMap.{SameNext, SameThings, thing_at};
-ghost use Rattle.expr_machine.specs.Given.{MayGive as GivesWithin};
 ghost use Rattle.expr_stops.specs.Stops.{UsesWithin, nothing_used};
-ghost use Rattle.expr_stops.specs.Turns.{IfEnded, IsPending, ReachesBy, limits_of};
-ghost use Rattle.expr_engine.specs.declared.waiting_run.PendingRule.{PendingRule as declared};
+ghost use Rattle.expr_stops.specs.Turns.{IsPending, limits_of};
 ghost use Rattle.expr_lowering.specs.OwnedCodes.{owned_blocks};
 ghost use Rattle.expr_exchange.specs.declared.misuse.Misuse.{Misuse as Wrong};
 ghost use Rattle.expr_lowering.specs.HostNeeds.{AreFunctionsOf};
@@ -30,13 +28,13 @@ ghost use Rattle.expr_value.specs.Names.{put};
 use crate::additions::{Additions, LentHost};
 use crate::lent::LentNames;
 use crate::rule::{Rule, SharedRule};
-use crate::waiting_run::{PendingRule, Seen, WaitingRun};
+use crate::waiting_run::{PendingRule, Seen, TurnEnd, WaitingRun};
 use expr_context::Context;
 use expr_encoding::JsonReader;
 use expr_exchange::{Handle, HandleMap, HostError, Misuse, ValueBuilder, ValueCursor, limit_text};
 use expr_limits::{Limits, Outcome};
 use expr_lowering::with_nil;
-use expr_stops::{PendingRun, Reached, Turn, Used};
+use expr_stops::{Reached, Turn, Used};
 use expr_syntax::line_column_of;
 use expr_value::{Error, Value};
 use jiff::Timestamp;
@@ -259,6 +257,10 @@ impl Engine {
 
     /// Runs a program within the limits, up to its end or to the first call of a function that the host runs
     /// itself. Notes what it used.
+    ///
+    /// # Errors
+    ///
+    /// Returns `Unknown` if a handle finds nothing, and `MemoryError` if the run waits and an allocation fails.
     #[inline(always)]
     fn begin(
         &self,
@@ -266,17 +268,12 @@ impl Engine {
         environment: Handle,
         context: Handle,
         used: &mut Used,
-    ) -> Result<Reached, HostError>
+    ) -> Result<TurnEnd, HostError>
         ensures turn { MatchOption (run_inputs self.now program environment context)
-            (result ≡ Err HostError.Unknown)
-            (λ q. IfOk result (ReachesBy (world_of_run q) (owned_blocks q.rule.code) (MayEnd q))) }
-        ensures allowed { MatchOption (run_inputs self.now program environment context)
-            (result ≡ Err HostError.Unknown)
-            (λ q. IfOk result (λ reached. IfEnded reached (λ r. GivesWithin r
-            (MeaningAllows (world_of_run q) (program_term q.rule.program))))) }
-        ensures used { MatchOption (run_inputs self.now program environment context)
-            (result ≡ Err HostError.Unknown) (λ q. UsesWithin q.limits used.new) }
-        ensures unknown { IfErr result (λ e. e ≡ HostError.Unknown) }
+            ((result ≡ Err HostError.Unknown) × (used.new ≡ used.old))
+            (λ q. TurnReaches q (MayEnd q) result × UsesWithin q.limits used.new) }
+        ensures serves { MatchOption (run_inputs self.now program environment context)
+            (result ≡ Err HostError.Unknown) (λ q. TurnGives q result) }
     {
         let Some(rule) = self.rules.get(program) else {
             return Err(HostError::Unknown);
@@ -288,10 +285,10 @@ impl Engine {
             used: took,
         } = rule.get().begin(self.alloc, host, names, self.limits);
         *used = took;
-        Ok(reached)
+        turn_end(rule, reached)
     }
 
-    /// StartsRun a run of a program in an environment and a context, and keeps its result.
+    /// Starts a run of a program in an environment and a context, and keeps its result.
     ///
     /// # Errors
     ///
@@ -305,8 +302,8 @@ impl Engine {
         context: Handle,
     ) -> Result<(), HostError>
         ensures starts { MatchOption (run_inputs self.old program environment context)
-            ((result ≡ Err HostError.Unknown) × (self.new ≡ self.old))
-            (λ q. StartsRun q program environment context self.old self.new result
+            (SameRuns self.old (rest_of_engine self.new))
+            (λ q. StartsRun q program environment context self.old (rest_of_engine self.new) result
             (part_of self.new.answer)) }
         ensures serves { MatchOption (run_inputs self.old program environment context)
             (result ≡ Err HostError.Unknown) (λ q. RunServes q result (part_of self.new.answer)) }
@@ -317,22 +314,18 @@ impl Engine {
         ensures limits { self.new.limits ≡ self.old.limits }
     {
         let mut used = self.used;
-        let reached = self.begin(program, environment, context, &mut used)?;
+        let begun = self.begin(program, environment, context, &mut used);
         self.used = used;
-        match reached {
-            Reached::Ended(ended) => self.end(ended),
-            Reached::Asks(run) => {
-                let Some(rule) = self.rules.get(program) else {
-                    return Err(HostError::Unknown);
-                };
-                let rule = rule.again()?;
+        match begun? {
+            TurnEnd::Ended(ended) => self.end(ended),
+            TurnEnd::Waits(pending) => {
                 let seen = self.seen_now(environment, context);
                 let handle = self.runs.put(WaitingRun {
                     program,
                     environment,
                     context,
                     seen,
-                    pending: Some(PendingRule { rule, run }),
+                    pending: Some(pending),
                 })?;
                 Err(HostError::Asks(handle))
             }
@@ -345,7 +338,7 @@ impl Engine {
         ensures passed { PassesOn ended result (part_of self.new.answer) }
         ensures way { OnOk result (way_of self.new.answer ≡ []) }
         ensures err { OnErr result (self.new ≡ self.old) }
-        ensures runs { SameRuns self.old self.new }
+        ensures runs { SameRuns self.old (rest_of_engine self.new) }
         ensures kept { KeepsThings self.old self.new }
         ensures built { self.new.built ≡ self.old.built }
         ensures limits { self.new.limits ≡ self.old.limits }
@@ -368,13 +361,14 @@ impl Engine {
     pub fn waiting_run(&self, run: Handle) -> Result<&WaitingRun, HostError>
         ensures found { IfOk result (λ waits. MayGoOn self.now run waits.now) }
         ensures unknown { IsStale self.now run → result ≡ Err HostError.Unknown }
-        ensures known { result ≡ Err HostError.Unknown → IsStale self.now run }
-        ensures misused { (why : Wrong) → result ≡ Err (HostError.Misuse why)
-            → (why ≡ Wrong.ChangedMeanwhile) × HasChanged self.now run }
+        ensures why { IfErr result (MayNotGoOn self.now run) }
     {
         let Some(waits) = self.runs.get(run) else {
             return Err(HostError::Unknown);
         };
+        if waits.pending.is_none() {
+            return Err(HostError::Unknown);
+        }
         self.knows_run(waits.program, waits.environment, waits.context)?;
         if self.seen_now(waits.environment, waits.context) != waits.seen {
             return Err(HostError::Misuse(Misuse::ChangedMeanwhile));
@@ -389,12 +383,9 @@ impl Engine {
     /// Returns the errors of [`Engine::waiting_run`]: the run waits as before then. Returns the errors of the run,
     /// `Stopped` if a limit is passed, and `Asks` with the same handle if it needs another reply.
     pub fn reply(&mut self, run: Handle, value: Value) -> Result<(), HostError>
-        ensures replied { (waits : WaitingRun) (pending : declared) → MayGoOn self.old run waits
-            → waits.pending ≡ Some pending → MatchOption (waiting_inputs self.old waits pending.rule)
-            (result ≡ Err HostError.Unknown)
-            (λ q. GoesOnRun waits pending.run q value run self.old self.new result
-            (part_of self.new.answer)) }
-        ensures unknown { IsStale self.old run → (result ≡ Err HostError.Unknown) × (self.new ≡ self.old) }
+        ensures replied { GoesOnWith self.old run value result (rest_of_engine self.new)
+            (part_of self.new.answer) }
+        ensures unknown { IsStale self.old run → result ≡ Err HostError.Unknown }
         ensures way { OnOk result (way_of self.new.answer ≡ []) }
         ensures err { OnErr result (self.new.answer ≡ self.old.answer) }
         ensures kept { KeepsThings self.old self.new }
@@ -407,16 +398,16 @@ impl Engine {
         let Some(pending) = going.pending.take() else {
             return Err(HostError::Unknown);
         };
-        let PendingRule { rule, run: pending } = pending;
-        let Turn { reached, used } = self.go_on(&going, rule.get(), pending, value)?;
+        let mut used = self.used;
+        let reached = self.go_on(&going, pending, value, &mut used)?;
         self.used = used;
         match reached {
-            Reached::Ended(ended) => {
+            TurnEnd::Ended(ended) => {
                 let _known = self.runs.remove(run);
                 self.end(ended)
             }
-            Reached::Asks(pending) => {
-                going.pending = Some(PendingRule { rule, run: pending });
+            TurnEnd::Waits(pending) => {
+                going.pending = Some(pending);
                 let _known = self.runs.swap(run, &mut going);
                 Err(HostError::Asks(run))
             }
@@ -428,20 +419,26 @@ impl Engine {
     fn go_on(
         &self,
         waits: &WaitingRun,
-        rule: &Rule,
-        pending: PendingRun,
+        pending: PendingRule,
         value: Value,
-    ) -> Result<Turn, HostError>
-        requires { IsPending (owned_blocks rule.now.code) pending }
-        ensures turn { MatchOption (waiting_inputs self.now waits.now rule.now)
-            (result ≡ Err HostError.Unknown)
-            (λ q. IfOk result (λ turn. ReachesBy (world_of_run q) (owned_blocks q.rule.code)
-            (MayEndWith q pending value) turn.reached)) }
-        ensures used { IfOk result (λ turn. UsesWithin (limits_of pending) turn.used) }
+        used: &mut Used,
+    ) -> Result<TurnEnd, HostError>
+        ensures turn { MatchOption (waiting_inputs self.now waits.now pending.rule) (Unit {0})
+            (λ q. TurnReaches q (MayEndWith q pending.run value) result
+            × UsesWithin (limits_of pending.run) used.new) }
     {
         let host = self.host_of(waits.environment)?;
         let names = self.names_of(waits.context)?;
-        rule.reply(self.alloc, host, names, pending, value)
+        let PendingRule { rule, run } = pending;
+        let Turn {
+            reached,
+            used: took,
+        } = rule.get().reply(self.alloc, host, names, run, value);
+        *used = took;
+        Ok(match reached {
+            Reached::Ended(ended) => TurnEnd::Ended(ended),
+            Reached::Asks(run) => TurnEnd::Waits(PendingRule { rule, run }),
+        })
     }
 
     /// Ends a run that waits with an error, as the function fails at whose call it waits.
@@ -450,10 +447,8 @@ impl Engine {
     ///
     /// Returns the errors of [`Engine::waiting_run`]: the run waits as before then. Otherwise it returns this error.
     pub fn refuse(&mut self, run: Handle, error: Error) -> Result<(), HostError>
-        ensures refused { (waits : WaitingRun) → MayGoOn self.old run waits
-            → (result ≡ Err (HostError.Language error)) × LetsGo self.old.runs self.new.runs run
-            × (self.new.used ≡ self.old.used) }
-        ensures unknown { IsStale self.old run → (result ≡ Err HostError.Unknown) × (self.new ≡ self.old) }
+        ensures refused { FailsWith self.old run error result (rest_of_engine self.new) }
+        ensures unknown { IsStale self.old run → result ≡ Err HostError.Unknown }
         ensures answer { self.new.answer ≡ self.old.answer }
         ensures kept { KeepsThings self.old self.new }
         ensures built { self.new.built ≡ self.old.built }
@@ -771,6 +766,24 @@ impl Engine {
             line: location.line,
             column: location.column,
         }))
+    }
+}
+
+/// How far a turn of a run of this rule came.
+///
+/// # Errors
+///
+/// Returns `MemoryError` if the run waits and the rule has 2^64 - 1 owners.
+fn turn_end(rule: &SharedRule, reached: Reached) -> Result<TurnEnd, HostError>
+    requires { IfWaits reached (IsPending (owned_blocks rule.now.code)) }
+    ensures { EndsTurn rule.now reached result }
+{
+    match reached {
+        Reached::Ended(ended) => Ok(TurnEnd::Ended(ended)),
+        Reached::Asks(run) => Ok(TurnEnd::Waits(PendingRule {
+            rule: rule.again()?,
+            run,
+        })),
     }
 }
 

@@ -24,4 +24,4 @@ pub use expr_limits::{Limit, Limits};
 pub use lent::LentNames;
 pub use rule::{Rule, SharedRule};
 pub use serving::serve;
-pub use waiting_run::{PendingRule, Seen, WaitingRun};
+pub use waiting_run::{PendingRule, Seen, TurnEnd, WaitingRun};

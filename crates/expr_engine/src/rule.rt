@@ -11,10 +11,9 @@ ghost use Rattle.expr_meaning.specs.World.{world_of};
 use crate::additions::LentHost;
 use crate::lent::LentNames;
 use expr_context::Context;
-use expr_exchange::HostError;
 use expr_limits::{Limits, Outcome};
 use expr_lowering::{Code, OwnedCode, functions_of, missing_names};
-use expr_stops::{EndedRun, PendingRun, Reached, Turn, execute_in};
+use expr_stops::{EndedRun, PendingRun, Reached, StopNames, Turn, execute_in};
 use expr_syntax::{compile, compile_limited};
 use expr_text::to_code;
 use expr_tree::node::Program;
@@ -33,7 +32,7 @@ pub struct Rule {
 }
 
 impl Rule {
-    ghost use Rattle.std.specs.Prelude.{◌≡◌, IfOk, Ok, map, string_bytes};
+    ghost use Rattle.std.specs.Prelude.{IfOk, Ok, map, string_bytes};
     ghost use Rattle.std.specs.List.{Contains};
     ghost use Rattle.expr_lowering.specs.HostNeeds.{AreFunctionsOf, AreMissing};
     ghost use Rattle.expr_tree.specs.Names.{AreNamesOf, block_operands, env};
@@ -45,7 +44,7 @@ impl Rule {
     ghost use Rattle.expr_context.specs.Contexts.{context_of};
     ghost use Rattle.expr_engine.specs.Runs.{MeaningAllows, host_of_run, names_or_none};
     ghost use Rattle.expr_stops.specs.Stops.{UsesWithin};
-    ghost use Rattle.expr_stops.specs.Turns.{CodeBegins, IfEnded, PendingComes, TurnsOver, IsPending, limits_of};
+    ghost use Rattle.expr_stops.specs.Turns.{CodeBegins, IfEnded, IsPending, PendingComes, StopsWithin, TurnsOver, limits_of};
     ghost use Rattle.expr_syntax.specs.Texts.{IsPlaced};
     ghost use Rattle.expr_tree.specs.TermOf.{program_term};
 
@@ -153,6 +152,7 @@ impl Rule {
             (context_of (names_or_none (option_copied names.entry.names))) in
             IfEnded result.reached (λ r. GivesWithin r
             (MeaningAllows world (program_term self.now.program))) }
+        ensures within { IfEnded result.reached (StopsWithin limits) }
         ensures used { UsesWithin limits result.used }
     {
         match host.added {
@@ -175,10 +175,6 @@ impl Rule {
     }
 
     /// Continues a run of the program with the host's reply.
-    ///
-    /// # Errors
-    ///
-    /// Returns `Unknown` if no environment is given: a run without one never waits.
     #[inline(always)]
     pub fn reply(
         &self,
@@ -187,19 +183,20 @@ impl Rule {
         names: LentNames<'_>,
         pending: PendingRun,
         value: Value,
-    ) -> std::result::Result<Turn, HostError>
+    ) -> Turn
         requires { IsPending (owned_blocks self.now.code) pending }
         ensures turn { let world = world_of (host_of_run (option_copied host.entry.added))
             (context_of (names_or_none (option_copied names.entry.names))) in
-            IfOk result (TurnsOver world (owned_blocks self.now.code)
-            (PendingComes world (owned_blocks self.now.code) pending (Ok value))) }
-        ensures used { IfOk result (λ turn. UsesWithin (limits_of pending) turn.used) }
+            TurnsOver world (owned_blocks self.now.code)
+            (PendingComes world (owned_blocks self.now.code) pending (Ok value)) result }
+        ensures used { UsesWithin (limits_of pending) result.used }
     {
         match host.added {
-            Some(added) => {
-                Ok(pending.reply(alloc, &host, added.names(), &self.code, names, value))
+            Some(added) => pending.reply(alloc, &host, added.names(), &self.code, names, value),
+            None => {
+                let nothing = StopNames::new(alloc);
+                pending.reply(alloc, &host, &nothing, &self.code, names, value)
             }
-            None => Err(HostError::Unknown),
         }
     }
 }

@@ -1,11 +1,12 @@
 //! Runs that wait for a host's reply.
 ghost use Rattle.std.specs.Prelude.{◌≡◌, None};
-ghost use Rattle.expr_lowering.specs.OwnedCodes.{owned_blocks};
-ghost use Rattle.expr_stops.specs.Turns.{IsPending};
 
 use crate::rule::SharedRule;
 use expr_exchange::Handle;
+use expr_limits::Outcome;
 use expr_stops::PendingRun;
+use expr_value::{Result, Value};
+use std::marker::Model;
 
 /// A run that waits for the host's reply: its handles, how often their things had been changed when it began, and how far
 /// it has come.
@@ -19,12 +20,34 @@ pub struct WaitingRun {
     pub pending: Option<PendingRule>,
 }
 
-/// A rule in which a run waits.
+/// A rule in which a run waits: the run is of its code, and may be given a reply.
 #[derive(Drop)]
 pub struct PendingRule {
     pub rule: SharedRule,
     pub run: PendingRun,
-    pub ghost waits: { IsPending (owned_blocks rule.code) run },
+}
+
+impl Model for PendingRule {
+    ghost use Rattle.expr_engine.specs.Pending.{PendingView, pending_view_code};
+    ghost use Rattle.expr_lowering.specs.OwnedCodes.{owned_blocks};
+    ghost use Rattle.expr_stops.specs.Turns.{IsPending};
+
+    ghost Value = { PendingView };
+
+    ghost coded = { pending_view_code };
+
+    ghost view = { λ p. record { rule = p.rule; run = p.run } };
+
+    ghost invariant = { λ p. IsPending (owned_blocks p.rule.code) p.run };
+}
+
+/// How far a turn of a run came.
+#[derive(Drop)]
+pub enum TurnEnd {
+    /// The run has ended.
+    Ended(Result<Outcome<Value>>),
+    /// It waits for the host's reply.
+    Waits(PendingRule),
 }
 
 /// How often the things of a run had been changed.
