@@ -15,7 +15,7 @@ ghost use Rattle.expr_engine.specs.Served.{RunServes, SaysWhy};
 ghost use Rattle.expr_engine.specs.Turns.{EndsTurn, FailsWith, GoesOnWith, IfWaits, MayEndWith, MayGoOn, MayNotGoOn, PassesOn, SameRuns, StartsRun, TurnGives, TurnReaches, seen_at, waiting_inputs};
 ghost use Rattle.expr_exchange.specs.Cursor.{part_of, way_of};
 ghost use Rattle.expr_exchange.specs.Misuses.{text_of_misuse};
-ghost use Rattle.expr_exchange.specs.HandleMap.{SameNext, SameThings, thing_at};
+ghost use Rattle.expr_exchange.specs.HandleMap.{Rises, SameNext, SameThings, thing_at};
 ghost use Rattle.expr_stops.specs.Stops.{UsesWithin, nothing_used};
 ghost use Rattle.expr_stops.specs.Turns.{IsPending, limits_of};
 ghost use Rattle.expr_lowering.specs.OwnedCodes.{owned_blocks};
@@ -309,6 +309,7 @@ impl Engine {
             (result ≡ Err HostError.Unknown) (λ q. RunServes q result (part_of self.new.answer)) }
         ensures way { OnOk result (way_of self.new.answer ≡ []) }
         ensures err { OnErr result (self.new.answer ≡ self.old.answer) }
+        ensures numbers { Rises self.old.runs self.new.runs }
         ensures kept { KeepsThings self.old self.new }
         ensures built { self.new.built ≡ self.old.built }
         ensures limits { self.new.limits ≡ self.old.limits }
@@ -338,7 +339,8 @@ impl Engine {
         ensures passed { PassesOn ended result (part_of self.new.answer) }
         ensures way { OnOk result (way_of self.new.answer ≡ []) }
         ensures err { OnErr result (self.new ≡ self.old) }
-        ensures runs { SameRuns self.old (rest_of_engine self.new) }
+        ensures runs { self.new.runs ≡ self.old.runs }
+        ensures used { self.new.used ≡ self.old.used }
         ensures kept { KeepsThings self.old self.new }
         ensures built { self.new.built ≡ self.old.built }
         ensures limits { self.new.limits ≡ self.old.limits }
@@ -388,6 +390,7 @@ impl Engine {
         ensures unknown { IsStale self.old run → result ≡ Err HostError.Unknown }
         ensures way { OnOk result (way_of self.new.answer ≡ []) }
         ensures err { OnErr result (self.new.answer ≡ self.old.answer) }
+        ensures numbers { Rises self.old.runs self.new.runs }
         ensures kept { KeepsThings self.old self.new }
         ensures built { self.new.built ≡ self.old.built }
         ensures limits { self.new.limits ≡ self.old.limits }
@@ -450,6 +453,7 @@ impl Engine {
         ensures refused { FailsWith self.old run error result (rest_of_engine self.new) }
         ensures unknown { IsStale self.old run → result ≡ Err HostError.Unknown }
         ensures answer { self.new.answer ≡ self.old.answer }
+        ensures numbers { Rises self.old.runs self.new.runs }
         ensures kept { KeepsThings self.old self.new }
         ensures built { self.new.built ≡ self.old.built }
         ensures limits { self.new.limits ≡ self.old.limits }
