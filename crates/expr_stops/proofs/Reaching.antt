@@ -10,7 +10,7 @@ use Rattle.expr_frames.specs.Runs.{State}
 use Rattle.expr_frames.specs.declared.halt.Asked.{Asked}
 use Rattle.expr_frames.specs.declared.halt.Halt.{Halt}
 use Rattle.expr_frames.specs.declared.halt.Halt.TheVariants as halt
-use Rattle.expr_limits.specs.Counting.{Ending, gives, refuses, stops}
+use Rattle.expr_limits.specs.Counting.{Ending, ending_of, gives, refuses, stops}
 use Rattle.expr_limits.specs.MeterView.{MeterView}
 use Rattle.expr_limits.specs.Outcomes.{ReturnsOutcome}
 use Rattle.expr_limits.specs.Rooms.{Room, limited, rooms}
@@ -19,6 +19,7 @@ use Rattle.expr_limits.specs.declared.limits.Limits.{Limits}
 use Rattle.expr_limits.specs.declared.outcome.Outcome.{Outcome}
 use Rattle.expr_limits.specs.declared.outcome.Outcome.TheVariants.{Answered, Stopped}
 use Rattle.expr_meaning.proofs.Forgotten.{code_forgets}
+use Rattle.expr_meaning.specs.CodeRuns.{CodeAnswers}
 use Rattle.expr_meaning.specs.Counts.{CodeCounts}
 use Rattle.expr_meaning.specs.Host.{Host}
 use Rattle.expr_meaning.specs.Refusals.{NeverRefusesWith}
@@ -71,6 +72,12 @@ comes_begins world blocks (Some limits) e p = p
 comes_begins world blocks None (gives v left) p = p
 comes_begins world blocks None (refuses e) p = p
 comes_begins world blocks None (stops limit) p = absurd p
+
+-- it ends with an answer of the code
+pub begins_answers : (world : World) (blocks : List (List Op)) (limits : Option Limits) (answer : Answer) (left : Room) → CodeBegins world blocks limits (ending_of answer left) → CodeAnswers world blocks answer
+begins_answers world blocks (Some limits) answer left p = code_forgets rooms (costs_in world.host) world blocks (room_for (Some limits)) answer left p
+begins_answers world blocks None (Ok v) left p = p
+begins_answers world blocks None (Err e) left p = p
 
 pub comes_within : (world : World) (blocks : List (List Op)) (limits : Option Limits) (r : Result (Outcome Value) Error) → ReturnsOutcome r (CodeComes limits world blocks) → StopsWithin limits r
 comes_within world blocks (Some limits) (Ok (Answered v)) p = tt
