@@ -1,5 +1,5 @@
 -- What a call does that is asked for.
-use Rattle.std.proofs.Common.{◌≡◌, ◌≢◌, [], Option, None, MatchOption, Result, Ok, Err, OnErr, OnOk, IfErr, IsErrAnd, ap, arith, refl, string_bytes, subst, sym}
+use Rattle.std.proofs.Common.{◌≡◌, [], Option, None, MatchOption, Result, Ok, Err, OnErr, OnOk, IfErr, IsErrAnd, ap, arith, string_bytes, subst, sym}
 use Rattle.expr_exchange.specs.Asks.{ask_of}
 use Rattle.expr_engine.specs.Effects.{Does, HandleFindsNothing, call_result}
 use Rattle.expr_engine.specs.Engines.{KeepsThings, KeepsRest, Leaves, NumbersRise, rest_of_engine}
@@ -13,10 +13,9 @@ use Rattle.expr_exchange.specs.declared.call.Call.{Call}
 use Rattle.expr_engine.specs.declared.engine.Engine.{Engine}
 use Rattle.expr_exchange.specs.Builder.{values_of}
 use Rattle.expr_exchange.specs.Cursor.{part_of}
-use Rattle.expr_exchange.specs.declared.handles.Handle.{Handle}
 use Rattle.expr_exchange.specs.Refusals.{IsMisuse}
 use Rattle.expr_exchange.specs.declared.host_error.HostError.{HostError}
-use Rattle.expr_exchange.specs.declared.host_error.HostError.TheVariants.{Asks, Unknown}
+use Rattle.expr_exchange.specs.declared.host_error.HostError.TheVariants.{Unknown}
 use Rattle.expr_engine.proofs.Unchanged.{answer_in, leaves, limits_in, numbers_kept, same_kept, same_runs}
 
 -- what is asked for is done
@@ -30,16 +29,9 @@ no_reason (Err e) = tt
 
 pub acts : {ask : Ask} {old new : Engine} {call answered : Call} {done : Result (Unit {0}) HostError}
     → OnOk done (Does ask old new call (call_result answered)) → Gives ask old call answered done (part_of new.answer) → Turns ask old call done (rest_of_engine new) (part_of new.answer)
-    → ((run : Handle) → done ≡ Err (Asks run) → answered.run ≡ run) → LimitsBy ask old.limits call (done ≡ Ok tt) (IsErrAnd done IsMisuse) new.limits
+    → LimitsBy ask old.limits call (done ≡ Ok tt) (IsErrAnd done IsMisuse) new.limits
     → OnErr done (Leaves old new) → IfErr done (MayRefuse ask old call) → (HandleFindsNothing ask old call → done ≡ Err Unknown) → (done ≡ Err Unknown → HandleFindsNothing ask old call) → NumbersRise old new → answered.room.now ≡ call.room.now → Acts ask old new call answered done
-acts d g t h l r w u k n o = record { does = d; gives = g; turns = t; waits = h; limits = l; refused = r; why = w; unknown = u; known = k; numbers = n; room = o }
-
--- a result that may have this reason doesn't wait for a reply
-abbrev pub NeverAsks : HostError → Type 0
-NeverAsks e = (run : Handle) → e ≢ Asks run
-
-pub never_asks : {A : Type 0} {P : Handle → Type 0} (r : Result A HostError) → IfErr r NeverAsks → (run : Handle) → r ≡ Err (Asks run) → P run
-never_asks {A} r n run is = let never : NeverAsks (Asks run) = subst (λ (x : Result A HostError). IfErr x NeverAsks) is n in absurd (never run refl)
+acts d g t l r w u k n o = record { does = d; gives = g; turns = t; limits = l; refused = r; why = w; unknown = u; known = k; numbers = n; room = o }
 
 -- a number that asks for nothing is misused
 pub served_nothing : (old new : Engine) (call answered : Call) → ask_of call.ask ≡ None → answered.status ≡ 7 → KeepsThings old new → KeepsRest old new → values_of new.built ≡ [] → ShowsText (string_bytes new.said) call.room.now answered → IsServed old new call answered
@@ -47,7 +39,7 @@ served_nothing old new call answered none seven k s b said = record {
   done = λ z. absurd (omega (arith, z, seven));
   text = λ is. let no : ⊥ = cc (is, none) in absurd no;
   run = λ is. let no : ⊥ = cc (is, none) in absurd no;
-  turns = subst (λ (o : Option Ask). MatchOption o (SameRuns old (rest_of_engine new)) (λ ask. TurnsBy ask old call answered.status (rest_of_engine new) (part_of new.answer))) (sym none) (same_runs old new s);
+  turns = subst (λ (o : Option Ask). MatchOption o (SameRuns old (rest_of_engine new)) (λ ask. TurnsBy ask old call answered (rest_of_engine new) (part_of new.answer))) (sym none) (same_runs old new s);
   limits = subst (λ (o : Option Ask). MatchOption o (new.limits ≡ old.limits) (λ ask. LimitsBy ask old.limits call (answered.status ≡ 0) (answered.status ≡ 7) new.limits)) (sym none) (ap limits_in s);
   refused = λ n. leaves (same_kept old new k) (ap answer_in s);
   why = subst (λ (o : Option Ask). MatchOption o (answered.status ≡ 7) (λ ask. EndsWithReason ask old call answered.status)) (sym none) seven;

@@ -16,7 +16,7 @@ use Rattle.expr_exchange.specs.Builder.{values_of}
 use Rattle.expr_exchange.specs.Cursor.{part_of}
 use Rattle.expr_exchange.specs.Refusals.{IsMisuse}
 use Rattle.expr_exchange.specs.declared.host_error.HostError.{HostError}
-use Rattle.expr_exchange.specs.declared.host_error.HostError.TheVariants.{Asks, Unknown}
+use Rattle.expr_exchange.specs.declared.host_error.HostError.TheVariants.{Unknown}
 use Rattle.expr_exchange.specs.HandleMap.{tag_of, thing_at}
 use Rattle.expr_exchange.specs.declared.handles.Handle.{Handle}
 use Rattle.expr_stops.specs.Stops.{nothing_used}
@@ -49,8 +49,6 @@ pub record Acts (ask : Ask) (old new : Engine) (call answered : Call) (done : Re
   pub does : OnOk done (Does ask old new call (call_result answered))
   pub gives : Gives ask old call answered done (part_of new.answer)
   pub turns : Turns ask old call done (rest_of_engine new) (part_of new.answer)
-  -- a run that waits is told by its handle
-  pub waits : (run : Handle) → done ≡ Err (Asks run) → answered.run ≡ run
   pub limits : LimitsBy ask old.limits call (done ≡ Ok tt) (IsErrAnd done IsMisuse) new.limits
   pub refused : OnErr done (Leaves old new)
   pub why : IfErr done (MayRefuse ask old call)
@@ -75,7 +73,7 @@ pub record IsServed (old new : Engine) (call answered : Call) : Type 0 where
       (λ q. AnswersNumber q answered.status (part_of new.answer))
   -- A run that waits for the host's reply was started by this call, or continues with its reply, or is dropped, or is the same.
   pub turns : MatchOption (ask_of call.ask) (SameRuns old (rest_of_engine new))
-      (λ ask. TurnsBy ask old call answered.status (rest_of_engine new) (part_of new.answer))
+      (λ ask. TurnsBy ask old call answered (rest_of_engine new) (part_of new.answer))
   -- The limits are those before, unless the call sets one or removes all.
   pub limits : MatchOption (ask_of call.ask) (new.limits ≡ old.limits)
       (λ ask. LimitsBy ask old.limits call (answered.status ≡ 0) (answered.status ≡ 7) new.limits)

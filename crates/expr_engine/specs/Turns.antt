@@ -214,8 +214,9 @@ Turns is.Cancel old call (Ok shown) new value = LetsGo old.runs new.runs call.ru
 Turns is.Clear old call done new value = ((handle : Handle) → thing_at new.runs handle ≡ None) × (new.used ≡ nothing_used)
 Turns ask old call done new value = SameRuns old new
 
--- how the number of a status says that the runs changed
-pub record TurnsBy (ask : Ask) (old : Engine) (call : Call) (number : ℕ) (new : RestOfEngine) (value : Value) : Type 0 where
+-- how a call says by its status that the runs changed, and by its handle which run waits
+pub record TurnsBy (ask : Ask) (old : Engine) (call answered : Call) (new : RestOfEngine) (value : Value) : Type 0 where
   pub done : Result (Unit {0}) HostError
-  pub ends : EndsCall done number
+  pub ends : EndsCall done answered.status
+  pub waits : (run : Handle) → done ≡ Err (Asks run) → answered.run ≡ run
   pub turns : Turns ask old call done new value

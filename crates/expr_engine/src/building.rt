@@ -1,6 +1,7 @@
 //! Calls that pass values in.
 ghost use Rattle.expr_engine.specs.Promised.{Acts};
 ghost use Rattle.expr_exchange.specs.declared.call.Ask.TheVariants as is;
+ghost use Rattle.expr_exchange.specs.declared.call.Call.{Call};
 ghost use Rattle.std.specs.Prelude.{◌≡◌, ◌≢◌, IfErr, IfOk, IsSomeAnd, Ok};
 ghost use Rattle.expr_encoding.specs.Optional.{value_or_refusal};
 ghost use Rattle.expr_encoding.specs.Reading.{json_value};

@@ -19,6 +19,7 @@ ghost use Rattle.expr_exchange.specs.HandleMap.{Rises, SameNext, SameThings, thi
 ghost use Rattle.expr_stops.specs.Stops.{UsesWithin, nothing_used};
 ghost use Rattle.expr_stops.specs.Turns.{IsPending, limits_of};
 ghost use Rattle.expr_lowering.specs.OwnedCodes.{owned_blocks};
+ghost use Rattle.expr_exchange.specs.declared.handles.Handle.{Handle};
 ghost use Rattle.expr_exchange.specs.declared.misuse.Misuse.{Misuse as Wrong};
 ghost use Rattle.expr_lowering.specs.HostNeeds.{AreFunctionsOf};
 ghost use Rattle.expr_tree.specs.Names.{AreNamesOf, block_operands, env};

@@ -1,6 +1,7 @@
 //! Calls that drop what the engine keeps.
 ghost use Rattle.expr_engine.specs.Promised.{Acts};
 ghost use Rattle.expr_exchange.specs.declared.call.Ask.TheVariants as is;
+ghost use Rattle.expr_exchange.specs.declared.call.Call.{Call};
 ghost use Rattle.std.specs.Prelude.{◌≡◌, Err, Ok};
 
 use crate::engine::Engine;

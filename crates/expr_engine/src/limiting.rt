@@ -1,6 +1,7 @@
 //! Calls about limits.
 ghost use Rattle.expr_engine.specs.Promised.{Acts};
 ghost use Rattle.expr_exchange.specs.declared.call.Ask.TheVariants as is;
+ghost use Rattle.expr_exchange.specs.declared.call.Call.{Call};
 ghost use Rattle.std.specs.Prelude.{◌≡◌, pos, None, Ok, Some};
 ghost use Rattle.expr_engine.specs.Limiting.{most_told, used_asked, with_limit};
 

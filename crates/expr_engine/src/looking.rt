@@ -1,6 +1,7 @@
 //! Calls about the result of a run.
 ghost use Rattle.expr_engine.specs.Promised.{Acts};
 ghost use Rattle.expr_exchange.specs.declared.call.Ask.TheVariants as is;
+ghost use Rattle.expr_exchange.specs.declared.call.Call.{Call};
 ghost use Rattle.std.specs.Prelude.{◌≡◌, IfOk, Ok, string_bytes};
 ghost use Rattle.expr_engine.specs.Effects.{Tells, key_said, call_result};
 ghost use Rattle.expr_error.specs.ErrorKind.{OnlyMemory};

@@ -7,6 +7,7 @@ ghost use Rattle.expr_engine.specs.Promised.{Acts, IsServed};
 ghost use Rattle.expr_engine.specs.Served.{EndsCall, ShowsText, status_number, text_in_room, text_shown};
 ghost use Rattle.expr_exchange.specs.Builder.{values_of};
 ghost use Rattle.expr_exchange.specs.Refusals.{status_of};
+ghost use Rattle.expr_exchange.specs.declared.handles.Handle.{Handle};
 ghost use Rattle.expr_exchange.specs.declared.misuse.Misuse.{Misuse as Wrong};
 
 use crate::adding::{
@@ -99,6 +100,7 @@ fn finish(engine: &mut Engine, call: &mut Call<'_>, shows: Shows, done: Result<(
     ensures ended { EndsCall done call.new.status }
     ensures placed { IfErr done (λ refused. IsAt (refused_byte refused) call.old.text.now
         (text_place call.new) ⊎ (call.new.status ≡ 5)) }
+    ensures waits { (run : Handle) → done ≡ Err (HostError.Asks run) → call.new.run ≡ run }
     ensures unknown { done ≡ Err HostError.Unknown → call.new.status ≡ 6 }
     ensures known { call.new.status ≡ 6 → done ≡ Err HostError.Unknown }
     ensures misuse { (why : Wrong) → done ≡ Err (HostError.Misuse why) → call.new.status ≡ 7 }
@@ -119,6 +121,7 @@ fn finish(engine: &mut Engine, call: &mut Call<'_>, shows: Shows, done: Result<(
 fn answer(engine: &Engine, call: &mut Call<'_>, status: Status, shows: Shows)
     ensures reply { call_result call.new ≡ call_result call.old }
     ensures place { text_place call.new ≡ text_place call.old }
+    ensures run { call.new.run ≡ call.old.run }
     ensures status { call.new.status ≡ status_number status }
     ensures shown { ShowsText (text_shown shows engine.now) call.old.room.now call.new }
 {
@@ -194,6 +197,7 @@ fn refuse(engine: &mut Engine, refused: &HostError, call: &mut Call<'_>) -> Stat
 fn mark(call: &mut Call<'_>, noted: Option<TextPlace>)
     ensures reply { call_result call.new ≡ call_result call.old }
     ensures room { call.new.room.now ≡ call.old.room.now }
+    ensures run { call.new.run ≡ call.old.run }
     ensures place { IfSome noted (λ place. text_place call.new ≡ place) }
 {
     match noted {

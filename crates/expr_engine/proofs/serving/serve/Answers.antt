@@ -46,8 +46,8 @@ returns-in-Some c =
           (served_by found result (part_of mid.answer) answered.status
           (subst (λ (x : Ask). Gives x old call c.act-done.new.call result (part_of mid.answer)) same_ask acts.gives) ends.unknown ends.ended);
       turns =
-          asked_for (SameRuns old (rest_of_engine new)) (ask_of call.ask) ask (λ ask. TurnsBy ask old call answered.status (rest_of_engine new) (part_of new.answer)) same
-          (record { done = result; ends = ends.ended; turns = turns_on ask old call result mid new acts.turns ends.rest });
+          asked_for (SameRuns old (rest_of_engine new)) (ask_of call.ask) ask (λ ask. TurnsBy ask old call answered (rest_of_engine new) (part_of new.answer)) same
+          (record { done = result; ends = ends.ended; waits = ends.waits; turns = turns_on ask old call result mid new acts.turns ends.rest });
       limits =
           asked_for (new.limits ≡ old.limits) (ask_of call.ask) ask (λ ask. LimitsBy ask old.limits call (answered.status ≡ 0) (answered.status ≡ 7) new.limits) same
           (limits_by ask old.limits call result answered.status mid.limits new.limits ends.ended acts.limits (ap limits_in ends.rest));
