@@ -40,7 +40,7 @@ pub struct DetachedStack {
     under: DetachedEntry,
     below: Vec<DetachedEntry>,
     own: Vec<Value>,
-    room: usize,
+    room: u32,
     is_own_later: bool,
 }
 
@@ -199,7 +199,7 @@ impl DetachedStack {
             room,
             is_own_later,
         } = self;
-        let below = attach_entries(alloc, shared, room, &below)?;
+        let below = attach_entries(alloc, shared, room as usize, &below)?;
         Ok(Stack::from_parts(StackParts {
             top: top.attach(shared),
             under: under.attach(shared),
