@@ -86,7 +86,7 @@ where
         ensures refusal { OnlyMemory result }
     {
         let alloc = self.world.alloc;
-        let mut room = if self.meter.counts() {
+        let mut size = if self.meter.counts() {
             self.begun
         } else {
             u64::MAX
@@ -100,9 +100,9 @@ where
             begun,
         } = self.into_parts();
         let mut shared = Vec::new(alloc);
-        let memory = memory.detach(alloc, &mut room, &mut shared)?;
-        let frames = detach_frames(alloc, &mut room, &mut shared, frames)?;
-        let stack = stack.detach(alloc, &mut room, &mut shared)?;
+        let memory = memory.detach(alloc, &mut size, &mut shared)?;
+        let frames = detach_frames(alloc, &mut size, &mut shared, frames)?;
+        let stack = stack.detach(alloc, &mut size, &mut shared)?;
         Ok(Paused {
             lists: PausedLists {
                 memory,
@@ -170,7 +170,7 @@ where
 /// Frames that borrow nothing, in their order.
 fn detach_frames(
     alloc: Global,
-    room: &mut u64,
+    size: &mut u64,
     shared: &mut Vec<SharedValue>,
     frames: Vec<Frame<'_, Global>>,
 ) -> Result<Vec<DetachedFrame>>
@@ -181,7 +181,7 @@ fn detach_frames(
 {
     let mut made = Vec::with_capacity(alloc, frames.len())?;
     for frame in frames {
-        made.push(detach_frame(alloc, &mut *room, &mut *shared, frame)?)?;
+        made.push(detach_frame(alloc, &mut *size, &mut *shared, frame)?)?;
     }
     Ok(made)
 }
@@ -189,7 +189,7 @@ fn detach_frames(
 /// A frame that borrows nothing.
 fn detach_frame(
     alloc: Global,
-    room: &mut u64,
+    size: &mut u64,
     shared: &mut Vec<SharedValue>,
     frame: Frame<'_, Global>,
 ) -> Result<DetachedFrame>
@@ -210,8 +210,8 @@ fn detach_frame(
         first,
         mark,
     } = frame;
-    let run = run.into_owned(alloc, room)?;
-    let stack = stack.detach(alloc, room, shared)?;
+    let run = run.into_owned(alloc, size)?;
+    let stack = stack.detach(alloc, size, shared)?;
     Ok(DetachedFrame {
         run,
         stack,

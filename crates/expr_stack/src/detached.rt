@@ -56,7 +56,7 @@ impl<'s> Operand<'s> {
     fn detach(
         self,
         alloc: Global,
-        room: &mut u64,
+        size: &mut u64,
         shared: &mut Vec<SharedValue>,
     ) -> Result<DetachedOperand>
         ensures longer { IsLonger shared.old.items shared.new.items }
@@ -67,8 +67,8 @@ impl<'s> Operand<'s> {
         match self {
             Operand::Integer(n) => Ok(DetachedOperand::Integer(n)),
             Operand::Bool(b) => Ok(DetachedOperand::Bool(b)),
-            Operand::Lent(value) => share(shared, SharedValue::copy_of(alloc, value, room)?),
-            Operand::Shared(value) => share(shared, value.again(room)?),
+            Operand::Lent(value) => share(shared, SharedValue::copy_of(alloc, value, size)?),
+            Operand::Shared(value) => share(shared, value.again(size)?),
             Operand::Kept(place) => Ok(DetachedOperand::Kept(place)),
         }
     }
@@ -106,7 +106,7 @@ impl<'s> Entry<'s> {
     fn detach(
         self,
         alloc: Global,
-        room: &mut u64,
+        size: &mut u64,
         shared: &mut Vec<SharedValue>,
     ) -> Result<DetachedEntry>
         ensures longer { IsLonger shared.old.items shared.new.items }
@@ -122,7 +122,7 @@ impl<'s> Entry<'s> {
             Entry::Shared(value) => Operand::Shared(value),
             Entry::Kept(place) => Operand::Kept(place),
         };
-        Ok(DetachedEntry::Operand(operand.detach(alloc, room, shared)?))
+        Ok(DetachedEntry::Operand(operand.detach(alloc, size, shared)?))
     }
 }
 
@@ -142,15 +142,15 @@ impl DetachedEntry {
 
 impl<'s> Stack<'s> {
     /// The stack of a run that waits. What is borrowed is copied, once: the copies join the shared values, and the weight
-    /// of what is shared is subtracted from `room`.
+    /// of what is shared is subtracted from `size`.
     ///
     /// # Errors
     ///
-    /// Returns `MemoryError` if an allocation fails, or if there is no room. The stack is lost then.
+    /// Returns `MemoryError` if an allocation fails, or if there is no size left. The stack is lost then.
     pub fn detach(
         self,
         alloc: Global,
-        room: &mut u64,
+        size: &mut u64,
         shared: &mut Vec<SharedValue>,
     ) -> Result<DetachedStack>
         ensures longer { IsLonger shared.old.items shared.new.items }
@@ -165,9 +165,9 @@ impl<'s> Stack<'s> {
             room,
             is_own_later,
         } = self.into_parts();
-        let below = detach_entries(alloc, room, shared, &below)?;
-        let under = under.detach(alloc, room, shared)?;
-        let top = top.detach(alloc, room, shared)?;
+        let below = detach_entries(alloc, size, shared, &below)?;
+        let under = under.detach(alloc, size, shared)?;
+        let top = top.detach(alloc, size, shared)?;
         Ok(DetachedStack {
             top,
             under,
@@ -182,7 +182,7 @@ impl<'s> Stack<'s> {
 /// Entries without a borrow, in their order.
 fn detach_entries(
     alloc: Global,
-    room: &mut u64,
+    size: &mut u64,
     shared: &mut Vec<SharedValue>,
     entries: &[Entry<'_>],
 ) -> Result<Vec<DetachedEntry>>
@@ -192,7 +192,7 @@ fn detach_entries(
 {
     let mut made = Vec::with_capacity(alloc, entries.len())?;
     for entry in entries {
-        made.push(entry.detach(alloc, &mut *room, &mut *shared)?)?;
+        made.push(entry.detach(alloc, &mut *size, &mut *shared)?)?;
     }
     Ok(made)
 }
@@ -251,15 +251,15 @@ fn attach_entries<'s>(
 
 impl<'s> Memory<'s> {
     /// The slots and the kept list of a run that waits. What is borrowed is copied, once: the copies join the
-    /// shared values, and the weight of what is shared is subtracted from `room`.
+    /// shared values, and the weight of what is shared is subtracted from `size`.
     ///
     /// # Errors
     ///
-    /// Returns `MemoryError` if an allocation fails, or if there is no room. The memory is lost then.
+    /// Returns `MemoryError` if an allocation fails, or if there is no size left. The memory is lost then.
     pub fn detach(
         self,
         alloc: Global,
-        room: &mut u64,
+        size: &mut u64,
         shared: &mut Vec<SharedValue>,
     ) -> Result<DetachedMemory>
         ensures longer { IsLonger shared.old.items shared.new.items }
@@ -267,7 +267,7 @@ impl<'s> Memory<'s> {
         ensures refusal { OnlyMemory result }
     {
         let MemoryParts { kept, slots } = self.into_parts();
-        let slots = detach_slots(alloc, room, shared, &slots)?;
+        let slots = detach_slots(alloc, size, shared, &slots)?;
         Ok(DetachedMemory { kept, slots })
     }
 }
@@ -275,7 +275,7 @@ impl<'s> Memory<'s> {
 /// What slots hold without a borrow, in their order.
 fn detach_slots(
     alloc: Global,
-    room: &mut u64,
+    size: &mut u64,
     shared: &mut Vec<SharedValue>,
     slots: &[Operand<'_>],
 ) -> Result<Vec<DetachedOperand>>
@@ -286,7 +286,7 @@ fn detach_slots(
 {
     let mut made = Vec::with_capacity(alloc, slots.len())?;
     for operand in slots {
-        made.push(operand.detach(alloc, &mut *room, &mut *shared)?)?;
+        made.push(operand.detach(alloc, &mut *size, &mut *shared)?)?;
     }
     Ok(made)
 }

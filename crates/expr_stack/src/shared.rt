@@ -35,21 +35,21 @@ impl Model for SharedValue {
 }
 
 impl SharedValue {
-    /// Copies a value, and subtracts its weight from `room`.
+    /// Copies a value, and subtracts its weight from `size`.
     ///
     /// # Errors
     ///
-    /// Returns `MemoryError` if an allocation fails, or if there is no room.
-    pub fn copy_of(alloc: Global, value: &Value, room: &mut u64) -> Result<SharedValue>
+    /// Returns `MemoryError` if an allocation fails, or if there is no size left.
+    pub fn copy_of(alloc: Global, value: &Value, size: &mut u64) -> Result<SharedValue>
         ensures copy { IfOk result (λ shared. shared ≡ value.now) }
         ensures refusal { OnlyMemory result }
     {
-        let left = match weigh(value, *room, usize::MAX) {
+        let left = match weigh(value, *size, usize::MAX) {
             Ok(left) => left,
             Err(_) => return Err(Error::MemoryError),
         };
-        let weight = room.saturating_sub(left);
-        *room = left;
+        let weight = size.saturating_sub(left);
+        *size = left;
         let copy = value.clone()?;
         Ok(SharedValue {
             at: Rc::new(alloc, copy)?,
@@ -65,19 +65,19 @@ impl SharedValue {
         self.at.as_ref()
     }
 
-    /// The same value for one more owner. Nothing of it is copied. Its weight is subtracted from `room`.
+    /// The same value for one more owner. Nothing of it is copied. Its weight is subtracted from `size`.
     ///
     /// # Errors
     ///
-    /// Returns `MemoryError` if there is no room, or after 2^64 - 1 owners.
-    pub fn again(&self, room: &mut u64) -> Result<SharedValue>
+    /// Returns `MemoryError` if there is no size left, or after 2^64 - 1 owners.
+    pub fn again(&self, size: &mut u64) -> Result<SharedValue>
         ensures same { IfOk result (λ shared. shared ≡ self.now) }
         ensures refusal { OnlyMemory result }
     {
-        if *room < self.weight {
+        if *size < self.weight {
             return Err(Error::MemoryError);
         }
-        *room -= self.weight;
+        *size -= self.weight;
         Ok(SharedValue {
             at: self.at.clone()?,
             weight: self.weight,
