@@ -78,13 +78,19 @@ where
     ///
     /// # Errors
     ///
-    /// Returns `MemoryError` if an allocation fails. The run is lost then.
+    /// Returns `MemoryError` if an allocation fails, or if the copies weigh more than the run's limit on size. The run
+    /// is lost then.
     pub fn pause(self) -> Result<Paused>
         ensures paused { IfOk result (λ paused. Pauses
             (state_of H.host P.context L.held (text_of N.held) M.metered self.entry) paused) }
         ensures refusal { OnlyMemory result }
     {
         let alloc = self.world.alloc;
+        let mut size = if self.meter.counts() {
+            self.begun
+        } else {
+            u64::MAX
+        };
         let MachineParts {
             memory,
             stack,
@@ -94,9 +100,9 @@ where
             begun,
         } = self.into_parts();
         let mut shared = Vec::new(alloc);
-        let memory = memory.detach(alloc, &mut shared)?;
-        let frames = detach_frames(alloc, &mut shared, frames)?;
-        let stack = stack.detach(alloc, &mut shared)?;
+        let memory = memory.detach(alloc, &mut size, &mut shared)?;
+        let frames = detach_frames(alloc, &mut size, &mut shared, frames)?;
+        let stack = stack.detach(alloc, &mut size, &mut shared)?;
         Ok(Paused {
             lists: PausedLists {
                 memory,
@@ -164,6 +170,7 @@ where
 /// Frames that borrow nothing, in their order.
 fn detach_frames(
     alloc: Global,
+    size: &mut u64,
     shared: &mut Vec<SharedValue>,
     frames: Vec<Frame<'_, Global>>,
 ) -> Result<Vec<DetachedFrame>>
@@ -174,7 +181,7 @@ fn detach_frames(
 {
     let mut made = Vec::with_capacity(alloc, frames.len())?;
     for frame in frames {
-        made.push(detach_frame(alloc, &mut *shared, frame)?)?;
+        made.push(detach_frame(alloc, &mut *size, &mut *shared, frame)?)?;
     }
     Ok(made)
 }
@@ -182,6 +189,7 @@ fn detach_frames(
 /// A frame that borrows nothing.
 fn detach_frame(
     alloc: Global,
+    size: &mut u64,
     shared: &mut Vec<SharedValue>,
     frame: Frame<'_, Global>,
 ) -> Result<DetachedFrame>
@@ -202,8 +210,8 @@ fn detach_frame(
         first,
         mark,
     } = frame;
-    let run = run.into_owned(alloc)?;
-    let stack = stack.detach(alloc, shared)?;
+    let run = run.into_owned(alloc, size)?;
+    let stack = stack.detach(alloc, size, shared)?;
     Ok(DetachedFrame {
         run,
         stack,

@@ -7,7 +7,8 @@ ghost use Rattle.expr_predicates.specs.Remaining.{items_remaining};
 
 use crate::run::Plain;
 use expr_arguments::{Array, CowValue};
-use expr_value::{Result, Value};
+use expr_limits::weigh;
+use expr_value::{Error, Result, Value};
 use std::alloc::Global;
 
 /// The items that remain, owned or borrowed.
@@ -113,23 +114,44 @@ impl<'s> Remaining<'s> {
         }
     }
 
-    /// The same items, owned. Borrowed ones are copied.
+    /// The same items, owned. Borrowed ones are copied, and their weight is subtracted from `size`.
     ///
     /// # Errors
     ///
-    /// Returns `MemoryError` if an allocation fails.
-    pub(crate) fn into_owned(self, alloc: Global) -> Result<Remaining<'static>>
+    /// Returns `MemoryError` if an allocation fails, or if there is no size left.
+    pub(crate) fn into_owned(self, alloc: Global, size: &mut u64) -> Result<Remaining<'static>>
         ensures items { IfOk result (λ owned. items_remaining owned ≡ items_remaining self.entry) }
         ensures refusal { OnlyMemory result }
     {
         match self {
             Remaining::Owned(items) => Ok(Remaining::Owned(items)),
             Remaining::Front(items) => {
+                take_weights(items, size)?;
                 let mut items = items.to_vec(alloc)?;
                 items.reverse();
                 Ok(Remaining::Owned(items))
             }
-            Remaining::Back(items) => Ok(Remaining::Owned(items.to_vec(alloc)?)),
+            Remaining::Back(items) => {
+                take_weights(items, size)?;
+                Ok(Remaining::Owned(items.to_vec(alloc)?))
+            }
         }
     }
+}
+
+/// Subtracts the weights of these values from `size`.
+///
+/// # Errors
+///
+/// Returns `MemoryError` if there is no size left.
+fn take_weights(values: &[Value], size: &mut u64) -> Result<()>
+    ensures { OnlyMemory result }
+{
+    for value in values {
+        match weigh(value, *size, usize::MAX) {
+            Ok(left) => *size = left,
+            Err(_) => return Err(Error::MemoryError),
+        }
+    }
+    Ok(())
 }

@@ -543,12 +543,12 @@ impl<'s> PredicateRun<'s> {
         gathered.outcome(alloc)
     }
 
-    /// The same call, with items that it owns. Borrowed ones are copied.
+    /// The same call, with items that it owns. Borrowed ones are copied, and their weight is subtracted from `size`.
     ///
     /// # Errors
     ///
-    /// Returns `MemoryError` if an allocation fails. The call is lost then.
-    pub fn into_owned(self, alloc: Global) -> Result<PredicateRun<'static>>
+    /// Returns `MemoryError` if an allocation fails, or if there is no size left. The call is lost then.
+    pub fn into_owned(self, alloc: Global, size: &mut u64) -> Result<PredicateRun<'static>>
         ensures same { IfOk result (λ owned. IsSameRun self.entry owned) }
         ensures refusal { OnlyMemory result }
     {
@@ -557,7 +557,7 @@ impl<'s> PredicateRun<'s> {
             asked,
             gathered,
         } = self;
-        let left = left.into_owned(alloc)?;
+        let left = left.into_owned(alloc, size)?;
         Ok(PredicateRun {
             left,
             asked,

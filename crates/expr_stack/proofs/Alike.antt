@@ -3,12 +3,15 @@ use Rattle.std.proofs.Common.{◌≡◌, List, [], ◌∷◌, ◌++◌, reverse,
 use Rattle.std.proofs.lemmas.List.{reverse-append, reverse-reverse}
 use Rattle.expr_stack.proofs.Entries.{filled_rest}
 use Rattle.expr_stack.proofs.Grown.{pairs_last}
-use Rattle.expr_stack.specs.Detached.{IsEntry, IsOfCell, Pairs, cell_detached}
+use Rattle.expr_stack.specs.Detached.{IsEntry, IsMemoryOf, IsOfCell, IsStackOf, Pairs, cell_detached}
+use Rattle.expr_stack.specs.Memories.{MemoryView}
 use Rattle.expr_stack.specs.Stacked.{AreEmpty, AreFilled, HasOwnValues, cells_of_entries}
 use Rattle.expr_stack.specs.declared.cell.Cell.TheVariants as cell
 use Rattle.expr_stack.specs.declared.cell.Cell.{Cell}
 use Rattle.expr_stack.specs.declared.detached.DetachedEntry.{DetachedEntry}
 use Rattle.expr_stack.specs.declared.detached.DetachedEntry.TheVariants as entry
+use Rattle.expr_stack.specs.declared.detached.DetachedMemory.{DetachedMemory}
+use Rattle.expr_stack.specs.declared.detached.DetachedStack.{DetachedStack}
 use Rattle.expr_stack.specs.declared.entry.Entry.{Entry}
 use Rattle.expr_stack.specs.declared.entry.Entry.TheVariants.{Empty, Integer, Bool as Truth, Lent, Shared, Kept, Own}
 use Rattle.expr_value.specs.declared.value.Value.{Value}
@@ -131,3 +134,12 @@ taken_apart shared top under below (e ∷ f ∷ es) p = record {
 }
 taken_apart shared top under below [] p = absurd p
 taken_apart shared top under below (e ∷ []) p = absurd p.1
+
+-- the cells that a stack stands for are the same each time
+pub held_cells : (shared : List Value) (stack : DetachedStack) (cs ds : List Cell) → IsStackOf shared stack cs → IsStackOf shared stack ds → cs ≡ ds
+held_cells shared stack cs ds p q =
+    sym p.cells ∙ alike_cells shared (stack.top ∷ stack.under ∷ reverse stack.below.items) p.entries q.entries (reverse stack.own.items) p.stands q.stands ∙ q.cells
+
+pub held_memory : (shared : List Value) (memory : DetachedMemory) (v w : MemoryView) → IsMemoryOf shared memory v → IsMemoryOf shared memory w → v ≡ w
+held_memory shared memory v w p q =
+    ap (λ k. record v { kept = k }) (sym p.kept ∙ q.kept) ∙ ap (λ l. record w { slots = l }) (sym p.slots ∙ q.slots)

@@ -123,3 +123,6 @@ stack_grown shared more s cs is = record {
   own = is.own;
   cells = is.cells;
 }
+
+pub memory_longer : (old new : List Value) (m : DetachedMemory) (v : MemoryView) → IsLonger old new → IsMemoryOf old m v → IsMemoryOf new m v
+memory_longer old new m v (more, e) is = subst (λ n. IsMemoryOf n m v) (sym e) (memory_grown old more m v is)

@@ -40,7 +40,7 @@ pub struct DetachedStack {
     under: DetachedEntry,
     below: Vec<DetachedEntry>,
     own: Vec<Value>,
-    room: usize,
+    room: u32,
     is_own_later: bool,
 }
 
@@ -53,7 +53,12 @@ pub struct DetachedMemory {
 
 impl<'s> Operand<'s> {
     /// The same without a borrow. A borrowed value is copied, once: the copy joins the shared values.
-    fn detach(self, alloc: Global, shared: &mut Vec<SharedValue>) -> Result<DetachedOperand>
+    fn detach(
+        self,
+        alloc: Global,
+        size: &mut u64,
+        shared: &mut Vec<SharedValue>,
+    ) -> Result<DetachedOperand>
         ensures longer { IsLonger shared.old.items shared.new.items }
         ensures cell { IfOk result (λ made. IsShared (length shared.new.items) made
             × (cell_detached shared.new.items made ≡ cell_of self.entry)) }
@@ -62,8 +67,8 @@ impl<'s> Operand<'s> {
         match self {
             Operand::Integer(n) => Ok(DetachedOperand::Integer(n)),
             Operand::Bool(b) => Ok(DetachedOperand::Bool(b)),
-            Operand::Lent(value) => share(shared, SharedValue::copy_of(alloc, value)?),
-            Operand::Shared(value) => share(shared, value.again()?),
+            Operand::Lent(value) => share(shared, SharedValue::copy_of(alloc, value, size)?),
+            Operand::Shared(value) => share(shared, value.again(size)?),
             Operand::Kept(place) => Ok(DetachedOperand::Kept(place)),
         }
     }
@@ -98,7 +103,12 @@ impl DetachedOperand {
 
 impl<'s> Entry<'s> {
     /// The same without a borrow.
-    fn detach(self, alloc: Global, shared: &mut Vec<SharedValue>) -> Result<DetachedEntry>
+    fn detach(
+        self,
+        alloc: Global,
+        size: &mut u64,
+        shared: &mut Vec<SharedValue>,
+    ) -> Result<DetachedEntry>
         ensures longer { IsLonger shared.old.items shared.new.items }
         ensures entry { IfOk result (λ made. IsEntry shared.new.items made self.entry) }
         ensures refusal { OnlyMemory result }
@@ -112,7 +122,7 @@ impl<'s> Entry<'s> {
             Entry::Shared(value) => Operand::Shared(value),
             Entry::Kept(place) => Operand::Kept(place),
         };
-        Ok(DetachedEntry::Operand(operand.detach(alloc, shared)?))
+        Ok(DetachedEntry::Operand(operand.detach(alloc, size, shared)?))
     }
 }
 
@@ -131,12 +141,18 @@ impl DetachedEntry {
 }
 
 impl<'s> Stack<'s> {
-    /// The stack of a run that waits. What is borrowed is copied, once: the copies join the shared values.
+    /// The stack of a run that waits. What is borrowed is copied, once: the copies join the shared values, and the weight
+    /// of what is shared is subtracted from `size`.
     ///
     /// # Errors
     ///
-    /// Returns `MemoryError` if an allocation fails. The stack is lost then.
-    pub fn detach(self, alloc: Global, shared: &mut Vec<SharedValue>) -> Result<DetachedStack>
+    /// Returns `MemoryError` if an allocation fails, or if there is no size left. The stack is lost then.
+    pub fn detach(
+        self,
+        alloc: Global,
+        size: &mut u64,
+        shared: &mut Vec<SharedValue>,
+    ) -> Result<DetachedStack>
         ensures longer { IsLonger shared.old.items shared.new.items }
         ensures cells { IfOk result (λ made. IsStackOf shared.new.items made self.entry) }
         ensures refusal { OnlyMemory result }
@@ -149,9 +165,9 @@ impl<'s> Stack<'s> {
             room,
             is_own_later,
         } = self.into_parts();
-        let below = detach_entries(alloc, shared, &below)?;
-        let under = under.detach(alloc, shared)?;
-        let top = top.detach(alloc, shared)?;
+        let below = detach_entries(alloc, size, shared, &below)?;
+        let under = under.detach(alloc, size, shared)?;
+        let top = top.detach(alloc, size, shared)?;
         Ok(DetachedStack {
             top,
             under,
@@ -166,6 +182,7 @@ impl<'s> Stack<'s> {
 /// Entries without a borrow, in their order.
 fn detach_entries(
     alloc: Global,
+    size: &mut u64,
     shared: &mut Vec<SharedValue>,
     entries: &[Entry<'_>],
 ) -> Result<Vec<DetachedEntry>>
@@ -175,7 +192,7 @@ fn detach_entries(
 {
     let mut made = Vec::with_capacity(alloc, entries.len())?;
     for entry in entries {
-        made.push(entry.detach(alloc, &mut *shared)?)?;
+        made.push(entry.detach(alloc, &mut *size, &mut *shared)?)?;
     }
     Ok(made)
 }
@@ -199,7 +216,7 @@ impl DetachedStack {
             room,
             is_own_later,
         } = self;
-        let below = attach_entries(alloc, shared, room, &below)?;
+        let below = attach_entries(alloc, shared, room as usize, &below)?;
         Ok(Stack::from_parts(StackParts {
             top: top.attach(shared),
             under: under.attach(shared),
@@ -234,18 +251,23 @@ fn attach_entries<'s>(
 
 impl<'s> Memory<'s> {
     /// The slots and the kept list of a run that waits. What is borrowed is copied, once: the copies join the
-    /// shared values.
+    /// shared values, and the weight of what is shared is subtracted from `size`.
     ///
     /// # Errors
     ///
-    /// Returns `MemoryError` if an allocation fails. The memory is lost then.
-    pub fn detach(self, alloc: Global, shared: &mut Vec<SharedValue>) -> Result<DetachedMemory>
+    /// Returns `MemoryError` if an allocation fails, or if there is no size left. The memory is lost then.
+    pub fn detach(
+        self,
+        alloc: Global,
+        size: &mut u64,
+        shared: &mut Vec<SharedValue>,
+    ) -> Result<DetachedMemory>
         ensures longer { IsLonger shared.old.items shared.new.items }
         ensures view { IfOk result (λ made. IsMemoryOf shared.new.items made self.entry) }
         ensures refusal { OnlyMemory result }
     {
         let MemoryParts { kept, slots } = self.into_parts();
-        let slots = detach_slots(alloc, shared, &slots)?;
+        let slots = detach_slots(alloc, size, shared, &slots)?;
         Ok(DetachedMemory { kept, slots })
     }
 }
@@ -253,6 +275,7 @@ impl<'s> Memory<'s> {
 /// What slots hold without a borrow, in their order.
 fn detach_slots(
     alloc: Global,
+    size: &mut u64,
     shared: &mut Vec<SharedValue>,
     slots: &[Operand<'_>],
 ) -> Result<Vec<DetachedOperand>>
@@ -263,7 +286,7 @@ fn detach_slots(
 {
     let mut made = Vec::with_capacity(alloc, slots.len())?;
     for operand in slots {
-        made.push(operand.detach(alloc, &mut *shared)?)?;
+        made.push(operand.detach(alloc, &mut *size, &mut *shared)?)?;
     }
     Ok(made)
 }
