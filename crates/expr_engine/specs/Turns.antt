@@ -173,13 +173,6 @@ pub record FindsRun (engine : Engine) (run : Handle) : Type 0 where
   pub inputs : RunInputs
   pub found : waiting_inputs engine waits may.pending.rule ≡ Some inputs
 
--- A run goes on with this value. If it can't, nothing changes.
-abbrev pub GoesOnWith : Engine → Handle → Value → Result (Unit {0}) HostError → RestOfEngine → Value → Type 0
-GoesOnWith old run given (Err Unknown) new value = SameRuns old new × MayNotGoOn old run Unknown
-GoesOnWith old run given (Err (Misuse why)) new value = SameRuns old new × MayNotGoOn old run (Misuse why)
-GoesOnWith old run given done new value =
-    (finds : FindsRun old run) × GoesOnRun finds.waits finds.may.pending.run finds.inputs given run old new done value
-
 -- A run ends with this error. If it can't, nothing changes.
 abbrev pub FailsWith : Engine → Handle → Error → Result (Unit {0}) HostError → RestOfEngine → Type 0
 FailsWith old run error (Err Unknown) new = SameRuns old new × MayNotGoOn old run Unknown
@@ -188,11 +181,11 @@ FailsWith old run error (Err (Language e)) new = (e ≡ error) × LetsGo old.run
 FailsWith old run error done new = ⊥
 
 -- A run goes on with the value that was built last. If it can't, or no value was built, nothing changes.
-abbrev pub Replies : Engine → Call → Result (Unit {0}) HostError → RestOfEngine → Value → Type 0
-Replies old call (Err Unknown) new value = SameRuns old new × IsStale old call.run
-Replies old call (Err (Misuse why)) new value = SameRuns old new × (MayNotGoOn old call.run (Misuse why) ⊎ (values_of old.built ≡ []))
-Replies old call done new value =
-    (given : Value) × IsBuiltLast (values_of old.built) given × GoesOnWith old call.run given done new value
+abbrev pub Replies : Engine → Handle → Result (Unit {0}) HostError → RestOfEngine → Value → Type 0
+Replies old run (Err Unknown) new value = SameRuns old new × IsStale old run
+Replies old run (Err (Misuse why)) new value = SameRuns old new × (MayNotGoOn old run (Misuse why) ⊎ (values_of old.built ≡ []))
+Replies old run done new value =
+    (finds : FindsRun old run) × (given : Value) × IsBuiltLast (values_of old.built) given × GoesOnRun finds.waits finds.may.pending.run finds.inputs given run old new done value
 
 -- A run ends with an error of this kind and this message. If it can't, nothing changes.
 abbrev pub FailsRun : Engine → Call → Result (Unit {0}) HostError → RestOfEngine → Type 0
@@ -208,7 +201,7 @@ abbrev pub Turns : Ask → Engine → Call → Result (Unit {0}) HostError → R
 Turns is.Run old call done new value =
     MatchOption (run_inputs old call.program call.environment call.context) (SameRuns old new)
     (λ q. StartsRun q call.program call.environment call.context old new done value)
-Turns is.Answer old call done new value = Replies old call done new value
+Turns is.Answer old call done new value = Replies old call.run done new value
 Turns is.Refuse old call done new value = FailsRun old call done new
 Turns is.Cancel old call (Ok shown) new value = LetsGo old.runs new.runs call.run × (new.used ≡ old.used)
 Turns is.Clear old call done new value = ((handle : Handle) → thing_at new.runs handle ≡ None) × (new.used ≡ nothing_used)

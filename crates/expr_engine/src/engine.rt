@@ -4,7 +4,7 @@ ghost use Rattle.std.specs.Prelude.{◌≡◌, [], Ok, string_bytes, IfOk, IfErr
 ghost use Rattle.std.specs.List.{Contains};
 ghost use Rattle.std.specs.Option.{option_copied};
 ghost use Rattle.expr_engine.specs.Adding.{BecomesByRule, BecomesFixed, BecomesNow, GainsName, GainsVersions, IsName};
-ghost use Rattle.expr_engine.specs.Effects.{Adds, AreSaid, Changes, FillsContext, ForgetsAll, IsStale, IsTextOf, TellsWhether};
+ghost use Rattle.expr_engine.specs.Effects.{Adds, AreSaid, Changes, FillsContext, ForgetsAll, IsStale, IsTextOf, TakesLast, TellsWhether};
 ghost use Rattle.expr_engine.specs.Engines.{IsPlacedRefusal, KeepsThings, KeepsRest, MayEnd, NumbersRise, RefusesText, SameAdditions, additions_at, names_at, rest_of_engine, run_inputs};
 ghost use Rattle.expr_engine.specs.Faults.{IsNotedAt, fault_byte, refused_byte};
 ghost use Rattle.expr_engine.specs.Limiting.{IsProgramBy};
@@ -12,7 +12,8 @@ ghost use Rattle.expr_engine.specs.Promised.{IsNew};
 ghost use Rattle.expr_engine.specs.Reasons.{IsUnknownOrForMemory, RefusesName, RefusesZone};
 ghost use Rattle.expr_engine.specs.Runs.{names_or_none};
 ghost use Rattle.expr_engine.specs.Served.{RunServes, SaysWhy};
-ghost use Rattle.expr_engine.specs.Turns.{EndsTurn, FailsWith, GoesOnWith, IfWaits, MayEndWith, MayGoOn, MayNotGoOn, PassesOn, SameRuns, StartsRun, TurnGives, TurnReaches, seen_at, waiting_inputs};
+ghost use Rattle.expr_engine.specs.Turns.{EndsTurn, FailsWith, IfWaits, MayEndWith, MayGoOn, MayNotGoOn, PassesOn, Replies, SameRuns, StartsRun, TurnGives, TurnReaches, seen_at, waiting_inputs};
+ghost use Rattle.expr_exchange.specs.Builder.{values_of};
 ghost use Rattle.expr_exchange.specs.Cursor.{part_of, way_of};
 ghost use Rattle.expr_exchange.specs.Misuses.{text_of_misuse};
 ghost use Rattle.expr_exchange.specs.HandleMap.{Rises, SameNext, SameThings, thing_at};
@@ -379,24 +380,25 @@ impl Engine {
         Ok(waits)
     }
 
-    /// Replies with a value to the call at which a run waits, and continues the run.
+    /// Replies with the value that was built last to the call at which a run waits, and continues the run.
     ///
     /// # Errors
     ///
-    /// Returns the errors of [`Engine::waiting_run`]: the run waits as before then. Returns the errors of the run,
-    /// `Stopped` if a limit is passed, and `Asks` with the same handle if it needs another reply.
-    pub fn reply(&mut self, run: Handle, value: Value) -> Result<(), HostError>
-        ensures replied { GoesOnWith self.old run value result (rest_of_engine self.new)
-            (part_of self.new.answer) }
+    /// Returns the errors of [`Engine::waiting_run`], and `Misuse` if no value was built: the run waits as before then.
+    /// Returns the errors of the run, `Stopped` if a limit is passed, and `Asks` with the same handle if it needs another
+    /// reply.
+    pub fn reply(&mut self, run: Handle) -> Result<(), HostError>
+        ensures replied { Replies self.old run result (rest_of_engine self.new) (part_of self.new.answer) }
         ensures unknown { IsStale self.old run → result ≡ Err HostError.Unknown }
         ensures way { OnOk result (way_of self.new.answer ≡ []) }
         ensures err { OnErr result (self.new.answer ≡ self.old.answer) }
         ensures numbers { Rises self.old.runs self.new.runs }
         ensures kept { KeepsThings self.old self.new }
-        ensures built { self.new.built ≡ self.old.built }
+        ensures built { OnOk result (TakesLast (values_of self.old.built) (values_of self.new.built)) }
         ensures limits { self.new.limits ≡ self.old.limits }
     {
         let _waits = self.waiting_run(run)?;
+        let value = self.built.pop()?;
         let mut going = WaitingRun::nothing();
         let _known = self.runs.swap(run, &mut going);
         let Some(pending) = going.pending.take() else {

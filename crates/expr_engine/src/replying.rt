@@ -16,9 +16,7 @@ use std::alloc::Global;
 pub fn answer_call(engine: &mut Engine, call: &mut Call<'_>) -> Result<(), HostError>
     ensures { Acts is.Answer engine.old engine.new call.old call.new result }
 {
-    let _waits = engine.waiting_run(call.run)?;
-    let value = engine.built.pop()?;
-    engine.reply(call.run, value)?;
+    engine.reply(call.run)?;
     describe(engine.answer.part(), call);
     Ok(())
 }

@@ -1,5 +1,6 @@
 -- What turns of a run reach.
 use Rattle.std.proofs.Common.{◌≡◌, ◌≢◌, ◌∙◌, ◌||◌, ℕ, Bool, List, MatchBool, None, Option, Some, Result, Ok, Err, ap, refl, subst, sym, true, false}
+use Rattle.std.proofs.lemmas.Bool.{false≢true}
 use Rattle.expr_code.specs.Instructions.{Op}
 use Rattle.expr_costs.specs.Costs.{costs_in}
 use Rattle.expr_error.specs.ErrorKind.{ErrorKind, OnlyMemory, RefusesNoPattern, error_kind, memory, pattern}
@@ -95,3 +96,13 @@ never_of host f key vs false never added p = never key vs added p
 
 pub named_never : (host : Host) (named : List ℕ → Bool) (f : ErrorKind) → NeverRefusesWith host f → NeverRefusesWith (host_with_names host named) f
 named_never host named f never key vs added p = never_of host f key vs (named key) never added p
+
+-- a call of a function that isn't named is the other host's
+other_of : (host : Host) (key : List ℕ) (vs : List Value) (b : Bool) (r : Result Value Error) → b ≡ false → (host.is_added key ≡ true → Returns r (host.calls key vs)) → b || host.is_added key ≡ true
+    → Returns r (λ a. MatchBool b (IsReplied (host.calls key vs) a) (host.calls key vs a))
+other_of host key vs true r e given added = absurd (false≢true (sym e))
+other_of host key vs false r e given added = given added
+
+pub unnamed_call : (host : Host) (named : List ℕ → Bool) (key : List ℕ) (vs : List Value) (r : Result Value Error) → named key ≡ false → (host.is_added key ≡ true → Returns r (host.calls key vs))
+    → (host_with_names host named).is_added key ≡ true → Returns r ((host_with_names host named).calls key vs)
+unnamed_call host named key vs r e given added = other_of host key vs (named key) r e given added
