@@ -1,6 +1,7 @@
 -- What turns of a run reach.
 use Rattle.std.proofs.Common.{◌≡◌, ◌≢◌, ◌∙◌, ◌||◌, ℕ, Bool, List, MatchBool, None, Option, Some, Result, Ok, Err, ap, refl, subst, sym, true, false}
 use Rattle.std.proofs.lemmas.Bool.{false≢true}
+use Rattle.std.specs.Option.{unwrap_or}
 use Rattle.expr_code.specs.Instructions.{Op}
 use Rattle.expr_costs.specs.Costs.{costs_in}
 use Rattle.expr_error.specs.ErrorKind.{ErrorKind, OnlyMemory, RefusesNoPattern, error_kind, memory, pattern}
@@ -25,8 +26,12 @@ use Rattle.expr_meaning.specs.Counts.{CodeCounts}
 use Rattle.expr_meaning.specs.Host.{Host}
 use Rattle.expr_meaning.specs.Refusals.{NeverRefusesWith}
 use Rattle.expr_meaning.specs.World.{World}
-use Rattle.expr_stops.specs.Stops.{CodeComes, IsReplied, host_with_names}
-use Rattle.expr_stops.specs.Turns.{CodeBegins, ComesAsked, ComesHalted, ReachesBy, StopsWithin, no_limits}
+use Rattle.expr_stops.specs.Stops.{CodeComes, IsReplied, host_with_names, is_named}
+use Rattle.expr_machine.specs.Pausing.{Pauses}
+use Rattle.expr_machine.specs.Seen.{NoPattern}
+use Rattle.expr_stops.specs.Turns.{CodeBegins, ComesHalted, PendingComes, ReachesBy, StopsWithin, left_of, no_limits}
+use Rattle.expr_stops.specs.declared.asked_host.AskedHost.{AskedHost}
+use Rattle.expr_stops.specs.declared.turns.PendingRun.{PendingRun}
 use Rattle.expr_stops.specs.declared.turns.Reached.{Reached}
 use Rattle.expr_stops.specs.declared.turns.Reached.TheVariants.{Asks, Ended as Finished}
 use Rattle.expr_value.specs.Answers.{Answer, Returns}
@@ -43,7 +48,7 @@ reaches_under world blocks p q f (Finished r) given = outcome_under p q f r give
 reaches_under world blocks p q f (Asks pending) given = record { waits = given.waits; goes_on = λ r called e comes. f e (given.goes_on r called e comes) }
 
 -- a lack of memory is allowed by all
-pub lacks_memory : {A : Type 0} (p : Allowed) (e : Error) → e ≡ MemoryError → ReturnsOutcome (Err e) p
+pub lacks_memory : (p : Allowed) (e : Error) → e ≡ MemoryError → ReturnsOutcome (Err e) p
 lacks_memory p e is = λ other. absurd (other (ap error_kind is))
 
 pub memory_is_no_pattern : (e : Error) → e ≡ MemoryError → error_kind e ≢ pattern
@@ -106,3 +111,54 @@ other_of host key vs false r e given added = given added
 pub unnamed_call : (host : Host) (named : List ℕ → Bool) (key : List ℕ) (vs : List Value) (r : Result Value Error) → named key ≡ false → (host.is_added key ≡ true → Returns r (host.calls key vs))
     → (host_with_names host named).is_added key ≡ true → Returns r ((host_with_names host named).calls key vs)
 unnamed_call host named key vs r e given added = other_of host key vs (named key) r e given added
+
+-- the same halt, of another result
+pub same_halt : (A B : Type 0) (h : Halt) → NoPattern {A = A} (Err h) → NoPattern {A = B} (Err h)
+same_halt A B (halt.Refused e) n = n
+same_halt A B (halt.Limit limit) n = tt
+same_halt A B (halt.Asks asked) n = tt
+same_halt A B halt.Paused n = tt
+
+-- the limits of a run are its own or the largest
+pub room_is : (limits : Option Limits) (l : Limits) → l ≡ unwrap_or limits no_limits → limited l.steps l.size l.depth ≡ room_for limits
+room_is None l e = ap (λ (x : Limits). limited x.steps x.size x.depth) e
+room_is (Some limits) l e = ap (λ (x : Limits). limited x.steps x.size x.depth) e
+
+-- where it goes on in the same world and code
+moved : (w v : World) (b c : List (List Op)) (p : Allowed) (r : Reached) → w ≡ v → b ≡ c → ReachesBy w b p r → ReachesBy v c p r
+moved w v b c p r e f given = subst (λ (x : List (List Op)). ReachesBy v x p r) f (subst (λ (x : World). ReachesBy x b p r) e given)
+
+module _ (world : World) (blocks : List (List Op)) (limits : Option Limits) (w : World) (b : List (List Op)) (room : Room) (same : w ≡ world) (its : b ≡ blocks) (left : room ≡ room_for limits) where
+  begins : (e : Ending Room) → CodeCounts rooms (costs_in w.host) w b room e → CodeBegins world blocks limits e
+  begins e p =
+      counted_begins world blocks limits e (subst (λ (u : Room). CodeCounts rooms (costs_in world.host) world blocks u e) left
+      (subst (λ (x : List (List Op)). CodeCounts rooms (costs_in world.host) world x room e) its (subst (λ (x : World). CodeCounts rooms (costs_in x.host) x b room e) same p)))
+
+  -- a run that is entered goes on, or stops at once
+  pub begun_turns : (v : World) (c : List (List Op)) (comes : Allowed) (r : Reached) → v ≡ w → c ≡ b → ((e : Ending Room) → comes e → CodeCounts rooms (costs_in w.host) w b room e) → ReachesBy v c comes r → ReachesBy world blocks (CodeBegins world blocks limits) r
+  begun_turns v c comes r e f goes given = reaches_under world blocks comes (CodeBegins world blocks limits) (λ x p. begins x (goes x p)) r (moved v world c blocks comes r (e ∙ same) (f ∙ its) given)
+
+  pub begun_stops : (limit : Limit) (r : Result (Outcome Value) Error) → CodeCounts rooms (costs_in w.host) w b room (stops limit) → ReturnsOutcome r (λ e. e ≡ stops limit) → ReturnsOutcome r (CodeBegins world blocks limits)
+  begun_stops limit r p given = outcome_under (λ e. e ≡ stops limit) (CodeBegins world blocks limits) (λ e is. subst (CodeBegins world blocks limits) (sym is) (begins (stops limit) p)) r given
+
+module _ (world : World) (blocks : List (List Op)) (pending : PendingRun) (answer : Answer) (w : World) (b : List (List Op)) (room : Room) (same : w ≡ world) (its : b ≡ blocks) (left : room ≡ left_of pending) where
+  -- what a reply comes to in the machine
+  abbrev pub RepliesSo : Allowed
+  RepliesSo e = (s : State) → Pauses s pending.paused → ComesReplied w b s pending.asked.value.awaited answer room e
+
+  replies : (e : Ending Room) → RepliesSo e → PendingComes world blocks pending answer e
+  replies e p = λ s waits.
+      subst (λ (u : Room). ComesReplied world blocks s pending.asked.value.awaited answer u e) left
+      (subst (λ (x : List (List Op)). ComesReplied world x s pending.asked.value.awaited answer room e) its
+      (subst (λ (x : World). ComesReplied x b s pending.asked.value.awaited answer room e) same (p s waits)))
+
+  -- a run that has its reply goes on, or goes no further
+  pub replied_turns : (v : World) (c : List (List Op)) (comes : Allowed) (r : Reached) → v ≡ w → c ≡ b → ((e : Ending Room) → comes e → RepliesSo e) → ReachesBy v c comes r → ReachesBy world blocks (PendingComes world blocks pending answer) r
+  replied_turns v c comes r e f goes given = reaches_under world blocks comes (PendingComes world blocks pending answer) (λ x p. replies x (goes x p)) r (moved v world c blocks comes r (e ∙ same) (f ∙ its) given)
+
+  pub replied_halts : (h : Halt) (r : Result (Outcome Value) Error) → ((e : Ending Room) → ComesHalted h e → RepliesSo e) → ReturnsOutcome r (ComesHalted h) → ReturnsOutcome r (PendingComes world blocks pending answer)
+  replied_halts h r goes given = outcome_under (ComesHalted h) (PendingComes world blocks pending answer) (λ e p. replies e (goes e p)) r given
+
+-- the host of a run, which has names too
+abbrev pub asked_of : {H : Type 0} → (H → Host) → AskedHost H → Host
+asked_of host asked = host_with_names (host asked.host.now) (is_named asked.names.now)
