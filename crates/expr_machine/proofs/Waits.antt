@@ -63,12 +63,12 @@ held_frame shared d f g p q =
     let number : g.number ≡ f.number = q.place.0 ∙ sym p.place.0 in
     let at : g.at ≡ f.at = q.place.1 ∙ sym p.place.1 in
     let slot : g.slot ≡ f.slot = q.slots.0 ∙ sym p.slots.0 in
-    let places : g.places ≡ f.places = q.slots.1.0 ∙ sym p.slots.1.0 in
-    let binds : g.binds ≡ f.binds = q.slots.1.1 ∙ sym p.slots.1.1 in
+    let places : g.places ≡ f.places = q.slots.1 ∙ sym p.slots.1 in
+    let binds : g.binds ≡ f.binds = q.slots.2 ∙ sym p.slots.2 in
     let keeps : g.keeps ≡ f.keeps = q.keeps ∙ sym p.keeps in
     let called : g.called ≡ f.called = q.sizes.0 ∙ sym p.sizes.0 in
-    let first : g.first ≡ f.first = q.sizes.1.0 ∙ sym p.sizes.1.0 in
-    let mark : g.mark ≡ f.mark = q.sizes.1.1 ∙ sym p.sizes.1.1 in
+    let first : g.first ≡ f.first = q.sizes.1 ∙ sym p.sizes.1 in
+    let mark : g.mark ≡ f.mark = q.sizes.2 ∙ sym p.sizes.2 in
     record {
       run = same_as f.run g.run d.run p.run q.run;
       rest =

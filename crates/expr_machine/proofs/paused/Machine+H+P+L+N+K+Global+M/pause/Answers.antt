@@ -7,7 +7,7 @@ use Rattle.expr_machine.specs.Pausing.{HoldsFrame}
 use Rattle.expr_machine.specs.Seen as seen
 use Rattle.expr_stack.proofs.Grown.{longer_still, memory_longer}
 use Rattle.expr_stack.specs.Detached.{IsMemoryOf, IsStackOf, Pairs}
-use Rattle.expr_machine.proofs.paused.Machine.pause.Goals as goal
+use Rattle.expr_machine.proofs.paused.Machine+H+P+L+N+K+Global+M.pause.Goals as goal
 
 pub returns-clause-paused : goal.returns-clause-paused
 returns-clause-paused g c =

@@ -11,7 +11,7 @@ use Rattle.expr_machine.specs.Pausing.{HoldsFrame}
 use Rattle.expr_machine.specs.Seen as seen
 use Rattle.expr_meaning.specs.World.{World}
 use Rattle.expr_stack.specs.Detached.{Pairs}
-use Rattle.expr_machine.proofs.paused.Machine.resume.Goals as goal
+use Rattle.expr_machine.proofs.paused.Machine+H+P+L+N+K+Global+M.resume.Goals as goal
 
 pub attach-requires : goal.attach-requires
 attach-requires g c = (c.requires.0.memory, c.requires.1.memory)
