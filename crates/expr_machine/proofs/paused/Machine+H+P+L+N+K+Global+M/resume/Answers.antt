@@ -44,6 +44,7 @@ returns-clause-comes g c = λ s held awaited given e.
       memory = c.in_ok-memory.memory;
       frames = reverse (map seen.waiting_of c.in_ok-frames.frames.items);
       begun = lists.begun;
-    } in
-    ( replied_same w B t s awaited given now e (held_state shared lists t s (returns-clause-state g c) held)
-    , replied_same w B s t awaited given now e (held_state shared lists s t held (returns-clause-state g c)))
+    } in (
+      replied_same w B t s awaited given now e (held_state shared lists t s (returns-clause-state g c) held),
+      replied_same w B s t awaited given now e (held_state shared lists s t held (returns-clause-state g c)),
+    )
