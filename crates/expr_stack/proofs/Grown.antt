@@ -1,7 +1,7 @@
 -- Shared values are only added to, so what stood for something stands for it still.
 use Rattle.std.proofs.Common.{◌≡◌, ℕ, zero, suc, ◌+◌, ◌<◌, ◌≤◌, List, [], ◌∷◌, ◌++◌, length, map, take, get_or, reverse, refl, ap, ◌∙◌, sym, subst, arith, length-append, append_assoc}
 use Rattle.std.proofs.lemmas.List.{append-nil, map-append, take_more}
-use Rattle.std.specs.Prelude.{slice_get, unwrap_or}
+use Rattle.std.specs.Prelude.{unwrap_or}
 use Rattle.expr_stack.proofs.Within.{get_grown}
 use Rattle.expr_stack.specs.Detached.{AreShared, IsEntry, IsLonger, IsMemoryOf, IsOfCell, IsShared, IsStackOf, Pairs, cell_detached}
 use Rattle.expr_stack.specs.Memories.{MemoryView}
