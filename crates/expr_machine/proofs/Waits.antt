@@ -63,25 +63,25 @@ held_frame shared d f g p q =
     let number : g.number ≡ f.number = q.place.0 ∙ sym p.place.0 in
     let at : g.at ≡ f.at = q.place.1 ∙ sym p.place.1 in
     let slot : g.slot ≡ f.slot = q.slots.0 ∙ sym p.slots.0 in
-    let places : g.places ≡ f.places = q.slots.1.0 ∙ sym p.slots.1.0 in
-    let binds : g.binds ≡ f.binds = q.slots.1.1 ∙ sym p.slots.1.1 in
+    let places : g.places ≡ f.places = q.slots.1 ∙ sym p.slots.1 in
+    let binds : g.binds ≡ f.binds = q.slots.2 ∙ sym p.slots.2 in
     let keeps : g.keeps ≡ f.keeps = q.keeps ∙ sym p.keeps in
     let called : g.called ≡ f.called = q.sizes.0 ∙ sym p.sizes.0 in
-    let first : g.first ≡ f.first = q.sizes.1.0 ∙ sym p.sizes.1.0 in
-    let mark : g.mark ≡ f.mark = q.sizes.1.1 ∙ sym p.sizes.1.1 in
+    let first : g.first ≡ f.first = q.sizes.1 ∙ sym p.sizes.1 in
+    let mark : g.mark ≡ f.mark = q.sizes.2 ∙ sym p.sizes.2 in
     record {
       run = same_as f.run g.run d.run p.run q.run;
       rest =
-        ap (λ x. record g { stack = x }) stack
-        ∙ ap (λ x. record g { stack = f.stack; number = x }) number
-        ∙ ap (λ x. record g { stack = f.stack; number = f.number; at = x }) at
-        ∙ ap (λ x. record g { stack = f.stack; number = f.number; at = f.at; slot = x }) slot
-        ∙ ap (λ x. record g { stack = f.stack; number = f.number; at = f.at; slot = f.slot; places = x }) places
-        ∙ ap (λ x. record g { stack = f.stack; number = f.number; at = f.at; slot = f.slot; places = f.places; binds = x }) binds
-        ∙ ap (λ x. record g { stack = f.stack; number = f.number; at = f.at; slot = f.slot; places = f.places; binds = f.binds; keeps = x }) keeps
-        ∙ ap (λ x. record f { run = g.run; called = x; first = g.first; mark = g.mark }) called
-        ∙ ap (λ x. record f { run = g.run; first = x; mark = g.mark }) first
-        ∙ ap (λ x. record f { run = g.run; mark = x }) mark;
+          ap (λ x. record g { stack = x }) stack
+          ∙ ap (λ x. record g { stack = f.stack; number = x }) number
+          ∙ ap (λ x. record g { stack = f.stack; number = f.number; at = x }) at
+          ∙ ap (λ x. record g { stack = f.stack; number = f.number; at = f.at; slot = x }) slot
+          ∙ ap (λ x. record g { stack = f.stack; number = f.number; at = f.at; slot = f.slot; places = x }) places
+          ∙ ap (λ x. record g { stack = f.stack; number = f.number; at = f.at; slot = f.slot; places = f.places; binds = x }) binds
+          ∙ ap (λ x. record g { stack = f.stack; number = f.number; at = f.at; slot = f.slot; places = f.places; binds = f.binds; keeps = x }) keeps
+          ∙ ap (λ x. record f { run = g.run; called = x; first = g.first; mark = g.mark }) called
+          ∙ ap (λ x. record f { run = g.run; first = x; mark = g.mark }) first
+          ∙ ap (λ x. record f { run = g.run; mark = x }) mark;
     }
 
 held_frames : (shared : List Value) (ds : List DetachedFrame) (fs gs : List Waiting) → Pairs (HoldsFrame shared) ds fs → Pairs (HoldsFrame shared) ds gs → Pairs IsSameFrame fs gs
@@ -102,15 +102,15 @@ held_state shared lists s t p q =
     let turned = pairs_reverse IsSameFrame (reverse s.frames) (reverse t.frames) (held_frames shared lists.frames.items (reverse s.frames) (reverse t.frames) p.frames q.frames) in
     record {
       frames =
-        subst (λ fs. Pairs IsSameFrame fs t.frames) (reverse-reverse s.frames) (
-        subst (λ gs. Pairs IsSameFrame (reverse (reverse s.frames)) gs) (reverse-reverse t.frames) turned
-        );
+          subst (λ fs. Pairs IsSameFrame fs t.frames) (reverse-reverse s.frames) (
+          subst (λ gs. Pairs IsSameFrame (reverse (reverse s.frames)) gs) (reverse-reverse t.frames) turned
+          );
       rest =
-        ap (λ x. record t { number = x }) number
-        ∙ ap (λ x. record t { number = s.number; at = x }) at
-        ∙ ap (λ x. record t { number = s.number; at = s.at; stack = x }) stack
-        ∙ ap (λ x. record t { number = s.number; at = s.at; stack = s.stack; memory = x }) memory
-        ∙ ap (λ x. record s { frames = t.frames; begun = x }) begun;
+          ap (λ x. record t { number = x }) number
+          ∙ ap (λ x. record t { number = s.number; at = x }) at
+          ∙ ap (λ x. record t { number = s.number; at = s.at; stack = x }) stack
+          ∙ ap (λ x. record t { number = s.number; at = s.at; stack = s.stack; memory = x }) memory
+          ∙ ap (λ x. record s { frames = t.frames; begun = x }) begun;
     }
 
 -- what waits in one of them waits in the other
@@ -184,8 +184,8 @@ module _ (counted : Bool) (blocks : List (List Op)) where
   all_wait_same asked [] [] m are w = tt
   all_wait_same asked (f ∷ fs) (g ∷ gs) m are w =
       subst (λ k. AllWait counted blocks asked (k ∷ gs) m) (sym are.0.rest) (
-      subst (λ floor. Waits counted blocks (record f { run = g.run }) asked floor m) (sym (entered_same fs gs are.1)) (waits_same f g.run are.0.run asked (entered fs) m w.0),
-      all_wait_same f.number fs gs (cut f m) are.1 w.1
+        subst (λ floor. Waits counted blocks (record f { run = g.run }) asked floor m) (sym (entered_same fs gs are.1)) (waits_same f g.run are.0.run asked (entered fs) m w.0),
+        all_wait_same f.number fs gs (cut f m) are.1 w.1,
       )
   all_wait_same asked [] (g ∷ gs) m are w = absurd are
   all_wait_same asked (f ∷ fs) [] m are w = absurd are

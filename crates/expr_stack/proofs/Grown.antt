@@ -1,7 +1,7 @@
 -- Shared values are only added to, so what stood for something stands for it still.
 use Rattle.std.proofs.Common.{◌≡◌, ℕ, zero, suc, ◌+◌, ◌<◌, ◌≤◌, List, [], ◌∷◌, ◌++◌, length, map, take, get_or, reverse, refl, ap, ◌∙◌, sym, subst, arith, length-append, append_assoc}
 use Rattle.std.proofs.lemmas.List.{append-nil, map-append, take_more}
-use Rattle.std.specs.Prelude.{slice_get, unwrap_or}
+use Rattle.std.specs.Prelude.{unwrap_or}
 use Rattle.expr_stack.proofs.Within.{get_grown}
 use Rattle.expr_stack.specs.Detached.{AreShared, IsEntry, IsLonger, IsMemoryOf, IsOfCell, IsShared, IsStackOf, Pairs, cell_detached}
 use Rattle.expr_stack.specs.Memories.{MemoryView}
@@ -86,9 +86,10 @@ pub slots_step : (old new : List Value) (ds : List DetachedOperand) (d : Detache
     → AreShared (length new) (ds ++ d ∷ []) × (map (cell_detached new) (ds ++ d ∷ []) ≡ cs ++ c ∷ [])
 slots_step old new ds d cs c (more, e) found are here is =
     let kept : AreShared (length new) ds = subst (λ n. AreShared (length n) ds) (sym e) (slots_shared old more ds found) in
-    let same : map (cell_detached new) ds ≡ cs = subst (λ n. map (cell_detached n) ds ≡ cs) (sym e) (slots_grown old more ds found ∙ are) in
-    ( shared_last (length new) ds d kept here
-    , map-append (cell_detached new) ds (d ∷ []) ∙ ap (λ l. l ++ cell_detached new d ∷ []) same ∙ ap (λ z. cs ++ z ∷ []) is)
+    let same : map (cell_detached new) ds ≡ cs = subst (λ n. map (cell_detached n) ds ≡ cs) (sym e) (slots_grown old more ds found ∙ are) in (
+      shared_last (length new) ds d kept here,
+      map-append (cell_detached new) ds (d ∷ []) ∙ ap (λ l. l ++ cell_detached new d ∷ []) same ∙ ap (λ z. cs ++ z ∷ []) is,
+    )
 
 -- one entry more
 pub entries_step : (old new : List Value) (ds : List DetachedEntry) (es : List Entry) (d : DetachedEntry) (x : Entry)

@@ -2,7 +2,7 @@
 use Rattle.std.specs.Prelude.{◌≡◌, ℕ, ◌<◌, List, [], ◌∷◌, ◌++◌, length, map, reverse, slice_get, unwrap_or}
 use Rattle.expr_stack.specs.Cells.{AreWithin}
 use Rattle.expr_stack.specs.Memories.{MemoryView}
-use Rattle.expr_stack.specs.Stacked.{AreFilled, HasOwnValues, cells_of_entries, entries_of}
+use Rattle.expr_stack.specs.Stacked.{AreFilled, HasOwnValues, cells_of_entries}
 use Rattle.expr_stack.specs.declared.cell.Cell.TheVariants as cell
 use Rattle.expr_stack.specs.declared.cell.Cell.{Cell}
 use Rattle.expr_stack.specs.declared.detached.DetachedEntry.{DetachedEntry}

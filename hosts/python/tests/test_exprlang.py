@@ -113,6 +113,17 @@ class Calls(unittest.TestCase):
         self.assertEqual(exprlang.evaluate("1 + " * 999 + "1"), 1000)
         self.assertIs(exprlang.evaluate("all([1], {" * 2400 + "true" + "})" * 2400), True)
 
+    def test_limit_on_copies(self):
+        environment = exprlang.Environment(functions={"same": lambda value: value})
+        context = {"xs": [{"a": number} for number in range(100)]}
+        few = exprlang.Limits(size=2000)
+        self.assertEqual(exprlang.evaluate("len([xs, same(1)])", context, environment, few), 2)
+        for text in ["len([xs, xs, same(1)])", "all(xs, {all(xs, {same(true)})})"]:
+            with self.assertRaises(exprlang.Error) as caught:
+                exprlang.evaluate(text, context, environment, few)
+            self.assertEqual(caught.exception.kind, "memory")
+            self.assertTrue(exprlang.evaluate(text, context, environment, exprlang.UNLIMITED))
+
     def test_limits(self):
         few = exprlang.Limits(steps=1000)
         limited, usual = exprlang.compile("all(1..1000, {# > x})", few), exprlang.compile(

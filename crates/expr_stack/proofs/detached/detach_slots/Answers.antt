@@ -1,4 +1,4 @@
-use Rattle.std.proofs.Common.{◌≡◌, [], ◌∷◌, map, take, ap, ◌∙◌, sym}
+use Rattle.std.proofs.Common.{[], ◌∷◌, map, take, ap, ◌∙◌, sym}
 use Rattle.std.proofs.lemmas.List.{map-append}
 use Rattle.expr_stack.specs.Operands.{cell_of}
 use Rattle.expr_stack.proofs.Grown.{longer_still, slots_step, take_item}

@@ -1,4 +1,4 @@
-use Rattle.std.proofs.Common.{◌≡◌, List, ◌∷◌, reverse, sym, subst}
+use Rattle.std.proofs.Common.{◌∷◌, reverse, sym, subst}
 use Rattle.expr_stack.proofs.Alike.{alike_filled, alike_own, pairs_reverse, taken_apart}
 use Rattle.expr_stack.specs.Detached.{IsEntry, Pairs}
 use Rattle.expr_stack.proofs.detached.DetachedStack.attach.Goals as goal

@@ -1,4 +1,4 @@
-use Rattle.std.proofs.Common.{◌≡◌, sym, subst}
+use Rattle.std.proofs.Common.{sym, subst}
 use Rattle.expr_stack.proofs.Alike.{pairs_reverse}
 use Rattle.expr_stack.proofs.Grown.{entries_longer, entry_longer, longer_still}
 use Rattle.expr_stack.specs.Detached.{IsEntry, Pairs}

@@ -11,7 +11,7 @@ use Rattle.expr_machine.specs.Pausing.{HoldsFrame}
 use Rattle.expr_machine.specs.Seen as seen
 use Rattle.expr_meaning.specs.World.{World}
 use Rattle.expr_stack.specs.Detached.{Pairs}
-use Rattle.expr_machine.proofs.paused.Machine.resume.Goals as goal
+use Rattle.expr_machine.proofs.paused.Machine+H+P+L+N+K+Global+M.resume.Goals as goal
 
 pub attach-requires : goal.attach-requires
 attach-requires g c = (c.requires.0.memory, c.requires.1.memory)
@@ -44,6 +44,7 @@ returns-clause-comes g c = λ s held awaited given e.
       memory = c.in_ok-memory.memory;
       frames = reverse (map seen.waiting_of c.in_ok-frames.frames.items);
       begun = lists.begun;
-    } in
-    ( replied_same w B t s awaited given now e (held_state shared lists t s (returns-clause-state g c) held)
-    , replied_same w B s t awaited given now e (held_state shared lists s t held (returns-clause-state g c)))
+    } in (
+      replied_same w B t s awaited given now e (held_state shared lists t s (returns-clause-state g c) held),
+      replied_same w B s t awaited given now e (held_state shared lists s t held (returns-clause-state g c)),
+    )

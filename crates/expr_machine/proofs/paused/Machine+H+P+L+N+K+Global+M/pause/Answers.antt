@@ -7,7 +7,7 @@ use Rattle.expr_machine.specs.Pausing.{HoldsFrame}
 use Rattle.expr_machine.specs.Seen as seen
 use Rattle.expr_stack.proofs.Grown.{longer_still, memory_longer}
 use Rattle.expr_stack.specs.Detached.{IsMemoryOf, IsStackOf, Pairs}
-use Rattle.expr_machine.proofs.paused.Machine.pause.Goals as goal
+use Rattle.expr_machine.proofs.paused.Machine+H+P+L+N+K+Global+M.pause.Goals as goal
 
 pub returns-clause-paused : goal.returns-clause-paused
 returns-clause-paused g c =
@@ -23,11 +23,11 @@ returns-clause-paused g c =
       memory = subst (IsMemoryOf three c.in_ok-memory.memory) are.memory memory;
       stack = subst (IsStackOf three c.in_ok-stack.stack) are.stack c.in_ok-stack.ensures.cells;
       frames =
-        subst (λ fs. Pairs (HoldsFrame three) c.in_ok-frames.frames.items (reverse (reverse (map seen.waiting_of fs.items)))) are.frames (
-        subst (Pairs (HoldsFrame three) c.in_ok-frames.frames.items) (sym (reverse-reverse (map seen.waiting_of parts.frames.items))) frames
-        );
+          subst (λ fs. Pairs (HoldsFrame three) c.in_ok-frames.frames.items (reverse (reverse (map seen.waiting_of fs.items)))) are.frames (
+          subst (Pairs (HoldsFrame three) c.in_ok-frames.frames.items) (sym (reverse-reverse (map seen.waiting_of parts.frames.items))) frames
+          );
       rest =
-        ap (λ n. let t : State = record s { number = n } in t) (sym are.number)
-        ∙ ap (λ n. let t : State = record s { number = parts.number; at = n } in t) (sym are.at)
-        ∙ ap (λ n. let t : State = record s { number = parts.number; at = parts.at; begun = n } in t) (sym are.begun);
+          ap (λ n. let t : State = record s { number = n } in t) (sym are.number)
+          ∙ ap (λ n. let t : State = record s { number = parts.number; at = n } in t) (sym are.at)
+          ∙ ap (λ n. let t : State = record s { number = parts.number; at = parts.at; begun = n } in t) (sym are.begun);
     }
