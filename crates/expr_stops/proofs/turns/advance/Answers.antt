@@ -11,7 +11,7 @@ use Rattle.expr_limits.specs.declared.budget.Budget.{Budget}
 use Rattle.expr_lowering.specs.Blocks.{blocks_of}
 use Rattle.expr_machine.specs.Seen.{Comes, state_of}
 use Rattle.expr_meaning.specs.World.{World}
-use Rattle.expr_stops.specs.Turns.{ComesHalted, ReachesBy}
+use Rattle.expr_stops.specs.Turns.{ComesAsked, ComesHalted, ReachesBy}
 use Rattle.expr_stops.specs.declared.names.StopNames.{StopNames}
 use Rattle.expr_stops.proofs.Reaching.{halted_under, outcome_under, reaches_under, same_halt}
 use Rattle.expr_value.specs.declared.value.Value.{Value}
@@ -32,11 +32,12 @@ returns-in-Err-Asks-clause-turns g c =
     let blocks : List (List Op) = blocks_of V T c.args.machine.code.now in
     let before : Allowed = Comes host_of context_of V T metered c.args.machine in
     let r = c.wait_at.result in
+    let asks : Allowed = ComesAsked there its (state_of host_of context_of V T metered n) c.in-Err-Asks.asked.value (metered n.meter).room in
     let ends = c.in-Err-Asks.ensures.ends in
     let same = c.in-Err-Asks.ensures.same in
     subst (λ w. ReachesBy (here host_of context_of w.now) blocks before r) same.world
     (subst (λ k. ReachesBy there (blocks_of V T k.now) before r) same.code
-    (reaches_under there its _ before (λ e comes. ends.2 comes.0 comes.1 e comes.2) r c.wait_at.ensures.reached))
+    (reaches_under there its asks before (λ e comes. ends.2 comes.0 comes.1 e comes.2) r c.wait_at.ensures.reached))
 
 pub returns-in-Err : goal.returns-in-Err
 returns-in-Err g c =

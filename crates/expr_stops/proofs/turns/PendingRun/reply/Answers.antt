@@ -2,17 +2,20 @@ use Rattle.std.proofs.Common.{◌≡◌, ◌∙◌, List, true, Ok, ap, subst, s
 use Rattle.expr_acts.specs.Here.{here}
 use Rattle.expr_acts.specs.Texts.{text_of}
 use Rattle.expr_code.specs.Instructions.{Op}
+use Rattle.expr_frames.specs.Machines as states
 use Rattle.expr_frames.specs.Machines.{Allowed}
 use Rattle.expr_frames.specs.Ready.{MayBeGiven}
 use Rattle.expr_frames.specs.Runs.{State}
 use Rattle.expr_frames.specs.declared.asking.Asking.{Asking}
+use Rattle.expr_frames.specs.declared.halt.Asked.{Asked}
+use Rattle.expr_frames.specs.declared.halt.Awaited.{Awaited}
 use Rattle.expr_limits.specs.MeterView.{MeterView}
 use Rattle.expr_limits.specs.Rooms.{Room}
 use Rattle.expr_limits.specs.contracts.budget.BudgetMeter.TheImpl.{ghosts as budget}
 use Rattle.expr_limits.specs.declared.budget.Budget.{Budget}
 use Rattle.expr_lowering.specs.Blocks.{blocks_of}
 use Rattle.expr_machine.specs.Pausing.{HoldsRun}
-use Rattle.expr_machine.specs.Seen.{ComesReplied, state_of}
+use Rattle.expr_machine.specs.Seen.{Comes, ComesReplied, state_of}
 use Rattle.expr_meaning.specs.World.{World, world_of}
 use Rattle.expr_stops.specs.Stops.{host_with_names, is_named}
 use Rattle.expr_stops.specs.Turns.{left_of}
@@ -55,10 +58,12 @@ returns-in-Ok-reply-clause-turns g c =
     let its : List (List Op) = blocks_of V T m.code.now in
     let room : Room = (budget.metered m.meter.meter).room in
     let left : room ≡ left_of c.args.self = ap (λ x. (budget.metered x.meter).room) c.in-Ok.ensures.meter in
-    let awaited = c.args.self.asked.value.awaited in
+    let awaited = c.deref-in-Ok.result.now.awaited in
+    let same : awaited ≡ c.args.self.asked.value.awaited = ap (λ (a : Asked). a.awaited) c.deref-in-Ok.ensures in
     replied_turns world blocks c.args.self (Ok c.args.value) there its room (ap (λ x. here host_of context_of x.now) c.in-Ok.ensures.world) (ap (λ y. blocks_of V T y.now) c.in-Ok.ensures.code) left
-    (here host_of context_of n.world.now) (blocks_of V T n.code.now) _ c.advance.result.reached (ap (λ x. here host_of context_of x.now) c.in-Ok-reply.ensures.same.world) (ap (λ y. blocks_of V T y.now) c.in-Ok-reply.ensures.same.code)
-    (λ e comes s waits. (c.in-Ok.ensures.comes s (subst (λ l. HoldsRun l paused.lists s) (sym c.deref.ensures.value) waits) awaited (Ok c.args.value) e).0 (c.in-Ok-reply.ensures.goes.2 e comes))
+    (here host_of context_of n.world.now) (blocks_of V T n.code.now) (Comes host_of context_of V T metered n) c.advance.result.reached (ap (λ x. here host_of context_of x.now) c.in-Ok-reply.ensures.same.world) (ap (λ y. blocks_of V T y.now) c.in-Ok-reply.ensures.same.code)
+    (λ e comes s waits. subst (λ (x : Awaited). states.ComesReplied there its s x (Ok c.args.value) room e) same
+    ((c.in-Ok.ensures.comes s (subst (λ l. HoldsRun l paused.lists s) (sym c.deref.ensures.value) waits) awaited (Ok c.args.value) e).0 (c.in-Ok-reply.ensures.goes.2 e comes)))
     c.advance.ensures.turns
 
 pub returns-in-Ok-clause-turns : goal.returns-in-Ok-clause-turns
@@ -77,10 +82,12 @@ returns-in-Ok-clause-turns g c =
     let its : List (List Op) = blocks_of V T m.code.now in
     let room : Room = (budget.metered m.meter.meter).room in
     let left : room ≡ left_of c.args.self = ap (λ x. (budget.metered x.meter).room) c.in-Ok.ensures.meter in
-    let awaited = c.args.self.asked.value.awaited in
+    let awaited = c.deref-in-Ok.result.now.awaited in
+    let same : awaited ≡ c.args.self.asked.value.awaited = ap (λ (a : Asked). a.awaited) c.deref-in-Ok.ensures in
     let h = c.in-Err-reply.halt in
     let before : Allowed = ComesReplied host_of context_of V T metered awaited (Ok c.args.value) m in
     replied_halts world blocks c.args.self (Ok c.args.value) there its room (ap (λ x. here host_of context_of x.now) c.in-Ok.ensures.world) (ap (λ y. blocks_of V T y.now) c.in-Ok.ensures.code) left h c.outcome_of.result
-    (λ e comes s waits. (c.in-Ok.ensures.comes s (subst (λ l. HoldsRun l paused.lists s) (sym c.deref.ensures.value) waits) awaited (Ok c.args.value) e).0
-    (halted_under (here host_of context_of n.world.now) (blocks_of V T n.code.now) before (metered n.meter) (state_of host_of context_of V T metered n) h c.in-Err-reply.ensures.goes e comes))
+    (λ e comes s waits. subst (λ (x : Awaited). states.ComesReplied there its s x (Ok c.args.value) room e) same
+    ((c.in-Ok.ensures.comes s (subst (λ l. HoldsRun l paused.lists s) (sym c.deref.ensures.value) waits) awaited (Ok c.args.value) e).0
+    (halted_under (here host_of context_of n.world.now) (blocks_of V T n.code.now) before (metered n.meter) (state_of host_of context_of V T metered n) h c.in-Err-reply.ensures.goes e comes)))
     c.outcome_of.ensures.end
