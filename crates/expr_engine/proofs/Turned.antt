@@ -1,20 +1,23 @@
 -- Runs that begin, and runs that go on with a reply.
-use Rattle.std.proofs.Common.{◌≡◌, ◌∙◌, Option, None, Some, IsSome, MatchOption, Result, Ok, Err, ap, refl, subst, sym}
+use Rattle.std.proofs.Common.{◌≡◌, ◌∙◌, ◌+◌, Option, None, Some, IsSome, IsSomeAnd, MatchOption, Result, Ok, Err, ap, refl, subst, sym}
 use Rattle.std.proofs.lemmas.Bool.{false≢true}
 use Rattle.std.specs.Option.{option_and_then, option_map}
 use Rattle.expr_context.specs.Contexts.{NamedValues}
+use Rattle.expr_engine.specs.Effects.{Changes, LetsGo}
 use Rattle.expr_engine.specs.Engines.{MayEnd, RestOfEngine, RunInputs, RunMayAnswer, additions_at, names_at, run_inputs, world_of_run}
 use Rattle.expr_engine.specs.Runs.{MeaningAllows}
 use Rattle.expr_engine.specs.Served.{RunServes}
-use Rattle.expr_engine.specs.Turns.{EndsTurn, PassesOn, SameRuns, StartsRun, TurnGives, TurnReaches, TurnServes, UnlessAsks}
+use Rattle.expr_engine.specs.Pending.{PendingView}
+use Rattle.expr_engine.specs.Turns.{EndsTurn, GoesOnRun, IsWaitingRun, MayEndWith, PassesOn, SameRuns, StartsRun, TurnGives, TurnReaches, TurnServes, UnlessAsks, WaitsAgain, seen_at}
 use Rattle.expr_engine.specs.declared.additions.Additions.{Additions}
 use Rattle.expr_engine.specs.declared.engine.Engine.{Engine}
 use Rattle.expr_engine.specs.declared.rule.Rule.{Rule}
 use Rattle.expr_engine.specs.declared.waiting_run.TurnEnd.{TurnEnd}
+use Rattle.expr_engine.specs.declared.waiting_run.WaitingRun.{WaitingRun}
 use Rattle.expr_engine.specs.declared.waiting_run.TurnEnd.TheVariants as turn
 use Rattle.expr_error.specs.ErrorKind.{error_kind, memory}
 use Rattle.expr_error.specs.declared.error.Error.{Error}
-use Rattle.expr_exchange.specs.HandleMap.{SameThings, thing_at}
+use Rattle.expr_exchange.specs.HandleMap.{KeepsOthers, SameThings, next_number, tag_of, thing_at}
 use Rattle.expr_exchange.specs.declared.handles.Handle.{Handle}
 use Rattle.expr_exchange.specs.declared.host_error.HostError.{HostError}
 use Rattle.expr_exchange.specs.declared.host_error.HostError.TheVariants.{Language, Unknown, Misuse, Asks, Stopped}
@@ -28,7 +31,8 @@ use Rattle.expr_limits.specs.declared.outcome.Outcome.TheVariants.{Answered, Sto
 use Rattle.expr_lowering.specs.OwnedCodes.{owned_blocks}
 use Rattle.expr_machine.specs.Given.{MayGive as GivesWithin}
 use Rattle.expr_stops.specs.Stops.{UsesWithin}
-use Rattle.expr_stops.specs.Turns.{IfEnded, ReachesBy, StopsWithin}
+use Rattle.expr_stops.specs.Turns.{IfEnded, ReachesBy, StopsWithin, limits_of}
+use Rattle.expr_stops.specs.declared.turns.PendingRun.{PendingRun}
 use Rattle.expr_stops.specs.declared.turns.Reached.{Reached}
 use Rattle.expr_stops.specs.declared.turns.Reached.TheVariants as reached
 use Rattle.expr_stops.specs.declared.used.Used.{Used}
@@ -127,3 +131,112 @@ pub run_served : (o : Option RunInputs) (N M : Type 0) (r : Result (Outcome Valu
     → MatchOption o (done ≡ Err Unknown) (λ q. RunServes q done value)
 run_served None N M r used done value never m g is = absurd (never m)
 run_served (Some q) N M r used done value never m g is = run_serves q r done value g m.0 is
+
+-- a run that waits after its first turn
+pub run_waits : (o : Option RunInputs) (N : Type 0) (old : Engine) (new : RestOfEngine) (program environment context : Handle) (pending : PendingView) (waits : WaitingRun) (used : Used) (handle : Handle) (value : Value)
+    → (N → ⊥) → MatchOption o N (λ q. TurnReaches q (MayEnd q) (Ok (turn.Waits pending)) × UsesWithin q.limits used)
+    → waits ≡ record { program = program; environment = environment; context = context; seen = seen_at old environment context; pending = Some pending }
+    → handle.number ≡ next_number old.runs → handle.tag ≡ tag_of old.runs → tag_of new.runs ≡ tag_of old.runs → next_number new.runs ≡ handle.number + 1 → thing_at old.runs handle ≡ None → thing_at new.runs handle ≡ Some waits → KeepsOthers handle old.runs new.runs → new.used ≡ used
+    → MatchOption o (SameRuns old new) (λ q. StartsRun q program environment context old new (Err (Asks handle)) value)
+run_waits None N old new program environment context pending waits used handle value never m is number tag same next fresh kept others u = absurd (never m)
+run_waits (Some q) N old new program environment context pending waits used handle value never m is number tag same next fresh kept others u = record {
+  turn = record {
+    number = number;
+    tag = tag;
+    same_tag = same;
+    next = next;
+    fresh = fresh;
+    kept = subst (λ (w : Option WaitingRun). IsSomeAnd w (IsWaitingRun q (MayEnd q) program environment context (seen_at old environment context))) (sym kept) (record {
+      program = ap (λ (w : WaitingRun). w.program) is;
+      environment = ap (λ (w : WaitingRun). w.environment) is;
+      context = ap (λ (w : WaitingRun). w.context) is;
+      seen = ap (λ (w : WaitingRun). w.seen) is;
+      pending = pending;
+      is = ap (λ (w : WaitingRun). w.pending) is;
+      rule = m.0.0;
+      at = m.0.1;
+    });
+    others = others;
+  };
+  runs = tt;
+  used = subst (λ (x : Used). UsesWithin q.limits x) (sym u) m.1;
+}
+
+-- a turn that lacks memory
+lacking : (before : Allowed) (q : RunInputs) (e : HostError) (Waits : Handle → Type 0) (value : Value) → TurnReaches q before (Err e) → TurnServes before Waits (Err e) value
+lacking before q (Language error) Waits value m = λ other. absurd (other m)
+lacking before q Unknown Waits value m = absurd m
+lacking before q (Misuse why) Waits value m = absurd m
+lacking before q (Asks run) Waits value m = absurd m
+lacking before q (Stopped limit) Waits value m = absurd m
+
+lacking_leaves : (P : Type 0) (before : Allowed) (q : RunInputs) (e : HostError) → TurnReaches q before (Err e) → P → UnlessAsks (Err e) P
+lacking_leaves P before q (Language error) m p = p
+lacking_leaves P before q Unknown m p = absurd m
+lacking_leaves P before q (Misuse why) m p = absurd m
+lacking_leaves P before q (Asks run) m p = absurd m
+lacking_leaves P before q (Stopped limit) m p = absurd m
+
+lacking_serves : (q : RunInputs) (e : HostError) (value : Value) → TurnReaches q (MayEnd q) (Err e) → RunServes {A = Unit {0}} q (Err e) value
+lacking_serves q (Language error) value m = λ other. absurd (other m)
+lacking_serves q Unknown value m = absurd m
+lacking_serves q (Misuse why) value m = absurd m
+lacking_serves q (Asks run) value m = absurd m
+lacking_serves q (Stopped limit) value m = absurd m
+
+-- a run that has no turn, since a handle finds nothing or memory lacks
+pub run_lacks : (o : Option RunInputs) (N : Type 0) (old : Engine) (new : RestOfEngine) (program environment context : Handle) (used : Used) (e : HostError) (value : Value)
+    → MatchOption o N (λ q. TurnReaches q (MayEnd q) (Err e) × UsesWithin q.limits used) → (N → used ≡ old.used) → SameThings old.runs new.runs → new.used ≡ used
+    → MatchOption o (SameRuns old new) (λ q. StartsRun q program environment context old new (Err e) value)
+run_lacks None N old new program environment context used e value m n same u = record { runs = same; used = u ∙ n m }
+run_lacks (Some q) N old new program environment context used e value m n same u = record {
+  turn = lacking (MayEnd q) q e _ value m.0;
+  runs = lacking_leaves (SameThings old.runs new.runs) (MayEnd q) q e m.0 same;
+  used = subst (λ (x : Used). UsesWithin q.limits x) (sym u) m.1;
+}
+
+pub run_lacks_so : (o : Option RunInputs) (N : Type 0) (used : Used) (e : HostError) (value : Value) → MatchOption o N (λ q. TurnReaches q (MayEnd q) (Err e) × UsesWithin q.limits used) → (N → e ≡ Unknown)
+    → MatchOption o (Err {T = Unit {0}} e ≡ Err Unknown) (λ q. RunServes {A = Unit {0}} q (Err e) value)
+run_lacks_so None N used e value m n = ap (λ (x : HostError). Err x) (n m)
+run_lacks_so (Some q) N used e value m n = lacking_serves q e value m.0
+
+-- what holds of a thing gives what else does
+some_so : {A : Type 0} (o : Option A) (P Q : A → Type 0) → ((a : A) → P a → Q a) → IsSomeAnd o P → IsSomeAnd o Q
+some_so None P Q f p = absurd p
+some_so (Some a) P Q f p = f a p
+
+-- a run that had its reply and ended
+pub reply_ended : (old : Engine) (new : RestOfEngine) (run : Handle) (waits : WaitingRun) (pending : PendingRun) (q : RunInputs) (given : Value) (r : Result (Outcome Value) Error) (used : Used) (done : Result (Unit {0}) HostError) (value : Value)
+    → TurnReaches q (MayEndWith q pending given) (Ok (turn.Ended r)) × UsesWithin (limits_of pending) used → PassesOn r done value → LetsGo old.runs new.runs run → new.used ≡ used → GoesOnRun waits pending q given run old new done value
+reply_ended old new run waits pending q given r used done value m is gone u = record {
+  turn = ended_serves (MayEndWith q pending given) (WaitsAgain q (MayEndWith q pending given) waits old new run) r done value m.0 is;
+  runs = ended_leaves (LetsGo old.runs new.runs run) r done value gone is;
+  used = subst (λ (x : Used). UsesWithin (limits_of pending) x) (sym u) m.1;
+}
+
+-- or waits again
+pub reply_waits : (old : Engine) (new : RestOfEngine) (run : Handle) (waits again : WaitingRun) (pending : PendingRun) (next : PendingView) (q : RunInputs) (given : Value) (used : Used) (value : Value)
+    → TurnReaches q (MayEndWith q pending given) (Ok (turn.Waits next)) × UsesWithin (limits_of pending) used → again ≡ record waits { pending = Some next }
+    → Changes (λ _ (is : WaitingRun). is ≡ again) old.runs new.runs run → new.used ≡ used → GoesOnRun waits pending q given run old new (Err (Asks run)) value
+reply_waits old new run waits again pending next q given used value m is changes u = record {
+  turn = (
+    refl,
+    record {
+      was = changes.was;
+      stood = changes.stood;
+      kept = some_so (thing_at new.runs run) (λ (w : WaitingRun). w ≡ again) (IsWaitingRun q (MayEndWith q pending given) waits.program waits.environment waits.context waits.seen) (λ w same. record {
+        program = ap (λ (x : WaitingRun). x.program) (same ∙ is);
+        environment = ap (λ (x : WaitingRun). x.environment) (same ∙ is);
+        context = ap (λ (x : WaitingRun). x.context) (same ∙ is);
+        seen = ap (λ (x : WaitingRun). x.seen) (same ∙ is);
+        pending = next;
+        is = ap (λ (x : WaitingRun). x.pending) (same ∙ is);
+        rule = m.0.0;
+        at = m.0.1;
+      }) changes.kept;
+      others = changes.others;
+    },
+  );
+  runs = tt;
+  used = subst (λ (x : Used). UsesWithin (limits_of pending) x) (sym u) m.1;
+}

@@ -1,9 +1,9 @@
 -- Engines that keep what they kept.
-use Rattle.std.proofs.Common.{◌≡◌, ◌≤◌, ℕ, Bool, true, false, List, Option, None, Some, IsSomeAnd, is_some, Result, Ok, Err, OnErr, if◌then◌else◌, ◌∙◌, arith, ap, sym, refl, subst, option_map}
+use Rattle.std.proofs.Common.{◌≡◌, ◌≤◌, ℕ, Bool, true, false, List, Option, None, Some, IsSome, IsSomeAnd, is_some, Result, Ok, Err, OnErr, if◌then◌else◌, ◌∙◌, arith, ap, sym, refl, subst, option_map}
 use Rattle.std.proofs.lemmas.Bool.{false≢true}
 use Rattle.std.proofs.lemmas.Grind.{common_steps}
 use Rattle.std.specs.Option.{unwrap_or}
-use Rattle.expr_engine.specs.Effects.{Changes}
+use Rattle.expr_engine.specs.Effects.{Changes, LetsGo}
 use Rattle.expr_engine.specs.Engines.{KeepsThings, KeepsRest, Kept, Leaves, NumbersRise, SameAdditions, SameKept, RestOfEngine, rest_of_engine}
 use Rattle.expr_engine.specs.Runs.{adds_versions, named_at, zone_added}
 use Rattle.expr_engine.specs.declared.additions.Additions.{Additions}
@@ -11,7 +11,7 @@ use Rattle.expr_engine.specs.declared.engine.Engine.{Engine}
 use Rattle.expr_engine.specs.Turns.{SameRuns}
 use Rattle.expr_exchange.specs.Cursor.{SameLook, way_of, whole_value}
 use Rattle.expr_exchange.specs.declared.cursor.ValueCursor.{ValueCursor}
-use Rattle.expr_exchange.specs.HandleMap.{Rises, SameNext, SameThings, thing_at, is_same, next_number, tag_of}
+use Rattle.expr_exchange.specs.HandleMap.{KeepsOthers, Rises, SameNext, SameThings, thing_at, is_same, next_number, tag_of}
 use Rattle.expr_exchange.specs.declared.handles.Handle.{Handle}
 use Rattle.expr_exchange.specs.declared.handles.HandleMap.{HandleMap}
 use Rattle.expr_limits.specs.declared.limits.Limits.{Limits}
@@ -162,6 +162,15 @@ changes_by_swap Becomes old new h was is n stood b = record {
   stood = stood;
   kept = finds_changed Becomes (thing_at old h) (thing_at new h) was is stood (rw (same_self h) at (n h)) b;
   others = λ k e. rw e at (n k);
+}
+
+-- a thing was exchanged for another, and that was dropped
+pub goes_by_exchange : {T : Type 0} (old mid new : HandleMap T) (h : Handle) (spare was : T) → ((k : Handle) → thing_at mid k ≡ (if is_same h k then option_map (λ _. spare) (thing_at old k) else thing_at old k))
+    → thing_at old h ≡ Some was → thing_at new h ≡ None → KeepsOthers h mid new → LetsGo old new h
+goes_by_exchange old mid new h spare was m stood gone others = record {
+  stood = subst (λ o. IsSome o) (sym stood) refl;
+  gone = gone;
+  others = λ k e. others k e ∙ rw e at (m k);
 }
 
 -- a thing is as it was, and that is what it became
