@@ -1,5 +1,5 @@
 -- Runs that begin, and runs that go on with a reply.
-use Rattle.std.proofs.Common.{◌≡◌, ◌∙◌, ◌+◌, Option, None, Some, IsSome, IsSomeAnd, MatchOption, Result, Ok, Err, ap, refl, subst, sym}
+use Rattle.std.proofs.Common.{◌≡◌, ◌∙◌, ◌+◌, Option, None, Some, IsErrAnd, IsSome, IsSomeAnd, MatchOption, Result, Ok, Err, ap, refl, subst, sym}
 use Rattle.std.proofs.lemmas.Bool.{false≢true}
 use Rattle.std.specs.Option.{option_and_then, option_map}
 use Rattle.expr_context.specs.Contexts.{NamedValues}
@@ -184,21 +184,27 @@ lacking_serves q (Misuse why) value m = absurd m
 lacking_serves q (Asks run) value m = absurd m
 lacking_serves q (Stopped limit) value m = absurd m
 
--- a run that has no turn, since a handle finds nothing or memory lacks
-pub run_lacks : (o : Option RunInputs) (N : Type 0) (old : Engine) (new : RestOfEngine) (program environment context : Handle) (used : Used) (e : HostError) (value : Value)
-    → MatchOption o N (λ q. TurnReaches q (MayEnd q) (Err e) × UsesWithin q.limits used) → (N → used ≡ old.used) → SameThings old.runs new.runs → new.used ≡ used
-    → MatchOption o (SameRuns old new) (λ q. StartsRun q program environment context old new (Err e) value)
-run_lacks None N old new program environment context used e value m n same u = record { runs = same; used = u ∙ n m }
-run_lacks (Some q) N old new program environment context used e value m n same u = record {
-  turn = lacking (MayEnd q) q e _ value m.0;
-  runs = lacking_leaves (SameThings old.runs new.runs) (MayEnd q) q e m.0 same;
-  used = subst (λ (x : Used). UsesWithin q.limits x) (sym u) m.1;
-}
+-- an error is passed on as it is
+pub err_is : (r : Result (Unit {0}) HostError) (e : HostError) → IsErrAnd r (λ x. x ≡ e) → r ≡ Err e
+err_is (Ok v) e is = absurd is
+err_is (Err x) e is = ap (λ (y : HostError). Err y) is
 
-pub run_lacks_so : (o : Option RunInputs) (N : Type 0) (used : Used) (e : HostError) (value : Value) → MatchOption o N (λ q. TurnReaches q (MayEnd q) (Err e) × UsesWithin q.limits used) → (N → e ≡ Unknown)
-    → MatchOption o (Err {T = Unit {0}} e ≡ Err Unknown) (λ q. RunServes {A = Unit {0}} q (Err e) value)
-run_lacks_so None N used e value m n = ap (λ (x : HostError). Err x) (n m)
-run_lacks_so (Some q) N used e value m n = lacking_serves q e value m.0
+-- a run that has no turn, since a handle finds nothing or memory lacks
+pub run_lacks : (o : Option RunInputs) (N : Type 0) (old : Engine) (new : RestOfEngine) (program environment context : Handle) (used : Used) (e : HostError) (done : Result (Unit {0}) HostError) (value : Value) → done ≡ Err e
+    → MatchOption o N (λ q. TurnReaches q (MayEnd q) (Err e) × UsesWithin q.limits used) → (N → used ≡ old.used) → SameThings old.runs new.runs → new.used ≡ used
+    → MatchOption o (SameRuns old new) (λ q. StartsRun q program environment context old new done value)
+run_lacks None N old new program environment context used e done value is m n same u = record { runs = same; used = u ∙ n m }
+run_lacks (Some q) N old new program environment context used e done value is m n same u =
+    subst (λ (d : Result (Unit {0}) HostError). StartsRun q program environment context old new d value) (sym is) (record {
+      turn = lacking (MayEnd q) q e _ value m.0;
+      runs = lacking_leaves (SameThings old.runs new.runs) (MayEnd q) q e m.0 same;
+      used = subst (λ (x : Used). UsesWithin q.limits x) (sym u) m.1;
+    })
+
+pub run_lacks_so : (o : Option RunInputs) (N : Type 0) (used : Used) (e : HostError) (done : Result (Unit {0}) HostError) (value : Value) → done ≡ Err e → MatchOption o N (λ q. TurnReaches q (MayEnd q) (Err e) × UsesWithin q.limits used) → (N → e ≡ Unknown)
+    → MatchOption o (done ≡ Err Unknown) (λ q. RunServes q done value)
+run_lacks_so None N used e done value is m n = is ∙ ap (λ (x : HostError). Err x) (n m)
+run_lacks_so (Some q) N used e done value is m n = subst (λ (d : Result (Unit {0}) HostError). RunServes q d value) (sym is) (lacking_serves q e value m.0)
 
 -- what holds of a thing gives what else does
 some_so : {A : Type 0} (o : Option A) (P Q : A → Type 0) → ((a : A) → P a → Q a) → IsSomeAnd o P → IsSomeAnd o Q
