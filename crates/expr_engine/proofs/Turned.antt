@@ -14,7 +14,7 @@ use Rattle.expr_engine.specs.declared.engine.Engine.{Engine}
 use Rattle.expr_engine.specs.declared.rule.Rule.{Rule}
 use Rattle.expr_engine.specs.declared.waiting_run.TurnEnd.{TurnEnd}
 use Rattle.expr_engine.specs.declared.waiting_run.WaitingRun.{WaitingRun}
-use Rattle.expr_engine.specs.declared.waiting_run.TurnEnd.TheVariants as turn
+use Rattle.expr_engine.specs.declared.waiting_run.TurnEnd.TheVariants as came
 use Rattle.expr_error.specs.ErrorKind.{error_kind, memory}
 use Rattle.expr_error.specs.declared.error.Error.{Error}
 use Rattle.expr_exchange.specs.HandleMap.{KeepsOthers, SameThings, next_number, tag_of, thing_at}
@@ -108,7 +108,7 @@ within_some : (limits : Option Limits) (limit : Limit) → StopsWithin limits (O
 within_some None limit w = absurd w
 within_some (Some limits) limit w = refl
 
-run_serves : (q : RunInputs) (r : Result (Outcome Value) Error) (done : Result (Unit {0}) HostError) (value : Value) → TurnGives q (Ok (turn.Ended r)) → ReturnsOutcome r (MayEnd q) → PassesOn r done value → RunServes q done value
+run_serves : (q : RunInputs) (r : Result (Outcome Value) Error) (done : Result (Unit {0}) HostError) (value : Value) → TurnGives q (Ok (came.Ended r)) → ReturnsOutcome r (MayEnd q) → PassesOn r done value → RunServes q done value
 run_serves q (Ok (Answered v)) done value g p is =
     subst (λ (d : Result (Unit {0}) HostError). RunServes q d value) (sym is.0) (subst (λ (x : Value). RunMayAnswer q (Ok x)) (sym is.1) (record { allowed = g.0; left = p.0; ends = p.1 }))
 run_serves q (Ok (Ended limit)) done value g p is = subst (λ (d : Result (Unit {0}) HostError). RunServes q d value) (sym is) (within_some q.limits limit g.1, p)
@@ -117,7 +117,7 @@ run_serves q (Err e) done value g p is =
 
 -- a run that ended in its first turn
 pub run_ended : (o : Option RunInputs) (N : Type 0) (old : Engine) (new : RestOfEngine) (program environment context : Handle) (r : Result (Outcome Value) Error) (used : Used) (done : Result (Unit {0}) HostError) (value : Value)
-    → (N → ⊥) → MatchOption o N (λ q. TurnReaches q (MayEnd q) (Ok (turn.Ended r)) × UsesWithin q.limits used) → PassesOn r done value → SameThings old.runs new.runs → new.used ≡ used
+    → (N → ⊥) → MatchOption o N (λ q. TurnReaches q (MayEnd q) (Ok (came.Ended r)) × UsesWithin q.limits used) → PassesOn r done value → SameThings old.runs new.runs → new.used ≡ used
     → MatchOption o (SameRuns old new) (λ q. StartsRun q program environment context old new done value)
 run_ended None N old new program environment context r used done value never m is same u = absurd (never m)
 run_ended (Some q) N old new program environment context r used done value never m is same u = record {
@@ -127,14 +127,14 @@ run_ended (Some q) N old new program environment context r used done value never
 }
 
 pub run_served : (o : Option RunInputs) (N M : Type 0) (r : Result (Outcome Value) Error) (used : Used) (done : Result (Unit {0}) HostError) (value : Value)
-    → (N → ⊥) → MatchOption o N (λ q. TurnReaches q (MayEnd q) (Ok (turn.Ended r)) × UsesWithin q.limits used) → MatchOption o M (λ q. TurnGives q (Ok (turn.Ended r))) → PassesOn r done value
+    → (N → ⊥) → MatchOption o N (λ q. TurnReaches q (MayEnd q) (Ok (came.Ended r)) × UsesWithin q.limits used) → MatchOption o M (λ q. TurnGives q (Ok (came.Ended r))) → PassesOn r done value
     → MatchOption o (done ≡ Err Unknown) (λ q. RunServes q done value)
 run_served None N M r used done value never m g is = absurd (never m)
 run_served (Some q) N M r used done value never m g is = run_serves q r done value g m.0 is
 
 -- a run that waits after its first turn
 pub run_waits : (o : Option RunInputs) (N : Type 0) (old : Engine) (new : RestOfEngine) (program environment context : Handle) (pending : PendingView) (waits : WaitingRun) (used : Used) (handle : Handle) (value : Value)
-    → (N → ⊥) → MatchOption o N (λ q. TurnReaches q (MayEnd q) (Ok (turn.Waits pending)) × UsesWithin q.limits used)
+    → (N → ⊥) → MatchOption o N (λ q. TurnReaches q (MayEnd q) (Ok (came.Waits pending)) × UsesWithin q.limits used)
     → waits ≡ record { program = program; environment = environment; context = context; seen = seen_at old environment context; pending = Some pending }
     → handle.number ≡ next_number old.runs → handle.tag ≡ tag_of old.runs → tag_of new.runs ≡ tag_of old.runs → next_number new.runs ≡ handle.number + 1 → thing_at old.runs handle ≡ None → thing_at new.runs handle ≡ Some waits → KeepsOthers handle old.runs new.runs → new.used ≡ used
     → MatchOption o (SameRuns old new) (λ q. StartsRun q program environment context old new (Err (Asks handle)) value)
@@ -213,7 +213,7 @@ some_so (Some a) P Q f p = f a p
 
 -- a run that had its reply and ended
 pub reply_ended : (old : Engine) (new : RestOfEngine) (run : Handle) (waits : WaitingRun) (pending : PendingRun) (q : RunInputs) (given : Value) (r : Result (Outcome Value) Error) (used : Used) (done : Result (Unit {0}) HostError) (value : Value)
-    → TurnReaches q (MayEndWith q pending given) (Ok (turn.Ended r)) × UsesWithin (limits_of pending) used → PassesOn r done value → LetsGo old.runs new.runs run → new.used ≡ used → GoesOnRun waits pending q given run old new done value
+    → TurnReaches q (MayEndWith q pending given) (Ok (came.Ended r)) × UsesWithin (limits_of pending) used → PassesOn r done value → LetsGo old.runs new.runs run → new.used ≡ used → GoesOnRun waits pending q given run old new done value
 reply_ended old new run waits pending q given r used done value m is gone u = record {
   turn = ended_serves (MayEndWith q pending given) (WaitsAgain q (MayEndWith q pending given) waits old new run) r done value m.0 is;
   runs = ended_leaves (LetsGo old.runs new.runs run) r done value gone is;
@@ -222,7 +222,7 @@ reply_ended old new run waits pending q given r used done value m is gone u = re
 
 -- or waits again
 pub reply_waits : (old : Engine) (new : RestOfEngine) (run : Handle) (waits again : WaitingRun) (pending : PendingRun) (next : PendingView) (q : RunInputs) (given : Value) (used : Used) (value : Value)
-    → TurnReaches q (MayEndWith q pending given) (Ok (turn.Waits next)) × UsesWithin (limits_of pending) used → again ≡ record waits { pending = Some next }
+    → TurnReaches q (MayEndWith q pending given) (Ok (came.Waits next)) × UsesWithin (limits_of pending) used → again ≡ record waits { pending = Some next }
     → Changes (λ _ (is : WaitingRun). is ≡ again) old.runs new.runs run → new.used ≡ used → GoesOnRun waits pending q given run old new (Err (Asks run)) value
 reply_waits old new run waits again pending next q given used value m is changes u = record {
   turn = (

@@ -15,7 +15,7 @@ use Rattle.expr_engine.specs.declared.rule.Rule.{Rule}
 use Rattle.expr_engine.specs.Pending.{PendingView}
 use Rattle.expr_engine.specs.declared.waiting_run.Seen.{Seen}
 use Rattle.expr_engine.specs.declared.waiting_run.TurnEnd.{TurnEnd}
-use Rattle.expr_engine.specs.declared.waiting_run.TurnEnd.TheVariants as turn
+use Rattle.expr_engine.specs.declared.waiting_run.TurnEnd.TheVariants as came
 use Rattle.expr_engine.specs.declared.waiting_run.WaitingRun.{WaitingRun}
 use Rattle.expr_exchange.specs.Builder.{values_of}
 use Rattle.expr_exchange.specs.HandleMap.{SameThings, changes_at, thing_at}
@@ -82,14 +82,14 @@ TurnServes before Waits (Err (Stopped limit)) value = before (stops limit)
 
 -- A turn that found its handles ended, as was allowed, or waits in its rule. It may lack memory for that.
 abbrev pub TurnReaches : RunInputs → Allowed → Result TurnEnd HostError → Type 0
-TurnReaches q before (Ok (turn.Ended result)) = ReturnsOutcome result before
-TurnReaches q before (Ok (turn.Waits pending)) = (pending.rule ≡ q.rule) × WaitsAt (world_of_run q) (owned_blocks q.rule.code) before pending.run
+TurnReaches q before (Ok (came.Ended result)) = ReturnsOutcome result before
+TurnReaches q before (Ok (came.Waits pending)) = (pending.rule ≡ q.rule) × WaitsAt (world_of_run q) (owned_blocks q.rule.code) before pending.run
 TurnReaches q before (Err (Language error)) = error_kind error ≡ memory
 TurnReaches q before (Err refused) = ⊥
 
 -- Where it ended, the program's meaning allows its result, and only a run within limits stops at one.
 abbrev pub TurnGives : RunInputs → Result TurnEnd HostError → Type 0
-TurnGives q (Ok (turn.Ended result)) = GivesWithin result (MeaningAllows (world_of_run q) (program_term q.rule.program)) × StopsWithin q.limits result
+TurnGives q (Ok (came.Ended result)) = GivesWithin result (MeaningAllows (world_of_run q) (program_term q.rule.program)) × StopsWithin q.limits result
 TurnGives q done = Unit {0}
 
 -- this holds of a run that waits
@@ -99,8 +99,8 @@ IfWaits (reached.Asks pending) P = P pending
 
 -- a turn of a run of this rule came so far, or memory lacks for the rule of a run that waits
 abbrev pub EndsTurn : Rule → Reached → Result TurnEnd HostError → Type 0
-EndsTurn rule (reached.Ended result) done = done ≡ Ok (turn.Ended result)
-EndsTurn rule (reached.Asks pending) (Ok end) = end ≡ turn.Waits (record { rule = rule; run = pending })
+EndsTurn rule (reached.Ended result) done = done ≡ Ok (came.Ended result)
+EndsTurn rule (reached.Asks pending) (Ok end) = end ≡ came.Waits (record { rule = rule; run = pending })
 EndsTurn rule (reached.Asks pending) (Err e) = e ≡ Language fails.MemoryError
 
 -- The cursor is on a run's value, and an error or a limit is passed on.
