@@ -2,9 +2,10 @@ use Rattle.std.proofs.Common.{List, subst}
 use Rattle.expr_acts.specs.Here.{here}
 use Rattle.expr_acts.specs.Texts.{text_of}
 use Rattle.expr_code.specs.Instructions.{Op}
-use Rattle.expr_frames.specs.Machines.{Allowed}
+use Rattle.expr_frames.specs.Machines.{Allowed, Halts}
 use Rattle.expr_frames.specs.Runs.{State}
 use Rattle.expr_frames.specs.declared.asking.Asking.{Asking}
+use Rattle.expr_frames.specs.declared.halt.Halt.{Halt}
 use Rattle.expr_limits.specs.MeterView.{MeterView}
 use Rattle.expr_limits.specs.contracts.budget.BudgetMeter.TheImpl.{ghosts as budget}
 use Rattle.expr_limits.specs.declared.budget.Budget.{Budget}
@@ -32,8 +33,9 @@ returns-in-Err-Asks-clause-turns g c =
     let blocks : List (List Op) = blocks_of V T c.args.machine.code.now in
     let before : Allowed = Comes host_of context_of V T metered c.args.machine in
     let r = c.wait_at.result in
-    let asks : Allowed = ComesAsked there its (state_of host_of context_of V T metered n) c.in-Err-Asks.asked.value (metered n.meter).room in
-    let ends = c.in-Err-Asks.ensures.ends in
+    let s : State = state_of host_of context_of V T metered n in
+    let asks : Allowed = ComesAsked there its s c.in-Err-Asks.asked.value (metered n.meter).room in
+    let ends = subst (λ (h : Halt). Halts there its before (metered n.meter) s h) c.in-Err-Asks.field-0-is c.in-Err-Asks.ensures.ends in
     let same = c.in-Err-Asks.ensures.same in
     subst (λ w. ReachesBy (here host_of context_of w.now) blocks before r) same.world
     (subst (λ k. ReachesBy there (blocks_of V T k.now) before r) same.code
