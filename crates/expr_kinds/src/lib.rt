@@ -16,14 +16,19 @@
 #![tactic(auto)]
 
 mod bases;
+mod builtins;
+mod call_rows;
 mod calls;
 mod checked;
 mod checking;
 mod forms;
 mod laws;
+mod literals;
 mod members;
+mod methods;
 mod names;
 mod operations;
+mod shapes;
 mod tables;
 
 pub use checked::Checked;
