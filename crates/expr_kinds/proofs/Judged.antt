@@ -16,7 +16,7 @@ use Rattle.expr_kinds.specs.Narrowing.{after}
 use Rattle.expr_kinds.specs.Tables.{OperatorRow, rows, unary_kind}
 use Rattle.expr_kinds.specs.Typed.{OneOf, Unknown, Within, literal_of, ByRow, OperationGivesBy, NameStands, Typed, TypedBlock}
 
-only-failing : (e : Effect) → CoversEffect e failing → e ≡ failing
+pub only-failing : (e : Effect) → CoversEffect e failing → e ≡ failing
 only-failing total h = absurd (h evaluation tt)
 only-failing matching h = let wrong : evaluation ≡ pattern = h evaluation tt in absurd (cc wrong)
 only-failing failing h = refl
@@ -71,7 +71,7 @@ pub prefix-typed : (e : Effect) (s : Scope) (op : UnaryOperator) (t : Term) → 
 prefix-typed e s op t h = inl (h, refl)
 
 -- one of a list, which it equals
-one-of : {X : Type 0} (P : X → Type 0) (x : X) (xs : List X) → OneOf (λ y. y ≡ x) xs → P x → OneOf P xs
+pub one-of : {X : Type 0} (P : X → Type 0) (x : X) (xs : List X) → OneOf (λ y. y ≡ x) xs → P x → OneOf P xs
 one-of P x [] q h = q
 one-of P x (y ∷ ys) (inl q) h = inl (subst P (sym q) h)
 one-of P x (y ∷ ys) (inr q) h = inr (one-of P x ys q h)

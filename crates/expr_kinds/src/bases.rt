@@ -1,7 +1,7 @@
 //! The kinds of tables, and kinds in memory.
 ghost use Rattle.std.specs.Prelude.{◌≡◌, IfOk, IfSome, IsTrue, map};
 ghost use Rattle.expr_error.specs.ErrorKind.{OnlyMemory};
-ghost use Rattle.expr_kinds.specs.Checks.{SameValues, base_kind, row_view, side_kind};
+ghost use Rattle.expr_kinds.specs.Checks.{base_kind, row_view, side_kind};
 ghost use Rattle.expr_kinds.specs.Typed.{OneOf};
 ghost use Rattle.expr_schema.specs.KindView.{kind_view};
 ghost use Rattle.expr_schema.specs.Kinds.{Fits, map as map_of, others};
@@ -76,9 +76,9 @@ pub(crate) fn fitting_row(left: &Kind, right: &Kind, rows: &[TableRow]) -> Optio
     None
 }
 
-/// A kind in memory that has just the values of a kind of the tables.
+/// A kind of the tables in memory.
 pub(crate) fn kind_of_base(alloc: Global, base: Base) -> Result<Kind>
-    ensures ok { IfOk result (λ k. SameValues (base_kind base) (kind_view k)) }
+    ensures ok { IfOk result (λ k. kind_view k ≡ base_kind base) }
     ensures err { OnlyMemory result }
 {
     match base {
@@ -101,7 +101,10 @@ pub(crate) fn kind_of_base(alloc: Global, base: Base) -> Result<Kind>
             let map = Kind::keyed_map(alloc, Kind::Any)?;
             Ok(map)
         }
-        Base::Map => named_kind(alloc, Kind::Any),
+        Base::Map => {
+            let map = named_kind(alloc, Kind::Any)?;
+            Ok(map)
+        }
         Base::Any => Ok(Kind::Any),
     }
 }

@@ -118,7 +118,10 @@ pub(crate) fn kind_of_shape(alloc: Global, shape: Shape, item: &Kind) -> Result<
     ensures err { OnlyMemory result }
 {
     match shape {
-        Shape::Of(base) => kind_of_base(alloc, base),
+        Shape::Of(base) => {
+            let found = kind_of_base(alloc, base)?;
+            Ok(found)
+        }
         Shape::OrNil(base) => {
             let kind = kind_of_base(alloc, base)?;
             let found = Kind::nilable(alloc, kind)?;
@@ -156,7 +159,8 @@ pub(crate) fn kind_of_shape(alloc: Global, shape: Shape, item: &Kind) -> Result<
         }
         Shape::ItemNames => {
             let kind = item.copy(alloc)?;
-            named_kind(alloc, kind)
+            let found = named_kind(alloc, kind)?;
+            Ok(found)
         }
         Shape::ItemMap => {
             let kind = item.copy(alloc)?;
