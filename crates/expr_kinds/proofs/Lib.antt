@@ -3,6 +3,7 @@ pub mod Binding
 pub mod Calling
 pub mod Causes
 pub mod Composed
+pub mod FoldTold
 pub mod Folding
 pub mod Found
 pub mod Held

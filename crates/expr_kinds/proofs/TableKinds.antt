@@ -4,7 +4,7 @@ use Rattle.expr_value.specs.Names.{find}
 use Rattle.expr_value.specs.declared.key.Key.{Key}
 use Rattle.expr_value.specs.declared.value.Value as value
 use Rattle.expr_value.specs.declared.value.Value.{Value}
-use Rattle.expr_schema.specs.Kinds.{Kind, any, nil, array, map, keyed, nilable, Fields, no_others, others, field, HasKind, Fits, Found, Lets, StandsAt}
+use Rattle.expr_schema.specs.Kinds.{Kind, any, nil, array, map, keyed, nilable, Fields, no_others, others, field, Each, HasKind, Fits, Found, Lets, StandsAt}
 use Rattle.expr_schema.specs.KindView.{Entry, fields_from, fields_view, kind_view, named_of, others_of, entry_view}
 use Rattle.expr_schema.specs.declared.kind.Kind as memory
 use Rattle.expr_schema.specs.declared.kind.Kind.{the_lemmas}
@@ -24,6 +24,14 @@ same-values a b q v = (λ h. subst (λ k. HasKind k v) q h, λ h. subst (λ k. H
 
 pub same-back : (a b c : Kind) → ((v : Value) → (HasKind b v ↔ HasKind c v)) → c ≡ a → SameValues a b
 same-back a b c both q v = (λ h. (both v).1 (subst (λ k. HasKind k v) (sym q) h), λ h. subst (λ k. HasKind k v) q ((both v).0 h))
+
+-- arrays of items of a smaller kind
+each-fits : (a b : Kind) → Fits a b → (xs : List Value) → Each (λ x. HasKind a x) xs → Each (λ x. HasKind b x) xs
+each-fits a b f [] h = tt
+each-fits a b f (x ∷ xs) h = (f x h.0, each-fits a b f xs h.1)
+
+pub array-fits : (a b : Kind) → Fits a b → Fits (array a) (array b)
+array-fits a b f v (xs, is, all) = (xs, is, each-fits a b f xs all)
 
 -- kinds with parts of any kind
 pub array-any : (k : Kind) → Fits (array k) (array any)

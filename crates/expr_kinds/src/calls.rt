@@ -17,8 +17,9 @@ use expr_schema::{Kind, Signature, fits};
 use expr_value::Result;
 use std::alloc::Global;
 
-/// What is known of a call: a function of the host comes before a built-in. Of built-ins with a predicate nothing is.
-pub(crate) fn call_checked(
+/// What is known of a call without regard to its predicate: a function of the host comes before a built-in. Of built-ins
+/// with a predicate nothing is.
+pub(crate) fn plain_checked(
     alloc: Global,
     key: &str,
     arguments: &CheckedArguments<'_>,

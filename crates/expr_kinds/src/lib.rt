@@ -21,6 +21,7 @@ mod call_rows;
 mod calls;
 mod checked;
 mod checking;
+mod folds;
 mod forms;
 mod laws;
 mod literals;

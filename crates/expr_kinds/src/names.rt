@@ -1,12 +1,15 @@
 //! What is known of the names where a tree stands.
-ghost use Rattle.std.specs.Prelude.{◌≡◌, Some, IfOk, IfSome, MatchOption, OnOk};
+ghost use Rattle.std.specs.Prelude.{◌≡◌, None, Some, IfOk, IfSome, MatchOption, OnOk};
 ghost use Rattle.expr_error.specs.ErrorKind.{OnlyMemory};
 ghost use Rattle.expr_kinds.specs.Checks.{known_scope, with_bound};
-ghost use Rattle.expr_kinds.specs.Scopes.{bind_kind, given_at};
+ghost use Rattle.expr_kinds.specs.Scopes.{asked, bind_kind, given_at};
+ghost use Rattle.expr_functions.specs.Functions.{builtin_named};
+ghost use Rattle.expr_functions.specs.declared.functions.Builtin.TheVariants.{HigherOrder};
 ghost use Rattle.expr_schema.specs.KindView.{kind_view};
 ghost use Rattle.expr_schema.specs.SchemaView.{scope_of};
 ghost use Rattle.expr_schema.specs.Scopes.{Scope};
 
+use expr_functions::{Builtin, HigherOrderCall};
 use expr_schema::{Kind, Schema};
 use expr_value::Result;
 use std::alloc::Global;
@@ -62,6 +65,40 @@ impl<'a> Known<'a> {
     {
         self.bound.push(BoundKind { name, kind })?;
         Ok(())
+    }
+
+    /// What is known of the names in a predicate: `#` is an item of a kind, and `map` binds `#index` too.
+    pub(crate) fn asked(
+        &self,
+        alloc: Global,
+        call: HigherOrderCall,
+        item: &Kind,
+    ) -> Result<Known<'a>>
+        ensures ok { IfOk result
+            (λ k. known_scope k ≡ asked call (kind_view item.now) (known_scope self.now)) }
+        ensures err { OnlyMemory result }
+    {
+        let mut inner = self.copy(alloc)?;
+        if let HigherOrderCall::Map = call {
+            inner.bind("#index", Kind::Integer)?;
+        }
+        let kind = item.copy(alloc)?;
+        inner.bind("#", kind)?;
+        Ok(inner)
+    }
+
+    /// The built-in with a predicate that a call with this name runs, or `None`.
+    pub(crate) fn folded(&self, key: &str) -> Option<HigherOrderCall>
+        ensures { IfSome result (λ b. ((known_scope self.now).functions key.now ≡ None)
+            × (builtin_named key.now ≡ Some (HigherOrder b))) }
+    {
+        match self.schema.signature(key) {
+            Some(_) => None,
+            None => match Builtin::from_name(key) {
+                Some(Builtin::HigherOrder(call)) => Some(call),
+                _ => None,
+            },
+        }
     }
 
     /// The kind of a name that always has a value, or `None`.

@@ -1,0 +1,187 @@
+//! The check of built-ins with a predicate, by their table. A row is a line of data.
+ghost use Rattle.std.specs.Prelude.{◌≡◌, ◌∷◌, [], Some, IfOk, IfSome, IsTrue, map};
+ghost use Rattle.expr_error.specs.ErrorKind.{OnlyMemory};
+ghost use Rattle.expr_kinds.specs.Effects.{CoversEffect};
+ghost use Rattle.expr_kinds.specs.FoldRows.{FoldFits, IsWanted, fold_kind};
+ghost use Rattle.expr_kinds.specs.Typed.{IsScalarKind, OrFails};
+ghost use Rattle.expr_predicates.specs.Calls.{runs_alone};
+ghost use Rattle.expr_schema.specs.KindView.{kind_view};
+ghost use Rattle.expr_schema.specs.Kinds.{Fits, array};
+ghost use Rattle.expr_schema.specs.SchemaView.{effect_of};
+
+use crate::bases::{fits_base, kind_of_base};
+use crate::checked::{Checked, joined_effect};
+use crate::tables::Base;
+use expr_functions::HigherOrderCall;
+use expr_schema::{Effect, Kind};
+use expr_value::Result;
+use std::alloc::Global;
+
+/// What a built-in with a predicate returns.
+#[derive(Clone, Copy, Debug, PartialEq, Eq)]
+pub enum FoldShape {
+    /// A kind of the tables.
+    Of(Base),
+    /// An array of items.
+    Items,
+    /// An array of results of the predicate.
+    Answers,
+    /// An item, or nil.
+    ItemOrNil,
+    /// Arrays of items, by scalar keys.
+    Groups,
+}
+
+/// What the results of a predicate have to be, or else the built-in may fail.
+#[derive(Clone, Copy, Debug, PartialEq, Eq)]
+pub enum Wanted {
+    Anything,
+    Only(Base),
+    Scalars,
+}
+
+/// A row: if the results of the predicate are what is wanted, the built-in doesn't fail. It returns a value of a kind.
+#[derive(Clone, Copy, Debug, PartialEq, Eq)]
+pub struct FoldRow {
+    pub wanted: Wanted,
+    pub gives: FoldShape,
+}
+
+/// The row of a built-in with a predicate. `reduce` and `sortBy` have none.
+pub(crate) fn fold_row(call: HigherOrderCall) -> Option<FoldRow>
+    ensures { IfSome result (λ r. FoldFits call r) }
+{
+    match call {
+        HigherOrderCall::All => row(Wanted::Anything, FoldShape::Of(Base::Bool)),
+        HigherOrderCall::Any => row(Wanted::Anything, FoldShape::Of(Base::Bool)),
+        HigherOrderCall::NoneOf => row(Wanted::Anything, FoldShape::Of(Base::Bool)),
+        HigherOrderCall::One => row(Wanted::Anything, FoldShape::Of(Base::Bool)),
+        HigherOrderCall::Map => row(Wanted::Anything, FoldShape::Answers),
+        HigherOrderCall::Filter => row(Wanted::Anything, FoldShape::Items),
+        HigherOrderCall::Find => row(Wanted::Anything, FoldShape::ItemOrNil),
+        HigherOrderCall::FindLast => row(Wanted::Anything, FoldShape::ItemOrNil),
+        HigherOrderCall::FindIndex => row(Wanted::Anything, FoldShape::Of(Base::Integer)),
+        HigherOrderCall::FindLastIndex => row(Wanted::Anything, FoldShape::Of(Base::Integer)),
+        HigherOrderCall::Count => row(Wanted::Only(Base::Bool), FoldShape::Of(Base::Integer)),
+        HigherOrderCall::Sum => row(Wanted::Only(Base::Integer), FoldShape::Of(Base::Integer)),
+        HigherOrderCall::GroupBy => row(Wanted::Scalars, FoldShape::Groups),
+        HigherOrderCall::Reduce | HigherOrderCall::SortBy => None,
+    }
+}
+
+/// A row.
+fn row(wanted: Wanted, gives: FoldShape) -> Option<FoldRow>
+    ensures { result ≡ Some (record { wanted = wanted; gives = gives }) }
+{
+    Some(FoldRow { wanted, gives })
+}
+
+/// Whether a built-in takes each item as the result for itself, if it has no predicate.
+pub(crate) fn takes_items(call: HigherOrderCall) -> bool
+    ensures { result ≡ runs_alone call }
+{
+    matches!(call, HigherOrderCall::Count | HigherOrderCall::Sum)
+}
+
+/// The kind of the items of an array that is the only argument, or `None`.
+pub(crate) fn only_items(kinds: &[Kind]) -> Option<&Kind>
+    ensures { IfSome result (λ k. map kind_view kinds.now ≡ array (kind_view k.now) ∷ []) }
+{
+    if kinds.len() != 1 {
+        return None;
+    }
+    match &kinds[0] {
+        Kind::Array(item) => Some(item.get()),
+        _ => None,
+    }
+}
+
+/// What is known of a call, by its row, the kind of the items and what is known of the results of the predicate.
+pub(crate) fn fold_checked(
+    alloc: Global,
+    row: FoldRow,
+    item: &Kind,
+    answer: &Checked,
+    arguments: Effect,
+) -> Result<Checked>
+    ensures kind { IfOk result (λ c. Fits (fold_kind row.gives (kind_view item.now)
+        (kind_view answer.now.kind)) (kind_view c.kind)) }
+    ensures wanted { IfOk result (λ c. OrFails (effect_of c.effect)
+        (IsWanted row.wanted (kind_view answer.now.kind))) }
+    ensures arguments { IfOk result (λ c. CoversEffect (effect_of c.effect) (effect_of arguments)) }
+    ensures answer { IfOk result (λ c. CoversEffect (effect_of c.effect) (effect_of answer.now.effect)) }
+    ensures err { OnlyMemory result }
+{
+    let kind = kind_of_fold(alloc, row.gives, item, &answer.kind)?;
+    let own = if is_wanted(&answer.kind, row.wanted) {
+        Effect::Total
+    } else {
+        Effect::Failing
+    };
+    let parts = joined_effect(arguments, answer.effect);
+    let effect = joined_effect(parts, own);
+    Ok(Checked { kind, effect })
+}
+
+/// Whether each value of a kind is what is wanted.
+fn is_wanted(kind: &Kind, wanted: Wanted) -> bool
+    ensures { IsTrue result → IsWanted wanted (kind_view kind.now) }
+{
+    match wanted {
+        Wanted::Anything => true,
+        Wanted::Only(base) => fits_base(kind, base),
+        Wanted::Scalars => is_scalar(kind),
+    }
+}
+
+/// Whether each value of a kind is a scalar.
+fn is_scalar(kind: &Kind) -> bool
+    ensures { IsTrue result → IsScalarKind (kind_view kind.now) }
+{
+    match kind {
+        Kind::Bool => true,
+        Kind::Integer => true,
+        Kind::String => true,
+        Kind::Duration => true,
+        Kind::Month => true,
+        Kind::Weekday => true,
+        Kind::DateTime => true,
+        Kind::Timezone => true,
+        _ => false,
+    }
+}
+
+/// A kind of the table in memory.
+fn kind_of_fold(alloc: Global, shape: FoldShape, item: &Kind, answer: &Kind) -> Result<Kind>
+    ensures ok { IfOk result (λ k. Fits (fold_kind shape (kind_view item.now) (kind_view answer.now))
+        (kind_view k)) }
+    ensures err { OnlyMemory result }
+{
+    match shape {
+        FoldShape::Of(base) => {
+            let found = kind_of_base(alloc, base)?;
+            Ok(found)
+        }
+        FoldShape::Items => {
+            let kind = item.copy(alloc)?;
+            let found = Kind::array(alloc, kind)?;
+            Ok(found)
+        }
+        FoldShape::Answers => {
+            let kind = answer.copy(alloc)?;
+            let found = Kind::array(alloc, kind)?;
+            Ok(found)
+        }
+        FoldShape::ItemOrNil => {
+            let kind = item.copy(alloc)?;
+            let found = Kind::nilable(alloc, kind)?;
+            Ok(found)
+        }
+        FoldShape::Groups => {
+            let kind = item.copy(alloc)?;
+            let group = Kind::array(alloc, kind)?;
+            let found = Kind::keyed_map(alloc, group)?;
+            Ok(found)
+        }
+    }
+}
