@@ -260,7 +260,16 @@ fn higher_checked(
     let told = answers_checked(alloc, call, item, predicate, known)?;
     match told {
         Some(answer) => fold_checked(alloc, row, item, &answer, arguments.effect),
-        None => Ok(Checked::unknown()),
+        None => match known.item_field(key) {
+            Some(found) => {
+                let kind = found.copy(alloc)?;
+                Ok(Checked {
+                    kind,
+                    effect: Effect::Total,
+                })
+            }
+            None => Ok(Checked::unknown()),
+        },
     }
 }
 
@@ -363,7 +372,7 @@ fn arguments_checked<'n>(
     })
 }
 
-/// What is known of a name.
+/// What is known of a name. In a predicate it may be a field of the item.
 fn name_checked(alloc: Global, key: &str, known: &Known<'_>) -> Result<Checked>
     ensures ok { IfOk result (λ c. ChecksIn (known_scope known.now) c (name key.now)) }
     ensures err { OnlyMemory result }
@@ -383,6 +392,15 @@ fn name_checked(alloc: Global, key: &str, known: &Known<'_>) -> Result<Checked>
                 effect: Effect::Total,
             })
         }
-        None => Ok(Checked::unknown()),
+        None => match known.item_field(key) {
+            Some(found) => {
+                let kind = found.copy(alloc)?;
+                Ok(Checked {
+                    kind,
+                    effect: Effect::Total,
+                })
+            }
+            None => Ok(Checked::unknown()),
+        },
     }
 }

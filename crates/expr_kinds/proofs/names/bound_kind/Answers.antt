@@ -15,7 +15,7 @@ returns-then-eq c =
     let next : n ≡ n - 1 + 1 = omega (arith, c.loop-count-test.true) in
     let split : take n all ≡ take (n - 1) all ++ b ∷ [] = ap (λ k. take k all) next ∙ take_more all (n - 1) b below ∙ ap (λ x. take (n - 1) all ++ x ∷ []) (sym c.index-bound-count.is) in
     let same : bytes_eq b.name.now key ≡ true = cc in
-    λ s. sym (c.loop-count.invariant.walked s) ∙ ap (λ bs. given_at (with_bound bs s).names key) split ∙ bound-found (take (n - 1) all) b s key same
+    λ s. sym (c.loop-count.invariant.walked s).0 ∙ ap (λ bs. given_at (with_bound bs s).names key) split ∙ bound-found (take (n - 1) all) b s key same
 
 pub loop-count-preserved : goal.loop-count-preserved
 loop-count-preserved c =
@@ -29,5 +29,9 @@ loop-count-preserved c =
     let other : bytes_eq b.name.now key ≡ false = cc in
     record {
       within = omega (arith, c.loop-count.invariant.within, c.loop-count-test.true);
-      walked = λ s. sym (bound-before (take (n - 1) all) b s key other) ∙ ap (λ bs. given_at (with_bound bs s).names key) (sym split) ∙ c.loop-count.invariant.walked s;
+      walked = λ s. before s (bound-before (take (n - 1) all) b s key other) (c.loop-count.invariant.walked s);
     }
+  where
+    before : (s : Scope) → SameAt (c.args.name.now) (with_bound (take (c.loop-count.count - 1) c.args.bound.now ++ c.index-bound-count.result ∷ []) s).names (with_bound (take (c.loop-count.count - 1) c.args.bound.now) s).names
+        → SameAt (c.args.name.now) (with_bound (take c.loop-count.count c.args.bound.now) s).names (with_bound c.args.bound.now s).names → SameAt (c.args.name.now) (with_bound (take (c.loop-count.count - 1) c.args.bound.now) s).names (with_bound c.args.bound.now s).names
+    before s (g, h) (i, j) = (sym g ∙ i, sym h ∙ j)
