@@ -182,8 +182,8 @@ module _ (bs : List BoundKind) (b : BoundKind) (s : Scope) (key : List ℕ) wher
     at-last (λ fs. is_absent fs key) false false (ap (λ (x : Scope). is_absent x.names key) (bound-last bs b s)) other,
   )
 
-pub same-through : (key : List ℕ) (a b c : Fields) → SameAt key a b → SameAt key b c → SameAt key a c
-same-through key a b c (g, h) (i, j) = (g ∙ i, h ∙ j)
+pub same-before : (key : List ℕ) (a b c : Fields) → SameAt key b a → SameAt key b c → SameAt key a c
+same-before key a b c (g, h) (i, j) = (sym g ∙ i, sym h ∙ j)
 
 -- a name that is a field of the item
 pub told-item : (known s : Scope) → Upholds known s → (key : List ℕ) (k : Kind) → bytes_eq key (codes "$env") ≡ false → ItemField known key k → (e : Effect) → Within (λ a. Typed e s (name key) a) k

@@ -260,16 +260,7 @@ fn higher_checked(
     let told = answers_checked(alloc, call, item, predicate, known)?;
     match told {
         Some(answer) => fold_checked(alloc, row, item, &answer, arguments.effect),
-        None => match known.item_field(key) {
-            Some(found) => {
-                let kind = found.copy(alloc)?;
-                Ok(Checked {
-                    kind,
-                    effect: Effect::Total,
-                })
-            }
-            None => Ok(Checked::unknown()),
-        },
+        None => Ok(Checked::unknown()),
     }
 }
 

@@ -1,8 +1,8 @@
-use Rattle.std.proofs.Common.{◌≡◌, ◌<◌, ◌+◌, ◌-◌, true, false, bytes_eq, [], ◌∷◌, ◌++◌, length, take, sym, ap, ◌∙◌, arith}
+use Rattle.std.proofs.Common.{◌≡◌, ◌<◌, ◌+◌, ◌-◌, true, false, bytes_eq, [], ◌∷◌, ◌++◌, length, take, sym, ap, ◌∙◌, subst, arith}
 use Rattle.std.proofs.lemmas.List.{take_more}
-use Rattle.expr_kinds.specs.Checks.{with_bound}
+use Rattle.expr_kinds.specs.Checks.{SameAt, with_bound}
 use Rattle.expr_kinds.specs.Scopes.{given_at}
-use Rattle.expr_kinds.proofs.Told.{bound-before, bound-found}
+use Rattle.expr_kinds.proofs.Told.{bound-before, bound-found, same-before}
 use Rattle.expr_kinds.proofs.names.bound_kind.Goals as goal
 
 pub returns-then-eq : goal.returns-then-eq
@@ -29,9 +29,5 @@ loop-count-preserved c =
     let other : bytes_eq b.name.now key ≡ false = cc in
     record {
       within = omega (arith, c.loop-count.invariant.within, c.loop-count-test.true);
-      walked = λ s. before s (bound-before (take (n - 1) all) b s key other) (c.loop-count.invariant.walked s);
+      walked = λ s. same-before key _ _ _ (bound-before (take (n - 1) all) b s key other) (subst (λ bs. SameAt key (with_bound bs s).names (with_bound all s).names) split (c.loop-count.invariant.walked s));
     }
-  where
-    before : (s : Scope) → SameAt (c.args.name.now) (with_bound (take (c.loop-count.count - 1) c.args.bound.now ++ c.index-bound-count.result ∷ []) s).names (with_bound (take (c.loop-count.count - 1) c.args.bound.now) s).names
-        → SameAt (c.args.name.now) (with_bound (take c.loop-count.count c.args.bound.now) s).names (with_bound c.args.bound.now s).names → SameAt (c.args.name.now) (with_bound (take (c.loop-count.count - 1) c.args.bound.now) s).names (with_bound c.args.bound.now s).names
-    before s (g, h) (i, j) = (sym g ∙ i, sym h ∙ j)
