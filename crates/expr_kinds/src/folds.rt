@@ -1,5 +1,5 @@
 //! The check of built-ins with a predicate, by their table. A row is a line of data.
-ghost use Rattle.std.specs.Prelude.{◌≡◌, ◌∷◌, [], Some, IfOk, IfSome, IsTrue, map};
+ghost use Rattle.std.specs.Prelude.{◌≡◌, ◌∷◌, [], IfOk, IfSome, IsTrue, map};
 ghost use Rattle.expr_error.specs.ErrorKind.{OnlyMemory};
 ghost use Rattle.expr_kinds.specs.Effects.{CoversEffect};
 ghost use Rattle.expr_kinds.specs.FoldRows.{FoldFits, IsWanted, fold_kind};
@@ -47,33 +47,35 @@ pub struct FoldRow {
     pub gives: FoldShape,
 }
 
+macro_rules! row {
+    ($wanted:expr, $gives:expr) => {
+        Some(FoldRow {
+            wanted: $wanted,
+            gives: $gives,
+        })
+    };
+}
+
 /// The row of a built-in with a predicate. `reduce` and `sortBy` have none.
 pub(crate) fn fold_row(call: HigherOrderCall) -> Option<FoldRow>
     ensures { IfSome result (λ r. FoldFits call r) }
 {
     match call {
-        HigherOrderCall::All => row(Wanted::Anything, FoldShape::Of(Base::Bool)),
-        HigherOrderCall::Any => row(Wanted::Anything, FoldShape::Of(Base::Bool)),
-        HigherOrderCall::NoneOf => row(Wanted::Anything, FoldShape::Of(Base::Bool)),
-        HigherOrderCall::One => row(Wanted::Anything, FoldShape::Of(Base::Bool)),
-        HigherOrderCall::Map => row(Wanted::Anything, FoldShape::Answers),
-        HigherOrderCall::Filter => row(Wanted::Anything, FoldShape::Items),
-        HigherOrderCall::Find => row(Wanted::Anything, FoldShape::ItemOrNil),
-        HigherOrderCall::FindLast => row(Wanted::Anything, FoldShape::ItemOrNil),
-        HigherOrderCall::FindIndex => row(Wanted::Anything, FoldShape::Of(Base::Integer)),
-        HigherOrderCall::FindLastIndex => row(Wanted::Anything, FoldShape::Of(Base::Integer)),
-        HigherOrderCall::Count => row(Wanted::Only(Base::Bool), FoldShape::Of(Base::Integer)),
-        HigherOrderCall::Sum => row(Wanted::Only(Base::Integer), FoldShape::Of(Base::Integer)),
-        HigherOrderCall::GroupBy => row(Wanted::Scalars, FoldShape::Groups),
+        HigherOrderCall::All => row!(Wanted::Anything, FoldShape::Of(Base::Bool)),
+        HigherOrderCall::Any => row!(Wanted::Anything, FoldShape::Of(Base::Bool)),
+        HigherOrderCall::NoneOf => row!(Wanted::Anything, FoldShape::Of(Base::Bool)),
+        HigherOrderCall::One => row!(Wanted::Anything, FoldShape::Of(Base::Bool)),
+        HigherOrderCall::Map => row!(Wanted::Anything, FoldShape::Answers),
+        HigherOrderCall::Filter => row!(Wanted::Anything, FoldShape::Items),
+        HigherOrderCall::Find => row!(Wanted::Anything, FoldShape::ItemOrNil),
+        HigherOrderCall::FindLast => row!(Wanted::Anything, FoldShape::ItemOrNil),
+        HigherOrderCall::FindIndex => row!(Wanted::Anything, FoldShape::Of(Base::Integer)),
+        HigherOrderCall::FindLastIndex => row!(Wanted::Anything, FoldShape::Of(Base::Integer)),
+        HigherOrderCall::Count => row!(Wanted::Only(Base::Bool), FoldShape::Of(Base::Integer)),
+        HigherOrderCall::Sum => row!(Wanted::Only(Base::Integer), FoldShape::Of(Base::Integer)),
+        HigherOrderCall::GroupBy => row!(Wanted::Scalars, FoldShape::Groups),
         HigherOrderCall::Reduce | HigherOrderCall::SortBy => None,
     }
-}
-
-/// A row.
-fn row(wanted: Wanted, gives: FoldShape) -> Option<FoldRow>
-    ensures { result ≡ Some (record { wanted = wanted; gives = gives }) }
-{
-    Some(FoldRow { wanted, gives })
 }
 
 /// Whether a built-in takes each item as the result for itself, if it has no predicate.
