@@ -110,16 +110,19 @@ pub told-answers : (known inner s : Scope) (item : Kind) (b : HigherOrderCall) (
 told-answers known inner s item b block c q keeps h = (refl, λ e covers. h (asked b item s) (subst (λ k. Upholds k (asked b item s)) (sym q) (asked-upholds known s keeps item b)) e covers)
 
 -- a call of such a built-in
-pub told-folded : (a : CheckedArguments) (c : Checked) (s : Scope) (key : List ℕ) (p : Predicate) (b : HigherOrderCall) → s.functions key ≡ None → builtin_named key ≡ Some (HigherOrder b) → TellsHigher a s b p c → TellsCall a s key p c
-told-folded a c s key p b none named tells e covers = here (tells e covers)
-  where
-    abbrev Builtins : Option Builtin → Kind → Type 0
-    Builtins o k = BuiltinGives e s o (literals_view a.literals) (mapped kind_view a.kinds) (is_given p) (λ inside item answer. TypedPredicate e inside item p answer) k
+module _ (a : CheckedArguments) (c : Checked) (s : Scope) (key : List ℕ) (p : Predicate) where
+  abbrev Builtins : Effect → Option Builtin → Kind → Type 0
+  Builtins e o k = BuiltinGives e s o (literals_view a.literals) (mapped kind_view a.kinds) (is_given p) (λ inside item answer. TypedPredicate e inside item p answer) k
 
-    there : (k : Kind) → Builtins (Some (HigherOrder b)) k ⊎ Unknown e k → CallGives e s key (literals_view a.literals) (mapped kind_view a.kinds) (is_given p) (λ inside item answer. TypedPredicate e inside item p answer) k ⊎ Unknown e k
-    there k (inl g) = inl (subst (λ (o : Option Signature). MatchOption o (Builtins (builtin_named key) k) (BySignature e (mapped kind_view a.kinds) k)) (sym none) (subst (λ o. Builtins o k) (sym named) g))
-    there k (inr u) = inr u
+  abbrev Gives : Effect → Kind → Type 0
+  Gives e k = CallGives e s key (literals_view a.literals) (mapped kind_view a.kinds) (is_given p) (λ inside item answer. TypedPredicate e inside item p answer) k
 
-    here : CoversEffect e (effect_of a.effect) × Within (λ k. Builtins (Some (HigherOrder b)) k ⊎ Unknown e k) (kind_view c.kind)
-        → CoversEffect e (effect_of a.effect) × Within (λ k. CallGives e s key (literals_view a.literals) (mapped kind_view a.kinds) (is_given p) (λ inside item answer. TypedPredicate e inside item p answer) k ⊎ Unknown e k) (kind_view c.kind)
-    here (own, k, g, fits) = (own, k, there k g, fits)
+  pub told-folded : (b : HigherOrderCall) → s.functions key ≡ None → builtin_named key ≡ Some (HigherOrder b) → TellsHigher a s b p c → TellsCall a s key p c
+  told-folded b none named tells e covers = here (tells e covers)
+    where
+      there : (k : Kind) → Builtins e (Some (HigherOrder b)) k ⊎ Unknown e k → Gives e k ⊎ Unknown e k
+      there k (inl g) = inl (subst (λ (o : Option Signature). MatchOption o (Builtins e (builtin_named key) k) (BySignature e (mapped kind_view a.kinds) k)) (sym none) (subst (λ o. Builtins e o k) (sym named) g))
+      there k (inr u) = inr u
+
+      here : CoversEffect e (effect_of a.effect) × Within (λ k. Builtins e (Some (HigherOrder b)) k ⊎ Unknown e k) (kind_view c.kind) → CoversEffect e (effect_of a.effect) × Within (λ k. Gives e k ⊎ Unknown e k) (kind_view c.kind)
+      here (own, k, g, fits) = (own, k, there k g, fits)

@@ -117,10 +117,10 @@ sliced j k f (inr (inr q)) = inr (inr (subst (λ x. Fits j x) q f, q))
 
 pub told-slice : (operand start stop : Checked) (bounds f : Effect) → KeepsKind (kind_view operand.kind) → CoversEffect f (effect_of operand.effect) → CoversEffect f bounds → SideFits start integer bounds → SideFits stop integer bounds
     → (s : Scope) (t : Term) (a b : Bound) → Checks operand s t → ChecksBound start s a → ChecksBound stop s b → (e : Effect) → CoversEffect e f → Within (λ k. Typed e s (postfix (slice a b) t) k) (kind_view operand.kind)
-told-slice operand start stop bounds f keeps co cb (fa, ca) (fb, cc) s t a b ho ha hb e covers =
+told-slice operand start stop bounds f keeps co cb (fa, ca) (fb, cz) s t a b ho ha hb e covers =
     let (j, hj, fj) = ho e (covers-through e f (effect_of operand.effect) covers co) in
     let own = covers-through e f bounds covers cb in
-    (kind_view operand.kind, inl (j, hj, (ha e (covers-through e bounds (effect_of start.effect) own ca) fa, hb e (covers-through e bounds (effect_of stop.effect) own cc) fb, sliced j (kind_view operand.kind) fj keeps)), λ v h. h)
+    (kind_view operand.kind, inl (j, hj, (ha e (covers-through e bounds (effect_of start.effect) own ca) fa, hb e (covers-through e bounds (effect_of stop.effect) own cz) fb, sliced j (kind_view operand.kind) fj keeps)), λ v h. h)
 
 -- methods
 one-fits : (j a : Kind) → Fits j a → (ks : List Kind) → OneOf (Fits a) ks → OneOf (Fits j) ks
