@@ -1,5 +1,7 @@
 -- The table of built-ins with a predicate, in memory.
-use Rattle.std.specs.Prelude.{◌≡◌, ◌⊎◌, ◌||◌, true, map as each}
+use Rattle.std.specs.Prelude.{◌≡◌, ◌⊎◌, ◌||◌, ℕ, true, List, [], ◌∷◌, Some, map as each}
+use Rattle.expr_functions.specs.Functions.{builtin_named}
+use Rattle.expr_functions.specs.declared.functions.Builtin.TheVariants.{HigherOrder}
 use Rattle.expr_functions.specs.declared.functions.HigherOrderCall.{HigherOrderCall}
 use Rattle.expr_functions.specs.declared.functions.HigherOrderCall.TheVariants as higher
 use Rattle.expr_meaning.specs.Allows.{is_given}
@@ -57,3 +59,11 @@ abbrev pub TellsAnswers : Kind → Scope → HigherOrderCall → Predicate → C
 TellsAnswers item s b p c =
     ((is_given p || runs_alone b) ≡ true)
     × ((e : Effect) → CoversEffect e (effect_of c.effect) → Within (λ k. TypedPredicate e (asked b item s) item p k) (kind_view c.kind))
+
+-- the same, where the items of the only argument are of some kind
+abbrev pub TellsOnItems : CheckedArguments → Scope → HigherOrderCall → Predicate → Checked → Type 0
+TellsOnItems a s b p c = (item : Kind) → each kind_view a.kinds ≡ array item ∷ [] → TellsAnswers item s b p c
+
+-- the same of a call of a function, if it is such a built-in
+abbrev pub TellsPredicate : CheckedArguments → Scope → List ℕ → Predicate → Checked → Type 0
+TellsPredicate a s key p c = (b : HigherOrderCall) → builtin_named key ≡ Some (HigherOrder b) → TellsOnItems a s b p c

@@ -2,17 +2,16 @@
 ghost use Rattle.std.specs.Prelude.{IfOk, IfSome, map};
 ghost use Rattle.std.specs.Option.{option_copied};
 ghost use Rattle.expr_error.specs.ErrorKind.{OnlyMemory};
-ghost use Rattle.expr_kinds.specs.Checks.{Checks, ChecksBlock, ChecksBlockIn, ChecksBoundIn, ChecksEachIn, ChecksIn, ChecksPostfix, TellsCall, Upholds, known_scope};
-ghost use Rattle.expr_kinds.specs.FoldRows.{TellsAnswers, TellsHigher};
-ghost use Rattle.expr_schema.specs.KindView.{kind_view};
+ghost use Rattle.expr_kinds.specs.Checks.{Checks, ChecksBlock, ChecksBlockIn, ChecksBoundIn, ChecksEachIn, ChecksIn, ChecksPostfix, Upholds, known_scope};
+ghost use Rattle.expr_kinds.specs.FoldRows.{TellsPredicate};
 ghost use Rattle.expr_schema.specs.SchemaView.{scope_of};
 ghost use Rattle.expr_schema.specs.Scopes.{Scope};
 ghost use Rattle.expr_tree.specs.Term.{list, mapping, name, pipe, term_pairs};
 ghost use Rattle.expr_tree.specs.TermOf.{bound_term, line_term, postfix_term, predicate_term, program_term, term_of, terms_of};
 
-use crate::calls::plain_checked;
+use crate::calls::call_checked;
 use crate::checked::{Checked, CheckedArguments, joined_effect, with_first};
-use crate::folds::{fold_checked, fold_row, only_items, takes_items};
+use crate::folds::{folded, item_answers, only_items};
 use crate::forms::{
     choice_checked, coalesce_checked, literal_checked, range_checked, slice_checked,
 };
@@ -21,7 +20,6 @@ use crate::members::{literal_name, member_checked, part_checked};
 use crate::methods::method_checked;
 use crate::names::Known;
 use crate::operations::{operation_checked, prefix_checked};
-use expr_functions::HigherOrderCall;
 use expr_schema::{Effect, FieldKind, Fields, Kind, Schema, join};
 use expr_tree::node::{Node, PostfixOperator, Program};
 use expr_value::{Items, Result, Text, Value};
@@ -124,7 +122,8 @@ fn node_checked(alloc: Global, node: &Node, known: &Known<'_>) -> Result<Checked
             predicate,
         } => {
             let arguments = arguments_checked(alloc, args, known)?;
-            call_checked(alloc, ident, &arguments, predicate, known)
+            let answers = answers_checked(alloc, ident, &arguments, predicate, known)?;
+            call_checked(alloc, ident, &arguments, &answers, known)
         }
         Node::Map(pairs) => map_checked(alloc, pairs, known),
     }
@@ -213,84 +212,40 @@ fn piped_checked(
         } => {
             let rest = arguments_checked(alloc, args, known)?;
             let arguments = with_first(alloc, operand, literal, rest)?;
-            call_checked(alloc, ident, &arguments, predicate, known)
+            let answers = answers_checked(alloc, ident, &arguments, predicate, known)?;
+            call_checked(alloc, ident, &arguments, &answers, known)
         }
         _ => Ok(Checked::unknown()),
     }
 }
 
-/// What is known of a call. A function of the host comes before a built-in.
+/// What is known of the results of the predicate of a call, if it is one of a built-in that takes an array and a
+/// predicate. Without a predicate some of these take each item as the result for itself.
 #[cycle(check)]
-fn call_checked(
+fn answers_checked(
     alloc: Global,
     key: &str,
     arguments: &CheckedArguments<'_>,
     predicate: &Option<Box<Program>>,
     known: &Known<'_>,
-) -> Result<Checked>
-    ensures ok { IfOk result (λ c. (s : Scope) → Upholds (known_scope known.now) s
-        → TellsCall arguments.now s key.now (predicate_term predicate.now) c) }
-    ensures err { OnlyMemory result }
-{
-    match known.folded(key) {
-        Some(call) => higher_checked(alloc, call, arguments, predicate, known),
-        None => plain_checked(alloc, key, arguments, known),
-    }
-}
-
-/// What is known of a call of a built-in with a predicate.
-#[cycle(check)]
-fn higher_checked(
-    alloc: Global,
-    call: HigherOrderCall,
-    arguments: &CheckedArguments<'_>,
-    predicate: &Option<Box<Program>>,
-    known: &Known<'_>,
-) -> Result<Checked>
-    ensures ok { IfOk result (λ c. (s : Scope) → Upholds (known_scope known.now) s
-        → TellsHigher arguments.now s call (predicate_term predicate.now) c) }
-    ensures err { OnlyMemory result }
-{
-    let Some(row) = fold_row(call) else {
-        return Ok(Checked::unknown());
-    };
-    let Some(item) = only_items(arguments.kinds.as_slice()) else {
-        return Ok(Checked::unknown());
-    };
-    let told = answers_checked(alloc, call, item, predicate, known)?;
-    match told {
-        Some(answer) => fold_checked(alloc, row, item, &answer, arguments.effect),
-        None => Ok(Checked::unknown()),
-    }
-}
-
-/// What is known of the results of a predicate for items of a kind, or `None` if it is missing and can't be.
-#[cycle(check)]
-fn answers_checked(
-    alloc: Global,
-    call: HigherOrderCall,
-    item: &Kind,
-    predicate: &Option<Box<Program>>,
-    known: &Known<'_>,
 ) -> Result<Option<Checked>>
     ensures ok { IfOk result (λ o. IfSome o (λ c. (s : Scope) → Upholds (known_scope known.now) s
-        → TellsAnswers (kind_view item.now) s call (predicate_term predicate.now) c)) }
+        → TellsPredicate arguments.now s key.now (predicate_term predicate.now) c)) }
     ensures err { OnlyMemory result }
 {
+    let Some(call) = folded(key) else {
+        return Ok(None);
+    };
+    let Some(item) = only_items(arguments.kinds.as_slice()) else {
+        return Ok(None);
+    };
     match predicate {
         Some(program) => {
             let inner = known.asked(alloc, call, item)?;
             let answer = block_checked(alloc, program, &inner)?;
             Ok(Some(answer))
         }
-        None => {
-            if !takes_items(call) {
-                return Ok(None);
-            }
-            let kind = item.copy(alloc)?;
-            let effect = Effect::Total;
-            Ok(Some(Checked { kind, effect }))
-        }
+        None => item_answers(alloc, call, item),
     }
 }
 

@@ -1,18 +1,22 @@
 //! The check of built-ins with a predicate, by their table. A row is a line of data.
-ghost use Rattle.std.specs.Prelude.{◌≡◌, ◌∷◌, [], IfOk, IfSome, IsTrue, map};
+ghost use Rattle.std.specs.Prelude.{◌≡◌, ◌∷◌, [], Some, IfOk, IfSome, IsTrue, map};
 ghost use Rattle.expr_error.specs.ErrorKind.{OnlyMemory};
+ghost use Rattle.expr_functions.specs.Functions.{builtin_named};
+ghost use Rattle.expr_functions.specs.declared.functions.Builtin.TheVariants.{HigherOrder};
 ghost use Rattle.expr_kinds.specs.Effects.{CoversEffect};
-ghost use Rattle.expr_kinds.specs.FoldRows.{FoldFits, IsWanted, fold_kind};
+ghost use Rattle.expr_kinds.specs.FoldRows.{FoldFits, IsWanted, TellsAnswers, TellsHigher, TellsOnItems, fold_kind};
 ghost use Rattle.expr_kinds.specs.Typed.{IsScalarKind, OrFails};
 ghost use Rattle.expr_predicates.specs.Calls.{runs_alone};
 ghost use Rattle.expr_schema.specs.KindView.{kind_view};
 ghost use Rattle.expr_schema.specs.Kinds.{Fits, array};
 ghost use Rattle.expr_schema.specs.SchemaView.{effect_of};
+ghost use Rattle.expr_schema.specs.Scopes.{Scope};
+ghost use Rattle.expr_tree.specs.Term.{Predicate, no_predicate};
 
 use crate::bases::{fits_base, kind_of_base};
-use crate::checked::{Checked, joined_effect};
+use crate::checked::{Checked, CheckedArguments, joined_effect};
 use crate::tables::Base;
-use expr_functions::HigherOrderCall;
+use expr_functions::{Builtin, HigherOrderCall};
 use expr_schema::{Effect, Kind};
 use expr_value::Result;
 use std::alloc::Global;
@@ -57,7 +61,7 @@ macro_rules! row {
 }
 
 /// The row of a built-in with a predicate. `reduce` and `sortBy` have none.
-pub(crate) fn fold_row(call: HigherOrderCall) -> Option<FoldRow>
+fn fold_row(call: HigherOrderCall) -> Option<FoldRow>
     ensures { IfSome result (λ r. FoldFits call r) }
 {
     match call {
@@ -79,7 +83,7 @@ pub(crate) fn fold_row(call: HigherOrderCall) -> Option<FoldRow>
 }
 
 /// Whether a built-in takes each item as the result for itself, if it has no predicate.
-pub(crate) fn takes_items(call: HigherOrderCall) -> bool
+fn takes_items(call: HigherOrderCall) -> bool
     ensures { result ≡ runs_alone call }
 {
     matches!(call, HigherOrderCall::Count | HigherOrderCall::Sum)
@@ -98,8 +102,61 @@ pub(crate) fn only_items(kinds: &[Kind]) -> Option<&Kind>
     }
 }
 
+/// The built-in with a predicate that has a name, or `None`.
+pub(crate) fn folded(name: &str) -> Option<HigherOrderCall>
+    ensures { IfSome result (λ b. builtin_named name.now ≡ Some (HigherOrder b)) }
+{
+    match Builtin::from_name(name) {
+        Some(Builtin::HigherOrder(call)) => Some(call),
+        _ => None,
+    }
+}
+
+/// What is known of the results for the items, if there is no predicate.
+pub(crate) fn item_answers(
+    alloc: Global,
+    call: HigherOrderCall,
+    item: &Kind,
+) -> Result<Option<Checked>>
+    ensures ok { IfOk result (λ o. IfSome o (λ c. (s : Scope)
+        → TellsAnswers (kind_view item.now) s call no_predicate c)) }
+    ensures err { OnlyMemory result }
+{
+    if !takes_items(call) {
+        return Ok(None);
+    }
+    let kind = item.copy(alloc)?;
+    Ok(Some(Checked {
+        kind,
+        effect: Effect::Total,
+    }))
+}
+
+/// What is known of a call of a built-in with a predicate, by what is known of the results of the predicate.
+pub(crate) fn higher_checked(
+    alloc: Global,
+    call: HigherOrderCall,
+    arguments: &CheckedArguments<'_>,
+    answers: &Option<Checked>,
+) -> Result<Checked>
+    ensures ok { IfOk result (λ c. (s : Scope) (p : Predicate)
+        → IfSome answers.now (λ a. TellsOnItems arguments.now s call p a) → TellsHigher arguments.now s call p c) }
+    ensures err { OnlyMemory result }
+{
+    let Some(row) = fold_row(call) else {
+        return Ok(Checked::unknown());
+    };
+    let Some(item) = only_items(arguments.kinds.as_slice()) else {
+        return Ok(Checked::unknown());
+    };
+    match answers {
+        Some(answer) => fold_checked(alloc, row, item, answer, arguments.effect),
+        None => Ok(Checked::unknown()),
+    }
+}
+
 /// What is known of a call, by its row, the kind of the items and what is known of the results of the predicate.
-pub(crate) fn fold_checked(
+fn fold_checked(
     alloc: Global,
     row: FoldRow,
     item: &Kind,

@@ -1,15 +1,13 @@
 //! What is known of the names where a tree stands.
-ghost use Rattle.std.specs.Prelude.{◌≡◌, None, Some, IfOk, IfSome, IsTrue, MatchOption, OnOk, true};
+ghost use Rattle.std.specs.Prelude.{◌≡◌, Some, IfOk, IfSome, IsTrue, MatchOption, OnOk, true};
 ghost use Rattle.expr_error.specs.ErrorKind.{OnlyMemory};
 ghost use Rattle.expr_kinds.specs.Checks.{ItemField, SameAt, known_scope, with_bound};
 ghost use Rattle.expr_kinds.specs.Scopes.{asked, bind_kind, given_at, is_absent};
-ghost use Rattle.expr_functions.specs.Functions.{builtin_named};
-ghost use Rattle.expr_functions.specs.declared.functions.Builtin.TheVariants.{HigherOrder};
 ghost use Rattle.expr_schema.specs.KindView.{fields_view, kind_view};
 ghost use Rattle.expr_schema.specs.SchemaView.{scope_of};
 ghost use Rattle.expr_schema.specs.Scopes.{Scope};
 
-use expr_functions::{Builtin, HigherOrderCall};
+use expr_functions::HigherOrderCall;
 use expr_schema::{Fields, Kind, Schema};
 use expr_value::Result;
 use std::alloc::Global;
@@ -85,20 +83,6 @@ impl<'a> Known<'a> {
         let kind = item.copy(alloc)?;
         inner.bind("#", kind)?;
         Ok(inner)
-    }
-
-    /// The built-in with a predicate that a call with this name runs, or `None`.
-    pub(crate) fn folded(&self, key: &str) -> Option<HigherOrderCall>
-        ensures { IfSome result (λ b. ((known_scope self.now).functions key.now ≡ None)
-            × (builtin_named key.now ≡ Some (HigherOrder b))) }
-    {
-        match self.schema.signature(key) {
-            Some(_) => None,
-            None => match Builtin::from_name(key) {
-                Some(Builtin::HigherOrder(call)) => Some(call),
-                _ => None,
-            },
-        }
     }
 
     /// The kind of a name that always has a value, or `None`.

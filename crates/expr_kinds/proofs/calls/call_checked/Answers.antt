@@ -3,7 +3,7 @@ use Rattle.expr_schema.specs.SchemaView.{scope_of}
 use Rattle.expr_kinds.proofs.Judged.{if-ok}
 use Rattle.expr_kinds.proofs.Tabled.{told-builtin, unknown-call}
 use Rattle.expr_kinds.proofs.Told.{bound-functions}
-use Rattle.expr_kinds.proofs.calls.plain_checked.Goals as goal
+use Rattle.expr_kinds.proofs.calls.call_checked.Goals as goal
 
 pub returns-in-Some-clause-ok : goal.returns-in-Some-clause-ok
 returns-in-Some-clause-ok c =
