@@ -15,7 +15,7 @@ use Rattle.expr_kinds.specs.Causes.{effect_under}
 use Rattle.expr_kinds.specs.Effects.{CoversEffect}
 use Rattle.expr_kinds.specs.Methods.{of_duration, of_moment, of_name}
 use Rattle.expr_kinds.specs.Overloads.{Overload, overloads}
-use Rattle.expr_kinds.specs.Typed.{ByOverload, OneOf, Unknown, Within}
+use Rattle.expr_kinds.specs.Typed.{AllFit, ByOverload, OneOf, Unknown, Within}
 use Rattle.expr_kinds.specs.declared.checked.CheckedArguments.{CheckedArguments}
 use Rattle.expr_kinds.specs.declared.checked.Checked.{Checked}
 use Rattle.expr_kinds.specs.declared.shapes.CallRow.{CallRow}
@@ -43,6 +43,11 @@ taken_kinds k (takes.One a) = shape_kind k a ∷ []
 taken_kinds k (takes.Two a b) = shape_kind k a ∷ shape_kind k b ∷ []
 taken_kinds k (takes.Three a b c) = shape_kind k a ∷ shape_kind k b ∷ shape_kind k c ∷ []
 taken_kinds k (takes.Four a b c d) = shape_kind k a ∷ shape_kind k b ∷ shape_kind k c ∷ shape_kind k d ∷ []
+
+-- a kind at the front, and others that fit what is left, fit what is taken
+abbrev pub NextFits : Takes → Shape → Shape → Takes → Type 0
+NextFits taken more next left =
+    (k j : Kind) (ks : List Kind) → Fits j (shape_kind k next) → AllFit ks (taken_kinds k left) (shape_kind k more) → AllFit (j ∷ ks) (taken_kinds k taken) (shape_kind k more)
 
 abbrev pub overload_view : Kind → CallRow → Overload
 overload_view k r = record { takes = taken_kinds k r.takes; more = shape_kind k r.more; gives = shape_kind k r.gives; cause = cause_view r.cause }

@@ -106,5 +106,10 @@ pub(crate) fn slice_checked(
 fn keeps_kind(kind: &Kind) -> bool
     ensures { IsTrue result → KeepsKind (kind_view kind.now) }
 {
-    matches!(kind, Kind::Array(_) | Kind::String | Kind::Bytes)
+    match kind {
+        Kind::Array(_) => true,
+        Kind::String => true,
+        Kind::Bytes => true,
+        _ => false,
+    }
 }

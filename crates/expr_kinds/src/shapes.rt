@@ -1,11 +1,11 @@
 //! The kinds that the table of built-ins names, and kinds in memory.
-ghost use Rattle.std.specs.Prelude.{◌≡◌, ◌∷◌, ℕ, List, IfOk, IfSome, IsTrue, map};
+ghost use Rattle.std.specs.Prelude.{◌≡◌, IfOk, IfSome, IsTrue, map};
 ghost use Rattle.expr_error.specs.ErrorKind.{OnlyMemory};
-ghost use Rattle.expr_kinds.specs.BuiltinRows.{shape_kind, taken_kinds};
+ghost use Rattle.expr_kinds.specs.BuiltinRows.{NextFits, shape_kind, taken_kinds};
 ghost use Rattle.expr_kinds.specs.Checks.{SameValues};
 ghost use Rattle.expr_kinds.specs.Typed.{AllFit};
 ghost use Rattle.expr_schema.specs.KindView.{kind_view};
-ghost use Rattle.expr_schema.specs.Kinds.{Fits, Kind as KindOf};
+ghost use Rattle.expr_schema.specs.Kinds.{Fits};
 
 use crate::bases::{fits_base, kind_of_base, named_kind};
 use crate::tables::{Base, Cause};
@@ -62,9 +62,7 @@ impl Takes {
     /// The kind of the next argument, and what is taken after it. After the last one that a row names, further ones are
     /// of a further kind.
     fn next(self, more: Shape) -> (Shape, Takes)
-        ensures { (k j : KindOf) (ks : List KindOf) → Fits j (shape_kind k result.0)
-            → AllFit ks (taken_kinds k result.1) (shape_kind k more)
-            → AllFit (j ∷ ks) (taken_kinds k self) (shape_kind k more) }
+        ensures { NextFits self more result.0 result.1 }
     {
         match self {
             Takes::Nothing => (more, Takes::Nothing),
@@ -96,7 +94,10 @@ pub(crate) fn arguments_fit(
         }
         left = rest;
     }
-    Ok(matches!(left, Takes::Nothing))
+    match left {
+        Takes::Nothing => Ok(true),
+        _ => Ok(false),
+    }
 }
 
 /// Whether each value of a kind is of a kind of the table, where the items are of a kind.

@@ -1,6 +1,8 @@
-use Rattle.std.proofs.Common.{◌≡◌, None, sym, ap, ◌∙◌}
+use Rattle.std.proofs.Common.{◌≡◌, None, IfSome, sym, ap, ◌∙◌, subst}
 use Rattle.expr_schema.specs.SchemaView.{scope_of}
-use Rattle.expr_kinds.proofs.Judged.{if-ok}
+use Rattle.expr_kinds.specs.FoldRows.{TellsOnItems}
+use Rattle.expr_kinds.proofs.FoldTold.{told-folded}
+use Rattle.expr_kinds.proofs.Judged.{if-ok, if-some}
 use Rattle.expr_kinds.proofs.Tabled.{told-builtin, unknown-call}
 use Rattle.expr_kinds.proofs.Told.{bound-functions}
 use Rattle.expr_kinds.proofs.calls.call_checked.Goals as goal
@@ -9,7 +11,7 @@ pub returns-in-Some-clause-ok : goal.returns-in-Some-clause-ok
 returns-in-Some-clause-ok c =
     let schema = scope_of c.args.known.now.schema.now in
     if-ok c.signed_checked.result _ _ (
-    λ d h s p keeps. h s c.args.key.now p (ap (λ f. f c.args.key.now) (keeps.functions ∙ bound-functions c.args.known.now.bound.items schema) ∙ sym c.in-Some.ensures)
+    λ d h s p keeps told. h s c.args.key.now p (ap (λ f. f c.args.key.now) (keeps.functions ∙ bound-functions c.args.known.now.bound.items schema) ∙ sym c.in-Some.ensures)
     ) c.signed_checked.ensures.ok
 
 pub returns-in-OnValues-clause-ok : goal.returns-in-OnValues-clause-ok
@@ -17,8 +19,20 @@ returns-in-OnValues-clause-ok c =
     let schema = scope_of c.args.known.now.schema.now in
     let key = c.args.key.now in
     if-ok c.builtin_checked.result _ _ (
-    λ d h s p keeps. told-builtin c.args.arguments.now d s key p c.in-OnValues.call (ap (λ f. f key) (keeps.functions ∙ bound-functions c.args.known.now.bound.items schema) ∙ sym c.in-None.ensures) (sym c.in-OnValues.ensures) h
+    λ d h s p keeps told. told-builtin c.args.arguments.now d s key p c.in-OnValues.call (ap (λ f. f key) (keeps.functions ∙ bound-functions c.args.known.now.bound.items schema) ∙ sym c.in-None.ensures) (sym c.in-OnValues.ensures) h
     ) c.builtin_checked.ensures.ok
 
-pub returns-in_default-clause-ok : goal.returns-in_default-clause-ok
-returns-in_default-clause-ok c = λ s p keeps. unknown-call c.args.arguments.now c.unknown.result c.unknown.ensures.kind c.unknown.ensures.effect s c.args.key.now p
+pub returns-in-HigherOrder-clause-ok : goal.returns-in-HigherOrder-clause-ok
+returns-in-HigherOrder-clause-ok c =
+    let schema = scope_of c.args.known.now.schema.now in
+    let key = c.args.key.now in
+    let b = c.in-HigherOrder.call in
+    let a = c.args.arguments.now in
+    if-ok c.higher_checked.result _ _ (
+    λ d h s p keeps told. told-folded a d s key p b (ap (λ f. f key) (keeps.functions ∙ bound-functions c.args.known.now.bound.items schema) ∙ sym c.in-None.ensures) (sym c.in-HigherOrder.ensures) (
+    h s p (if-some c.args.answers.now _ (λ x. TellsOnItems a s b p x) (λ x tells. tells b (sym c.in-HigherOrder.ensures)) told)
+    )
+    ) c.higher_checked.ensures.ok
+
+pub returns-in-None-Builtin-from_name-clause-ok : goal.returns-in-None-Builtin-from_name-clause-ok
+returns-in-None-Builtin-from_name-clause-ok c = λ s p keeps told. unknown-call c.args.arguments.now c.unknown.result c.unknown.ensures.kind c.unknown.ensures.effect s c.args.key.now p
