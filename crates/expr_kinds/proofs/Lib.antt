@@ -27,6 +27,7 @@ pub mod Parts
 pub mod Programs
 pub mod Refined
 pub mod Rows
+pub mod Scalars
 pub mod Sorted
 pub mod Standing
 pub mod TableKinds

@@ -150,7 +150,10 @@ pub(crate) fn higher_checked(
         return Ok(Checked::unknown());
     };
     match answers {
-        Some(answer) => fold_checked(alloc, row, item, answer, arguments.effect),
+        Some(answer) => {
+            let checked = fold_checked(alloc, row, item, answer, arguments.effect)?;
+            Ok(checked)
+        }
         None => Ok(Checked::unknown()),
     }
 }
