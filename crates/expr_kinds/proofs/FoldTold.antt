@@ -1,5 +1,5 @@
 -- What is told of calls with a predicate holds, if what is told of the predicate does.
-use Rattle.std.proofs.Common.{◌≡◌, ◌⊎◌, ◌||◌, ℕ, List, [], ◌∷◌, Bool, true, map as mapped, Option, Some, None, MatchOption, codes, refl, sym, subst, inl, inr}
+use Rattle.std.proofs.Common.{◌≡◌, ◌⊎◌, ◌||◌, ℕ, List, [], ◌∷◌, Bool, true, map as mapped, Option, Some, None, MatchOption, cond, codes, refl, sym, ap, subst, inl, inr}
 use Rattle.expr_context.specs.Context.{hash}
 use Rattle.expr_functions.specs.Functions.{builtin_named}
 use Rattle.expr_functions.specs.declared.functions.Builtin.{Builtin}
@@ -16,7 +16,7 @@ use Rattle.expr_schema.specs.Scopes.{Scope, Signature}
 use Rattle.expr_kinds.specs.Causes.{Literals}
 use Rattle.expr_kinds.specs.Checks.{ChecksBlockIn, TellsCall, Upholds, base_kind, literals_view}
 use Rattle.expr_kinds.specs.Effects.{CoversEffect}
-use Rattle.expr_kinds.specs.FoldRows.{FoldFits, IsWanted, TakesNoMore, TellsAnswers, TellsHigher, fold_kind}
+use Rattle.expr_kinds.specs.FoldRows.{FoldFits, IsWanted, TakesNoMore, TellsAnswers, TellsHigher, binds_index, fold_kind}
 use Rattle.expr_kinds.specs.Scopes.{asked, bind_kind}
 use Rattle.expr_kinds.specs.Typed.{Asking, BySignature, CallGives, FoldGives, HigherOrderGives, BuiltinGives, OrFails, TypedPredicate, Unknown, Within}
 use Rattle.expr_kinds.specs.declared.checked.CheckedArguments.{CheckedArguments}
@@ -72,6 +72,24 @@ module _ (known s : Scope) (keeps : Upholds known s) (item : Kind) where
   asked-upholds higher.GroupBy = one
   asked-upholds higher.Reduce = one
   asked-upholds higher.SortBy = one
+
+-- the names that a predicate binds
+pub asked-by : (b : HigherOrderCall) (q : Bool) → binds_index b ≡ q → (item : Kind) (s : Scope) → asked b item s ≡ bind_kind hash item (cond q (bind_kind (codes "#index") integer s) s)
+asked-by higher.Map q is item s = ap (λ x. bind_kind hash item (cond x (bind_kind (codes "#index") integer s) s)) is
+asked-by higher.All q is item s = ap (λ x. bind_kind hash item (cond x (bind_kind (codes "#index") integer s) s)) is
+asked-by higher.Any q is item s = ap (λ x. bind_kind hash item (cond x (bind_kind (codes "#index") integer s) s)) is
+asked-by higher.NoneOf q is item s = ap (λ x. bind_kind hash item (cond x (bind_kind (codes "#index") integer s) s)) is
+asked-by higher.One q is item s = ap (λ x. bind_kind hash item (cond x (bind_kind (codes "#index") integer s) s)) is
+asked-by higher.Filter q is item s = ap (λ x. bind_kind hash item (cond x (bind_kind (codes "#index") integer s) s)) is
+asked-by higher.Find q is item s = ap (λ x. bind_kind hash item (cond x (bind_kind (codes "#index") integer s) s)) is
+asked-by higher.FindIndex q is item s = ap (λ x. bind_kind hash item (cond x (bind_kind (codes "#index") integer s) s)) is
+asked-by higher.FindLast q is item s = ap (λ x. bind_kind hash item (cond x (bind_kind (codes "#index") integer s) s)) is
+asked-by higher.FindLastIndex q is item s = ap (λ x. bind_kind hash item (cond x (bind_kind (codes "#index") integer s) s)) is
+asked-by higher.Count q is item s = ap (λ x. bind_kind hash item (cond x (bind_kind (codes "#index") integer s) s)) is
+asked-by higher.Sum q is item s = ap (λ x. bind_kind hash item (cond x (bind_kind (codes "#index") integer s) s)) is
+asked-by higher.GroupBy q is item s = ap (λ x. bind_kind hash item (cond x (bind_kind (codes "#index") integer s) s)) is
+asked-by higher.Reduce q is item s = ap (λ x. bind_kind hash item (cond x (bind_kind (codes "#index") integer s) s)) is
+asked-by higher.SortBy q is item s = ap (λ x. bind_kind hash item (cond x (bind_kind (codes "#index") integer s) s)) is
 
 -- results of a predicate that are of a smaller kind
 module _ (j k : Kind) (fits : Fits j k) where

@@ -1,5 +1,5 @@
 -- The table of built-ins with a predicate, in memory.
-use Rattle.std.specs.Prelude.{◌≡◌, ◌⊎◌, ◌||◌, ℕ, true, List, [], ◌∷◌, Some, map as each}
+use Rattle.std.specs.Prelude.{◌≡◌, ◌⊎◌, ◌||◌, ℕ, Bool, true, false, List, [], ◌∷◌, Some, map as each}
 use Rattle.expr_functions.specs.Functions.{builtin_named}
 use Rattle.expr_functions.specs.declared.functions.Builtin.TheVariants.{HigherOrder}
 use Rattle.expr_functions.specs.declared.functions.HigherOrderCall.{HigherOrderCall}
@@ -36,6 +36,11 @@ abbrev pub IsWanted : Wanted → Kind → Type 0
 IsWanted wanted.Anything k = Unit {0}
 IsWanted (wanted.Only b) k = Fits k (base_kind b)
 IsWanted wanted.Scalars k = IsScalarKind k
+
+-- `map` binds `#index` too
+abbrev pub binds_index : HigherOrderCall → Bool
+binds_index higher.Map = true
+binds_index b = false
 
 -- a built-in that takes an array and a predicate alone
 abbrev pub TakesNoMore : HigherOrderCall → Type 0

@@ -2,6 +2,7 @@
 ghost use Rattle.std.specs.Prelude.{◌≡◌, Some, IfOk, IfSome, IsTrue, MatchOption, OnOk, true};
 ghost use Rattle.expr_error.specs.ErrorKind.{OnlyMemory};
 ghost use Rattle.expr_kinds.specs.Checks.{ItemField, SameAt, known_scope, with_bound};
+ghost use Rattle.expr_kinds.specs.FoldRows.{binds_index};
 ghost use Rattle.expr_kinds.specs.Scopes.{asked, bind_kind, given_at, is_absent};
 ghost use Rattle.expr_schema.specs.KindView.{fields_view, kind_view};
 ghost use Rattle.expr_schema.specs.SchemaView.{scope_of};
@@ -77,10 +78,12 @@ impl<'a> Known<'a> {
         ensures err { OnlyMemory result }
     {
         let mut inner = self.copy(alloc)?;
-        if let HigherOrderCall::Map = call {
-            inner.bind("#index", Kind::Integer)?;
-        }
         let kind = item.copy(alloc)?;
+        if binds_index(call) {
+            inner.bind("#index", Kind::Integer)?;
+            inner.bind("#", kind)?;
+            return Ok(inner);
+        }
         inner.bind("#", kind)?;
         Ok(inner)
     }
@@ -118,6 +121,13 @@ impl<'a> Known<'a> {
         }
         has_nothing_at(self.schema.names(), name)
     }
+}
+
+/// Whether a predicate of a built-in knows the index of an item.
+fn binds_index(call: HigherOrderCall) -> bool
+    ensures { result ≡ binds_index call }
+{
+    matches!(call, HigherOrderCall::Map)
 }
 
 /// The kind of the last of these names that is the one that is asked for.
