@@ -107,8 +107,11 @@ impl<'a> Known<'a> {
             return None;
         }
         match self.given("#") {
-            Some(Kind::Map(fields)) => required_field(fields, name),
-            _ => None,
+            Some(item) => match item {
+                Kind::Map(fields) => required_field(fields, name),
+                _ => None,
+            },
+            None => None,
         }
     }
 
@@ -116,10 +119,10 @@ impl<'a> Known<'a> {
     fn lacks(&self, name: &str) -> bool
         ensures { IsTrue result → is_absent (known_scope self.now).names name.now ≡ true }
     {
-        if bound_kind(&self.bound, name).is_some() {
-            return false;
+        match bound_kind(&self.bound, name) {
+            Some(_) => false,
+            None => has_nothing_at(self.schema.names(), name),
         }
-        has_nothing_at(self.schema.names(), name)
     }
 }
 
@@ -151,7 +154,13 @@ fn bound_kind<'k>(bound: &'k [BoundKind<'_>], name: &str) -> Option<&'k Kind>
 fn has_nothing_at(fields: &Fields, name: &str) -> bool
     ensures { IsTrue result → is_absent (fields_view fields.now) name.now ≡ true }
 {
-    fields.get(name).is_none() && fields.others().is_none()
+    match fields.get(name) {
+        Some(_) => false,
+        None => match fields.others() {
+            Some(_) => false,
+            None => true,
+        },
+    }
 }
 
 /// The kind of a field that is required, or `None`.
