@@ -5,7 +5,7 @@ ghost use Rattle.expr_kinds.specs.BuiltinRows.{TellsBuiltin, TellsRow};
 
 use crate::call_rows::call_rows;
 use crate::checked::{Checked, CheckedArguments, joined_effect};
-use crate::literals::cause_effect;
+use crate::known_literals::cause_effect;
 use crate::shapes::{CallRow, arguments_fit, item_kind, kind_of_shape};
 use expr_functions::ValueCall;
 use expr_value::Result;

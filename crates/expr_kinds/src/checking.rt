@@ -15,7 +15,7 @@ use crate::folds::{folded, item_answers, only_items};
 use crate::forms::{
     choice_checked, coalesce_checked, literal_checked, range_checked, slice_checked,
 };
-use crate::literals::literal_value;
+use crate::known_literals::literal_value;
 use crate::members::{literal_name, member_checked, part_checked};
 use crate::methods::method_checked;
 use crate::names::Known;

@@ -24,7 +24,7 @@ mod checking;
 mod folds;
 mod forms;
 mod laws;
-mod literals;
+mod known_literals;
 mod members;
 mod methods;
 mod names;

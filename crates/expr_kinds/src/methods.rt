@@ -12,7 +12,7 @@ ghost use Rattle.expr_time.specs.declared.moments.TextMethod.{TextMethod};
 ghost use Rattle.expr_tree.specs.Term.{Term, Terms, method, postfix};
 
 use crate::checked::{Checked, CheckedArguments, joined_effect};
-use crate::literals::cause_effect;
+use crate::known_literals::cause_effect;
 use crate::shapes::Shape::Of;
 use crate::shapes::{CallRow, Takes, arguments_fit, kind_of_shape};
 use crate::tables::{Base, Cause};

@@ -12,7 +12,7 @@ ghost use Rattle.expr_tree.specs.Term.{Term, operation, unary};
 
 use crate::bases::{fits_base, fitting_row, kind_of_base};
 use crate::checked::{Checked, joined_effect};
-use crate::literals::cause_effect;
+use crate::known_literals::cause_effect;
 use crate::tables::{Base, rows_of, taken_by};
 use expr_functions::operator::{Operator, UnaryOperator};
 use expr_functions::{Strictness, strictness_of};

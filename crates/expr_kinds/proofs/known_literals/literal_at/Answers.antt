@@ -1,7 +1,7 @@
 use Rattle.std.proofs.Common.{option_map, option_and_then, sym, ap, ◌∙◌}
 use Rattle.std.specs.Option.{option_copied}
 use Rattle.std.proofs.lemmas.Option.{slice_get-map}
-use Rattle.expr_kinds.proofs.literals.literal_at.Goals as goal
+use Rattle.expr_kinds.proofs.known_literals.literal_at.Goals as goal
 
 pub returns-in-Some : goal.returns-in-Some
 returns-in-Some c =
