@@ -34,5 +34,5 @@ returns-in-HigherOrder-clause-ok c =
     )
     ) c.higher_checked.ensures.ok
 
-pub returns-in-None-Builtin-from_name-clause-ok : goal.returns-in-None-Builtin-from_name-clause-ok
-returns-in-None-Builtin-from_name-clause-ok c = λ s p keeps told. unknown-call c.args.arguments.now c.unknown.result c.unknown.ensures.kind c.unknown.ensures.effect s c.args.key.now p
+pub returns-in-None-from_name-clause-ok : goal.returns-in-None-from_name-clause-ok
+returns-in-None-from_name-clause-ok c = λ s p keeps told. unknown-call c.args.arguments.now c.unknown.result c.unknown.ensures.kind c.unknown.ensures.effect s c.args.key.now p

@@ -1,4 +1,4 @@
-use Rattle.std.proofs.Common.{◌≡◌, ◌<◌, ◌≤◌, ◌++◌, [], ◌∷◌, length, take, sym, ap, ◌∙◌, subst, rules}
+use Rattle.std.proofs.Common.{◌≡◌, ◌<◌, ◌≤◌, ◌++◌, [], ◌∷◌, length, get_or, take, sym, ap, ◌∙◌, subst, rules}
 use Rattle.std.proofs.lemmas.List.{take_all, take_more}
 use Rattle.expr_schema.specs.SchemaView.{scope_of}
 use Rattle.expr_kinds.specs.Checks.{with_bound}
@@ -13,7 +13,7 @@ loop-entry-preserved c =
     let b : BoundKind = record { name = x.name; kind = c.in_ok-kind.kind } in
     let same : b ≡ x = search rules in
     let below : i < length xs = subst (λ ys. i < length ys) c.deref-entry-items.ensures.value c.loop-entry-test.true in
-    c.in_ok-push.ensures.items ∙ ap (λ bs. bs ++ b ∷ []) c.loop-entry.invariant ∙ ap (λ y. take i xs ++ y ∷ []) (same ∙ c.entry-item.is) ∙ sym (take_more xs i x below)
+    c.in_ok-push.ensures.items ∙ ap (λ bs. bs ++ b ∷ []) c.loop-entry.invariant ∙ ap (λ y. take i xs ++ y ∷ []) (same ∙ c.entry-item.is ∙ ap (λ ys. get_or ys i x) c.deref-entry-items.ensures.value) ∙ sym (take_more xs i x below)
 
 pub returns-clause-ok : goal.returns-clause-ok
 returns-clause-ok c =
