@@ -35,12 +35,16 @@ Checks c s t = (e : Effect) → CoversEffect e (effect_of c.effect) → Within (
 abbrev pub ChecksBlock : Checked → Scope → Block → Type 0
 ChecksBlock c s b = (e : Effect) → CoversEffect e (effect_of c.effect) → Within (λ a. TypedBlock e s b a) (kind_view c.kind)
 
+-- a scope has a value at a name, of a kind that fits
+abbrev pub HasAt : Scope → List ℕ → Kind → Type 0
+HasAt s key k = Within (λ j. given_at s.names key ≡ Some j) k
+
 -- A scope upholds what is known: it has the same `$env` and functions, a value of a kind that fits at each name that is
 -- known to have one, and nothing at each name that is known to have nothing.
 pub record Upholds (known s : Scope) : Type 0 where
   pub environment : s.environment ≡ known.environment
   pub functions : s.functions ≡ known.functions
-  pub given : (key : List ℕ) (k : Kind) → given_at known.names key ≡ Some k → (j : Kind) × (given_at s.names key ≡ Some j) × Fits j k
+  pub given : (key : List ℕ) (k : Kind) → given_at known.names key ≡ Some k → HasAt s key k
   pub absent : (key : List ℕ) → is_absent known.names key ≡ true → is_absent s.names key ≡ true
 
 -- the item at `#` always has a field, and the context never has a value of its name
