@@ -1,5 +1,5 @@
 -- What is known of a scope is known too where a condition has narrowed its names.
-use Rattle.std.proofs.Common.{◌≡◌, ℕ, Bool, true, false, not, cond, List, Option, Some, None, option_map, MatchBool, bytes_eq, codes, refl, sym, ap, ◌∙◌, subst, inl, inr}
+use Rattle.std.proofs.Common.{◌≡◌, ℕ, Bool, true, false, not, cond, List, Option, Some, None, option_map, MatchBool, bytes_eq, codes, refl, sym, ◌∙◌, subst, inr}
 use Rattle.std.proofs.lemmas.Slice.Eq.{bytes_eq-Decides}
 use Rattle.expr_context.specs.Context.{hash}
 use Rattle.expr_functions.specs.declared.operator.Operator.TheVariants.{And, Or, Equal, NotEqual, In, NotIn}

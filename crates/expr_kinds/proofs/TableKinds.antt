@@ -1,5 +1,5 @@
 -- The kinds of tables, and what a schema says of a name.
-use Rattle.std.proofs.Common.{◌≡◌, ◌≢◌, ◌⊎◌, ◌↔◌, ℕ, zero, suc, ◌+◌, ◌<◌, Bool, true, false, cond, List, [], ◌∷◌, map as mapped, length, slice_index_or, Option, Some, None, MatchBool, bytes_eq, refl, sym, ap, ◌∙◌, subst, inl, inr, arith, rules}
+use Rattle.std.proofs.Common.{◌≡◌, ◌≢◌, ◌⊎◌, ◌↔◌, ℕ, zero, suc, ◌<◌, Bool, true, false, cond, List, [], ◌∷◌, map as mapped, length, slice_index_or, Option, Some, None, MatchBool, bytes_eq, refl, sym, ap, ◌∙◌, subst, inl, inr, arith, rules}
 use Rattle.expr_value.specs.Names.{find}
 use Rattle.expr_value.specs.declared.key.Key.{Key}
 use Rattle.expr_value.specs.declared.value.Value as value

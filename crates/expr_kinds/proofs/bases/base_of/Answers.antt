@@ -1,5 +1,5 @@
-use Rattle.std.proofs.Common.{sym, ap, ◌∙◌, subst}
-use Rattle.expr_schema.specs.Kinds.{Fits, array, map, keyed, any, others, never, nil, bool, integer, string, bytes, duration, month, weekday, datetime, timezone}
+use Rattle.std.proofs.Common.{ap, ◌∙◌}
+use Rattle.expr_schema.specs.Kinds.{array, map, keyed, never, nil, bool, integer, string, bytes, duration, month, weekday, datetime, timezone}
 use Rattle.expr_schema.specs.KindView.{fields_view, kind_view}
 use Rattle.expr_schema.proofs.Shapes.{kind_view-Never, kind_view-Nil, kind_view-Bool, kind_view-Integer, kind_view-String, kind_view-Bytes, kind_view-Duration, kind_view-Month, kind_view-Weekday, kind_view-DateTime, kind_view-Timezone, kind_view-Array, kind_view-Map, kind_view-KeyedMap}
 use Rattle.expr_kinds.proofs.TableKinds.{array-any, map-any, keyed-any}

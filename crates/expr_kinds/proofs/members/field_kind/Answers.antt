@@ -1,4 +1,4 @@
-use Rattle.std.proofs.Common.{◌≡◌, sym, ap, ◌∙◌}
+use Rattle.std.proofs.Common.{sym, ap, ◌∙◌}
 use Rattle.expr_schema.specs.Kinds.{nilable}
 use Rattle.expr_schema.specs.KindView.{fields_view, kind_view, named_of}
 use Rattle.expr_value.specs.Names.{find}

@@ -1,6 +1,6 @@
 use Rattle.std.proofs.Common.{◌≡◌, sym, ◌∙◌, subst}
 use Rattle.expr_functions.specs.Strictness.{operator_strictness}
-use Rattle.expr_functions.specs.declared.strictness.Strictness.TheVariants.{Both, EndsAtFalse, EndsAtTrue, Pattern}
+use Rattle.expr_functions.specs.declared.strictness.Strictness.TheVariants.{Both}
 use Rattle.expr_tree.specs.Term.{operation}
 use Rattle.expr_schema.specs.Kinds.{bool}
 use Rattle.expr_schema.specs.KindView.{kind_view}
