@@ -72,7 +72,8 @@ node_checked-returns-in_ok-second-in-Operation-clause-ok t c =
     let first = c.in_ok-first-in-Operation.first in
     let second = c.in_ok-second-in-Operation.second in
     let told_l : ChecksIn known first (term_of l) = subst (λ n. ChecksIn known first (term_of n)) c.deref-in-Operation.ensures c.in_ok-first-in-Operation.ensures.ok in
-    let lits : literals_view c.«literals» ≡ literal_of (term_of l) ∷ literal_of (term_of r) ∷ [] = search rules in
+    let lits = ap (λ o. o ∷ option_copied c.literal_value-2.result ∷ []) (c.literal_value.ensures ∙ ap (λ n. literal_of (term_of n)) c.deref-in-Operation-3.ensures)
+    ∙ ap (λ o. literal_of (term_of l) ∷ o ∷ []) (c.literal_value-2.ensures ∙ ap (λ n. literal_of (term_of n)) c.deref-in-Operation-4.ensures) in
     let told_r : ChecksIn known second (term_of r) = subst (λ n. ChecksIn known second (term_of n)) c.deref-in-Operation-2.ensures c.in_ok-second-in-Operation.ensures.ok in
     if-ok c.operation_checked.result _ _ (
     λ d h s keeps. subst (λ u. Checks d s u) (sym shape) (
