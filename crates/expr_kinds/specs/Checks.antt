@@ -1,6 +1,9 @@
 -- What a check says of a tree.
-use Rattle.std.specs.Prelude.{◌≡◌, ◌⊎◌, ℕ, true, List, [], ◌∷◌, Some, map as each}
+use Rattle.std.specs.Prelude.{◌≡◌, ◌⊎◌, ℕ, true, List, [], ◌∷◌, Option, Some, map as each}
+use Rattle.std.specs.Borrow.{Bor}
+use Rattle.std.specs.Option.{option_copied}
 use Rattle.expr_tree.specs.Term.{Block, Postfix, Term, Terms, postfix}
+use Rattle.expr_value.specs.declared.value.Value.{Value}
 use Rattle.expr_schema.specs.KindView.{kind_view}
 use Rattle.expr_schema.specs.Kinds.{Kind, any, never, nil, bool, integer, string, bytes, duration, month, weekday, datetime, timezone, array, map, keyed, nilable, others, Fits, Effect}
 use Rattle.expr_schema.specs.SchemaView.{effect_of, scope_of}
@@ -59,6 +62,10 @@ PartFits a key k =
     ((item : Kind) × Fits a (array item) × Fits key integer × Fits (nilable item) k)
     ⊎ ((Fits a bytes × Fits key integer × Fits (nilable integer) k)
     ⊎ ((item : Kind) × Fits a (keyed item) × Fits (nilable item) k))
+
+-- the literals in memory
+abbrev pub literals_view : List (Option (Bor Value)) → cause.Literals
+literals_view = each option_copied
 
 -- the same of the arguments of a call, each of a kind that fits the one at its place
 abbrev pub ChecksEach : CheckedArguments → Scope → Terms → Type 0

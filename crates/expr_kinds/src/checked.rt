@@ -1,12 +1,10 @@
 //! What a check tells of a tree.
-ghost use Rattle.expr_kinds.specs.Checks.{Checks, ChecksBlock, cause_view};
-ghost use Rattle.expr_kinds.specs.Causes.{Literals, effect_under};
+ghost use Rattle.expr_kinds.specs.Checks.{Checks, ChecksBlock};
 ghost use Rattle.expr_kinds.specs.Effects.{CoversEffect};
 ghost use Rattle.expr_schema.specs.SchemaView.{effect_of};
 ghost use Rattle.expr_schema.specs.Scopes.{Scope};
 ghost use Rattle.expr_tree.specs.Term.{Block, Term};
 
-use crate::tables::Cause;
 use expr_schema::{Effect, Kind};
 use expr_value::Items;
 
@@ -47,16 +45,5 @@ pub(crate) fn joined_effect(first: Effect, second: Effect) -> Effect
         (_, Effect::Total) => first,
         (Effect::Matching, Effect::Matching) => Effect::Matching,
         _ => Effect::Failing,
-    }
-}
-
-/// The errors that may come of a cause, whatever the operands are.
-pub(crate) fn cause_effect(cause: Cause) -> Effect
-    ensures { (known : Literals) → CoversEffect (effect_of result) (effect_under (cause_view cause) known) }
-{
-    match cause {
-        Cause::Nothing => Effect::Total,
-        Cause::Content | Cause::ZeroAt(_) => Effect::Failing,
-        Cause::NegativeAt(_) | Cause::DirectionAt(_) => Effect::Failing,
     }
 }

@@ -9,6 +9,7 @@ ghost use Rattle.expr_tree.specs.TermOf.{line_term, postfix_term, program_term, 
 use crate::calls::call_checked;
 use crate::checked::{Checked, CheckedArguments, joined_effect};
 use crate::forms::{choice_checked, coalesce_checked, literal_checked, range_checked};
+use crate::known_literals::literal_value;
 use crate::members::{literal_name, member_checked, part_checked};
 use crate::names::Known;
 use crate::operations::{operation_checked, prefix_checked};
@@ -91,7 +92,8 @@ fn node_checked(alloc: Global, node: &Node, known: &Known<'_>) -> Result<Checked
         } => {
             let first = node_checked(alloc, left, known)?;
             let second = node_checked(alloc, right, known)?;
-            operation_checked(alloc, *operator, &first, &second)
+            let literals = [literal_value(left), literal_value(right)];
+            operation_checked(alloc, *operator, &first, &second, &literals)
         }
         Node::Postfix { operator, node } => {
             let operand = node_checked(alloc, node, known)?;

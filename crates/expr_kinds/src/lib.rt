@@ -20,6 +20,7 @@ mod calls;
 mod checked;
 mod checking;
 mod forms;
+mod known_literals;
 mod laws;
 mod members;
 mod names;

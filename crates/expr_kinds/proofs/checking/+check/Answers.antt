@@ -1,4 +1,5 @@
 use Rattle.std.proofs.Common.{◌≡◌, ◌==◌, ◌++◌, ◌+◌, ◌≤◌, Bool, true, false, List, [], ◌∷◌, length, map, drop, get_or, Box, Vec, String, Global, string_bytes, inl, vec_len, append-nil, refl, sym, ap, ◌∙◌, subst, arith, rules}
+use Rattle.std.specs.Option.{option_copied}
 use Rattle.std.proofs.lemmas.Bool.{eqb-true}
 use Rattle.std.proofs.lemmas.List.{drop_all}
 use Rattle.expr_functions.specs.Strictness.{operator_strictness}
@@ -18,7 +19,7 @@ use Rattle.expr_schema.specs.SchemaView.{effect_of}
 use Rattle.expr_kinds.specs.Checks.{Checks, ChecksBlock, ChecksBlockIn, ChecksEachIn, ChecksIn, Upholds, known_scope}
 use Rattle.expr_kinds.specs.Narrowing.{after, assuming}
 use Rattle.expr_kinds.specs.Scopes.{bind_kind}
-use Rattle.expr_kinds.specs.Typed.{Typed, TypedAll, TypedBlock, TypedEach, TypedPairs}
+use Rattle.expr_kinds.specs.Typed.{Typed, TypedAll, TypedBlock, TypedEach, TypedPairs, literal_of}
 use Rattle.expr_kinds.proofs.Composed.{list-typed}
 use Rattle.expr_kinds.proofs.Judged.{covers-through, fits-same, if-ok, within-fits}
 use Rattle.expr_kinds.proofs.TableKinds.{entry-made, field-lets, map-lets}
@@ -68,10 +69,12 @@ node_checked-returns-in_ok-second-in-Operation-clause-ok t c =
     let first = c.in_ok-first-in-Operation.first in
     let second = c.in_ok-second-in-Operation.second in
     let told_l : ChecksIn known first (term_of l) = subst (λ n. ChecksIn known first (term_of n)) c.deref-in-Operation.ensures c.in_ok-first-in-Operation.ensures.ok in
+    let lits = ap (λ o. o ∷ option_copied c.literal_value-2.result ∷ []) (c.literal_value.ensures ∙ ap (λ n. literal_of (term_of n)) c.deref-in-Operation-3.ensures)
+    ∙ ap (λ o. literal_of (term_of l) ∷ o ∷ []) (c.literal_value-2.ensures ∙ ap (λ n. literal_of (term_of n)) c.deref-in-Operation-4.ensures) in
     let told_r : ChecksIn known second (term_of r) = subst (λ n. ChecksIn known second (term_of n)) c.deref-in-Operation-2.ensures c.in_ok-second-in-Operation.ensures.ok in
     if-ok c.operation_checked.result _ _ (
     λ d h s keeps. subst (λ u. Checks d s u) (sym shape) (
-    h s (term_of l) (term_of r) (told_l s keeps) (told_r (after (operator_strictness op) (term_of l) s) (after-keeps (operator_strictness op) (term_of l) known s keeps))
+    h s (term_of l) (term_of r) lits (told_l s keeps) (told_r (after (operator_strictness op) (term_of l) s) (after-keeps (operator_strictness op) (term_of l) known s keeps))
     )
     ) c.operation_checked.ensures.ok
 
