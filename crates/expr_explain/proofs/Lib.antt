@@ -1,3 +1,3 @@
+pub mod Counting
 pub mod Inside
 pub mod Tellings
-pub mod Weighing

@@ -12,11 +12,13 @@ use Rattle.expr_explain.specs.declared.notes.Finding.{Finding}
 use Rattle.expr_explain.specs.declared.notes.Finding.TheVariants as finding
 use Rattle.expr_explain.specs.declared.notes.Told.{Told}
 use Rattle.expr_functions.specs.declared.operator.Operator.{Operator}
-use Rattle.expr_meaning.specs.Allows.{Allows}
+use Rattle.expr_functions.specs.declared.operator.UnaryOperator.{UnaryOperator}
+use Rattle.expr_meaning.specs.Allows.{Allows, AllowsBlock}
 use Rattle.expr_meaning.specs.Host.{Host}
 use Rattle.expr_meaning.specs.World.{world_of}
-use Rattle.expr_tree.specs.Term.{Term, operation, postfix, choice, Postfix, Block, line}
+use Rattle.expr_tree.specs.Term.{Term, unary, operation, postfix, choice, Postfix, coalesce, ternary, Block, line}
 use Rattle.expr_tree.specs.Weight.{weight, block_weight}
+use Rattle.expr_value.specs.Answers.{Answer}
 use Rattle.expr_value.specs.declared.value.Value as value
 use Rattle.expr_value.specs.declared.value.Value.{Value}
 
@@ -85,25 +87,41 @@ module _ (host : Host) where
         tells_note (InTree host names n t) b c (spot_at names n t) (n + weight t) finding.Failed (inl refl) refl (k, allowed) one
         )
 
-  -- the first part of a node, and then the others, which start where the first has ended
-  module _ (names : ContextView) (n m : ℕ) (a b c : List Told) where
-    pub tells_operation : (op : Operator) (l r : Term) (v : Value) → m ≡ n + weight l → Allows (world_of host names) l (Ok v)
-        → TellsOf host (InTree host names n l) a b → TellsOf host (InRight host op v names m r) b c → TellsOf host (InParts host names n (operation op l r)) a c
-    tells_operation op l r v counted allowed p q =
-        let whole = InParts host names n (operation op l r) in
-        tells_then whole a b c (tells_among (InTree host names n l) whole a b (λ s x. inl x) p) (
-        tells_among (InRight host op v names m r) whole b c (
-          λ s x. inr (v, allowed, x.0, subst (λ k. InTree host names k r s) counted x.1)
+  -- the first part of a node
+  module _ (names : ContextView) (n : ℕ) (whole : Term) (a b : List Told) where
+    pub tells_operand : (o : UnaryOperator) (t : Term) → whole ≡ unary o t → TellsOf host (InTree host names n t) a b → TellsOf host (InParts host names n whole) a b
+    tells_operand o t is p =
+        tells_among (InTree host names n t) (InParts host names n whole) a b (λ s x. subst (λ u. InParts host names n u s) (sym is) x) p
+
+    pub tells_left : (op : Operator) (l r : Term) → whole ≡ operation op l r → TellsOf host (InTree host names n l) a b → TellsOf host (InParts host names n whole) a b
+    tells_left op l r is p =
+        tells_among (InTree host names n l) (InParts host names n whole) a b (λ s x. subst (λ u. InParts host names n u s) (sym is) (inl x)) p
+
+    pub tells_before : (behind : Postfix) (t : Term) → whole ≡ postfix behind t → TellsOf host (InTree host names n t) a b → TellsOf host (InParts host names n whole) a b
+    tells_before behind t is p =
+        tells_among (InTree host names n t) (InParts host names n whole) a b (λ s x. subst (λ u. InParts host names n u s) (sym is) (inl x)) p
+
+    pub tells_condition : (t : Term) (first second : Block) → whole ≡ choice t first second → TellsOf host (InTree host names n t) a b → TellsOf host (InParts host names n whole) a b
+    tells_condition t first second is p =
+        tells_among (InTree host names n t) (InParts host names n whole) a b (λ s x. subst (λ u. InParts host names n u s) (sym is) (inl x)) p
+
+  -- and then the others, which start where the first has ended
+  module _ (names : ContextView) (n m : ℕ) (whole : Term) (a b c : List Told) where
+    pub tells_operation : (op : Operator) (l r : Term) (v : Value) → whole ≡ operation op l r → m ≡ n + weight l → Allows (world_of host names) l (Ok v)
+        → TellsOf host (InTree host names n l) a b → TellsOf host (InRight host op v names m r) b c → TellsOf host (InParts host names n whole) a c
+    tells_operation op l r v is counted allowed p q =
+        tells_then (InParts host names n whole) a b c (tells_left names n whole a b op l r is p) (
+        tells_among (InRight host op v names m r) (InParts host names n whole) b c (
+          λ s x. subst (λ u. InParts host names n u s) (sym is) (inr (v, allowed, x.0, subst (λ k. InTree host names k r s) counted x.1))
           ) q
         )
 
-    pub tells_postfix : (behind : Postfix) (t : Term) (v : Value) → m ≡ n + weight t → Allows (world_of host names) t (Ok v)
-        → TellsOf host (InTree host names n t) a b → TellsOf host (InPostfix host names m behind v) b c → TellsOf host (InParts host names n (postfix behind t)) a c
-    tells_postfix behind t v counted allowed p q =
-        let whole = InParts host names n (postfix behind t) in
-        tells_then whole a b c (tells_among (InTree host names n t) whole a b (λ s x. inl x) p) (
-        tells_among (InPostfix host names m behind v) whole b c (
-          λ s x. inr (v, allowed, subst (λ k. InPostfix host names k behind v s) counted x)
+    pub tells_postfix : (behind : Postfix) (t : Term) (v : Value) → whole ≡ postfix behind t → m ≡ n + weight t → Allows (world_of host names) t (Ok v)
+        → TellsOf host (InTree host names n t) a b → TellsOf host (InPostfix host names m behind v) b c → TellsOf host (InParts host names n whole) a c
+    tells_postfix behind t v is counted allowed p q =
+        tells_then (InParts host names n whole) a b c (tells_before names n whole a b behind t is p) (
+        tells_among (InPostfix host names m behind v) (InParts host names n whole) b c (
+          λ s x. subst (λ u. InParts host names n u s) (sym is) (inr (v, allowed, subst (λ k. InPostfix host names k behind v s) counted x))
           ) q
         )
 
@@ -114,11 +132,51 @@ module _ (host : Host) where
     selected t first second v allowed counted s (inr (is, x)) =
         inr (inr (subst (λ w. Allows (world_of host names) t (Ok w)) is allowed, subst (λ k. InBlock host names (k + block_weight first) second s) counted x))
 
-    pub tells_choice : (t : Term) (first second : Block) (v : Value) → m ≡ n + weight t → Allows (world_of host names) t (Ok v)
+    pub tells_choice : (t : Term) (first second : Block) (v : Value) → whole ≡ choice t first second → m ≡ n + weight t → Allows (world_of host names) t (Ok v)
         → TellsOf host (InTree host names n t) a b → TellsOf host (InBranches host v names m first second) b c
-        → TellsOf host (InParts host names n (choice t first second)) a c
-    tells_choice t first second v counted allowed p q =
-        let whole = InParts host names n (choice t first second) in
-        tells_then whole a b c (tells_among (InTree host names n t) whole a b (λ s x. inl x) p) (
-        tells_among (InBranches host v names m first second) whole b c (selected t first second v allowed counted) q
+        → TellsOf host (InParts host names n whole) a c
+    tells_choice t first second v is counted allowed p q =
+        tells_then (InParts host names n whole) a b c (tells_condition names n whole a b t first second is p) (
+        tells_among (InBranches host v names m first second) (InParts host names n whole) b c (
+          λ s x. subst (λ u. InParts host names n u s) (sym is) (selected t first second v allowed counted s x)
+          ) q
         )
+
+  -- what a side tells that the value before it selects
+  module _ (names : ContextView) (n m : ℕ) (v : Value) (a b : List Told) where
+    pub tells_right : (op : Operator) (t : Term) → GoesOn op v → TellsOf host (InTree host names n t) a b → TellsOf host (InRight host op v names n t) a b
+    tells_right op t on p = tells_among (InTree host names n t) (InRight host op v names n t) a b (λ s x. (on, x)) p
+
+    pub tells_other : (t : Term) → v ≡ value.Nil → TellsOf host (InTree host names n t) a b → TellsOf host (InPostfix host names n (coalesce t) v) a b
+    tells_other t is p = tells_among (InTree host names n t) (InPostfix host names n (coalesce t) v) a b (λ s x. (is, x)) p
+
+    pub tells_side_one : (first second : Term) → v ≡ value.Bool true → TellsOf host (InTree host names n first) a b → TellsOf host (InPostfix host names n (ternary first second) v) a b
+    tells_side_one first second is p =
+        tells_among (InTree host names n first) (InPostfix host names n (ternary first second) v) a b (λ s x. inl (is, x)) p
+
+    pub tells_side_two : (first second : Term) → v ≡ value.Bool false → m ≡ n + weight first → TellsOf host (InTree host names m second) a b
+        → TellsOf host (InPostfix host names n (ternary first second) v) a b
+    tells_side_two first second is counted p =
+        tells_among (InTree host names m second) (InPostfix host names n (ternary first second) v) a b (
+        λ s x. inr (is, subst (λ k. InTree host names k second s) counted x)
+        ) p
+
+    pub tells_branch_one : (first second : Block) → v ≡ value.Bool true → TellsOf host (InBlock host names n first) a b → TellsOf host (InBranches host v names n first second) a b
+    tells_branch_one first second is p =
+        tells_among (InBlock host names n first) (InBranches host v names n first second) a b (λ s x. inl (is, x)) p
+
+    pub tells_branch_two : (first second : Block) → v ≡ value.Bool false → m ≡ n + block_weight first → TellsOf host (InBlock host names m second) a b
+        → TellsOf host (InBranches host v names n first second) a b
+    tells_branch_two first second is counted p =
+        tells_among (InBlock host names m second) (InBranches host v names n first second) a b (
+        λ s x. inr (is, subst (λ k. InBlock host names k second s) counted x)
+        ) p
+
+-- a line, and then what follows, where its name has the value
+module _ (host : Host) (names names' : ContextView) (n m : ℕ) (key : List ℕ) (t : Term) (v : Value) (rest : Block)
+    (counted : m ≡ n + weight t) (bound : names' ≡ override names key v) (allowed : Allows (world_of host names) t (Ok v)) where
+  pub line_allows : (answer : Answer) → AllowsBlock (world_of host names') rest answer → AllowsBlock (world_of host names) (line key t rest) answer
+  line_allows answer p = (Ok v, allowed, subst (λ ctx. AllowsBlock (world_of host ctx) rest answer) bound p)
+
+  pub line_spots : (s : Spot) → InBlock host names' m rest s → InBlock host names n (line key t rest) s
+  line_spots s x = inr (v, allowed, subst (λ k. InBlock host (override names key v) k rest s) counted (subst (λ ctx. InBlock host ctx m rest s) bound x))

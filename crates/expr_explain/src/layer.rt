@@ -50,10 +50,12 @@ impl<'s, P: ContextProvider> ContextProvider for Layered<'s, P> {
         look_in_layers(self.layer, self.provider, key)
     }
 
+    #[tactic(auto, using(crate::proofs::Inside::map_in_layers))]
     fn to_context(&self, alloc: Global) -> Result<Context> {
         self.provider.to_context(alloc)
     }
 
+    #[tactic(auto, using(crate::proofs::Inside::map_in_layers))]
     fn environment(&self, alloc: Global) -> Result<Context> {
         self.provider.environment(alloc)
     }

@@ -5,7 +5,7 @@ ghost use Rattle.expr_explain.specs.Noting.{AddsOne};
 ghost use Rattle.expr_tree.specs.TermOf.{program_term, term_of};
 ghost use Rattle.expr_tree.specs.Weight.{block_weight, weight};
 
-use crate::count::{count_nodes, count_program_nodes, one_more};
+use crate::count::{count_inside, count_nodes, count_program_nodes, one_more};
 use expr_functions::operator::{Operator, UnaryOperator};
 use expr_tree::node::{Node, PostfixOperator, Program};
 use expr_value::{Result, Value};
@@ -32,7 +32,7 @@ pub struct Told<'a> {
 /// Whether a node is told where it stands.
 #[derive(Clone, Copy)]
 pub(crate) enum Wish {
-    /// If it says something by itself: a name, a part of a name's value, a comparison, `and`, `or` or `not`.
+    /// If it says something by itself: a name, a part of a value, a comparison, `and`, `or` or `not`.
     Telling,
     /// Unless it is made of literals.
     Part,
@@ -47,7 +47,7 @@ impl Wish {
     }
 }
 
-/// Whether a node is a name, a part of a name's value, a comparison, `and`, `or` or `not`.
+/// Whether a node is a name, a part of a value, a comparison, `and`, `or` or `not`.
 fn is_telling(node: &Node) -> bool {
     match node {
         Node::Unary { operator, node: _ } => matches!(operator, UnaryOperator::Not),
@@ -57,22 +57,9 @@ fn is_telling(node: &Node) -> bool {
             right: _,
             compiled_regex: _,
         } => is_judging(*operator),
-        _ => is_path(node),
-    }
-}
-
-/// Whether a node is a name, or a part of a name's value: `a`, `a.b`, `a[0].b`.
-fn is_path(node: &Node) -> bool {
-    let mut at = node;
-    loop {
-        match at {
-            Node::Ident(_) => return true,
-            Node::Postfix {
-                operator: PostfixOperator::Index { .. },
-                node,
-            } => at = node,
-            _ => return false,
-        }
+        Node::Ident(_) => true,
+        Node::Postfix { operator, node: _ } => matches!(operator, PostfixOperator::Index { .. }),
+        _ => false,
     }
 }
 
@@ -158,7 +145,7 @@ impl<'a> Notes<'a> {
         ensures parts { self.new.parts.items ≡ self.old.parts.items }
         ensures err { OnlyMemory result }
     {
-        self.count = count_nodes(node, self.count)?.saturating_sub(1);
+        self.count = count_inside(node, self.count)?;
         Ok(())
     }
 
