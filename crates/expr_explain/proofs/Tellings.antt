@@ -1,5 +1,5 @@
 -- How what is told of parts makes what is told of the whole.
-use Rattle.std.proofs.Common.{◌≡◌, ℕ, ◌+◌, List, [], ◌∷◌, ◌++◌, ◌⊎◌, inl, inr, true, false, Ok, Err, refl, sym, ap, ◌∙◌, subst, append_assoc, append-nil, arith}
+use Rattle.std.proofs.Common.{◌≡◌, ℕ, zero, suc, ◌+◌, ◌<◌, ◌≤◌, List, [], ◌∷◌, ◌++◌, length, get_or, ◌⊎◌, inl, inr, true, false, Result, Ok, Err, is_ok, if◌then◌else◌, ⊤, String, Global, refl, sym, ap, ◌∙◌, subst, append_assoc, append-nil, arith}
 use Rattle.std.specs.List.{All}
 use Rattle.std.proofs.lemmas.List.Elements.{All-nil, All-cons, All-append, All-weaker}
 use Rattle.expr_context.specs.Context.{ContextView, override}
@@ -7,20 +7,30 @@ use Rattle.expr_error.specs.ErrorKind.{ErrorKind}
 use Rattle.expr_explain.specs.Choosing.{GoesOn}
 use Rattle.expr_explain.specs.Noting.{AddsOne, IsNote}
 use Rattle.expr_explain.specs.Standing.{InBlock, InBranches, InParts, InPostfix, InRight, InTree, Spot, spot_at}
-use Rattle.expr_explain.specs.Telling.{IsFound, IsToldAt, IsToldOf, TellsOf}
+use Rattle.expr_explain.specs.Telling.{IsFound, IsTold, IsToldAt, IsToldOf, TellsOf}
 use Rattle.expr_explain.specs.declared.notes.Finding.{Finding}
 use Rattle.expr_explain.specs.declared.notes.Finding.TheVariants as finding
 use Rattle.expr_explain.specs.declared.notes.Told.{Told}
 use Rattle.expr_functions.specs.declared.operator.Operator.{Operator}
 use Rattle.expr_functions.specs.declared.operator.UnaryOperator.{UnaryOperator}
-use Rattle.expr_meaning.specs.Allows.{Allows, AllowsBlock}
+use Rattle.expr_functions.specs.Strictness.{operator_strictness}
+use Rattle.expr_functions.specs.declared.strictness.Strictness.{Strictness}
+use Rattle.expr_functions.specs.declared.strictness.Strictness.TheVariants.{Both, EndsAtFalse, EndsAtTrue, Pattern}
+use Rattle.expr_meaning.specs.Allows.{Allows, AllowsBlock, AndThenLayer, OperationMayReturn, OperationMayReturnBy, OrElseLayer}
 use Rattle.expr_meaning.specs.Host.{Host}
 use Rattle.expr_meaning.specs.World.{world_of}
 use Rattle.expr_tree.specs.Term.{Term, unary, operation, postfix, choice, Postfix, coalesce, ternary, Block, line}
+use Rattle.expr_operators.specs.Matching.{MatchMayReturn}
+use Rattle.expr_operators.specs.Operators.{operator_answer, truth}
+use Rattle.expr_tree.proofs.Weights.{named_weight}
+use Rattle.expr_tree.specs.TermOf.{term_of}
 use Rattle.expr_tree.specs.Weight.{weight, block_weight}
+use Rattle.expr_tree.specs.declared.node.Node.{Node}
+use Rattle.expr_value.proofs.Answered.{first-keeps}
 use Rattle.expr_value.specs.Answers.{Answer}
 use Rattle.expr_value.specs.declared.value.Value as value
-use Rattle.expr_value.specs.declared.value.Value.{Value}
+use Rattle.expr_value.specs.declared.value.Value.{Value, out-Value}
+use Rattle.expr_value.specs.declared.value.Value.TheOpen.{Value-F}
 
 module _ (host : Host) where
   pub tells_none : (among : Spot → Type 0) (a b : List Told) → b ≡ a → TellsOf host among a b
@@ -180,3 +190,48 @@ module _ (host : Host) (names names' : ContextView) (n m : ℕ) (key : List ℕ)
 
   pub line_spots : (s : Spot) → InBlock host names' m rest s → InBlock host names n (line key t rest) s
   line_spots s x = inr (v, allowed, subst (λ k. InBlock host (override names key v) k rest s) counted (subst (λ ctx. InBlock host ctx m rest s) bound x))
+
+-- a part that is kept, or not if there is no memory for it
+pub added_one : {E : Type 0} (r : Result ⊤ E) (old new : List Told) (told : Told) (tree : Term) (ended : ℕ) (found : Finding)
+    → new ≡ (if is_ok r then old ++ told ∷ [] else old) → IsNote told tree ended found → AddsOne old new tree ended found
+added_one (Ok v) old new told tree ended found is note = inr (told, is, note)
+added_one (Err e) old new told tree ended found is note = inl is
+
+-- all that is told of a program
+pub told_all : (host : Host) (names names' : ContextView) (n : ℕ) (b : Block) (old new : List Told) → names ≡ names' → n ≡ 0 → old ≡ []
+    → TellsOf host (InBlock host names n b) old new → All (IsTold host names' b) new
+told_all host names names' n b old new outside first none p =
+    let same : new ≡ p.added = p.new_is ∙ ap (λ xs. xs ++ p.added) none in
+    subst (λ xs. All (IsTold host names' b) xs) (sym same) (
+    All-weaker (IsToldOf host (InBlock host names n b)) (IsTold host names' b) (
+      λ told x. (x.0, subst (λ k. InBlock host names' k b x.0) first (subst (λ ctx. InBlock host ctx n b x.0) outside x.1), x.2)
+      ) p.added p.of_these
+    )
+
+-- an operator on a right side that allows as much
+and_under : (v : Value-F Value) (P Q : Answer → Type 0) → ((a : Answer) → P a → Q a) → (a : Answer) → AndThenLayer v P a → AndThenLayer v Q a
+and_under (Value-F.Bool true) P Q f a p = first-keeps P Q (λ y b. b ≡ truth y) f a p
+and_under (Value-F.Bool false) P Q f a p = p
+and_under v P Q f a p = p
+
+or_under : (v : Value-F Value) (P Q : Answer → Type 0) → ((a : Answer) → P a → Q a) → (a : Answer) → OrElseLayer v P a → OrElseLayer v Q a
+or_under (Value-F.Bool true) P Q f a p = p
+or_under (Value-F.Bool false) P Q f a p = first-keeps P Q (λ y b. b ≡ truth y) f a p
+or_under v P Q f a p = p
+
+by_under : (s : Strictness) (op : Operator) (v : Value) (P Q : Answer → Type 0) → ((a : Answer) → P a → Q a) → (a : Answer) → OperationMayReturnBy s op v P a → OperationMayReturnBy s op v Q a
+by_under Both op v P Q f a p = first-keeps P Q (λ y b. b ≡ operator_answer op v y) f a p
+by_under EndsAtFalse op v P Q f a p = and_under (out-Value v) P Q f a p
+by_under EndsAtTrue op v P Q f a p = or_under (out-Value v) P Q f a p
+by_under Pattern op v P Q f a p = first-keeps P Q (λ y. MatchMayReturn v y) f a p
+
+pub operation_under : (op : Operator) (v : Value) (P Q : Answer → Type 0) → ((a : Answer) → P a → Q a) → (a : Answer) → OperationMayReturn op v P a → OperationMayReturn op v Q a
+operation_under op v P Q f a p = by_under (operator_strictness op) op v P Q f a p
+
+-- a line weighs no more than all of them
+pub line_within : (ls : List (String Global × Node)) (i : ℕ) (l : String Global × Node) → l ≡ get_or ls i l → i < length ls → weight (term_of l.1) ≤ named_weight ls
+line_within [] i l is below = absurd (omega arith)
+line_within (x ∷ xs) zero l is below = omega (arith, ap (λ (p : String Global × Node). weight (term_of p.1)) is)
+line_within (x ∷ xs) (suc i) l is below =
+    let rest : weight (term_of l.1) ≤ named_weight xs = line_within xs i l is (omega arith) in
+    omega arith

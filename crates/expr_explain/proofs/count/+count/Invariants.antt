@@ -5,5 +5,5 @@ use Rattle.expr_explain.proofs.count.+count.Given as goal
 abbrev pub invariant-count_all-loop-node : goal.invariant-count_all-loop-node
 invariant-count_all-loop-node l = l.count ≡ l.before + items_weight (take l.node-index l.nodes)
 
-abbrev pub invariant-count_named-loop-_name : goal.invariant-count_named-loop-_name
-invariant-count_named-loop-_name l = l.count ≡ l.before + named_weight (take l._name-index l.named)
+abbrev pub invariant-count_named-loop-name : goal.invariant-count_named-loop-name
+invariant-count_named-loop-name l = l.count ≡ l.before + named_weight (take l._name-index l.named)

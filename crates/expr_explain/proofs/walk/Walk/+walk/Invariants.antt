@@ -1,4 +1,4 @@
-use Rattle.std.proofs.Common.{◌≡◌, ◌+◌, drop, map}
+use Rattle.std.proofs.Common.{◌≡◌, ◌+◌, ◌*◌, drop, map}
 use Rattle.expr_context.specs.Context.{ContextView}
 use Rattle.expr_explain.specs.Layers.{names_inside}
 use Rattle.expr_explain.specs.Standing.{InBlock, Spot}
@@ -8,7 +8,7 @@ use Rattle.expr_meaning.specs.Host.{Host}
 use Rattle.expr_meaning.specs.World.{world_of}
 use Rattle.expr_tree.specs.Term.{Block}
 use Rattle.expr_tree.specs.TermOf.{block_of, program_term, term_of}
-use Rattle.expr_tree.specs.Weight.{block_weight}
+use Rattle.expr_tree.specs.Weight.{block_weight, weight}
 use Rattle.expr_value.specs.Answers.{Answer}
 use Rattle.expr_explain.proofs.walk.Walk.+walk.Given as goal
 
@@ -24,3 +24,25 @@ invariant-block-loop-name g l =
       spots : (spot : Spot) → InBlock host (names_inside l.inner base) l.notes.count rest spot → InBlock host (names_inside l.layer base) l.fn.notes.count whole spot;
       told : TellsOf host (InBlock host (names_inside l.layer base) l.fn.notes.count whole) l.fn.notes.parts.items l.notes.parts.items;
     }
+
+-- A helper comes before what it evaluates: of the same node, its helpers, the visit, and what is inside of it.
+abbrev pub decreases-visit : goal.decreases-visit
+decreases-visit g l = 4 * weight (term_of l.node.now) + 1
+
+abbrev pub decreases-look_into : goal.decreases-look_into
+decreases-look_into g l = 4 * weight (term_of l.node.now)
+
+abbrev pub decreases-right_side : goal.decreases-right_side
+decreases-right_side g l = 4 * weight (term_of l.right.now) + 2
+
+abbrev pub decreases-otherwise : goal.decreases-otherwise
+decreases-otherwise g l = 4 * weight (term_of l.other.now) + 2
+
+abbrev pub decreases-selected_side : goal.decreases-selected_side
+decreases-selected_side g l = 4 * (weight (term_of l.left.now) + weight (term_of l.right.now)) + 2
+
+abbrev pub decreases-selected_program : goal.decreases-selected_program
+decreases-selected_program g l = 4 * (block_weight (program_term l.consequent.now) + block_weight (program_term l.alternative.now)) + 3
+
+abbrev pub decreases-block : goal.decreases-block
+decreases-block g l = 4 * block_weight (program_term l.program.now) + 2
