@@ -16,7 +16,7 @@ use Rattle.expr_meaning.specs.Allows.{Allows, AllowsBlock, BranchMayReturn, Oper
 use Rattle.expr_meaning.specs.Host.{Host}
 use Rattle.expr_meaning.specs.World.{World, world_of}
 use Rattle.expr_tree.proofs.Shapes.{term_of-Conditional, term_of-Operation, term_of-Postfix, term_of-Ternary, term_of-Unary}
-use Rattle.expr_tree.proofs.Weights.{named_weight, program-parts}
+use Rattle.expr_tree.proofs.Weights.{named_weight, program-parts, weight-Conditional, weight-Operation, weight-Unary}
 use Rattle.expr_tree.specs.Term.{Block, Term, choice, coalesce, operation, postfix, ternary, unary}
 use Rattle.expr_tree.specs.TermOf.{block_of, postfix_term, program_term, term_of}
 use Rattle.expr_tree.specs.Weight.{block_weight, weight}
@@ -232,6 +232,45 @@ look_into-returns-in_ok-skip_inside-in_default-clause-told g t c =
     let a = c.args.notes.now.parts.items in
     let u = term_of c.args.node.now in
     tells_none host (InParts host names n u) a c.skip_inside.new.self.parts.items c.skip_inside.ensures.parts
+
+-- what is inside of a node weighs less
+pub look_into-visit-requires : goal.look_into-visit-requires
+look_into-visit-requires g t c =
+    let whole = ap (λ m. weight (term_of m)) c.in-Unary.is ∙ weight-Unary c.in-Unary.operator c.in-Unary.node in
+    omega (arith, whole, ap (λ m. weight (term_of m)) c.deref.ensures)
+
+pub look_into-visit-requires-in-Operation : goal.look_into-visit-requires-in-Operation
+look_into-visit-requires-in-Operation g t c =
+    let whole = ap (λ m. weight (term_of m)) c.in-Operation.is ∙ weight-Operation c.in-Operation.operator c.in-Operation.left c.in-Operation.right c.in-Operation.compiled_regex in
+    omega (arith, whole, ap (λ m. weight (term_of m)) c.deref-in-Operation.ensures)
+
+pub look_into-right_side-requires : goal.look_into-right_side-requires
+look_into-right_side-requires g t c =
+    let whole = ap (λ m. weight (term_of m)) c.in-Operation.is ∙ weight-Operation c.in-Operation.operator c.in-Operation.left c.in-Operation.right c.in-Operation.compiled_regex in
+    omega (arith, whole, ap (λ m. weight (term_of m)) c.deref-in-Operation-2.ensures)
+
+pub look_into-visit-requires-in-Conditional : goal.look_into-visit-requires-in-Conditional
+look_into-visit-requires-in-Conditional g t c =
+    let whole = ap (λ m. weight (term_of m)) c.in-Conditional.is ∙ weight-Conditional c.in-Conditional.condition c.in-Conditional.consequent c.in-Conditional.alternative in
+    omega (arith, whole, ap (λ m. weight (term_of m)) c.deref-in-Conditional.ensures)
+
+pub look_into-selected_program-requires : goal.look_into-selected_program-requires
+look_into-selected_program-requires g t c =
+    let whole = ap (λ m. weight (term_of m)) c.in-Conditional.is ∙ weight-Conditional c.in-Conditional.condition c.in-Conditional.consequent c.in-Conditional.alternative in
+    omega (
+      arith,
+      whole,
+      ap (λ m. block_weight (program_term m)) c.deref-in-Conditional-2.ensures,
+      ap (λ m. block_weight (program_term m)) c.deref-in-Conditional-3.ensures,
+    )
+
+pub look_into-otherwise-requires : goal.look_into-otherwise-requires
+look_into-otherwise-requires g t c =
+    ?
+
+pub look_into-selected_side-requires : goal.look_into-selected_side-requires
+look_into-selected_side-requires g t c =
+    ?
 
 -- the right side of an operator
 pub right_side-returns-in_err-skip-in-Some-clause-told : goal.right_side-returns-in_err-skip-in-Some-clause-told
