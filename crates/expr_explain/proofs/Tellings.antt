@@ -6,7 +6,7 @@ use Rattle.expr_context.specs.Context.{ContextView, override}
 use Rattle.expr_error.specs.ErrorKind.{ErrorKind}
 use Rattle.expr_explain.specs.Choosing.{GoesOn}
 use Rattle.expr_explain.specs.Noting.{AddsOne, IsNote}
-use Rattle.expr_explain.specs.Standing.{InBlock, InBranches, InParts, InPostfix, InRight, InTree, Spot, spot_at}
+use Rattle.expr_explain.specs.Standing.{InBlock, InBranches, InParts, InRight, InTree, Spot, spot_at}
 use Rattle.expr_explain.specs.Telling.{IsFound, IsTold, IsToldAt, IsToldOf, TellsOf}
 use Rattle.expr_explain.specs.declared.notes.Finding.{Finding}
 use Rattle.expr_explain.specs.declared.notes.Finding.TheVariants as finding
@@ -19,7 +19,7 @@ use Rattle.expr_functions.specs.declared.strictness.Strictness.TheVariants.{Both
 use Rattle.expr_meaning.specs.Allows.{Allows, AllowsBlock, AndThenLayer, OperationMayReturn, OperationMayReturnBy, OrElseLayer}
 use Rattle.expr_meaning.specs.Host.{Host}
 use Rattle.expr_meaning.specs.World.{world_of}
-use Rattle.expr_tree.specs.Term.{Term, unary, operation, postfix, choice, Postfix, coalesce, ternary, Block, line}
+use Rattle.expr_tree.specs.Term.{Term, unary, operation, choice, Block, line}
 use Rattle.expr_operators.specs.Matching.{MatchMayReturn}
 use Rattle.expr_operators.specs.Operators.{operator_answer, truth}
 use Rattle.expr_tree.proofs.Weights.{named_weight}
@@ -107,10 +107,6 @@ module _ (host : Host) where
     tells_left op l r is p =
         tells_among (InTree host names n l) (InParts host names n whole) a b (λ s x. subst (λ u. InParts host names n u s) (sym is) (inl x)) p
 
-    pub tells_before : (behind : Postfix) (t : Term) → whole ≡ postfix behind t → TellsOf host (InTree host names n t) a b → TellsOf host (InParts host names n whole) a b
-    tells_before behind t is p =
-        tells_among (InTree host names n t) (InParts host names n whole) a b (λ s x. subst (λ u. InParts host names n u s) (sym is) (inl x)) p
-
     pub tells_condition : (t : Term) (first second : Block) → whole ≡ choice t first second → TellsOf host (InTree host names n t) a b → TellsOf host (InParts host names n whole) a b
     tells_condition t first second is p =
         tells_among (InTree host names n t) (InParts host names n whole) a b (λ s x. subst (λ u. InParts host names n u s) (sym is) (inl x)) p
@@ -123,15 +119,6 @@ module _ (host : Host) where
         tells_then (InParts host names n whole) a b c (tells_left names n whole a b op l r is p) (
         tells_among (InRight host op v names m r) (InParts host names n whole) b c (
           λ s x. subst (λ u. InParts host names n u s) (sym is) (inr (v, allowed, x.0, subst (λ k. InTree host names k r s) counted x.1))
-          ) q
-        )
-
-    pub tells_postfix : (behind : Postfix) (t : Term) (v : Value) → whole ≡ postfix behind t → m ≡ n + weight t → Allows (world_of host names) t (Ok v)
-        → TellsOf host (InTree host names n t) a b → TellsOf host (InPostfix host names m behind v) b c → TellsOf host (InParts host names n whole) a c
-    tells_postfix behind t v is counted allowed p q =
-        tells_then (InParts host names n whole) a b c (tells_before names n whole a b behind t is p) (
-        tells_among (InPostfix host names m behind v) (InParts host names n whole) b c (
-          λ s x. subst (λ u. InParts host names n u s) (sym is) (inr (v, allowed, subst (λ k. InPostfix host names k behind v s) counted x))
           ) q
         )
 
@@ -156,20 +143,6 @@ module _ (host : Host) where
   module _ (names : ContextView) (n m : ℕ) (v : Value) (a b : List Told) where
     pub tells_right : (op : Operator) (t : Term) → GoesOn op v → TellsOf host (InTree host names n t) a b → TellsOf host (InRight host op v names n t) a b
     tells_right op t on p = tells_among (InTree host names n t) (InRight host op v names n t) a b (λ s x. (on, x)) p
-
-    pub tells_other : (t : Term) → v ≡ value.Nil → TellsOf host (InTree host names n t) a b → TellsOf host (InPostfix host names n (coalesce t) v) a b
-    tells_other t is p = tells_among (InTree host names n t) (InPostfix host names n (coalesce t) v) a b (λ s x. (is, x)) p
-
-    pub tells_side_one : (first second : Term) → v ≡ value.Bool true → TellsOf host (InTree host names n first) a b → TellsOf host (InPostfix host names n (ternary first second) v) a b
-    tells_side_one first second is p =
-        tells_among (InTree host names n first) (InPostfix host names n (ternary first second) v) a b (λ s x. inl (is, x)) p
-
-    pub tells_side_two : (first second : Term) → v ≡ value.Bool false → m ≡ n + weight first → TellsOf host (InTree host names m second) a b
-        → TellsOf host (InPostfix host names n (ternary first second) v) a b
-    tells_side_two first second is counted p =
-        tells_among (InTree host names m second) (InPostfix host names n (ternary first second) v) a b (
-        λ s x. inr (is, subst (λ k. InTree host names k second s) counted x)
-        ) p
 
     pub tells_branch_one : (first second : Block) → v ≡ value.Bool true → TellsOf host (InBlock host names n first) a b → TellsOf host (InBranches host v names n first second) a b
     tells_branch_one first second is p =

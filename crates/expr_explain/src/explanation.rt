@@ -30,7 +30,7 @@ pub struct Explanation<'a> {
 /// Explains what a program returns in a context, with no additions of a host: its result, and in order the values of
 /// its parts that were evaluated. Parts are the sides of `and`, `or` and comparisons, the operand of `not`, conditions,
 /// the values of lines, and names with the parts of their values. Literals are left out, and so is what is inside of
-/// calls, arrays and maps. The last part is the one that failed, if one did. At most 1,000 parts are told.
+/// calls, arrays, maps, `? :` and `??`. The last part is the one that failed, if one did. At most 1,000 parts are told.
 ///
 /// The program runs once, without limits and by recursion on its tree. So compile an untrusted one within limits, and
 /// execute it within limits before you explain it.

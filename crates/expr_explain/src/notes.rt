@@ -1,6 +1,6 @@
 //! What is told of the parts of a program.
-ghost use Rattle.std.specs.Prelude.{◌≡◌, ◌+◌, [], OnOk};
-ghost use Rattle.expr_error.specs.ErrorKind.{OnlyMemory};
+ghost use Rattle.std.specs.Prelude.{◌≡◌, ◌≢◌, ◌+◌, [], IsTrue, OnOk};
+ghost use Rattle.expr_error.specs.ErrorKind.{OnlyMemory, error_kind, memory};
 ghost use Rattle.expr_explain.specs.Noting.{AddsOne};
 ghost use Rattle.expr_tree.specs.TermOf.{program_term, term_of};
 ghost use Rattle.expr_tree.specs.Weight.{block_weight, weight};
@@ -8,7 +8,7 @@ ghost use Rattle.expr_tree.specs.Weight.{block_weight, weight};
 use crate::count::{count_inside, count_nodes, count_program_nodes, one_more};
 use expr_functions::operator::{Operator, UnaryOperator};
 use expr_tree::node::{Node, PostfixOperator, Program};
-use expr_value::{Result, Value};
+use expr_value::{Error, Result, Value};
 use std::alloc::Global;
 
 /// What a part gave.
@@ -88,6 +88,19 @@ pub(crate) fn is_judging(operator: Operator) -> bool {
             | Operator::Modulo
             | Operator::Pow
     )
+}
+
+/// Whether an error is more than a lack of memory.
+pub(crate) fn is_refusal(error: &Error) -> bool
+    ensures { IsTrue result → error_kind error.now ≢ memory }
+{
+    match error {
+        Error::PestError(_) => true,
+        Error::ParseError(_) => true,
+        Error::ExprError(_) => true,
+        Error::RegexError(_) => true,
+        Error::MemoryError => false,
+    }
 }
 
 /// The parts that were told so far.

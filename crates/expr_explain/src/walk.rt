@@ -1,16 +1,15 @@
 //! Evaluation by recursion on the tree, which tells what parts give.
 ghost use Rattle.std.specs.Prelude.{◌≡◌, ◌+◌, OnOk};
-ghost use Rattle.expr_explain.specs.Standing.{InBlock, InBranches, InParts, InPostfix, InRight, InTree};
+ghost use Rattle.expr_explain.specs.Standing.{InBlock, InBranches, InParts, InRight, InTree};
 ghost use Rattle.expr_explain.specs.Telling.{TellsOf};
 ghost use Rattle.expr_explain.specs.Walks.{walk_host, walk_names, walk_world};
-ghost use Rattle.expr_meaning.specs.Allows.{Allows, AllowsBlock, AllowsPostfix, BranchMayReturn, OperationMayReturn};
-ghost use Rattle.expr_tree.specs.Term.{coalesce, ternary};
+ghost use Rattle.expr_meaning.specs.Allows.{Allows, AllowsBlock, BranchMayReturn, OperationMayReturn};
 ghost use Rattle.expr_tree.specs.TermOf.{program_term, term_of};
 ghost use Rattle.expr_tree.specs.Weight.{block_weight, weight};
 ghost use Rattle.expr_value.specs.Answers.{Returns};
 
 use crate::layer::{Layer, Layered, LineValue};
-use crate::notes::{Notes, Wish, is_judging};
+use crate::notes::{Notes, Wish, is_judging, is_refusal};
 use crate::sides::{joined_sides, left_alone};
 use expr_context::ContextProvider;
 use expr_eval::Evaluation;
@@ -18,8 +17,8 @@ use expr_functions::operator::{Operator, UnaryOperator};
 use expr_meaning::Functions;
 use expr_operators::{prefix, unexpected_kind};
 use expr_pattern::Pattern;
-use expr_tree::node::{Node, PostfixOperator, Program};
-use expr_value::{Error, Result, Value};
+use expr_tree::node::{Node, Program};
+use expr_value::{Result, Value};
 use std::alloc::Global;
 
 /// A walk over a program, with the additions of a host and the names of a provider.
@@ -55,8 +54,10 @@ impl<'w, H: Functions, P: ContextProvider> Walk<'w, H, P> {
                 notes.tell(wish, node, &value);
                 Ok(value)
             }
-            Err(Error::MemoryError) => Err(Error::MemoryError),
             Err(error) => {
+                if !is_refusal(&error) {
+                    return Err(error);
+                }
                 notes.tell_failure(node, before);
                 Err(error)
             }
@@ -94,20 +95,6 @@ impl<'w, H: Functions, P: ContextProvider> Walk<'w, H, P> {
                 let first = self.visit(left, layer, wish, notes)?;
                 let kept = compiled_regex.pattern();
                 self.right_side(*operator, &first, right, kept, layer, notes)
-            }
-            Node::Postfix {
-                operator: PostfixOperator::Default(other),
-                node,
-            } => {
-                let first = self.visit(node, layer, Wish::Telling, notes)?;
-                self.otherwise(first, other, layer, notes)
-            }
-            Node::Postfix {
-                operator: PostfixOperator::Ternary { left, right },
-                node,
-            } => {
-                let condition = self.visit(node, layer, Wish::Part, notes)?;
-                self.selected_side(&condition, left, right, layer, notes)
             }
             Node::Conditional {
                 condition,
@@ -168,65 +155,6 @@ impl<'w, H: Functions, P: ContextProvider> Walk<'w, H, P> {
                 let second = self.visit(right, layer, wish_beside(operator), notes)?;
                 joined_sides(self.alloc, operator, first, &second, kept)
             }
-        }
-    }
-
-    /// This value, or that of a node if it is nil.
-    #[cycle(walk)]
-    fn otherwise<'a>(
-        &self,
-        first: Value,
-        other: &'a Node,
-        layer: &Layer<'_>,
-        notes: &mut Notes<'a>,
-    ) -> Result<Value>
-        ensures answer { Returns result (AllowsPostfix (walk_world H.host P.context self.now layer.now)
-            (coalesce (term_of other.now)) first) }
-        ensures count { OnOk result (notes.new.count ≡ notes.old.count + weight (term_of other.now)) }
-        ensures told { TellsOf (walk_host H.host P.context self.now)
-            (InPostfix (walk_host H.host P.context self.now) (walk_names H.host P.context self.now layer.now)
-            notes.old.count (coalesce (term_of other.now)) first)
-            notes.old.parts.items notes.new.parts.items }
-    {
-        match first {
-            Value::Nil => self.visit(other, layer, Wish::Telling, notes),
-            value => {
-                notes.skip(other)?;
-                Ok(value)
-            }
-        }
-    }
-
-    /// The value of the side that a condition of this value selects.
-    #[cycle(walk)]
-    fn selected_side<'a>(
-        &self,
-        condition: &Value,
-        left: &'a Node,
-        right: &'a Node,
-        layer: &Layer<'_>,
-        notes: &mut Notes<'a>,
-    ) -> Result<Value>
-        ensures answer { Returns result (AllowsPostfix (walk_world H.host P.context self.now layer.now)
-            (ternary (term_of left.now) (term_of right.now)) condition.now) }
-        ensures count { OnOk result (notes.new.count
-            ≡ notes.old.count + (weight (term_of left.now) + weight (term_of right.now))) }
-        ensures told { TellsOf (walk_host H.host P.context self.now)
-            (InPostfix (walk_host H.host P.context self.now) (walk_names H.host P.context self.now layer.now)
-            notes.old.count (ternary (term_of left.now) (term_of right.now)) condition.now)
-            notes.old.parts.items notes.new.parts.items }
-    {
-        match condition {
-            Value::Bool(true) => {
-                let value = self.visit(left, layer, Wish::Telling, notes)?;
-                notes.skip(right)?;
-                Ok(value)
-            }
-            Value::Bool(false) => {
-                notes.skip(left)?;
-                self.visit(right, layer, Wish::Telling, notes)
-            }
-            other => Err(unexpected_kind(self.alloc, "a Bool", other)),
         }
     }
 

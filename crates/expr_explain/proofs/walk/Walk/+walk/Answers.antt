@@ -1,24 +1,24 @@
-use Rattle.std.proofs.Common.{◌≡◌, ℕ, ◌+◌, ◌*◌, ◌<◌, ◌≤◌, ◌++◌, List, [], ◌∷◌, length, map, drop, arith, rules, true, false, inl, inr, sym, ap, ◌∙◌, subst, refl, Ok, Err, None, MatchOption, String, Global, string_bytes}
+use Rattle.std.proofs.Common.{◌≡◌, ◌≢◌, ℕ, ◌+◌, ◌*◌, ◌<◌, ◌≤◌, ◌++◌, List, [], ◌∷◌, length, map, drop, arith, rules, true, false, inl, inr, sym, ap, ◌∙◌, subst, refl, Ok, Err, None, MatchOption, String, Global, string_bytes}
 use Rattle.std.proofs.lemmas.List.{drop_all, drop_more}
 use Rattle.expr_context.specs.Context.{ContextView, override}
-use Rattle.expr_error.specs.ErrorKind.{error_kind}
+use Rattle.expr_error.specs.ErrorKind.{error_kind, memory}
 use Rattle.expr_explain.specs.Choosing.{EndsWithLeft, GoesOn}
 use Rattle.expr_explain.specs.Layers.{names_inside}
 use Rattle.expr_explain.specs.Noting.{AddsOne}
-use Rattle.expr_explain.specs.Standing.{InBlock, InBranches, InParts, InPostfix, InRight, InTree, Spot}
+use Rattle.expr_explain.specs.Standing.{InBlock, InBranches, InParts, InRight, InTree, Spot}
 use Rattle.expr_explain.specs.Telling.{TellsOf}
 use Rattle.expr_explain.specs.declared.layer.LineValue.{LineValue}
 use Rattle.expr_explain.specs.declared.layer.Layer.{Layer, Layer-F, out-Layer, roll-Layer, out-roll-Layer}
 use Rattle.expr_explain.specs.declared.notes.Finding.TheVariants as finding
 use Rattle.expr_explain.proofs.Inside.{names_inside-pushed}
-use Rattle.expr_explain.proofs.Tellings.{line_allows, line_spots, line_within, operation_under, tells_among, tells_before, tells_branch_one, tells_branch_two, tells_choice, tells_condition, tells_error, tells_failing, tells_left, tells_none, tells_operand, tells_operation, tells_other, tells_postfix, tells_right, tells_same, tells_side_one, tells_side_two, tells_then, tells_value}
+use Rattle.expr_explain.proofs.Tellings.{line_allows, line_spots, line_within, operation_under, tells_among, tells_branch_one, tells_branch_two, tells_choice, tells_condition, tells_error, tells_failing, tells_left, tells_none, tells_operand, tells_operation, tells_right, tells_same, tells_then, tells_value}
 use Rattle.expr_meaning.specs.Allows.{Allows, AllowsBlock, BranchMayReturn, OperationMayReturn}
 use Rattle.expr_meaning.specs.Host.{Host}
 use Rattle.expr_meaning.specs.World.{World, world_of}
-use Rattle.expr_tree.proofs.Shapes.{term_of-Conditional, term_of-Operation, term_of-Postfix, term_of-Ternary, term_of-Unary}
+use Rattle.expr_tree.proofs.Shapes.{term_of-Conditional, term_of-Operation, term_of-Unary}
 use Rattle.expr_tree.proofs.Weights.{named_weight, program-parts, weight-Conditional, weight-Operation, weight-Unary}
-use Rattle.expr_tree.specs.Term.{Block, Term, choice, coalesce, operation, postfix, ternary, unary}
-use Rattle.expr_tree.specs.TermOf.{block_of, postfix_term, program_term, term_of}
+use Rattle.expr_tree.specs.Term.{Block, Term, choice, operation, unary}
+use Rattle.expr_tree.specs.TermOf.{block_of, program_term, term_of}
 use Rattle.expr_tree.specs.Weight.{block_weight, weight}
 use Rattle.expr_tree.specs.declared.node.Node.{Node}
 use Rattle.expr_value.proofs.Answered.{Returns-passed, Returns-under}
@@ -53,8 +53,8 @@ visit-returns-in_ok-step-in-Ok-clause-told g t c =
     subst (λ xs. AddsOne xs d u ended (finding.Value v)) c.step.ensures.parts c.tell.ensures.told
     )
 
-pub visit-returns-in-Err-MemoryError-clause-told : goal.visit-returns-in-Err-MemoryError-clause-told
-visit-returns-in-Err-MemoryError-clause-told g t c =
+pub visit-returns-then-not-is_refusal-clause-told : goal.visit-returns-then-not-is_refusal-clause-told
+visit-returns-then-not-is_refusal-clause-told g t c =
     let host : Host = g.H.Functions.host c.args.self.now.host.now in
     let names : ContextView = names_inside c.args.layer.now (g.P.ContextProvider.context c.args.self.now.provider.now) in
     let n = c.args.notes.now.count in
@@ -65,7 +65,16 @@ visit-returns-in-Err-MemoryError-clause-told g t c =
 
 pub visit-returns-in-Err-clause-told : goal.visit-returns-in-Err-clause-told
 visit-returns-in-Err-clause-told g t c =
-    ?
+    let host : Host = g.H.Functions.host c.args.self.now.host.now in
+    let names : ContextView = names_inside c.args.layer.now (g.P.ContextProvider.context c.args.self.now.provider.now) in
+    let n = c.args.notes.now.count in
+    let a = c.args.notes.now.parts.items in
+    let u = term_of c.args.node.now in
+    let b = c.look_into.new.notes.parts.items in
+    let d = c.tell_failure.new.self.parts.items in
+    let k = error_kind c.in-Err.error in
+    let refused : k ≢ memory = search (rules, c.is_refusal.ensures) in
+    tells_error host names n u a b d k c.look_into.ensures.told (c.in-Err.ensures.answer refused) c.tell_failure.ensures.told
 
 -- the forms of nodes
 pub look_into-returns-in_err-operand-in-Unary-clause-told : goal.look_into-returns-in_err-operand-in-Unary-clause-told
@@ -145,22 +154,6 @@ look_into-returns-in_ok-first-in-Operation-clause-told g t c =
     let said = c.in_ok-first-in-Operation.ensures in
     let b = c.visit-in-Operation.new.notes in
     tells_operation host names n b.count u a b.parts.items c.right_side.new.notes.parts.items op l r v is said.count said.answer c.visit-in-Operation.ensures.told c.right_side.ensures.told
-
-pub look_into-returns-in_err-first-in-Postfix-Default-default-clause-told : goal.look_into-returns-in_err-first-in-Postfix-Default-default-clause-told
-look_into-returns-in_err-first-in-Postfix-Default-default-clause-told g t c =
-    ?
-
-pub look_into-returns-in_err-condition-in-Postfix-Ternary-default-clause-told : goal.look_into-returns-in_err-condition-in-Postfix-Ternary-default-clause-told
-look_into-returns-in_err-condition-in-Postfix-Ternary-default-clause-told g t c =
-    ?
-
-pub look_into-returns-in_ok-first-in-Postfix-Default-default-clause-told : goal.look_into-returns-in_ok-first-in-Postfix-Default-default-clause-told
-look_into-returns-in_ok-first-in-Postfix-Default-default-clause-told g t c =
-    ?
-
-pub look_into-returns-in_ok-condition-in-Postfix-Ternary-default-clause-told : goal.look_into-returns-in_ok-condition-in-Postfix-Ternary-default-clause-told
-look_into-returns-in_ok-condition-in-Postfix-Ternary-default-clause-told g t c =
-    ?
 
 pub look_into-returns-in_err-condition-in-Conditional-clause-told : goal.look_into-returns-in_err-condition-in-Conditional-clause-told
 look_into-returns-in_err-condition-in-Conditional-clause-told g t c =
@@ -264,14 +257,6 @@ look_into-selected_program-requires g t c =
       ap (λ m. block_weight (program_term m)) c.deref-in-Conditional-3.ensures,
     )
 
-pub look_into-otherwise-requires : goal.look_into-otherwise-requires
-look_into-otherwise-requires g t c =
-    ?
-
-pub look_into-selected_side-requires : goal.look_into-selected_side-requires
-look_into-selected_side-requires g t c =
-    ?
-
 -- the right side of an operator
 pub right_side-returns-in_err-skip-in-Some-clause-told : goal.right_side-returns-in_err-skip-in-Some-clause-told
 right_side-returns-in_err-skip-in-Some-clause-told g t c =
@@ -340,94 +325,7 @@ right_side-returns-in_ok-second-in-None-clause-answer g t c =
     operation_under op v (λ k. k ≡ Ok y) (Allows world r) (λ k e. subst (Allows world r) (sym e) said)
     ) c.joined_sides.ensures
 
--- what replaces nil
-pub otherwise-returns-in-Nil-clause-told : goal.otherwise-returns-in-Nil-clause-told
-otherwise-returns-in-Nil-clause-told g t c =
-    let host : Host = g.H.Functions.host c.args.self.now.host.now in
-    let names : ContextView = names_inside c.args.layer.now (g.P.ContextProvider.context c.args.self.now.provider.now) in
-    let n = c.args.notes.now.count in
-    let a = c.args.notes.now.parts.items in
-    tells_other host names n n c.args.first a c.visit.new.notes.parts.items (term_of c.args.other.now) c.in-Nil.is c.visit.ensures.told
-
 -- what a condition selects
-pub selected_side-returns-in_err-value-in-Bool-true-clause-told : goal.selected_side-returns-in_err-value-in-Bool-true-clause-told
-selected_side-returns-in_err-value-in-Bool-true-clause-told g t c =
-    let host : Host = g.H.Functions.host c.args.self.now.host.now in
-    let names : ContextView = names_inside c.args.layer.now (g.P.ContextProvider.context c.args.self.now.provider.now) in
-    let n = c.args.notes.now.count in
-    let a = c.args.notes.now.parts.items in
-    let v = c.args.condition.now in
-    let first = term_of c.args.left.now in
-    let second = term_of c.args.right.now in
-    let among = InPostfix host names n (ternary first second) v in
-    tells_side_one host names n n v a c.visit.new.notes.parts.items first second c.in-Bool-true.is c.visit.ensures.told
-
-pub selected_side-returns-in_err-skip-in-Bool-true-clause-told : goal.selected_side-returns-in_err-skip-in-Bool-true-clause-told
-selected_side-returns-in_err-skip-in-Bool-true-clause-told g t c =
-    let host : Host = g.H.Functions.host c.args.self.now.host.now in
-    let names : ContextView = names_inside c.args.layer.now (g.P.ContextProvider.context c.args.self.now.provider.now) in
-    let n = c.args.notes.now.count in
-    let a = c.args.notes.now.parts.items in
-    let v = c.args.condition.now in
-    let first = term_of c.args.left.now in
-    let second = term_of c.args.right.now in
-    let among = InPostfix host names n (ternary first second) v in
-    let b = c.visit.new.notes.parts.items in
-    tells_same host among a b c.skip.new.self.parts.items c.skip.ensures.parts (tells_side_one host names n n v a b first second c.in-Bool-true.is c.visit.ensures.told)
-
-pub selected_side-returns-in_ok-skip-in-Bool-true-clause-told : goal.selected_side-returns-in_ok-skip-in-Bool-true-clause-told
-selected_side-returns-in_ok-skip-in-Bool-true-clause-told g t c =
-    let host : Host = g.H.Functions.host c.args.self.now.host.now in
-    let names : ContextView = names_inside c.args.layer.now (g.P.ContextProvider.context c.args.self.now.provider.now) in
-    let n = c.args.notes.now.count in
-    let a = c.args.notes.now.parts.items in
-    let v = c.args.condition.now in
-    let first = term_of c.args.left.now in
-    let second = term_of c.args.right.now in
-    let among = InPostfix host names n (ternary first second) v in
-    let b = c.visit.new.notes.parts.items in
-    tells_same host among a b c.skip.new.self.parts.items c.skip.ensures.parts (tells_side_one host names n n v a b first second c.in-Bool-true.is c.visit.ensures.told)
-
-pub selected_side-returns-in_err-skip-in-Bool-false-clause-told : goal.selected_side-returns-in_err-skip-in-Bool-false-clause-told
-selected_side-returns-in_err-skip-in-Bool-false-clause-told g t c =
-    let host : Host = g.H.Functions.host c.args.self.now.host.now in
-    let names : ContextView = names_inside c.args.layer.now (g.P.ContextProvider.context c.args.self.now.provider.now) in
-    let n = c.args.notes.now.count in
-    let a = c.args.notes.now.parts.items in
-    let v = c.args.condition.now in
-    let first = term_of c.args.left.now in
-    let second = term_of c.args.right.now in
-    let among = InPostfix host names n (ternary first second) v in
-    tells_none host among a c.skip-in-Bool-false.new.self.parts.items c.skip-in-Bool-false.ensures.parts
-
-pub selected_side-returns-in_ok-skip-in-Bool-false-clause-told : goal.selected_side-returns-in_ok-skip-in-Bool-false-clause-told
-selected_side-returns-in_ok-skip-in-Bool-false-clause-told g t c =
-    let host : Host = g.H.Functions.host c.args.self.now.host.now in
-    let names : ContextView = names_inside c.args.layer.now (g.P.ContextProvider.context c.args.self.now.provider.now) in
-    let n = c.args.notes.now.count in
-    let a = c.args.notes.now.parts.items in
-    let v = c.args.condition.now in
-    let first = term_of c.args.left.now in
-    let second = term_of c.args.right.now in
-    let among = InPostfix host names n (ternary first second) v in
-    let b = c.skip-in-Bool-false.new.self in
-    let d = c.visit-in-Bool-false.new.notes.parts.items in
-    subst (λ xs. TellsOf host among xs d) c.skip-in-Bool-false.ensures.parts (
-    tells_side_two host names n b.count v b.parts.items d first second c.in-Bool-false.is c.in_ok-skip-in-Bool-false.ensures.count c.visit-in-Bool-false.ensures.told
-    )
-
-pub selected_side-returns-in_default-clause-told : goal.selected_side-returns-in_default-clause-told
-selected_side-returns-in_default-clause-told g t c =
-    let host : Host = g.H.Functions.host c.args.self.now.host.now in
-    let names : ContextView = names_inside c.args.layer.now (g.P.ContextProvider.context c.args.self.now.provider.now) in
-    let n = c.args.notes.now.count in
-    let a = c.args.notes.now.parts.items in
-    let v = c.args.condition.now in
-    let first = term_of c.args.left.now in
-    let second = term_of c.args.right.now in
-    let among = InPostfix host names n (ternary first second) v in
-    tells_none host among a a refl
-
 pub selected_program-returns-in_err-value-in-Bool-true-clause-told : goal.selected_program-returns-in_err-value-in-Bool-true-clause-told
 selected_program-returns-in_err-value-in-Bool-true-clause-told g t c =
     let host : Host = g.H.Functions.host c.args.self.now.host.now in

@@ -35,12 +35,6 @@ decreases-look_into g l = 4 * weight (term_of l.node.now)
 abbrev pub decreases-right_side : goal.decreases-right_side
 decreases-right_side g l = 4 * weight (term_of l.right.now) + 2
 
-abbrev pub decreases-otherwise : goal.decreases-otherwise
-decreases-otherwise g l = 4 * weight (term_of l.other.now) + 2
-
-abbrev pub decreases-selected_side : goal.decreases-selected_side
-decreases-selected_side g l = 4 * (weight (term_of l.left.now) + weight (term_of l.right.now)) + 2
-
 abbrev pub decreases-selected_program : goal.decreases-selected_program
 decreases-selected_program g l = 4 * (block_weight (program_term l.consequent.now) + block_weight (program_term l.alternative.now)) + 3
 
