@@ -1,15 +1,15 @@
 -- How what is told of parts makes what is told of the whole.
-use Rattle.std.proofs.Common.{◌≡◌, ℕ, zero, suc, ◌+◌, ◌<◌, ◌≤◌, List, [], ◌∷◌, ◌++◌, length, get_or, ◌⊎◌, inl, inr, true, false, Result, Ok, Err, is_ok, if◌then◌else◌, ⊤, String, Global, refl, sym, ap, ◌∙◌, subst, append_assoc, append-nil, arith}
+use Rattle.std.proofs.Common.{◌≡◌, ℕ, zero, suc, ◌+◌, ◌<◌, ◌≤◌, List, [], ◌∷◌, ◌++◌, length, get_or, ◌⊎◌, inl, inr, true, false, Result, Ok, Err, is_ok, if◌then◌else◌, String, Global, refl, sym, ap, ◌∙◌, subst, append_assoc, append-nil, arith}
 use Rattle.std.specs.List.{All}
 use Rattle.std.proofs.lemmas.List.Elements.{All-nil, All-cons, All-append, All-weaker}
 use Rattle.expr_context.specs.Context.{ContextView, override}
 use Rattle.expr_error.specs.ErrorKind.{ErrorKind}
-use Rattle.expr_explain.specs.Choosing.{GoesOn}
+use Rattle.expr_explain.specs.Choosing.{GoesRight}
 use Rattle.expr_explain.specs.Noting.{AddsOne, IsNote}
 use Rattle.expr_explain.specs.Standing.{InBlock, InBranches, InParts, InRight, InTree, Spot, spot_at}
-use Rattle.expr_explain.specs.Telling.{IsFound, IsTold, IsToldAt, IsToldOf, TellsOf}
-use Rattle.expr_explain.specs.declared.notes.Finding.{Finding}
-use Rattle.expr_explain.specs.declared.notes.Finding.TheVariants as finding
+use Rattle.expr_explain.specs.Telling.{IsFound, IsToldOfProgram, IsToldAt, IsToldOf, TellsOf}
+use Rattle.expr_explain.specs.declared.notes.PartFinding.{PartFinding}
+use Rattle.expr_explain.specs.declared.notes.PartFinding.TheVariants as finding
 use Rattle.expr_explain.specs.declared.notes.Told.{Told}
 use Rattle.expr_functions.specs.declared.operator.Operator.{Operator}
 use Rattle.expr_functions.specs.declared.operator.UnaryOperator.{UnaryOperator}
@@ -57,7 +57,7 @@ module _ (host : Host) where
   pub tells_same : (among : Spot → Type 0) (a b c : List Told) → c ≡ b → TellsOf host among a b → TellsOf host among a c
   tells_same among a b c same p = subst (λ xs. TellsOf host among a xs) (sym same) p
 
-  tells_note : (among : Spot → Type 0) (a b : List Told) (spot : Spot) (ended : ℕ) (found : Finding) → among spot → ended ≡ spot.before + weight spot.tree
+  tells_note : (among : Spot → Type 0) (a b : List Told) (spot : Spot) (ended : ℕ) (found : PartFinding) → among spot → ended ≡ spot.before + weight spot.tree
       → IsFound (Allows (world_of host spot.names) spot.tree) found → AddsOne a b spot.tree ended found → TellsOf host among a b
   tells_note among a b spot ended found here counted allowed (inl same) = tells_none among a b same
   tells_note among a b spot ended found here counted allowed (inr (told, new, note)) = record {
@@ -141,7 +141,7 @@ module _ (host : Host) where
 
   -- what a side tells that the value before it selects
   module _ (names : ContextView) (n m : ℕ) (v : Value) (a b : List Told) where
-    pub tells_right : (op : Operator) (t : Term) → GoesOn op v → TellsOf host (InTree host names n t) a b → TellsOf host (InRight host op v names n t) a b
+    pub tells_right : (op : Operator) (t : Term) → GoesRight op v → TellsOf host (InTree host names n t) a b → TellsOf host (InRight host op v names n t) a b
     tells_right op t on p = tells_among (InTree host names n t) (InRight host op v names n t) a b (λ s x. (on, x)) p
 
     pub tells_branch_one : (first second : Block) → v ≡ value.Bool true → TellsOf host (InBlock host names n first) a b → TellsOf host (InBranches host v names n first second) a b
@@ -165,18 +165,18 @@ module _ (host : Host) (names names' : ContextView) (n m : ℕ) (key : List ℕ)
   line_spots s x = inr (v, allowed, subst (λ k. InBlock host (override names key v) k rest s) counted (subst (λ ctx. InBlock host ctx m rest s) bound x))
 
 -- a part that is kept, or not if there is no memory for it
-pub added_one : {E : Type 0} (r : Result ⊤ E) (old new : List Told) (told : Told) (tree : Term) (ended : ℕ) (found : Finding)
+pub added_one : {A E : Type 0} (r : Result A E) (old new : List Told) (told : Told) (tree : Term) (ended : ℕ) (found : PartFinding)
     → new ≡ (if is_ok r then old ++ told ∷ [] else old) → IsNote told tree ended found → AddsOne old new tree ended found
 added_one (Ok v) old new told tree ended found is note = inr (told, is, note)
 added_one (Err e) old new told tree ended found is note = inl is
 
 -- all that is told of a program
 pub told_all : (host : Host) (names names' : ContextView) (n : ℕ) (b : Block) (old new : List Told) → names ≡ names' → n ≡ 0 → old ≡ []
-    → TellsOf host (InBlock host names n b) old new → All (IsTold host names' b) new
+    → TellsOf host (InBlock host names n b) old new → All (IsToldOfProgram host names' b) new
 told_all host names names' n b old new outside first none p =
     let same : new ≡ p.added = p.new_is ∙ ap (λ xs. xs ++ p.added) none in
-    subst (λ xs. All (IsTold host names' b) xs) (sym same) (
-    All-weaker (IsToldOf host (InBlock host names n b)) (IsTold host names' b) (
+    subst (λ xs. All (IsToldOfProgram host names' b) xs) (sym same) (
+    All-weaker (IsToldOf host (InBlock host names n b)) (IsToldOfProgram host names' b) (
       λ told x. (x.0, subst (λ k. InBlock host names' k b x.0) first (subst (λ ctx. InBlock host ctx n b x.0) outside x.1), x.2)
       ) p.added p.of_these
     )

@@ -11,14 +11,14 @@ use Rattle.expr_value.specs.declared.value.Value.{Value, out-Value}
 use Rattle.expr_value.specs.declared.value.Value.TheOpen.{Value-F}
 
 -- the right side is evaluated if the left one has this value
-abbrev pub GoesOnBy : Strictness → Value → Type 0
-GoesOnBy Both v = Unit {0}
-GoesOnBy EndsAtFalse v = v ≡ value.Bool true
-GoesOnBy EndsAtTrue v = v ≡ value.Bool false
-GoesOnBy Pattern v = Unit {0}
+abbrev pub GoesRightBy : Strictness → Value → Type 0
+GoesRightBy Both v = Unit {0}
+GoesRightBy EndsAtFalse v = v ≡ value.Bool true
+GoesRightBy EndsAtTrue v = v ≡ value.Bool false
+GoesRightBy Pattern v = Unit {0}
 
-abbrev pub GoesOn : Operator → Value → Type 0
-GoesOn op v = GoesOnBy (operator_strictness op) v
+abbrev pub GoesRight : Operator → Value → Type 0
+GoesRight op v = GoesRightBy (operator_strictness op) v
 
 -- what `and` returns for this value on the left alone, and what `or` does
 abbrev pub AndEndsLayer : Value-F Value → Answer → Type 0

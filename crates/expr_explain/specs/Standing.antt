@@ -1,7 +1,7 @@
 -- The parts that a program evaluates, and where each of them stands.
 use Rattle.std.specs.Prelude.{◌≡◌, ℕ, ◌+◌, true, false, List, ◌⊎◌, Ok}
 use Rattle.expr_context.specs.Context.{ContextView, override}
-use Rattle.expr_explain.specs.Choosing.{GoesOn}
+use Rattle.expr_explain.specs.Choosing.{GoesRight}
 use Rattle.expr_functions.specs.declared.operator.Operator.{Operator}
 use Rattle.expr_meaning.specs.Allows.{Allows}
 use Rattle.expr_meaning.specs.Host.{Host}
@@ -28,7 +28,7 @@ abbrev mutual
   InParts host names n (unary o t) spot = (spot ≡ spot_at names n t) ⊎ InParts host names n t spot
   InParts host names n (operation op l r) spot =
       ((spot ≡ spot_at names n l) ⊎ InParts host names n l spot)
-      ⊎ ((v : Value) × Allows (world_of host names) l (Ok v) × GoesOn op v × ((spot ≡ spot_at names (n + weight l) r) ⊎ InParts host names (n + weight l) r spot))
+      ⊎ ((v : Value) × Allows (world_of host names) l (Ok v) × GoesRight op v × ((spot ≡ spot_at names (n + weight l) r) ⊎ InParts host names (n + weight l) r spot))
   InParts host names n (postfix p t) spot =
       ((spot ≡ spot_at names n t) ⊎ InParts host names n t spot)
       ⊎ ((v : Value) × Allows (world_of host names) t (Ok v) × InPostfix host names (n + weight t) p v spot)
@@ -60,7 +60,7 @@ InTree host names n t spot = (spot ≡ spot_at names n t) ⊎ InParts host names
 
 -- the right side of an operator, with this value on the left
 abbrev pub InRight : Host → Operator → Value → ContextView → ℕ → Term → Spot → Type 0
-InRight host op v names n t spot = GoesOn op v × InTree host names n t spot
+InRight host op v names n t spot = GoesRight op v × InTree host names n t spot
 
 -- the program that a condition of this value selects
 abbrev pub InBranches : Host → Value → ContextView → ℕ → Block → Block → Spot → Type 0

@@ -4,8 +4,8 @@ use Rattle.std.specs.List.{All}
 use Rattle.expr_context.specs.Context.{ContextView}
 use Rattle.expr_error.specs.ErrorKind.{ErrorKind}
 use Rattle.expr_explain.specs.Standing.{InBlock, Spot}
-use Rattle.expr_explain.specs.declared.notes.Finding.{Finding}
-use Rattle.expr_explain.specs.declared.notes.Finding.TheVariants as finding
+use Rattle.expr_explain.specs.declared.notes.PartFinding.{PartFinding}
+use Rattle.expr_explain.specs.declared.notes.PartFinding.TheVariants as finding
 use Rattle.expr_explain.specs.declared.notes.Told.{Told}
 use Rattle.expr_meaning.specs.Allows.{Allows}
 use Rattle.expr_meaning.specs.Host.{Host}
@@ -17,7 +17,7 @@ use Rattle.expr_value.specs.Answers.{Answer}
 use Rattle.expr_value.specs.declared.value.Value.{Value}
 
 -- what was found is what these results allow: a value, or that there is an error
-abbrev pub IsFound : (Answer → Type 0) → Finding → Type 0
+abbrev pub IsFound : (Answer → Type 0) → PartFinding → Type 0
 IsFound allowed (finding.Value v) = allowed (Ok v)
 IsFound allowed finding.Failed = (kind : ErrorKind) × allowed (Err kind)
 
@@ -33,8 +33,8 @@ abbrev pub IsToldOf : Host → (Spot → Type 0) → Told → Type 0
 IsToldOf host among told = (spot : Spot) × among spot × IsToldAt host spot told
 
 -- this is told of a part that the program evaluates
-abbrev pub IsTold : Host → ContextView → Block → Told → Type 0
-IsTold host names b told = IsToldOf host (InBlock host names 0 b) told
+abbrev pub IsToldOfProgram : Host → ContextView → Block → Told → Type 0
+IsToldOfProgram host names b told = IsToldOf host (InBlock host names 0 b) told
 
 -- what was told, and then more, of these spots
 pub record TellsOf (host : Host) (among : Spot → Type 0) (old new : List Told) : Type 0 where

@@ -19,4 +19,4 @@ mod walk;
 
 pub use count::{count_nodes, count_program_nodes};
 pub use explanation::{Explanation, explain, explain_with};
-pub use notes::{Finding, Told};
+pub use notes::{PartFinding, Told};

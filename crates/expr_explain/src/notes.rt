@@ -13,7 +13,7 @@ use std::alloc::Global;
 
 /// What a part gave.
 #[derive(Drop)]
-pub enum Finding {
+pub enum PartFinding {
     /// Its value.
     Value(Value),
     /// The evaluation ended in this part, with the error that is the answer.
@@ -26,7 +26,7 @@ pub struct Told<'a> {
     pub node: &'a Node,
     /// The number of the node among those of the program, from 0: children before their parents, from left to right.
     pub number: usize,
-    pub finding: Finding,
+    pub finding: PartFinding,
 }
 
 /// Whether a node is told where it stands.
@@ -177,7 +177,7 @@ impl<'a> Notes<'a> {
     /// memory for it.
     pub(crate) fn tell(&mut self, wish: Wish, node: &'a Node, value: &Value)
         ensures told { AddsOne self.old.parts.items self.new.parts.items (term_of node.now) self.old.count
-            (Finding.Value value.now) }
+            (PartFinding.Value value.now) }
         ensures count { self.new.count ≡ self.old.count }
     {
         if !wish.wants(node) {
@@ -185,7 +185,7 @@ impl<'a> Notes<'a> {
         }
         let end = self.count;
         match value.clone() {
-            Ok(value) => self.add(node, end, Finding::Value(value)),
+            Ok(value) => self.add(node, end, PartFinding::Value(value)),
             Err(_) => self.is_cut = true,
         }
     }
@@ -193,20 +193,20 @@ impl<'a> Notes<'a> {
     /// Tells the node in which the evaluation fails, if none was told yet. So many nodes had ended before it.
     pub(crate) fn tell_failure(&mut self, node: &'a Node, before: usize)
         ensures told { AddsOne self.old.parts.items self.new.parts.items (term_of node.now)
-            (before + weight (term_of node.now)) Finding.Failed }
+            (before + weight (term_of node.now)) PartFinding.Failed }
     {
         if self.has_failed {
             return;
         }
         self.has_failed = true;
         match count_nodes(node, before) {
-            Ok(end) => self.add(node, end, Finding::Failed),
+            Ok(end) => self.add(node, end, PartFinding::Failed),
             Err(_) => self.is_cut = true,
         }
     }
 
     /// Adds a part, if there is room and memory for it. So many nodes have ended with it.
-    fn add(&mut self, node: &'a Node, end: usize, finding: Finding)
+    fn add(&mut self, node: &'a Node, end: usize, finding: PartFinding)
         ensures told { AddsOne self.old.parts.items self.new.parts.items (term_of node.now) end finding }
         ensures count { self.new.count ≡ self.old.count }
     {

@@ -1,7 +1,7 @@
 //! What an operator makes of the values of its sides.
 ghost use Rattle.std.specs.Prelude.{◌≡◌, Ok, Err, IfOk, MatchOption};
 ghost use Rattle.expr_error.specs.ErrorKind.{RefusesWith};
-ghost use Rattle.expr_explain.specs.Choosing.{EndsWithLeft, GoesOn};
+ghost use Rattle.expr_explain.specs.Choosing.{EndsWithLeft, GoesRight};
 ghost use Rattle.expr_meaning.specs.Allows.{OperationMayReturn};
 ghost use Rattle.expr_value.specs.Answers.{Returns};
 
@@ -18,7 +18,7 @@ use std::alloc::Global;
 ///
 /// Returns `ExprError` if the left side of `and` or `or` isn't a boolean.
 pub(crate) fn left_alone(alloc: Global, operator: Operator, first: &Value) -> Result<Option<Value>>
-    ensures ok { IfOk result (λ r. MatchOption r (GoesOn operator first.now)
+    ensures ok { IfOk result (λ r. MatchOption r (GoesRight operator first.now)
         (λ v. EndsWithLeft operator first.now (Ok v))) }
     ensures refusal { RefusesWith result (λ k. EndsWithLeft operator first.now (Err k)) }
 {
@@ -49,7 +49,7 @@ pub(crate) fn joined_sides(
     second: &Value,
     kept: Option<&Pattern>,
 ) -> Result<Value>
-    requires { GoesOn operator first.now }
+    requires { GoesRight operator first.now }
     ensures { Returns result (OperationMayReturn operator first.now (λ a. a ≡ Ok second.now)) }
 {
     match strictness_of(operator) {

@@ -3,6 +3,7 @@ use Rattle.std.proofs.lemmas.List.{take_more}
 use Rattle.expr_tree.proofs.Weights.{items_weight, items-push, named_weight, lines-push, program-parts, weight-Map}
 use Rattle.expr_tree.specs.TermOf.{program_term, term_of}
 use Rattle.expr_tree.specs.Weight.{block_weight, weight}
+use Rattle.expr_tree.specs.declared.node.Node.{Node}
 use Rattle.expr_explain.proofs.Counting.{counted_as, counted_inside}
 use Rattle.expr_explain.proofs.count.+count.Goals as goal
 
@@ -17,7 +18,7 @@ count_all-loop-node-preserved t c =
 pub count_inside-returns-in-Map-clause-ok : goal.count_inside-returns-in-Map-clause-ok
 count_inside-returns-in-Map-clause-ok t c =
     let ps = c.in-Map.pairs in
-    let whole = ap (λ n. weight (term_of n)) c.in-Map.is ∙ weight-Map ps in
+    let whole = ap (λ (n : Node). weight (term_of n)) c.in-Map.is ∙ weight-Map ps in
     let same = ap named_weight c.deref-in-Map.ensures.value in
     counted_inside c.count_named.result (c.args.before + named_weight c.deref-in-Map.result.now) (c.args.before + weight (term_of c.args.node.now)) (omega (arith, whole, same)) c.count_named.ensures.ok
 

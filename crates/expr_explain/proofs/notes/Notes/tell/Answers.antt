@@ -1,7 +1,7 @@
 use Rattle.std.proofs.Common.{◌≡◌, rules, subst}
 use Rattle.expr_tree.specs.TermOf.{term_of}
 use Rattle.expr_explain.specs.Noting.{AddsOne}
-use Rattle.expr_explain.specs.declared.notes.Finding.TheVariants as finding
+use Rattle.expr_explain.specs.declared.notes.PartFinding.TheVariants as finding
 use Rattle.expr_explain.proofs.notes.Notes.tell.Goals as goal
 
 pub returns-in-Ok-clause-told : goal.returns-in-Ok-clause-told

@@ -2,7 +2,7 @@ use Rattle.std.proofs.Common.{◌≡◌, ◌+◌, inl, sym, ap, subst}
 use Rattle.expr_tree.specs.TermOf.{term_of}
 use Rattle.expr_tree.specs.Weight.{weight}
 use Rattle.expr_explain.specs.Noting.{AddsOne}
-use Rattle.expr_explain.specs.declared.notes.Finding.TheVariants as finding
+use Rattle.expr_explain.specs.declared.notes.PartFinding.TheVariants as finding
 use Rattle.expr_explain.specs.declared.notes.Notes.{Notes}
 use Rattle.expr_explain.proofs.notes.Notes.tell_failure.Goals as goal
 use Rattle.expr_explain.proofs.notes.Notes.tell_failure.Goals.{in-Ok, in-Err}

@@ -2,14 +2,14 @@ use Rattle.std.proofs.Common.{◌≡◌, ◌≢◌, ℕ, ◌+◌, ◌*◌, ◌<�
 use Rattle.std.proofs.lemmas.List.{drop_all, drop_more}
 use Rattle.expr_context.specs.Context.{ContextView, override}
 use Rattle.expr_error.specs.ErrorKind.{error_kind, memory}
-use Rattle.expr_explain.specs.Choosing.{EndsWithLeft, GoesOn}
+use Rattle.expr_explain.specs.Choosing.{EndsWithLeft, GoesRight}
 use Rattle.expr_explain.specs.Layers.{names_inside}
 use Rattle.expr_explain.specs.Noting.{AddsOne}
 use Rattle.expr_explain.specs.Standing.{InBlock, InBranches, InParts, InRight, InTree, Spot}
 use Rattle.expr_explain.specs.Telling.{TellsOf}
 use Rattle.expr_explain.specs.declared.layer.LineValue.{LineValue}
 use Rattle.expr_explain.specs.declared.layer.Layer.{Layer, Layer-F, out-Layer, roll-Layer, out-roll-Layer}
-use Rattle.expr_explain.specs.declared.notes.Finding.TheVariants as finding
+use Rattle.expr_explain.specs.declared.notes.PartFinding.TheVariants as finding
 use Rattle.expr_explain.proofs.Inside.{names_inside-pushed}
 use Rattle.expr_explain.proofs.Tellings.{line_allows, line_spots, line_within, operation_under, tells_among, tells_branch_one, tells_branch_two, tells_choice, tells_condition, tells_error, tells_failing, tells_left, tells_none, tells_operand, tells_operation, tells_right, tells_same, tells_then, tells_value}
 use Rattle.expr_meaning.specs.Allows.{Allows, AllowsBlock, BranchMayReturn, OperationMayReturn}
@@ -21,6 +21,7 @@ use Rattle.expr_tree.specs.Term.{Block, Term, choice, operation, unary}
 use Rattle.expr_tree.specs.TermOf.{block_of, program_term, term_of}
 use Rattle.expr_tree.specs.Weight.{block_weight, weight}
 use Rattle.expr_tree.specs.declared.node.Node.{Node}
+use Rattle.expr_tree.specs.declared.node.Program.{Program}
 use Rattle.expr_value.proofs.Answered.{Returns-passed, Returns-under}
 use Rattle.expr_value.specs.Answers.{Answer, Returns}
 use Rattle.expr_value.specs.declared.value.Value.{Value}
@@ -229,33 +230,33 @@ look_into-returns-in_ok-skip_inside-in_default-clause-told g t c =
 -- what is inside of a node weighs less
 pub look_into-visit-requires : goal.look_into-visit-requires
 look_into-visit-requires g t c =
-    let whole = ap (λ m. weight (term_of m)) c.in-Unary.is ∙ weight-Unary c.in-Unary.operator c.in-Unary.node in
-    omega (arith, whole, ap (λ m. weight (term_of m)) c.deref.ensures)
+    let whole = ap (λ (m : Node). weight (term_of m)) c.in-Unary.is ∙ weight-Unary c.in-Unary.operator c.in-Unary.node in
+    let smaller : 4 * weight (term_of c.deref.result.now) + 1 < 4 * weight (term_of c.args.node.now) = omega (arith, whole, ap (λ (m : Node). weight (term_of m)) c.deref.ensures) in
+    search rules
 
 pub look_into-visit-requires-in-Operation : goal.look_into-visit-requires-in-Operation
 look_into-visit-requires-in-Operation g t c =
-    let whole = ap (λ m. weight (term_of m)) c.in-Operation.is ∙ weight-Operation c.in-Operation.operator c.in-Operation.left c.in-Operation.right c.in-Operation.compiled_regex in
-    omega (arith, whole, ap (λ m. weight (term_of m)) c.deref-in-Operation.ensures)
+    let whole = ap (λ (m : Node). weight (term_of m)) c.in-Operation.is ∙ weight-Operation c.in-Operation.operator c.in-Operation.left c.in-Operation.right c.in-Operation.compiled_regex in
+    let smaller : 4 * weight (term_of c.deref-in-Operation.result.now) + 1 < 4 * weight (term_of c.args.node.now) = omega (arith, whole, ap (λ (m : Node). weight (term_of m)) c.deref-in-Operation.ensures) in
+    search rules
 
 pub look_into-right_side-requires : goal.look_into-right_side-requires
 look_into-right_side-requires g t c =
-    let whole = ap (λ m. weight (term_of m)) c.in-Operation.is ∙ weight-Operation c.in-Operation.operator c.in-Operation.left c.in-Operation.right c.in-Operation.compiled_regex in
-    omega (arith, whole, ap (λ m. weight (term_of m)) c.deref-in-Operation-2.ensures)
+    let whole = ap (λ (m : Node). weight (term_of m)) c.in-Operation.is ∙ weight-Operation c.in-Operation.operator c.in-Operation.left c.in-Operation.right c.in-Operation.compiled_regex in
+    let smaller : 4 * weight (term_of c.deref-in-Operation-2.result.now) + 2 < 4 * weight (term_of c.args.node.now) = omega (arith, whole, ap (λ (m : Node). weight (term_of m)) c.deref-in-Operation-2.ensures) in
+    search rules
 
 pub look_into-visit-requires-in-Conditional : goal.look_into-visit-requires-in-Conditional
 look_into-visit-requires-in-Conditional g t c =
-    let whole = ap (λ m. weight (term_of m)) c.in-Conditional.is ∙ weight-Conditional c.in-Conditional.condition c.in-Conditional.consequent c.in-Conditional.alternative in
-    omega (arith, whole, ap (λ m. weight (term_of m)) c.deref-in-Conditional.ensures)
+    let whole = ap (λ (m : Node). weight (term_of m)) c.in-Conditional.is ∙ weight-Conditional c.in-Conditional.condition c.in-Conditional.consequent c.in-Conditional.alternative in
+    let smaller : 4 * weight (term_of c.deref-in-Conditional.result.now) + 1 < 4 * weight (term_of c.args.node.now) = omega (arith, whole, ap (λ (m : Node). weight (term_of m)) c.deref-in-Conditional.ensures) in
+    search rules
 
 pub look_into-selected_program-requires : goal.look_into-selected_program-requires
 look_into-selected_program-requires g t c =
-    let whole = ap (λ m. weight (term_of m)) c.in-Conditional.is ∙ weight-Conditional c.in-Conditional.condition c.in-Conditional.consequent c.in-Conditional.alternative in
-    omega (
-      arith,
-      whole,
-      ap (λ m. block_weight (program_term m)) c.deref-in-Conditional-2.ensures,
-      ap (λ m. block_weight (program_term m)) c.deref-in-Conditional-3.ensures,
-    )
+    let whole = ap (λ (m : Node). weight (term_of m)) c.in-Conditional.is ∙ weight-Conditional c.in-Conditional.condition c.in-Conditional.consequent c.in-Conditional.alternative in
+    let smaller : 4 * (block_weight (program_term c.deref-in-Conditional-2.result.now) + block_weight (program_term c.deref-in-Conditional-3.result.now)) + 3 < 4 * weight (term_of c.args.node.now) = omega (arith, whole, ap (λ (m : Program). block_weight (program_term m)) c.deref-in-Conditional-2.ensures, ap (λ (m : Program). block_weight (program_term m)) c.deref-in-Conditional-3.ensures) in
+    search rules
 
 -- the right side of an operator
 pub right_side-returns-in_err-skip-in-Some-clause-told : goal.right_side-returns-in_err-skip-in-Some-clause-told
@@ -280,7 +281,7 @@ right_side-returns-in_err-second-in-None-clause-told g t c =
     let v = c.args.first.now in
     let r = term_of c.args.right.now in
     let among = InRight host op v names n r in
-    let on : GoesOn op v = subst (λ k. MatchOption k (GoesOn op v) (λ w. EndsWithLeft op v (Ok w))) c.in-None.is c.in_ok-left_alone.ensures.ok in
+    let on : GoesRight op v = subst (λ k. MatchOption k (GoesRight op v) (λ w. EndsWithLeft op v (Ok w))) c.in-None.is c.in_ok-left_alone.ensures.ok in
     tells_right host names n n v a c.visit.new.notes.parts.items op r on c.visit.ensures.told
 
 pub right_side-returns-in_ok-skip-in-Some-clause-told : goal.right_side-returns-in_ok-skip-in-Some-clause-told
@@ -305,7 +306,7 @@ right_side-returns-in_ok-second-in-None-clause-told g t c =
     let v = c.args.first.now in
     let r = term_of c.args.right.now in
     let among = InRight host op v names n r in
-    let on : GoesOn op v = subst (λ k. MatchOption k (GoesOn op v) (λ w. EndsWithLeft op v (Ok w))) c.in-None.is c.in_ok-left_alone.ensures.ok in
+    let on : GoesRight op v = subst (λ k. MatchOption k (GoesRight op v) (λ w. EndsWithLeft op v (Ok w))) c.in-None.is c.in_ok-left_alone.ensures.ok in
     tells_right host names n n v a c.visit.new.notes.parts.items op r on c.visit.ensures.told
 
 pub right_side-returns-in_ok-second-in-None-clause-answer : goal.right_side-returns-in_ok-second-in-None-clause-answer
@@ -594,9 +595,11 @@ block-visit-requires g t c =
     let p = c.args.program.now in
     let l = c.loop-name-item.result in
     let within : weight (term_of l.1) ≤ named_weight c.deref-name-items.result.now = line_within c.deref-name-items.result.now c.loop-name.name-index l c.loop-name-item.is c.loop-name-test.true in
-    omega (arith, within, program-parts p, ap named_weight c.deref-name-items.ensures.value)
+    let smaller : 4 * weight (term_of l.1) + 1 < 4 * block_weight (program_term p) + 2 = omega (arith, within, program-parts p, ap named_weight c.deref-name-items.ensures.value) in
+    search rules
 
 pub block-visit-requires-2 : goal.block-visit-requires-2
 block-visit-requires-2 g t c =
     let p = c.args.program.now in
-    omega (arith, program-parts p)
+    let smaller : 4 * weight (term_of p.expr) + 1 < 4 * block_weight (program_term p) + 2 = omega (arith, program-parts p) in
+    search rules
