@@ -43,7 +43,8 @@ pub fn explain<'a>(
     ensures answer { Returns result.answer (AllowsBlock (world_of no_host (context ctx.now))
         (program_term program.now)) }
     // Each part is one that the program evaluates, with what its meaning allows where it stands.
-    ensures parts { All (IsToldOfProgram no_host (context ctx.now) (program_term program.now)) result.parts.items }
+    ensures parts { All (IsToldOfProgram no_host (context ctx.now) (program_term program.now))
+        result.parts.items }
 {
     explain_with(alloc, &NoFunctions, &ctx, program, MOST_PARTS)
 }
@@ -61,7 +62,8 @@ pub fn explain_with<'a, H: Functions, P: ContextProvider>(
 ) -> Explanation<'a>
     ensures answer { Returns result.answer
         (AllowsBlock (world_of (H.host host.now) (P.context provider.now)) (program_term program.now)) }
-    ensures parts { All (IsToldOfProgram (H.host host.now) (P.context provider.now) (program_term program.now))
+    ensures parts { All
+        (IsToldOfProgram (H.host host.now) (P.context provider.now) (program_term program.now))
         result.parts.items }
 {
     let walk = Walk {
