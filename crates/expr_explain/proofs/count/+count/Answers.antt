@@ -13,7 +13,7 @@ count_all-loop-node-preserved t c =
     let i = c.loop-node.node-index in
     let n = c.node-item.result in
     let more : take (i + 1) nodes ≡ take i nodes ++ n ∷ [] = take_more nodes i n c.loop-node-test.true ∙ ap (λ x. take i nodes ++ x ∷ []) (sym c.node-item.is) in
-    omega (arith, ap items_weight more ∙ items-push (take i nodes) n)
+    omega (arith, ap items_weight more ∙ items-push (take i nodes) n, c.in_ok-count.ensures.ok, c.loop-node.invariant)
 
 pub count_inside-returns-in-Map-clause-ok : goal.count_inside-returns-in-Map-clause-ok
 count_inside-returns-in-Map-clause-ok t c =
@@ -29,3 +29,11 @@ count_program_nodes-returns-clause-ok t c =
     counted_as c.count_nodes.result (k + weight (term_of p.expr)) (c.args.before + block_weight (program_term p)) (
     omega (arith, program-parts p, ap named_weight c.deref.ensures.value, c.in_ok-count_named.ensures.ok)
     ) c.count_nodes.ensures.ok
+
+pub count_named-loop-name-preserved : goal.count_named-loop-name-preserved
+count_named-loop-name-preserved t c =
+    let named = c.args.named.now in
+    let i = c.loop-name._name-index in
+    let l = c.loop-name-item.result in
+    let more : take (i + 1) named ≡ take i named ++ l ∷ [] = take_more named i l c.loop-name-test.true ∙ ap (λ x. take i named ++ x ∷ []) (sym c.loop-name-item.is) in
+    omega (arith, ap named_weight more ∙ lines-push (take i named) l, c.in_ok-count.ensures.ok, c.loop-name.invariant)

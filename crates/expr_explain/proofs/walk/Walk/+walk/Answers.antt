@@ -24,6 +24,7 @@ use Rattle.expr_tree.specs.declared.node.Node.{Node}
 use Rattle.expr_tree.specs.declared.node.Program.{Program}
 use Rattle.expr_value.proofs.Answered.{Returns-passed, Returns-under}
 use Rattle.expr_value.specs.Answers.{Answer, Returns}
+use Rattle.expr_value.specs.declared.value.Value as value
 use Rattle.expr_value.specs.declared.value.Value.{Value}
 use Rattle.expr_explain.proofs.walk.Walk.+walk.Goals as goal
 
@@ -64,8 +65,8 @@ visit-returns-then-not-is_refusal-clause-told g t c =
     let b = c.look_into.new.notes.parts.items in
     tells_failing host names n u a b b c.look_into.ensures.told
 
-pub visit-returns-in-Err-clause-told : goal.visit-returns-in-Err-clause-told
-visit-returns-in-Err-clause-told g t c =
+pub visit-returns-else-not-is_refusal-clause-told : goal.visit-returns-else-not-is_refusal-clause-told
+visit-returns-else-not-is_refusal-clause-told g t c =
     let host : Host = g.H.Functions.host c.args.self.now.host.now in
     let names : ContextView = names_inside c.args.layer.now (g.P.ContextProvider.context c.args.self.now.provider.now) in
     let n = c.args.notes.now.count in
@@ -281,7 +282,7 @@ right_side-returns-in_err-second-in-None-clause-told g t c =
     let v = c.args.first.now in
     let r = term_of c.args.right.now in
     let among = InRight host op v names n r in
-    let on : GoesRight op v = subst (λ k. MatchOption k (GoesRight op v) (λ w. EndsWithLeft op v (Ok w))) c.in-None.is c.in_ok-left_alone.ensures.ok in
+    let on : GoesRight op v = subst (λ k. MatchOption k (GoesRight op v) (λ w. EndsWithLeft op v (Ok w))) c.in-None.is c.in_ok-answer.ensures.ok in
     tells_right host names n n v a c.visit.new.notes.parts.items op r on c.visit.ensures.told
 
 pub right_side-returns-in_ok-skip-in-Some-clause-told : goal.right_side-returns-in_ok-skip-in-Some-clause-told
@@ -306,7 +307,7 @@ right_side-returns-in_ok-second-in-None-clause-told g t c =
     let v = c.args.first.now in
     let r = term_of c.args.right.now in
     let among = InRight host op v names n r in
-    let on : GoesRight op v = subst (λ k. MatchOption k (GoesRight op v) (λ w. EndsWithLeft op v (Ok w))) c.in-None.is c.in_ok-left_alone.ensures.ok in
+    let on : GoesRight op v = subst (λ k. MatchOption k (GoesRight op v) (λ w. EndsWithLeft op v (Ok w))) c.in-None.is c.in_ok-answer.ensures.ok in
     tells_right host names n n v a c.visit.new.notes.parts.items op r on c.visit.ensures.told
 
 pub right_side-returns-in_ok-second-in-None-clause-answer : goal.right_side-returns-in_ok-second-in-None-clause-answer
@@ -337,7 +338,7 @@ selected_program-returns-in_err-value-in-Bool-true-clause-told g t c =
     let first = program_term c.args.consequent.now in
     let second = program_term c.args.alternative.now in
     let among = InBranches host v names n first second in
-    tells_branch_one host names n n v a c.block.new.notes.parts.items first second c.in-Bool-true.is c.block.ensures.told
+    tells_branch_one host names n n v a c.block.new.notes.parts.items first second (c.in-Bool-true.is ∙ ap value.Bool c.in-Bool-true.field-0-is) c.block.ensures.told
 
 pub selected_program-returns-in_err-skip_program-in-Bool-true-clause-told : goal.selected_program-returns-in_err-skip_program-in-Bool-true-clause-told
 selected_program-returns-in_err-skip_program-in-Bool-true-clause-told g t c =
@@ -350,7 +351,7 @@ selected_program-returns-in_err-skip_program-in-Bool-true-clause-told g t c =
     let second = program_term c.args.alternative.now in
     let among = InBranches host v names n first second in
     let b = c.block.new.notes.parts.items in
-    tells_same host among a b c.skip_program.new.self.parts.items c.skip_program.ensures.parts (tells_branch_one host names n n v a b first second c.in-Bool-true.is c.block.ensures.told)
+    tells_same host among a b c.skip_program.new.self.parts.items c.skip_program.ensures.parts (tells_branch_one host names n n v a b first second (c.in-Bool-true.is ∙ ap value.Bool c.in-Bool-true.field-0-is) c.block.ensures.told)
 
 pub selected_program-returns-in_ok-skip_program-in-Bool-true-clause-told : goal.selected_program-returns-in_ok-skip_program-in-Bool-true-clause-told
 selected_program-returns-in_ok-skip_program-in-Bool-true-clause-told g t c =
@@ -363,7 +364,7 @@ selected_program-returns-in_ok-skip_program-in-Bool-true-clause-told g t c =
     let second = program_term c.args.alternative.now in
     let among = InBranches host v names n first second in
     let b = c.block.new.notes.parts.items in
-    tells_same host among a b c.skip_program.new.self.parts.items c.skip_program.ensures.parts (tells_branch_one host names n n v a b first second c.in-Bool-true.is c.block.ensures.told)
+    tells_same host among a b c.skip_program.new.self.parts.items c.skip_program.ensures.parts (tells_branch_one host names n n v a b first second (c.in-Bool-true.is ∙ ap value.Bool c.in-Bool-true.field-0-is) c.block.ensures.told)
 
 pub selected_program-returns-in_err-skip_program-in-Bool-false-clause-told : goal.selected_program-returns-in_err-skip_program-in-Bool-false-clause-told
 selected_program-returns-in_err-skip_program-in-Bool-false-clause-told g t c =
@@ -390,7 +391,7 @@ selected_program-returns-in_ok-skip_program-in-Bool-false-clause-told g t c =
     let b = c.skip_program-in-Bool-false.new.self in
     let d = c.block-in-Bool-false.new.notes.parts.items in
     subst (λ xs. TellsOf host among xs d) c.skip_program-in-Bool-false.ensures.parts (
-    tells_branch_two host names n b.count v b.parts.items d first second c.in-Bool-false.is c.in_ok-skip_program-in-Bool-false.ensures.count c.block-in-Bool-false.ensures.told
+    tells_branch_two host names n b.count v b.parts.items d first second (c.in-Bool-false.is ∙ ap value.Bool c.in-Bool-false.field-0-is) c.in_ok-skip_program-in-Bool-false.ensures.count c.block-in-Bool-false.ensures.told
     )
 
 pub selected_program-returns-in_default-clause-told : goal.selected_program-returns-in_default-clause-told
