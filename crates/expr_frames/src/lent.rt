@@ -23,6 +23,8 @@ impl<'n, M: Meter> Meter for Lent<'n, M> {
 
     ghost limit = { M.limit };
 
+    ghost pause = { λ lent. M.pause lent.meter.now };
+
     #[inline(always)]
     fn counts(&self) -> bool {
         self.meter.counts()

@@ -199,6 +199,8 @@ impl Meter for Allowance {
 
     ghost limit = { λ limit. limit };
 
+    ghost pause = { λ _. 0 };
+
     #[inline(always)]
     fn counts(&self) -> bool {
         true
