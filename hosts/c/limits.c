@@ -1,6 +1,9 @@
-/* What exprlang.h promises of limits. Says the line of the first check that fails, and ends with 1. */
+/* What exprlang.h promises of limits. Says the line of the first check that fails, and ends with 1. With a number, predicates nest so
+ * many levels in place of 100,000: under memcheck these take half a minute. */
 #include "exprlang.h"
+#include <pthread.h>
 #include <stdio.h>
+#include <stdlib.h>
 #include <string.h>
 #define CHECK(what) do { if (!(what)) { printf("%s:%d: %s\n", __FILE__, __LINE__, #what); return 1; } } while (0)
 #define ALONE EXPR_NO_ENVIRONMENT, EXPR_NO_CONTEXT
@@ -70,6 +73,48 @@ static int untrusted(expr_engine *engine) {
     CHECK(expr_eval(engine, "40 + 2", EXPR_Z, ALONE, &answer) == EXPR_OK);
     CHECK(expr_look(engine, &answer) == EXPR_OK && answer.number == 42);
     return 0;
+}
+
+enum { LEVELS = 100000 };
+static size_t levels = LEVELS;
+
+/* Predicates one inside another take no stack, however many there are: within limits that allow them, and without limits. */
+static int nested(void) {
+    static const expr_limits wide = {sizeof wide, INT64_MAX, INT64_MAX, INT64_MAX, INT64_MAX, INT64_MAX};
+    static char text[12 * LEVELS + 5];
+    expr_engine *engine = expr_open();
+    expr_program program;
+    expr_answer answer;
+    int64_t steps;
+    CHECK(engine);
+    add(text, sizeof text, levels, "all([1], {");
+    add(text, sizeof text, 1, "true");
+    add(text, sizeof text, levels, "})");
+    CHECK(strlen(text) == 12 * levels + 4);
+    CHECK(expr_set_limits(engine, &wide) == EXPR_OK && expr_compile(engine, text, EXPR_Z, &program, NULL) == EXPR_OK);
+    CHECK(expr_run(engine, program, ALONE, &answer) == EXPR_OK && answer.kind == EXPR_BOOL && answer.number == 1);
+    CHECK(expr_used(engine, &steps, NULL) == EXPR_OK && steps > (int64_t)levels);
+    CHECK(expr_set_unlimited(engine) == EXPR_OK);
+    CHECK(expr_run(engine, program, ALONE, &answer) == EXPR_OK && answer.kind == EXPR_BOOL && answer.number == 1);
+    CHECK(expr_used(engine, &steps, NULL) == EXPR_OK && steps == 0);
+    expr_close(engine);
+    return 0;
+}
+
+static void *nested_here(void *failed) {
+    *(int *)failed = nested();
+    return NULL;
+}
+
+/* The same where the stack is 8 MB, whatever that of the process is. */
+static int nested_in_8_megabytes(void) {
+    pthread_attr_t attributes;
+    pthread_t thread;
+    int failed = 1;
+    CHECK(!pthread_attr_init(&attributes) && !pthread_attr_setstacksize(&attributes, 8 << 20));
+    CHECK(!pthread_create(&thread, &attributes, nested_here, &failed) && !pthread_join(thread, NULL));
+    pthread_attr_destroy(&attributes);
+    return failed;
 }
 
 /* The numbers of limits, in the order of expr_limits. */
@@ -319,11 +364,12 @@ static int words(void) {
     return 0;
 }
 
-int main(void) {
+int main(int count, char **given) {
     expr_engine *engine = expr_open();
     CHECK(engine);
-    int failed = untrusted(engine) || exactly(engine) || settings(engine) || waiting(engine) || uses(engine) ||
-                 uses_of_the_last() || words();
+    if (count > 1) levels = strtoul(given[1], NULL, 10);
+    int failed = untrusted(engine) || nested_in_8_megabytes() || exactly(engine) || settings(engine) || waiting(engine) ||
+                 uses(engine) || uses_of_the_last() || words();
     expr_close(engine);
     if (!failed) printf("limits: ok\n");
     return failed;

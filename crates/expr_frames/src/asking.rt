@@ -22,6 +22,8 @@ impl<'n, M: Meter> Meter for Asking<'n, M> {
 
     ghost limit = { M.limit };
 
+    ghost pause = { λ asking. M.pause asking.meter };
+
     #[inline(always)]
     fn counts(&self) -> bool {
         self.meter.counts()

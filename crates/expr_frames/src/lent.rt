@@ -23,6 +23,8 @@ impl<'n, M: Meter> Meter for Lent<'n, M> {
 
     ghost limit = { M.limit };
 
+    ghost pause = { λ lent. M.pause lent.meter.now };
+
     #[inline(always)]
     fn counts(&self) -> bool {
         self.meter.counts()
@@ -94,13 +96,17 @@ impl<'n> Lent<'n, Allowance> {
     ///
     /// # Errors
     ///
-    /// Returns the limit that the value would exceed.
+    /// Returns the limit that the value would exceed, and records it.
     #[inline(always)]
-    pub fn check_one(&self, size: u64) -> Result<(), Limit>
+    pub fn check_one(&mut self, size: u64) -> Result<(), Limit>
         ensures kept { IfOk result (λ _. (left : Room)
-            × Holds 1 0 (with_size size (⟦<Lent<'n, Allowance> as Meter>⟧.metered self.now).room) (Ok left)) }
+            × Holds 1 0 (with_size size (⟦<Lent<'n, Allowance> as Meter>⟧.metered self.old).room) (Ok left)) }
+        ensures same { IfOk result (λ _. ⟦<Lent<'n, Allowance> as Meter>⟧.metered self.new
+            ≡ ⟦<Lent<'n, Allowance> as Meter>⟧.metered self.old) }
         ensures exceeded { IfErr result (λ limit.
-            Holds 1 0 (with_size size (⟦<Lent<'n, Allowance> as Meter>⟧.metered self.now).room) (Err limit)) }
+            Holds 1 0 (with_size size (⟦<Lent<'n, Allowance> as Meter>⟧.metered self.old).room) (Err limit)) }
+        ensures noted { IfErr result (λ limit.
+            (⟦<Lent<'n, Allowance> as Meter>⟧.metered self.new).stopped ≡ Some limit) }
     {
         self.meter.check_one(size)
     }

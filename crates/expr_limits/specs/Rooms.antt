@@ -1,5 +1,5 @@
 -- Counting a run within limits: what is left of them.
-use Rattle.std.specs.Prelude.{◌≡◌, ℕ, ◌+◌, ◌-◌, ◌<◌, ◌≤◌, Bool, true, false, Option, Some, None, Ok, Err}
+use Rattle.std.specs.Prelude.{◌≡◌, ℕ, ◌+◌, ◌-◌, ◌<◌, ◌≤◌, max, Bool, true, false, Option, Some, None, Ok, Err}
 use Rattle.expr_limits.specs.Sizes.{depth, inner_weight, weight}
 use Rattle.expr_limits.specs.Counting.{Charge, Counting}
 use Rattle.expr_limits.specs.declared.limit.Limit.TheVariants.{Steps, Size, Depth}
@@ -49,6 +49,11 @@ is_limited (limited s w d) = true
 abbrev pub least_steps : Room → ℕ
 least_steps unlimited = 0
 least_steps (limited s w d) = s
+
+-- A piece of a run is over: at least `steps` of those that were left at its beginning are taken, and at least one. A
+-- run that has no more steps than the piece doesn't pause.
+abbrev pub IsDueAfter : (steps begun left : ℕ) → Type 0
+IsDueAfter steps begun left = (max steps 1 < begun) × (left + max steps 1 ≤ begun)
 
 -- more steps are needed than are left
 abbrev pub Overruns : Charge Room

@@ -70,19 +70,21 @@ impl Allowance {
     ///
     /// # Errors
     ///
-    /// Returns the limit that the value would exceed.
+    /// Returns the limit that the value would exceed, and records it.
     #[inline(always)]
-    pub fn check_one(&self, size: u64) -> Result<(), Limit>
+    pub fn check_one(&mut self, size: u64) -> Result<(), Limit>
         ensures kept { IfOk result (λ _. (left : Room)
-            × Holds 1 0 (with_size size (⟦<Allowance as Meter>⟧.metered self.now).room) (Ok left)) }
+            × Holds 1 0 (with_size size (⟦<Allowance as Meter>⟧.metered self.old).room) (Ok left)) }
+        ensures same { IfOk result (λ _. self.new ≡ self.old) }
         ensures exceeded { IfErr result
-            (λ limit. Holds 1 0 (with_size size (⟦<Allowance as Meter>⟧.metered self.now).room) (Err limit)) }
+            (λ limit. Holds 1 0 (with_size size (⟦<Allowance as Meter>⟧.metered self.old).room) (Err limit)) }
+        ensures noted { IfErr result (λ limit. (⟦<Allowance as Meter>⟧.metered self.new).stopped ≡ Some limit) }
     {
         if self.steps == 0 {
-            return Err(Limit::Steps);
+            return self.pass(Limit::Steps);
         }
         if size == 0 {
-            return Err(Limit::Size);
+            return self.pass(Limit::Size);
         }
         Ok(())
     }
@@ -198,6 +200,8 @@ impl Meter for Allowance {
     ghost metered = { λ b. record { room = limited b.steps b.size b.depth; stopped = b.passed } };
 
     ghost limit = { λ limit. limit };
+
+    ghost pause = { λ _. 0 };
 
     #[inline(always)]
     fn counts(&self) -> bool {

@@ -1,7 +1,7 @@
 //! What is left of the limits of a run that may pause, and whose use is told.
-ghost use Rattle.std.specs.Prelude.{◌≡◌, ◌≤◌, None};
+ghost use Rattle.std.specs.Prelude.{◌≡◌, ◌<◌, ◌≤◌, ◌↔◌, ℕ, None};
 ghost use Rattle.expr_limits.specs.MeterView.{MeterView};
-ghost use Rattle.expr_limits.specs.Rooms.{limited, size_left};
+ghost use Rattle.expr_limits.specs.Rooms.{IsDueAfter, least_steps, limited, size_left};
 
 use crate::allowance::Allowance;
 use crate::limit::Limit;
@@ -33,16 +33,16 @@ impl Budget {
         }
     }
 
-    /// Makes the run pause once it has taken this many more steps, if it has more than that.
+    /// Makes the run pause once it has taken this many more steps, if it has more than that. 0 counts as 1, so that
+    /// each piece of a run takes a step.
     pub fn pause_after(&mut self, steps: u64)
-        ensures { ⟦<Budget as Meter>⟧.metered self.new ≡ ⟦<Budget as Meter>⟧.metered self.old }
+        ensures same { ⟦<Budget as Meter>⟧.metered self.new ≡ ⟦<Budget as Meter>⟧.metered self.old }
+        ensures pauses { (left : ℕ) → left < ⟦<Budget as Meter>⟧.pause self.new ↔ IsDueAfter steps
+            (least_steps (⟦<Budget as Meter>⟧.metered self.old).room) left }
     {
         let left = self.left.steps_left();
-        self.pause = if steps < left {
-            (left - steps).saturating_add(1)
-        } else {
-            0
-        };
+        let steps = steps.max(1);
+        self.pause = if steps < left { left - steps + 1 } else { 0 };
     }
 
     /// The least size that was left so far. The run has held no more at once than what this lacks of the limit.
@@ -59,6 +59,8 @@ impl Meter for Budget {
     ghost metered = { λ budget. ⟦<Allowance as Meter>⟧.metered budget.left };
 
     ghost limit = { λ limit. limit };
+
+    ghost pause = { λ budget. budget.pause };
 
     #[inline(always)]
     fn counts(&self) -> bool {

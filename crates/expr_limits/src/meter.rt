@@ -1,5 +1,5 @@
 //! Counting what a run uses.
-ghost use Rattle.std.specs.Prelude.{◌≡◌, ◌+◌, ◌≤◌};
+ghost use Rattle.std.specs.Prelude.{◌≡◌, ◌+◌, ◌<◌, ◌≤◌, ◌↔◌, ℕ, IsTrue};
 ghost use Rattle.expr_limits.specs.Sizes.{depth, inner_weight, weight};
 ghost use Rattle.expr_limits.specs.MeterView.{Charges, MeterView};
 ghost use Rattle.expr_limits.specs.Rooms.{TakesWork, Holds, Overruns, Takes, is_limited, least_steps, size_left, with_size};
@@ -28,8 +28,12 @@ pub trait Meter: Drop {
     fn steps_left(&self) -> u64
         ensures { result ≡ least_steps (metered self.now).room };
 
+    /// The run pauses once fewer steps than this are left. 0 means that it doesn't pause.
+    ghost pause: { Self → ℕ };
+
     /// Whether the run pauses now, though it could go on.
-    fn is_due(&self) -> bool;
+    fn is_due(&self) -> bool
+        ensures { IsTrue result ↔ least_steps (metered self.now).room < pause self.now };
 
     /// Charges the entry of a block: one step and one unit of size for each instruction.
     fn enter(&mut self, instructions: usize) -> Result<(), Self::Stop>

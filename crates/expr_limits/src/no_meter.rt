@@ -20,6 +20,8 @@ impl Meter for NoMeter {
 
     ghost limit = { λ _. Steps };
 
+    ghost pause = { λ _. 0 };
+
     #[inline(always)]
     fn counts(&self) -> bool {
         false

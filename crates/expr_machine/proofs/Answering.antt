@@ -1,9 +1,9 @@
 -- What comes of a result that a frame takes at once, and of its next item.
-use Rattle.std.proofs.Common.{◌≡◌, ℕ, ◌+◌, ◌≤◌, Bool, IsTrue, false, List, [], ◌∷◌, ◌++◌, Some, Ok, Err, refl, sym, ap, ◌∙◌, subst, length, map, take, arith}
+use Rattle.std.proofs.Common.{◌≡◌, ℕ, ◌+◌, ◌≤◌, Bool, IsTrue, true, false, List, [], ◌∷◌, ◌++◌, Some, Ok, Err, refl, sym, ap, ◌∙◌, subst, length, map, take, arith}
 use Rattle.std.specs.Prelude.{slice_get}
 use Rattle.std.proofs.lemmas.List.{length-map, length-take-le, map-append, take-append-le, take-take, take_all}
-use Rattle.expr_code.specs.CallBinds.{bound_arg, bound_count, bound_helds}
-use Rattle.expr_code.specs.Held.{Held, lend, lent, made, settle}
+use Rattle.expr_code.specs.CallBinds.{bound_arg, bound_count, bound_helds, bound_item}
+use Rattle.expr_code.specs.Held.{Held, Owner, lend, lent, made, own, settle}
 use Rattle.expr_code.specs.Instructions.{Op}
 use Rattle.expr_code.specs.declared.binds.Binds.{Binds}
 use Rattle.expr_code.specs.declared.binds.Binds.TheVariants.{Item, Index, Acc}
@@ -21,14 +21,15 @@ use Rattle.expr_limits.specs.Rooms.{Room, rooms, size_left}
 use Rattle.expr_limits.specs.declared.limit.Limit.{Limit}
 use Rattle.expr_machine.specs.Taking.{IsTold}
 use Rattle.expr_meaning.specs.World.{World}
-use Rattle.expr_predicates.specs.Accumulators.{Awaits, RunRepresents, pending_args, remaining_items}
+use Rattle.expr_predicates.specs.Accumulators.{Awaits, RunRepresents, has_lent_items, pending_args, remaining_items}
 use Rattle.expr_predicates.specs.Folds.{Fold, ItemAnswer, args_about, first_place, has_stopped, number, refuses_answer}
-use Rattle.expr_predicates.specs.Plains.{plain_value}
+use Rattle.expr_predicates.specs.Plains.{IsIntegerItem, plain_value}
 use Rattle.expr_predicates.specs.declared.run.Plain.{Plain}
+use Rattle.expr_predicates.specs.declared.run.Plain.TheVariants as plain
 use Rattle.expr_predicates.specs.declared.run.PredicateRun.{PredicateRun}
 use Rattle.expr_predicates.proofs.Stopped.{acc_tells_index, acc_told, index_told, represents_rest, stops_alike}
 use Rattle.expr_stack.specs.Cells.{AreWithin}
-use Rattle.expr_stack.specs.Held.{held_of, helds, slot_helds}
+use Rattle.expr_stack.specs.Held.{held_of, helds, owner_if, slot_helds}
 use Rattle.expr_stack.specs.Memories.{IsBoundAt, MemoryView}
 use Rattle.expr_stack.specs.Operands.{plain_cells}
 use Rattle.expr_stack.specs.declared.cell.Cell.TheVariants as cell
@@ -45,6 +46,7 @@ pub record Adds (old new : PredicateRun) (x v : Value) (is_last : Bool) : Type 0
 pub record NextOut (old new : PredicateRun) (x : Value) : Type 0 where
   pub out : (t : Fold) (rs : List ItemAnswer) → RunRepresents old t rs → has_stopped t rs ≡ false → (remaining_items old ≡ x ∷ remaining_items new) × Awaits new t rs
   pub question : (t : Fold) (rs : List ItemAnswer) → RunRepresents old t rs → args_about t rs x ≡ pending_args new x
+  pub lent : has_lent_items new ≡ has_lent_items old
 
 -- a memory in which a call's item is bound anew
 pub record BindsAgain (f : Waiting) (m n : MemoryView) (item : Plain) (place : ℕ) (acc : Plain) : Type 0 where
@@ -81,6 +83,22 @@ binds_held kept item place acc Acc q is _ i a light =
     ap (λ x. lend x ∷ lend (number place) ∷ lend (plain_value acc) ∷ []) (sym is)
     ∙ ap (λ h. lend q.item ∷ h ∷ lend (plain_value acc) ∷ []) (sym (ap bound_arg (a refl).0 ∙ number_held place))
     ∙ ap (λ h. lend q.item ∷ bound_arg q.index ∷ h ∷ []) (sym (ap bound_arg (a refl).1 ∙ light_held (plain_value acc) light))
+
+-- an item that needs no allocation is bound alike, whoever owns it
+same_bound : (o : Owner) (b : Binds) (q : PredicateArgsView) → bound_item o q.item ≡ lend q.item → bound_helds lent b q ≡ bound_helds o b q
+same_bound o Item q e = ap (λ h. h ∷ []) (sym e)
+same_bound o Index q e = ap (λ h. h ∷ bound_arg q.index ∷ []) (sym e)
+same_bound o Acc q e = ap (λ h. h ∷ bound_arg q.index ∷ bound_arg q.acc ∷ []) (sym e)
+
+integer_bound : (item : Plain) → IsIntegerItem item → bound_item own (plain_value item) ≡ lend (plain_value item)
+unfolding value.out-Value denote.Hole.Carrier.out
+integer_bound (plain.Integer n) is = refl
+integer_bound (plain.Bool b) is = absurd is
+integer_bound (plain.Lent r) is = absurd is
+
+pub plain_bound : (is_lent : Bool) (item : Plain) → (is_lent ≡ false → IsIntegerItem item) → bound_item (owner_if is_lent) (plain_value item) ≡ lend (plain_value item)
+plain_bound true item is = refl
+plain_bound false item is = integer_bound item (is refl)
 
 -- what is bound is what the fold says
 told_index : (b : Binds) (t : Fold) (rs : List ItemAnswer) (x : Value) (q : PredicateArgsView) (place : ℕ) → IsTold b t → b ≡ Index → args_about t rs x ≡ q → place ≡ first_place t + length rs → q.index ≡ Some (number place)
@@ -195,7 +213,7 @@ module _ (world : World) (blocks : List (List Op)) (counted after_counted : Bool
         (waits.0.keeps (same c) given_now.0 waits.0.replies given_now.4)
 
   module _ (run next : PredicateRun) (after after2 : Room) (keeps : Keeps world blocks f s.number (cut f s.memory) (item_of f s.memory) (plain_value acc) now (Ok after))
-      (adds : Adds f.run run (item_of f s.memory) (plain_value acc) false) (item : Plain) (out : NextOut run next (plain_value item)) where
+      (adds : Adds f.run run (item_of f s.memory) (plain_value acc) false) (item : Plain) (out : NextOut run next (plain_value item)) (own_item : bound_item f.items (plain_value item) ≡ lend (plain_value item)) where
     goes_on : (t : Fold) (rs : List ItemAnswer) → RunRepresents run t rs → has_stopped t rs ≡ false
     goes_on t rs stands = let g = given_now run false adds in stops_alike run t g.0 rs g.1 stands g.2 ∙ g.3
 
@@ -207,7 +225,7 @@ module _ (world : World) (blocks : List (List Op)) (counted after_counted : Bool
     pub quick_stops_at_next : (limit : Limit) → rooms.enters (length (ops_of blocks s.number)) after (Err limit) → Comes world blocks s now (stops limit)
     quick_stops_at_next limit enters =
         quick_answers world blocks s f fs (plain_value acc) now ends stack waiting run after false keeps adds (stops limit)
-        (again_stops world blocks s (running run f) fs s.number (cut f s.memory) s.memory lent (pending_args next (plain_value item)) (plain_value item) next after limit next_asked ready.place.block enters)
+        (again_stops world blocks s (running run f) fs s.number (cut f s.memory) s.memory (pending_args next (plain_value item)) (plain_value item) next after limit next_asked ready.place.block enters)
 
     module _ (n : MemoryView) (place : ℕ) (b : BindsAgain f s.memory n item place acc) (at : (t : Fold) (rs : List ItemAnswer) → Awaits next t rs → place ≡ first_place t + length rs)
         (told : (t : Fold) (rs : List ItemAnswer) → Awaits f.run t rs → IsTold f.binds t) (enters : rooms.enters (length (ops_of blocks s.number)) after (Ok after2)) where
@@ -217,7 +235,7 @@ module _ (world : World) (blocks : List (List Op)) (counted after_counted : Bool
       q : PredicateArgsView
       q = pending_args next (plain_value item)
 
-      cells_held : helds n.kept (plain_cells item place acc f.binds) ≡ bound_helds lent f.binds (pending_args next (plain_value item))
+      cells_held : helds n.kept (plain_cells item place acc f.binds) ≡ bound_helds f.items f.binds (pending_args next (plain_value item))
       cells_held =
           let g = given_now run false adds in
           let o = next_asked g.0 g.1 g.2 in
@@ -228,17 +246,18 @@ module _ (world : World) (blocks : List (List Op)) (counted after_counted : Bool
           (λ e. told_acc f.binds g.0 waits.0.replies (plain_value item) (item_of f s.memory) (plain_value acc) (pending_args next (plain_value item)) place t e
           (subst (λ rs. args_about g.0 rs (plain_value item) ≡ pending_args next (plain_value item)) g.5 o.1) (subst (λ rs. place ≡ first_place g.0 + length rs) g.5 where_is))
           light
+          ∙ same_bound f.items f.binds (pending_args next (plain_value item)) own_item
 
-      bound : slot_helds n ≡ slot_helds (cut f s.memory) ++ bound_helds lent f.binds (pending_args next (plain_value item))
-      bound = again_helds f s.memory n item place acc b waits.0.stands.slots waits.0.stands.places (bound_helds lent f.binds (pending_args next (plain_value item))) cells_held
+      bound : slot_helds n ≡ slot_helds (cut f s.memory) ++ bound_helds f.items f.binds (pending_args next (plain_value item))
+      bound = again_helds f s.memory n item place acc b waits.0.stands.slots waits.0.stands.places (bound_helds f.items f.binds (pending_args next (plain_value item))) cells_held
 
       cuts : cut f n ≡ cut f s.memory
       cuts = again_cut f s.memory n item place acc b waits.0.stands.slots waits.0.stands.places
 
-      front_bound : slot_helds n ≡ take f.slot (slot_helds (cut f s.memory)) ++ bound_helds lent f.binds (pending_args next (plain_value item))
+      front_bound : slot_helds n ≡ take f.slot (slot_helds (cut f s.memory)) ++ bound_helds f.items f.binds (pending_args next (plain_value item))
       front_bound =
           bound
-          ∙ ap (λ hs. hs ++ bound_helds lent f.binds (pending_args next (plain_value item)))
+          ∙ ap (λ hs. hs ++ bound_helds f.items f.binds (pending_args next (plain_value item)))
           (sym (take_all f.slot (slot_helds (cut f s.memory)) (omega (arith, length-map (take f.slot s.memory.slots) (held_of (take f.places s.memory.kept)), length-take-le f.slot s.memory.slots (omega (arith, waits.0.stands.slots))))))
 
       cut_long : f.slot ≤ length (cut f s.memory).slots
@@ -247,15 +266,15 @@ module _ (world : World) (blocks : List (List Op)) (counted after_counted : Bool
       pub quick_comes : (e : Ending Room) → Comes world blocks Now after2 e → Comes world blocks s now e
       quick_comes e p =
           quick_answers world blocks s f fs (plain_value acc) now ends stack waiting run after false keeps adds e
-          (again_comes world blocks s (running run f) fs s.number (cut f s.memory) n lent (pending_args next (plain_value item)) (plain_value item) next after after2 next_asked cuts
-          (bound_is f (cut f s.memory) n lent (pending_args next (plain_value item)) cut_long front_bound) bound ready.place.block enters e p)
+          (again_comes world blocks s (running run f) fs s.number (cut f s.memory) n (pending_args next (plain_value item)) (plain_value item) next after after2 next_asked cuts
+          (bound_is f (cut f s.memory) n f.items (pending_args next (plain_value item)) cut_long front_bound) bound ready.place.block enters e p)
 
       pub quick_ready : IsReady after_counted blocks Now
       quick_ready =
           let g = given_now run false adds in
           let o = next_asked g.0 g.1 g.2 in
           again_ready after_counted blocks s f fs s.number s.memory n next (size_left after) top_stands cuts
-          (bound_long f (cut f s.memory) n lent (pending_args next (plain_value item)) cut_long front_bound)
+          (bound_long f (cut f s.memory) n f.items (pending_args next (plain_value item)) cut_long front_bound)
           (again_far f s.memory n item place acc b waits.0.stands.slots waits.0.stands.places)
           (again_within f s.memory n item place acc b waits.0.stands.slots waits.0.stands.places waits.0.stands.bound)
           (again_item f s.memory n item place acc b waits.0.stands.slots waits.0.stands.places)

@@ -5,7 +5,6 @@ use Rattle.std.specs.Prelude.{slice_index_or, unwrap_or, if◌then◌else◌}
 use Rattle.std.specs.Result.{IsErrAnd}
 use Rattle.std.specs.Vec.{with_item}
 use Rattle.expr_code.specs.CallBinds.{bound_count, bound_helds}
-use Rattle.expr_code.specs.Held.{Owner}
 use Rattle.expr_code.specs.Instructions.{Op}
 use Rattle.expr_context.specs.Context.{ContextView}
 use Rattle.expr_costs.specs.Retention.{RetainsAs, is_last, retained_by}
@@ -263,8 +262,8 @@ module _ (world : World) (blocks : List (List Op)) where
           (next_stops (is_limited was.room) world blocks Before f fs s.number k.was k.waits (pending_args mid x) mid was.room limit (next_bound f.run mid mid x question out (λ t rs w. w) refl) enters)
 
       -- its block begins
-      module _ (run : PredicateRun) (awaits : (t : Fold) (rs : List ItemAnswer) → Awaits mid t rs → Awaits run t rs) (left : remaining_items run ≡ remaining_items mid) (n : MemoryView) (o : Owner)
-          (binds : BindsItem f.slot s.memory n (bound_helds o f.binds (pending_args mid x))) (is : MeterView) (enters : (is.stopped ≡ was.stopped) × rooms.enters (length (ops_of blocks s.number)) was.room (Ok is.room)) where
+      module _ (run : PredicateRun) (awaits : (t : Fold) (rs : List ItemAnswer) → Awaits mid t rs → Awaits run t rs) (left : remaining_items run ≡ remaining_items mid) (n : MemoryView)
+          (binds : BindsItem f.slot s.memory n (bound_helds f.items f.binds (pending_args mid x))) (is : MeterView) (enters : (is.stopped ≡ was.stopped) × rooms.enters (length (ops_of blocks s.number)) was.room (Ok is.room)) where
         keeps_next : IsTrue (is_limited was.room) → (t : Fold) (rs : List ItemAnswer) → Awaits run t rs → RetainsAs f.keeps t
         keeps_next h t rs w =
             let first : Awaits run k.fold k.replies = awaits k.fold k.replies (out k.fold k.replies k.given).1 in
@@ -274,7 +273,7 @@ module _ (world : World) (blocks : List (List Op)) where
         next_begins =
             done_from world blocks (Passes world blocks s.begun f.number fs (cut f k.was) (FrameGoesOn world blocks f s.number (cut f k.was) was.room)) (ComesFoldingOn world blocks s was.room) from_frame is
             (begun_at s.number (length (ops_of blocks s.number)) n (asking run (size_left was.room) f ∷ fs) s)
-            (next_done world blocks Before f fs s.memory n was is k.cuts on k.waits o (pending_args mid x) binds run (next_bound f.run mid run x question out awaits left) k.fold k.replies k.given keeps_next enters)
+            (next_done world blocks Before f fs s.memory n was is k.cuts on k.waits (pending_args mid x) binds run (next_bound f.run mid run x question out awaits left) k.fold k.replies k.given keeps_next enters)
 
         pub next_asked : (at : ℕ) (st : List Cell) (gs : List Waiting) → at ≡ length (ops_of blocks s.number) → st ≡ [] → gs ≡ asking run (size_left was.room) f ∷ fs
             → Done world blocks (ComesFoldingOn world blocks s was.room) is (record s { at = at; stack = st; memory = n; frames = gs })

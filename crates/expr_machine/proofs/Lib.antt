@@ -16,6 +16,7 @@ pub mod Jumps
 pub mod Keepings
 pub mod Lights
 pub mod Names
+pub mod Noted
 pub mod Parts
 pub mod Patterns
 pub mod Refused

@@ -21,7 +21,7 @@ use Rattle.expr_meaning.proofs.Ran.{runs_of_answers}
 use Rattle.expr_meaning.specs.Allows.{AllowsCall, BranchMayReturnLayer}
 use Rattle.expr_meaning.specs.Calls.{AllowsBuiltin, AllowsOnValues, ByBuiltin, ByName}
 use Rattle.expr_meaning.specs.CodeRuns.{AllowsAct, AsksBlock, CodeAnswers, Later, looked_with}
-use Rattle.expr_meaning.specs.Counts.{AfterAnswer, AnswersThen, AsksHeld, BranchThenLayer, ByOwner, CodeCounts, Costs, Counts, CountsEnd, CountsLater, CountsRest, CountsRuns, LoadsHeld, Next, NilThenLayer, PopsHeld, act_held, field_held}
+use Rattle.expr_meaning.specs.Counts.{AfterAnswer, AnswersThen, AsksHeld, BranchThenLayer, ByOwner, CodeCounts, Costs, Counts, CountsEnd, CountsLater, CountsRest, CountsRuns, LoadsHeld, Next, NilThenLayer, PopsHeld, act_held, field_held, items_owner}
 use Rattle.expr_meaning.specs.HigherOrder.{CountsAsking, CountsCall, CountsFold, CountsFoldStart, Predicate, replaces, retained_first, retained_of}
 use Rattle.expr_meaning.specs.Host.{Host}
 use Rattle.expr_meaning.specs.Rest.{ByNilLayer, Does, Ends, Loads, Next as Next_run, Pops, Rest, Runs}
@@ -148,17 +148,17 @@ module _ (costs : Costs) where
       on_top held v is rest slots p = goes 0 (held v ∷ rest) slots (subst (λ w. next' 0 (w ∷ values rest) (values slots) a) (sym is) p)
 
       module _ (key : List ℕ) (block slot : ℕ) (binds : Binds) (slots hs rest : List Held) where
-        -- what is asked of a block, of which one way is enough
+        -- what is asked of a block
         abbrev Asks : Predicate Room
-        Asks = AsksHeld rooms costs world counts block slot binds slots
+        Asks = AsksHeld rooms costs world counts (items_owner hs) block slot binds slots
 
         abbrev Asks' : PredicateArgsView → Answer → Type 0
         Asks' q = later block (take slot (values slots) ++ bound_values binds q)
 
         asked : (q : PredicateArgsView) (b : Answer) → Asks' q b → Ample b (Alone (Asks q))
         asked q b p =
-            let bound : List Held = take slot slots ++ bound_helds own binds q in
-            ample_more b (Alone (counts block bound)) (Alone (Asks q)) (λ first now e r. (own, r)) (has block bound b (subst (λ l. later block l b) (sym (values-entered slots slot own binds q)) p))
+            let owner : Owner = items_owner hs in
+            has block (take slot slots ++ bound_helds owner binds q) b (subst (λ l. later block l b) (sym (values-entered slots slot owner binds q)) p)
 
         abbrev Call : Room → Ending Room → Type 0
         Call = CountsCall rooms world.host key (values hs) Asks
@@ -222,7 +222,7 @@ module _ (costs : Costs) where
           let work = λ (hs : List Held). costs.work (asks key n block slot binds) (values hs) in
           let room = λ (hs : List Held). costs.room (asks key n block slot binds) (values hs) in
           pops_ample a n stack [] (
-          λ hs rest. CountsAsking rooms world.host key hs (rooms.works (work hs) (room hs)) (AsksHeld rooms costs world counts block slot binds slots) (λ v. next 0 (made v ∷ rest) (take slot slots))
+          λ hs rest. CountsAsking rooms world.host key hs (rooms.works (work hs) (room hs)) (AsksHeld rooms costs world counts (items_owner hs) block slot binds slots) (λ v. next 0 (made v ∷ rest) (take slot slots))
           ) (λ vs rest. Then (AsksBlock world later key vs block slot binds (values slots)) (λ v. next' 0 (v ∷ rest) (take slot (values slots)))) (
           λ hs rest. asking_ample key block slot binds slots hs rest (work hs) (room hs)
           ) p

@@ -12,7 +12,7 @@ use Rattle.expr_limits.specs.declared.limit.Limit.{Limit}
 use Rattle.expr_meaning.proofs.Dispatching.{ByName-either}
 use Rattle.expr_meaning.specs.Calls.{AllowsOnValues, ByName}
 use Rattle.expr_meaning.specs.CodeRuns.{AllowsAct, looked_with}
-use Rattle.expr_meaning.specs.Counts.{AfterAnswer, AnswersThen, AsksHeld, BranchThenLayer, ByOwner, CodeCounts, Costs, Counts, CountsEnd, CountsLater, CountsRest, CountsRuns, LoadsHeld, Next, NilThenLayer, PopsHeld, act_held, field_held}
+use Rattle.expr_meaning.specs.Counts.{AfterAnswer, AnswersThen, AsksHeld, BranchThenLayer, ByOwner, CodeCounts, Costs, Counts, CountsEnd, CountsLater, CountsRest, CountsRuns, LoadsHeld, Next, NilThenLayer, PopsHeld, act_held, field_held, items_owner}
 use Rattle.expr_meaning.specs.HigherOrder.{CountsAsking, CountsCall, CountsFold, CountsFoldStart, Predicate, RepliesThen, replaces, retained_first, retained_of}
 use Rattle.expr_meaning.specs.Host.{Host}
 use Rattle.expr_meaning.specs.World.{World}
@@ -184,10 +184,10 @@ module _ (counting : Counting) (holds : counting.Tally → Type 0) (such : Limit
             ) p
         one_stays (asks key n block slot binds) stack slots now h p =
             let op = asks key n block slot binds in
-            let asked = AsksHeld counting costs world counts block slot binds slots in
+            let asked = λ (hs : List Held). AsksHeld counting costs world counts (items_owner hs) block slot binds slots in
             let after = λ (rest : List Held) (v : Value). next 0 (made v ∷ rest) (take slot slots) in
-            pops_stays n stack [] now (λ hs rest. CountsAsking counting world.host key hs (counting.works (costs.work op (values hs)) (costs.room op (values hs))) asked (after rest)) e h (
-            λ hs rest u m q. asking_stays asked (λ r w g o k. later block (take slot slots ++ bound_helds k.0 binds r) w g o k.1) world.host key hs (costs.work op (values hs)) (costs.room op (values hs)) (after rest) u e m (λ v. f 0 (made v ∷ rest) (take slot slots)) q
+            pops_stays n stack [] now (λ hs rest. CountsAsking counting world.host key hs (counting.works (costs.work op (values hs)) (costs.room op (values hs))) (asked hs) (after rest)) e h (
+            λ hs rest u m q. asking_stays (asked hs) (λ r w g o. later block (take slot slots ++ bound_helds (items_owner hs) binds r) w g o) world.host key hs (costs.work op (values hs)) (costs.room op (values hs)) (after rest) u e m (λ v. f 0 (made v ∷ rest) (take slot slots)) q
             ) p
         one_stays refuse stack slots now h p = subst In (sym p) tt
         one_stays (jump n) stack slots now h p = f n stack slots now h p

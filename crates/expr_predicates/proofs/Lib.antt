@@ -3,6 +3,7 @@ pub mod Answered
 pub mod FoldStarts
 pub mod Grouped
 pub mod InTurn
+pub mod Lending
 pub mod Noting
 pub mod OneOrder
 pub mod Opposite

@@ -9,8 +9,6 @@ use Rattle.expr_predicates.specs.Accumulators.{Awaits, Represents, RepresentsRes
 use Rattle.expr_predicates.specs.Folds.{Fold, ItemAnswer, all_hold, any_holds, counting, fails, finding_place, first_place, has_stopped, holds, none_holds}
 use Rattle.expr_predicates.specs.Noting.{Adds, Gathers, IsOut, Notes, NotesBy, ScalarNotes, Takes, ValuesNote}
 use Rattle.expr_predicates.specs.Remaining.{items_remaining}
-use Rattle.expr_predicates.specs.declared.remaining.Remaining.{Remaining}
-use Rattle.expr_predicates.specs.declared.run.Accumulator.{Accumulator}
 use Rattle.expr_predicates.specs.declared.run.Accumulator.TheVariants as accumulator
 use Rattle.expr_predicates.specs.declared.run.Noted.{Noted}
 use Rattle.expr_predicates.specs.declared.run.Noted.TheVariants as noted
@@ -18,7 +16,6 @@ use Rattle.expr_predicates.specs.declared.run.PredicateRun.{PredicateRun}
 use Rattle.expr_predicates.specs.declared.scalar_accumulator.ScalarAccumulator.{ScalarAccumulator}
 use Rattle.expr_predicates.specs.declared.scalar_accumulator.ScalarAccumulator.TheVariants as scalar_accumulator
 use Rattle.expr_predicates.specs.declared.value_accumulator.ValueAccumulator.{ValueAccumulator}
-use Rattle.expr_predicates.specs.declared.value_accumulator.ValueAccumulator.TheVariants as value_accumulator
 use Rattle.expr_predicates.proofs.Accumulating.{count_push, place_push}
 use mathlib.Core.HLevel.{is_prop→PathP}
 use native.Mathlib.Bridge.{le_prop}

@@ -1,10 +1,10 @@
 -- Whether a run needs more results, and what it binds, by what it keeps.
-use Rattle.std.proofs.Common.{◌≡◌, ◌+◌, ℕ, List, [], ◌∷◌, ◌++◌, length, Bool, true, false, nat_lt, Option, Some, None, refl, sym, ap, ◌∙◌, zero-add}
+use Rattle.std.proofs.Common.{◌≡◌, ◌+◌, List, [], ◌∷◌, ◌++◌, length, Bool, true, false, nat_lt, Option, Some, None, refl, sym, ap, ◌∙◌, zero-add}
 use Rattle.std.proofs.lemmas.List.Sums.{fold-append}
 use Rattle.std.specs.Option.{is_some, option_map}
 use Rattle.expr_value.specs.declared.value.Value.{Value}
 use Rattle.expr_predicates.specs.Accumulators.{Represents, RepresentsRest, RunRepresents, ScalarRepresents, ValuesRepresent}
-use Rattle.expr_predicates.specs.Folds.{Fold, ItemAnswer, acc_after, args_about, first_place, has_stopped, holds, mapping, number, reducing, tells_acc, tells_index}
+use Rattle.expr_predicates.specs.Folds.{Fold, ItemAnswer, args_about, first_place, has_stopped, mapping, number, reducing, tells_acc, tells_index}
 use Rattle.expr_predicates.specs.declared.run.Accumulator.{Accumulator}
 use Rattle.expr_predicates.specs.declared.run.Accumulator.TheVariants as accumulator
 use Rattle.expr_predicates.specs.declared.run.PredicateRun.{PredicateRun}

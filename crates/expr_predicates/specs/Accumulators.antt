@@ -1,10 +1,10 @@
 -- What a run keeps of the predicate's results.
-use Rattle.std.specs.Prelude.{◌≡◌, ℕ, ◌+◌, ◌-◌, false, List, [], length, map, count_by, option_map, Option, Some, None, Result, Ok}
+use Rattle.std.specs.Prelude.{◌≡◌, ℕ, ◌+◌, ◌-◌, Bool, false, List, [], length, map, count_by, option_map, Option, Some, None, Result, Ok}
 use Rattle.std.specs.List.{filter, find, list_any, position_from}
 use Rattle.expr_error.specs.ErrorKind.{ErrorKind}
 use Rattle.expr_value.specs.declared.value.Value.{Value}
 use Rattle.expr_predicates.specs.Calls.{FoldOver}
-use Rattle.expr_predicates.specs.Remaining.{items_remaining}
+use Rattle.expr_predicates.specs.Remaining.{are_lent, items_remaining}
 use Rattle.expr_predicates.specs.Sorting.{beside_keys}
 use Rattle.expr_context.specs.Told.{PredicateArgsView}
 use Rattle.expr_predicates.specs.Folds.{Fold, number, all_hold, any_holds, none_holds, one_holds, mapping, filtering, finding, finding_place, finding_last_place, counting, summing, reducing, grouping, sorting, ItemAnswer, has_stopped, holds, fails, acc_after, first_place, total, items_by_key}
@@ -72,6 +72,10 @@ pub record Awaits (run : PredicateRun) (t : Fold) (rs : List ItemAnswer) : Type 
 -- the remaining items, in the order of the calls
 abbrev pub remaining_items : PredicateRun → List Value
 remaining_items run = items_remaining run.left
+
+-- whether they are borrowed
+abbrev pub has_lent_items : PredicateRun → Bool
+has_lent_items run = are_lent run.left
 
 -- number of remaining items
 abbrev pub remaining_count : PredicateRun → ℕ

@@ -5,6 +5,7 @@ pub mod Calls
 pub mod Folds
 pub mod Grouped
 pub mod Grouping
+pub mod Lending
 pub mod Noting
 pub mod Plains
 pub mod Remaining

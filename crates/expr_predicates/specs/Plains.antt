@@ -8,3 +8,7 @@ abbrev pub plain_value : Plain → Value
 plain_value (plain.Integer n) = value.Integer n
 plain_value (plain.Bool b) = value.Bool b
 plain_value (plain.Lent r) = r.now
+
+abbrev pub IsIntegerItem : Plain → Type 0
+IsIntegerItem (plain.Integer n) = Unit {0}
+IsIntegerItem p = ⊥

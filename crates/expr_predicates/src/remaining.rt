@@ -1,11 +1,13 @@
 //! The items for which the predicate is still to be called.
-ghost use Rattle.std.specs.Prelude.{◌≡◌, ◌∷◌, [], MatchOption, reverse};
+ghost use Rattle.std.specs.Prelude.{◌≡◌, ◌∷◌, [], IfSome, MatchOption, false, reverse};
 ghost use Rattle.expr_arguments.specs.Arrays.{array_items};
-ghost use Rattle.expr_predicates.specs.Plains.{plain_value};
-ghost use Rattle.expr_predicates.specs.Remaining.{items_remaining};
+ghost use Rattle.expr_arguments.specs.Cow.{cow_value};
+ghost use Rattle.expr_predicates.specs.Plains.{IsIntegerItem, plain_value};
+ghost use Rattle.expr_predicates.specs.Lending.{is_borrowed, is_lent_array};
+ghost use Rattle.expr_predicates.specs.Remaining.{are_lent, items_remaining};
 
 use crate::run::Plain;
-use expr_arguments::{Array, CowValue};
+use expr_arguments::{Array, Cow};
 use expr_value::Value;
 
 /// The items that remain, owned or borrowed.
@@ -22,7 +24,8 @@ pub(crate) enum Remaining<'s> {
 impl<'s> Remaining<'s> {
     /// The items of an array, from first to last.
     pub(crate) fn forward(array: Array<'s>) -> Remaining<'s>
-        ensures { items_remaining result ≡ array_items array.entry }
+        ensures items { items_remaining result ≡ array_items array.entry }
+        ensures lent { are_lent result ≡ is_lent_array array.entry }
     {
         match array {
             Array::Owned(items) => {
@@ -36,7 +39,8 @@ impl<'s> Remaining<'s> {
 
     /// The items of an array, from last to first.
     pub(crate) fn backward(array: Array<'s>) -> Remaining<'s>
-        ensures { items_remaining result ≡ reverse (array_items array.entry) }
+        ensures items { items_remaining result ≡ reverse (array_items array.entry) }
+        ensures lent { are_lent result ≡ is_lent_array array.entry }
     {
         match array {
             Array::Owned(items) => Remaining::Owned(items.into_vec()),
@@ -47,8 +51,10 @@ impl<'s> Remaining<'s> {
     /// Moves out the next item, if it needs no allocation.
     #[inline(always)]
     pub(crate) fn pop_plain(&mut self) -> Option<Plain<'s>>
-        ensures { MatchOption result (self.new ≡ self.old)
+        ensures item { MatchOption result (self.new ≡ self.old)
             (λ item. items_remaining self.old ≡ plain_value item ∷ items_remaining self.new) }
+        ensures lent { IfSome result (λ item. are_lent self.old ≡ false → IsIntegerItem item) }
+        ensures same { are_lent self.new ≡ are_lent self.old }
     {
         match self {
             Remaining::Owned(items) => match items.last() {
@@ -79,13 +85,15 @@ impl<'s> Remaining<'s> {
 
     /// Moves out the next item.
     #[inline(always)]
-    pub(crate) fn pop(&mut self) -> Option<CowValue<'s>>
-        ensures { MatchOption result ((items_remaining self.old ≡ []) × (items_remaining self.new ≡ []))
-            (λ item. items_remaining self.old ≡ item ∷ items_remaining self.new) }
+    pub(crate) fn pop(&mut self) -> Option<Cow<'s>>
+        ensures item { MatchOption result ((items_remaining self.old ≡ []) × (items_remaining self.new ≡ []))
+            (λ item. items_remaining self.old ≡ cow_value item ∷ items_remaining self.new) }
+        ensures lent { IfSome result (λ item. is_borrowed item ≡ are_lent self.old) }
+        ensures same { are_lent self.new ≡ are_lent self.old }
     {
         match self {
             Remaining::Owned(items) => match items.pop() {
-                Some(item) => Some(CowValue::from_owned(item)),
+                Some(item) => Some(Cow::Owned(item)),
                 None => None,
             },
             Remaining::Front(items) => {
@@ -93,7 +101,7 @@ impl<'s> Remaining<'s> {
                 match all.split_first() {
                     Some((first, rest)) => {
                         *items = rest;
-                        Some(CowValue::from_borrowed(first))
+                        Some(Cow::Borrowed(first))
                     }
                     None => None,
                 }
@@ -103,7 +111,7 @@ impl<'s> Remaining<'s> {
                 match all.split_last() {
                     Some((last, rest)) => {
                         *items = rest;
-                        Some(CowValue::from_borrowed(last))
+                        Some(Cow::Borrowed(last))
                     }
                     None => None,
                 }

@@ -3,8 +3,10 @@ ghost use Rattle.std.specs.Prelude.{◌≡◌, ℕ, ◌+◌, ◌<◌, ◌^◌, �
 ghost use Rattle.expr_value.specs.Answers.{Returns};
 ghost use Rattle.expr_error.specs.ErrorKind.{evaluation, IsOfKind, RefusesWith};
 ghost use Rattle.expr_arguments.specs.Arrays.{array_items};
+ghost use Rattle.expr_arguments.specs.Cow.{cow_value};
 ghost use Rattle.expr_predicates.specs.Calls.{SortsItems};
-ghost use Rattle.expr_predicates.specs.Remaining.{items_remaining};
+ghost use Rattle.expr_predicates.specs.Lending.{first_items, is_borrowed, is_lent_array};
+ghost use Rattle.expr_predicates.specs.Remaining.{are_lent, items_remaining};
 
 use crate::arguments::{direction, is_downward, runs_alone, takes};
 use crate::remaining::Remaining;
@@ -12,7 +14,7 @@ use crate::scalar_accumulator::ScalarAccumulator;
 use crate::sorting::sort_items;
 use crate::value_accumulator::{ValueAccumulator, keep_plain};
 use expr_arguments::{
-    Array, CowValue, array_and_more, count_items, into_items, kind_of, missing_predicate,
+    Array, Cow, CowValue, array_and_more, count_items, into_items, kind_of, missing_predicate,
     refusal_of,
 };
 use expr_functions::HigherOrderCall;
@@ -214,9 +216,10 @@ impl<'s> PredicateRun<'s> {
     ghost use Rattle.expr_value.specs.declared.value.Value.{Value};
     ghost use Rattle.expr_value.specs.declared.value.Value as value;
     ghost use Rattle.expr_predicates.specs.Noting.{HasRoom, Notes};
-    ghost use Rattle.expr_predicates.specs.Plains.{plain_value};
+    ghost use Rattle.std.specs.Prelude.{is_some};
+    ghost use Rattle.expr_predicates.specs.Plains.{IsIntegerItem, plain_value};
     ghost use Rattle.expr_predicates.specs.Calls.{fold_of_call, fold_over_if, reduce_from_first, fold_of};
-    ghost use Rattle.expr_predicates.specs.Accumulators.{Awaits, RunRepresents, StartsWith, acc_out, pending_args, index_out, remaining_items, remaining_count};
+    ghost use Rattle.expr_predicates.specs.Accumulators.{Awaits, RunRepresents, StartsWith, acc_out, has_lent_items, pending_args, index_out, remaining_items, remaining_count};
     ghost use Rattle.expr_predicates.specs.Runs.{FoldMayReturn, AnswersItself, next_args};
     ghost use Rattle.expr_predicates.specs.Folds.{Fold, ItemAnswer, FoldOutcome, args_about, first_place, front_fold, has_stopped, refuses_answer, tells_acc, tells_index};
 
@@ -240,6 +243,46 @@ impl<'s> PredicateRun<'s> {
             return Err(missing_predicate(alloc, takes(call), args.as_slice()));
         }
         let (array, more) = array_and_more(alloc, takes(call), args)?;
+        PredicateRun::over(alloc, call, array, more)
+    }
+
+    /// Begins a call that has a predicate. `lent` are the items of its array if another lends them. Then the items that
+    /// it hands out are borrowed, and otherwise the run owns them.
+    ///
+    /// # Errors
+    ///
+    /// Returns the errors of [`begin`](PredicateRun::begin).
+    pub fn begin_lent(
+        alloc: Global,
+        call: HigherOrderCall,
+        args: Items<CowValue<'s>>,
+        lent: Option<&'s Items<Value>>,
+    ) -> Result<PredicateRun<'s>>
+        requires { IfSome lent (λ items. first_items args ≡ Some items.now) }
+        ensures begun { IfOk result (λ r. StartsWith r (fold_of_call call args.entry true)) }
+        ensures lent { IfOk result (λ r. has_lent_items r ≡ is_some lent.entry) }
+        ensures refused { RefusesWith result (λ k. fold_of_call call args.entry true ≡ Err k) }
+    {
+        let (array, more) = array_and_more(alloc, takes(call), args)?;
+        let array = match lent {
+            Some(items) => Array::Borrowed(items),
+            None => Array::Owned(Items::from_vec(into_items(alloc, array)?)),
+        };
+        PredicateRun::over(alloc, call, array, more)
+    }
+
+    /// Begins a built-in on an array, and perhaps one more argument.
+    fn over(
+        alloc: Global,
+        call: HigherOrderCall,
+        array: Array<'s>,
+        more: Option<CowValue<'_>>,
+    ) -> Result<PredicateRun<'s>>
+        ensures begun { IfOk result (λ r. StartsWith r (fold_of call (array_items array.entry) more.entry)) }
+        ensures lent { IfOk result (λ r. has_lent_items r ≡ is_lent_array array.entry) }
+        ensures refused { RefusesWith result (λ k. fold_of call (array_items array.entry) more.entry
+            ≡ Err k) }
+    {
         match more {
             None => PredicateRun::over_array(alloc, call, array),
             Some(more) => PredicateRun::over_array_with(alloc, call, array, more),
@@ -253,6 +296,7 @@ impl<'s> PredicateRun<'s> {
         array: Array<'s>,
     ) -> Result<PredicateRun<'s>>
         ensures begun { IfOk result (λ r. StartsWith r (fold_of call (array_items array.entry) None)) }
+        ensures lent { IfOk result (λ r. has_lent_items r ≡ is_lent_array array.entry) }
         ensures refused { RefusesWith result (λ k. fold_of call (array_items array.entry) None ≡ Err k) }
     {
         match call {
@@ -280,6 +324,7 @@ impl<'s> PredicateRun<'s> {
     ) -> Result<PredicateRun<'s>>
         ensures begun { IfOk result (λ r. StartsWith r
             (fold_over_if (front_fold call) (array_items array.entry))) }
+        ensures lent { IfOk result (λ r. has_lent_items r ≡ is_lent_array array.entry) }
         ensures refused { RefusesWith result (λ k. fold_over_if (front_fold call) (array_items array.entry)
             ≡ Err k) }
     {
@@ -298,6 +343,7 @@ impl<'s> PredicateRun<'s> {
     ) -> Result<PredicateRun<'s>>
         ensures begun { IfOk result (λ r. StartsWith r
             (fold_of call (array_items array.entry) (Some more.entry))) }
+        ensures lent { IfOk result (λ r. has_lent_items r ≡ is_lent_array array.entry) }
         ensures refused { RefusesWith result (λ k. fold_of call (array_items array.entry) (Some more.entry)
             ≡ Err k) }
     {
@@ -323,6 +369,7 @@ impl<'s> PredicateRun<'s> {
     /// A run from the first item to the last.
     fn forward(array: Array<'s>, gathered: Accumulator) -> PredicateRun<'s>
         ensures left { remaining_items result ≡ array_items array.entry }
+        ensures lent { has_lent_items result ≡ is_lent_array array.entry }
         ensures asked { result.asked ≡ 0 }
         ensures gathered { result.gathered ≡ gathered }
     {
@@ -336,6 +383,7 @@ impl<'s> PredicateRun<'s> {
     /// A run from the last item to the first.
     fn backward(array: Array<'s>, gathered: Accumulator) -> PredicateRun<'s>
         ensures left { remaining_items result ≡ reverse (array_items array.entry) }
+        ensures lent { has_lent_items result ≡ is_lent_array array.entry }
         ensures asked { result.asked ≡ 0 }
         ensures gathered { result.gathered ≡ gathered }
     {
@@ -349,12 +397,13 @@ impl<'s> PredicateRun<'s> {
     /// A run of `reduce` whose initial value is the first item. That is copied if the array is borrowed.
     fn from_first(alloc: Global, array: Array<'s>) -> Result<PredicateRun<'s>>
         ensures begun { IfOk result (λ r. StartsWith r (reduce_from_first (array_items array.entry))) }
+        ensures lent { IfOk result (λ r. has_lent_items r ≡ is_lent_array array.entry) }
         ensures refused { RefusesWith result (λ k. reduce_from_first (array_items array.entry) ≡ Err k) }
     {
         let mut left = Remaining::forward(array);
         match left.pop() {
             Some(first) => {
-                let acc = first.into_value()?;
+                let acc = held(first).into_value()?;
                 Ok(PredicateRun {
                     left,
                     asked: 1,
@@ -374,6 +423,26 @@ impl<'s> PredicateRun<'s> {
             → option_map (pending_args self.new) result ≡ next_args t rs (remaining_items self.old) }
         ensures out { IfSome result (λ item. (t : Fold) (rs : List ItemAnswer) → RunRepresents self.old t rs
             → (remaining_items self.old ≡ item ∷ remaining_items self.new) × Awaits self.new t rs) }
+        ensures fewer { IfSome result (λ _. remaining_count self.new < remaining_count self.old) }
+        ensures done { result ≡ None → (t : Fold) (rs : List ItemAnswer) → RunRepresents self.old t rs
+            → RunRepresents self.new t rs }
+    {
+        match self.next_cow() {
+            Some(item) => Some(held(item)),
+            None => None,
+        }
+    }
+
+    /// The same, for a caller that treats owned and borrowed items differently.
+    #[inline(always)]
+    pub fn next_cow(&mut self) -> Option<Cow<'s>>
+        ensures question { (t : Fold) (rs : List ItemAnswer) → RunRepresents self.old t rs
+            → option_map (λ item. pending_args self.new (cow_value item)) result
+            ≡ next_args t rs (remaining_items self.old) }
+        ensures out { IfSome result (λ item. (t : Fold) (rs : List ItemAnswer) → RunRepresents self.old t rs
+            → (remaining_items self.old ≡ cow_value item ∷ remaining_items self.new) × Awaits self.new t rs) }
+        ensures lent { IfSome result (λ item. is_borrowed item ≡ has_lent_items self.old) }
+        ensures same { has_lent_items self.new ≡ has_lent_items self.old }
         ensures fewer { IfSome result (λ _. remaining_count self.new < remaining_count self.old) }
         ensures done { result ≡ None → (t : Fold) (rs : List ItemAnswer) → RunRepresents self.old t rs
             → RunRepresents self.new t rs }
@@ -401,6 +470,7 @@ impl<'s> PredicateRun<'s> {
         ensures index { index_out self.new ≡ index_out self.old }
         ensures awaits { (t : Fold) (rs : List ItemAnswer) → Awaits self.old t rs → Awaits self.new t rs }
         ensures left { remaining_items self.new ≡ remaining_items self.old }
+        ensures lent { has_lent_items self.new ≡ has_lent_items self.old }
     {
         self.gathered.take_acc()
     }
@@ -419,6 +489,7 @@ impl<'s> PredicateRun<'s> {
         ensures refused { RefusesWith result (λ k. (t : Fold) (rs : List ItemAnswer)
             → Awaits self.old t rs → (refuses_answer t answer ≡ true) × (k ≡ evaluation)) }
         ensures same { remaining_count self.new ≡ remaining_count self.old }
+        ensures lent { has_lent_items self.new ≡ has_lent_items self.old }
     {
         let place = self.asked.saturating_sub(1);
         self.gathered.take(alloc, place, item, answer)
@@ -435,6 +506,8 @@ impl<'s> PredicateRun<'s> {
             → RunRepresents self.old t rs
             → args_about t rs (plain_value item) ≡ pending_args self.new (plain_value item)) }
         ensures none { result ≡ None → self.new ≡ self.old }
+        ensures lent { IfSome result (λ item. has_lent_items self.old ≡ false → IsIntegerItem item) }
+        ensures same { has_lent_items self.new ≡ has_lent_items self.old }
     {
         let item = self.left.pop_plain()?;
         self.asked += 1;
@@ -477,6 +550,7 @@ impl<'s> PredicateRun<'s> {
     pub fn note(&mut self, answer: Plain<'_>) -> Noted
         ensures noted { Notes result self.old self.new (plain_value answer.entry) }
         ensures left { remaining_items self.new ≡ remaining_items self.old }
+        ensures lent { has_lent_items self.new ≡ has_lent_items self.old }
     {
         let place = self.asked.saturating_sub(1);
         self.gathered.note(place, answer)
@@ -490,6 +564,7 @@ impl<'s> PredicateRun<'s> {
         ensures kept { result ≡ true → (t : Fold) (rs : List ItemAnswer) → Awaits self.old t rs
             → RunRepresents self.new t (rs ++ (plain_value item.entry, value.Bool true) ∷ []) }
         ensures left { remaining_items self.new ≡ remaining_items self.old }
+        ensures lent { has_lent_items self.new ≡ has_lent_items self.old }
     {
         self.gathered.keep(item)
     }
@@ -541,6 +616,17 @@ impl<'s> PredicateRun<'s> {
             gathered,
         } = self;
         gathered.outcome(alloc)
+    }
+}
+
+/// The same value, for a caller that doesn't treat owned and borrowed values differently.
+#[inline(always)]
+fn held<'s>(item: Cow<'s>) -> CowValue<'s>
+    ensures { result ≡ cow_value item.entry }
+{
+    match item {
+        Cow::Owned(value) => CowValue::from_owned(value),
+        Cow::Borrowed(value) => CowValue::from_borrowed(value),
     }
 }
 

@@ -1,7 +1,7 @@
 //! Many top values at a time, the deepest of them first.
-ghost use Rattle.std.specs.Prelude.{◌≡◌, ◌≤◌, [], Ok, IfOk, drop, length, reverse, take, vec_len};
+ghost use Rattle.std.specs.Prelude.{◌≡◌, ◌≤◌, [], Ok, IfOk, drop, length, option_map, reverse, take, vec_len};
 ghost use Rattle.expr_operators.specs.OnOperands.{zip_names};
-ghost use Rattle.expr_stack.specs.Cells.{cell_values};
+ghost use Rattle.expr_stack.specs.Cells.{cell_values, first_lent};
 ghost use Rattle.expr_stack.specs.Pushes.{Pushes, OnMany};
 ghost use Rattle.expr_error.specs.ErrorKind.{OnlyMemory};
 ghost use Rattle.expr_value.specs.Names.{put_all};
@@ -40,7 +40,8 @@ impl<'s, A: Allocator + Copy> Stack<'s, A> {
         Ok(values)
     }
 
-    /// Pops this many values to hold them for longer than the kept list. Those in that list are copied.
+    /// Pops this many values to hold them for longer than the kept list. Those in that list are copied. Beside them are
+    /// the items of the deepest one, if that is an array that is borrowed: contracts don't see this of a `CowValue`.
     ///
     /// # Errors
     ///
@@ -51,18 +52,23 @@ impl<'s, A: Allocator + Copy> Stack<'s, A> {
         alloc: Global,
         kept: &[Value],
         count: usize,
-    ) -> Result<Vec<CowValue<'s>>>
+    ) -> Result<(Vec<CowValue<'s>>, Option<&'s Items<Value>>)>
         requires { count ≤ length self.old }
         ensures taken { OnMany count kept.now self.old
-            (λ vs rest. IfOk result (λ hs. (hs.items ≡ vs) × (self.new ≡ rest))) }
+            (λ vs rest. IfOk result (λ got. (got.0.items ≡ vs) × (self.new ≡ rest))) }
+        ensures lent { IfOk result (λ got. option_map (λ items. items.now) got.1
+            ≡ first_lent (reverse (take count self.old))) }
         ensures refusal { OnlyMemory result }
     {
         let mut values = Vec::with_capacity(alloc, count)?;
+        let mut lent = None;
         while values.len() < count {
-            values.push_reserved(self.take_top().to_cow_slow(kept)?);
+            let top = self.take_top();
+            lent = top.lent_items();
+            values.push_reserved(top.to_cow_slow(kept)?);
         }
         values.reverse();
-        Ok(values)
+        Ok((values, lent))
     }
 
     /// Pops this many values to own them. Borrowed values and those in the kept list are copied.

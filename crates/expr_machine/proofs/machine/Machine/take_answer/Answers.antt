@@ -13,7 +13,7 @@ use Rattle.expr_limits.specs.Counting.{refuses, stops}
 use Rattle.expr_limits.specs.MeterView.{MeterView}
 use Rattle.expr_limits.specs.Rooms.{is_limited}
 use Rattle.expr_lowering.specs.Blocks.{blocks_of}
-use Rattle.expr_machine.proofs.Answered.{front_of}
+use Rattle.expr_machine.proofs.Answered.{frame_running, front_of}
 use Rattle.expr_machine.proofs.Folding.{all_wait, cut_comes, cut_folds, frames_last, frames_put, frames_top, halt_folds, result_comes, result_denied, result_folds, result_limited}
 use Rattle.expr_machine.proofs.Patterns.{evaluation_not}
 use Rattle.expr_machine.proofs.Told.{error_no_pattern}
@@ -192,7 +192,7 @@ returns-in_ok-answer-in-Not-2-clause-folds g c =
     let is : MeterView = g.M.Meter.metered c.keep_reply.new.meter in
     let said : v ≡ cell_value s.memory.kept (top_of s.stack) = c.in_ok-answer-in-Not.ensures.value ∙ ap (λ k. cell_value k (top_of s.stack)) c.kept_values.ensures.places in
     let run = c.answer.new.self in
-    let put = frames_put self.frames frame (record frame { run = run }) some in
+    let put = frames_put self.frames frame (record frame { run = run }) some ∙ ap (λ w. w ∷ fs) (frame_running frame run c.answer.ensures.lent) in
     let gs : List Waiting = reverse (map waiting_of (with_item self.frames (vec_len self.frames - 1) (record frame { run = run })).items) in (
       (
         c.in_ok-keep_reply-in-Not.ensures.0 ∙ on,

@@ -1,4 +1,4 @@
-use Rattle.std.proofs.Common.{◌≡◌, ℕ, List, [], Bool, false, not, cond, sym, subst}
+use Rattle.std.proofs.Common.{◌≡◌, ℕ, [], Bool, false, not, cond, sym, subst}
 use Rattle.expr_value.specs.declared.value.Value as value
 use Rattle.expr_value.specs.declared.value.Value.{Value}
 use Rattle.expr_predicates.specs.Accumulators.{ScalarRepresents}
