@@ -78,7 +78,8 @@ impl Allowance {
         ensures same { IfOk result (λ _. self.new ≡ self.old) }
         ensures exceeded { IfErr result
             (λ limit. Holds 1 0 (with_size size (⟦<Allowance as Meter>⟧.metered self.old).room) (Err limit)) }
-        ensures noted { IfErr result (λ limit. (⟦<Allowance as Meter>⟧.metered self.new).stopped ≡ Some limit) }
+        ensures noted { IfErr result (λ limit.
+            (⟦<Allowance as Meter>⟧.metered self.new).stopped ≡ Some limit) }
     {
         if self.steps == 0 {
             return self.pass(Limit::Steps);
